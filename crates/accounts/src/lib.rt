@@ -1,0 +1,1 @@
+// Demand 3: theorems about rules only, in specs/.

@@ -1,0 +1,52 @@
+-- What holds of each element of a list. Assumes nothing.
+use mathlib.Core.Path.{_≡_, refl}
+use mathlib.Core.Bool.{Bool, true, cond}
+use mathlib.Core.List.{List, [], _∷_, _++_}
+use Rattle.arith.specs.Lists.{every, kept, allOf}
+use Rattle.arith.specs.Tests.{by-bool, and-left, and-right}
+
+abbrev pub All : {A : Type 0} → (A → Type 0) → List A → Type 0
+All P [] = Unit {0}
+All P (x ∷ xs) = P x × All P xs
+
+-- tests, and what passes them
+pub all-hold : (bs : List Bool) → allOf bs ≡ true → All (λ b. b ≡ true) bs
+unfolding allOf
+all-hold [] e = tt
+all-hold (b ∷ bs) e = (and-left b (allOf bs) e, all-hold bs (and-right b (allOf bs) e))
+
+pub hold-all : (bs : List Bool) → All (λ b. b ≡ true) bs → allOf bs ≡ true
+unfolding allOf
+hold-all [] h = refl
+hold-all (b ∷ bs) h = rw (h .0) (hold-all bs (h .1))
+
+module _ {A : Type 0} where
+  pub every-all : (p : A → Bool) (l : List A) → every p l ≡ true → All (λ a. p a ≡ true) l
+  unfolding every
+  every-all p [] e = tt
+  every-all p (x ∷ l) e = (and-left (p x) (every p l) e, every-all p l (and-right (p x) (every p l) e))
+
+  pub all-every : (p : A → Bool) (l : List A) → All (λ a. p a ≡ true) l → every p l ≡ true
+  unfolding every
+  all-every p [] h = refl
+  all-every p (x ∷ l) h = rw (h .0) (all-every p l (h .1))
+
+  pub all-always : (P : A → Type 0) (l : List A) → ((a : A) → P a) → All P l
+  all-always P [] f = tt
+  all-always P (x ∷ l) f = (f x, all-always P l f)
+
+  pub all-map : (P Q : A → Type 0) (l : List A) → ((a : A) → P a → Q a) → All P l → All Q l
+  all-map P Q [] f h = tt
+  all-map P Q (x ∷ l) f h = (f x (h .0), all-map P Q l f (h .1))
+
+  pub all-append : (P : A → Type 0) (l m : List A) → All P l → All P m → All P (l ++ m)
+  all-append P [] m h g = g
+  all-append P (x ∷ l) m h g = (h .0, all-append P l m (h .1) g)
+
+  -- of those kept, each passed the test
+  pub all-kept : (P : A → Type 0) (p : A → Bool) (l : List A) → All P l → All (λ a. P a × (p a ≡ true)) (kept p l)
+  unfolding kept
+  all-kept P p [] h = tt
+  all-kept P p (x ∷ l) h =
+      by-bool (λ b. All (λ a. P a × (p a ≡ true)) (cond b (x ∷ kept p l) (kept p l))) (p x) (λ e. ((h .0, e), all-kept P p l (h .1)))
+      (λ _. all-kept P p l (h .1))

@@ -1,0 +1,1 @@
+// Lemmas only: see specs/.

@@ -1,0 +1,39 @@
+use mathlib.Core.Path.{sym, ap, _∙_}
+use mathlib.Core.Bool.{not}
+use native.Mathlib.Omega.{arith}
+use borrow.Author.Tests.{not-true, not-false}
+use Rattle.rules.specs.CalendarLaws.{open-closed, open-first, open-rank}
+use Rattle.calendar.specs.Bounds.{earlier}
+use borrow.Author.Needs.{needs}
+use Rattle.calendar.proofs.contracts.is_open_term.Statement.{statement}
+use Rattle.calendar.proofs.contracts.is_open_term.Tie as tie
+
+still-to-close-requires : tie.Need-still-to-close-requires
+still-to-close-requires c κs = search needs
+
+returns : tie.Need-returns
+returns c = sym (open-closed _ _ _ (sym (c .before .still-to-close .ensures) ∙ not-true _ (c .if1 .taken)))
+
+open-count-requires : tie.Need-open-count-requires
+open-count-requires c κs = search needs
+
+returns-2 : tie.Need-returns-2
+returns-2 c = sym (open-first _ _ _ (sym (c .before .before .before .still-to-close .ensures) ∙ not-false _ (c .before .before .if1 .left)) (rw (c .before .open-count .ensures) at (c .if2 .taken)))
+
+still-to-close-requires-2 : tie.Need-still-to-close-requires-2
+still-to-close-requires-2 c κs = (c .before .before .before .before .before .pre .0, earlier (c .before .before .before .before .before .args .t) _ (omega arith) (c .before .before .before .before .before .pre .1))
+
+returns-3 : tie.Need-returns-3
+returns-3 c = let o = open-rank _ _ _ (sym (c .before .before .before .before .still-to-close .ensures) ∙ not-false _ (c .before .before .before .if1 .left)) (rw (c .before .before .open-count .ensures) at (c .before .if2 .left)) in
+    ap not (rw (c .before .before .open-count .ensures) at (c .still-to-close2 .ensures)) ∙ sym o
+
+pub is-open-term-spec : {M : Type 1} → statement M
+is-open-term-spec =
+    tie.close
+    (tie.spec
+    still-to-close-requires
+    returns
+    open-count-requires
+    returns-2
+    still-to-close-requires-2
+    returns-3)

@@ -1,0 +1,35 @@
+use native.Mathlib.Omega.{arith}
+use Rattle.rules.specs.Contracts.{firstDay}
+use borrow.Author.Needs.{needs}
+use Rattle.calendar.proofs.contracts.term_first_day.Statement.{statement}
+use Rattle.calendar.proofs.contracts.term_first_day.Tie as tie
+
+first-month-requires : tie.Need-first-month-requires
+first-month-requires c κs = search needs
+
+months-in-requires : tie.Need-months-in-requires
+months-in-requires c κs = search needs
+
+mul-month-start : tie.Need-mul-month-start
+mul-month-start c = rw (c .before .months-in .ensures) (omega arith)
+
+add-month-start : tie.Need-add-month-start
+add-month-start c = rw (c .before .months-in .ensures) (omega arith)
+
+month-start-requires : tie.Need-month-start-requires
+month-start-requires c κs = rw (c .before .months-in .ensures) (omega arith)
+
+returns : tie.Need-returns
+unfolding firstDay
+returns c = λ h. rw (c .before .before .months-in .ensures, c .before .before .before .first-month .ensures) at (c .month-start .ensures)
+
+pub term-first-day-spec : {M : Type 1} → statement M
+term-first-day-spec =
+    tie.close
+    (tie.spec
+    first-month-requires
+    months-in-requires
+    mul-month-start
+    add-month-start
+    month-start-requires
+    returns)

@@ -1,0 +1,61 @@
+use borrow.Author.Needs.{needs}
+use Prim.Native.Nat.{ℕ, _≤_}
+use mathlib.Core.Path.{_≡_, refl, sym, _∙_}
+use native.Mathlib.Omega.{arith}
+use Rattle.rules.specs.Days.{businessDayBefore}
+use Rattle.calendar.proofs.Steps.{back-last, back-more, back-idle, back-end}
+use Rattle.calendar.proofs.days.business_day_before.Statement.{statement}
+use Rattle.calendar.proofs.days.business_day_before.Tie as tie
+
+abbrev Inv-loop : tie.InvT-loop
+Inv-loop holidays n x₀ left₀ x left = (x ≤ x₀) × (left ≤ n) × ((y : ℕ) → businessDayBefore (record { firstYear = y; holidays = holidays }) left x ≡ businessDayBefore (record { firstYear = y; holidays = holidays }) n x₀)
+
+abbrev μ-loop : tie.MeasureT-loop
+μ-loop holidays n x₀ left₀ x left = x
+
+loop-holds : tie.Need-loop-holds Inv-loop μ-loop
+loop-holds c = (omega arith, omega arith, λ y. refl)
+
+sub-x : tie.Need-sub-x Inv-loop μ-loop
+sub-x c = search needs
+
+is-business-day-requires : tie.Need-is-business-day-requires Inv-loop μ-loop
+is-business-day-requires c κs = search needs
+
+returns : tie.Need-returns Inv-loop μ-loop
+returns c = λ y. sym (back-last _ _ _ (c .before .before .before .loop-test .taken) (sym (c .before .before .is-business-day .ensures y) ∙ c .before .if1 .taken) (c .if2 .taken)) ∙ c .before .before .before .before .loop .inv .2 y
+
+sub-left : tie.Need-sub-left Inv-loop μ-loop
+sub-left c = search needs
+
+loop-less : tie.Need-loop-less Inv-loop μ-loop
+loop-less c = search needs
+
+loop-again : tie.Need-loop-again Inv-loop μ-loop
+loop-again c = (omega arith, omega arith, λ y. sym (back-more _ _ _ (c .before .before .before .loop-test .taken) (sym (c .before .before .is-business-day .ensures y) ∙ c .before .if1 .taken) (c .if2 .left)) ∙ c .before .before .before .before .loop .inv .2 y)
+
+loop-less-2 : tie.Need-loop-less-2 Inv-loop μ-loop
+loop-less-2 c = search needs
+
+loop-again-2 : tie.Need-loop-again-2 Inv-loop μ-loop
+loop-again-2 c = (omega arith, omega arith, λ y. sym (back-idle _ _ _ (c .before .before .loop-test .taken) (sym (c .before .is-business-day .ensures y) ∙ c .if1 .left)) ∙ c .before .before .before .loop .inv .2 y)
+
+returns-2 : tie.Need-returns-2 Inv-loop μ-loop
+returns-2 c = λ y. sym (back-end _ _ _ (c .loop-test .left)) ∙ c .before .loop .inv .2 y
+
+pub business-day-before-spec : {M : Type 1} → statement M
+business-day-before-spec =
+    tie.close
+    (tie.spec
+    Inv-loop
+    μ-loop
+    loop-holds
+    sub-x
+    is-business-day-requires
+    returns
+    sub-left
+    loop-less
+    loop-again
+    loop-less-2
+    loop-again-2
+    returns-2)

@@ -1,0 +1,52 @@
+use borrow.Author.Needs.{needs}
+use Prim.Native.Nat.{_≤_, _-_}
+use mathlib.Core.Path.{_≡_}
+use mathlib.Core.Bool.{_||_}
+use native.Mathlib.Omega.{arith}
+use lib.ListN.{length, drop}
+use lib.Dec.{eqb}
+use Rattle.arith.specs.Lists.{any}
+use Rattle.arith.specs.Tests.{any-next, any-end}
+use Rattle.calendar.proofs.days.is_holiday.Statement.{statement}
+use Rattle.calendar.proofs.days.is_holiday.Tie as tie
+
+abbrev Inv-loop : tie.InvT-loop
+Inv-loop holidays day found₀ i₀ found i = (i ≤ length holidays) × (found || any (λ x. eqb x (day .0)) (drop i holidays) ≡ any (λ x. eqb x (day .0)) holidays)
+
+abbrev μ-loop : tie.MeasureT-loop
+μ-loop holidays day found₀ i₀ found i = length holidays - i
+
+loop-holds : tie.Need-loop-holds Inv-loop μ-loop
+loop-holds c = search needs
+
+mul-found : tie.Need-mul-found Inv-loop μ-loop
+mul-found c = search needs
+
+shared-slice-read-found : tie.Need-shared-slice-read-found Inv-loop μ-loop
+shared-slice-read-found c = search needs
+
+add-i : tie.Need-add-i Inv-loop μ-loop
+add-i c = search needs
+
+loop-less : tie.Need-loop-less Inv-loop μ-loop
+loop-less c = search needs
+
+loop-again : tie.Need-loop-again Inv-loop μ-loop
+loop-again c = (omega arith, any-next _ (c .before .before .before .before .args .holidays .now) 0 (c .before .before .before .loop .i) (c .before .before .before .loop .found) (c .before .before .before .loop .inv .1) (c .before .before .loop-test .taken))
+
+returns : tie.Need-returns Inv-loop μ-loop
+returns c = any-end _ (c .before .before .args .holidays .now) 0 (c .before .loop .i) (c .before .loop .found) (c .before .loop .inv .1) (c .loop-test .left)
+
+pub is-holiday-spec : {M : Type 1} → statement M
+is-holiday-spec =
+    tie.close
+    (tie.spec
+    Inv-loop
+    μ-loop
+    loop-holds
+    mul-found
+    shared-slice-read-found
+    add-i
+    loop-less
+    loop-again
+    returns)

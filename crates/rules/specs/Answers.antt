@@ -1,0 +1,44 @@
+-- Document 01, "Why a record is turned back": the numbers. What an outcome is, and how causes decide.
+use Prim.Native.Nat.{ℕ}
+use mathlib.Core.Bool.{Bool, true, false}
+use mathlib.Core.List.{List, [], _∷_}
+use Rattle.rules.specs.declared.answer.Answer.{Answer}
+use Rattle.rules.specs.declared.answer.Answer.the-variants.{Accepted, TableUnsound, HeaderUnsound, RecordUnsound, TimeBelowLedger, MemberDefaulted, ContractNotOpen, PriceOutsideLimits, SixthSubmit, AboveLimit, CannotMatchInFull, BookFull, NoSuchOrder, NotAcceptable, NoReferencePrice, NoDefaultedLots, NoTaker, TotalPassed, NoLaterDay}
+
+-- An answer as the paper gives it: the number of the cause and, with 5, the member, with 6, the contract.
+-- An accepted record has number 0 and returns its line count.
+pub record Told : Type 0 where
+  pub number : ℕ
+  pub value : ℕ
+
+abbrev pub told : Answer → Told
+told (Accepted n) = record { number = 0; value = n }
+told TableUnsound = record { number = 1; value = 0 }
+told HeaderUnsound = record { number = 2; value = 0 }
+told RecordUnsound = record { number = 3; value = 0 }
+told TimeBelowLedger = record { number = 4; value = 0 }
+told (MemberDefaulted m) = record { number = 5; value = m }
+told (ContractNotOpen c) = record { number = 6; value = c }
+told PriceOutsideLimits = record { number = 7; value = 0 }
+told SixthSubmit = record { number = 8; value = 0 }
+told AboveLimit = record { number = 9; value = 0 }
+told CannotMatchInFull = record { number = 10; value = 0 }
+told BookFull = record { number = 11; value = 0 }
+told NoSuchOrder = record { number = 12; value = 0 }
+told NotAcceptable = record { number = 13; value = 0 }
+told NoReferencePrice = record { number = 14; value = 0 }
+told NoDefaultedLots = record { number = 15; value = 0 }
+told NoTaker = record { number = 16; value = 0 }
+told TotalPassed = record { number = 17; value = 0 }
+told NoLaterDay = record { number = 18; value = 0 }
+
+-- What a call answers, and what it leaves.
+pub record Outcome (S : Type 0) : Type 0 where
+  pub answer : Answer
+  pub after : S
+
+-- Lower number wins: the causes stand in rising number, and the first that holds refuses and leaves all as it was.
+abbrev pub decide : {S : Type 0} → List (Bool × Answer) → S → Outcome S → Outcome S
+decide [] s booked = booked
+decide ((true, a) ∷ causes) s booked = record { answer = a; after = s }
+decide ((false, a) ∷ causes) s booked = decide causes s booked

@@ -1,0 +1,123 @@
+-- Document 01, "Cases from the slides and ours": the cases marked *, proved together as one list of inputs and results.
+use Prim.Native.Nat.{ℕ, _*_}
+use mathlib.Core.Path.{_≡_, refl}
+use mathlib.Core.List.{List, [], _∷_, _++_, map}
+use mathlib.Core.Option.{Option, none, some}
+use lib.IntN.{ℤ, pos}
+use Rattle.arith.specs.Lists.{total, from}
+use Rattle.rules.specs.declared.contract.ContractKind.the-variants.{Month}
+use Rattle.rules.specs.declared.event.Event.the-variants.{Submit, Proposal, CloseOfDay}
+use Rattle.rules.specs.declared.event.Leg.{Leg}
+use Rattle.rules.specs.declared.event.OrderKind.the-variants.{Resting}
+use Rattle.rules.specs.declared.order.Order.{Order}
+use Rattle.rules.specs.declared.order.Side.{Side}
+use Rattle.rules.specs.declared.order.Side.the-variants.{Buy, Sell}
+use Rattle.rules.specs.declared.units.Day.{Day}
+use Rattle.rules.specs.declared.units.Day.the-variants.{On, NoDay}
+use Rattle.rules.specs.Answers.{told}
+use Rattle.rules.specs.Contracts.{thresholdOf, termOf, closingDay}
+use Rattle.rules.specs.Header.{headerBytes}
+use Rattle.rules.specs.Ledger.{Tables, lotsAt, valueAt}
+use Rattle.rules.specs.Records.{bytesOf}
+use Rattle.rules.specs.CloseOfDay.{priceOfDay}
+use Rattle.rules.specs.Default.{minimums, dealtOut}
+use Rattle.rules.specs.Refusals.{applySpec, makeSpec}
+use Rattle.rules.specs.Computed.{zeroTables, tablesAfter, computed}
+
+-- What a case is asked of.
+data Input : Type 0 where
+  -- the closing day of a contract in a ledger with that first year and no holidays
+  closing : ℕ → ℕ → Input
+  -- the GGF of a month that dealt these lots at these prices, without quotes; with the best quotes b and s
+  ggfOfDeals : List (ℕ × ℕ) → Input
+  ggfWithQuotes : List (ℕ × ℕ) → ℕ → ℕ → Input
+  -- lots and value of member 0 in a contract: bought 4 lots at 30000 in 17, sold 1 at 31000 in 18, in a ledger of
+  -- first year 2020 that starts on day 359, after so many closes of day
+  cascade : ℕ → ℕ → Input
+  -- the number that a proposal gets: a quarter bought at 31000, its months sold at 31000, 30500 and 30000, legs at these prices
+  proposal : ℕ → ℕ → ℕ → ℕ → Input
+  -- L lots dealt out by these weights: the minimums, and what is received
+  least : ℕ → List ℕ → Input
+  received : ℕ → List ℕ → Input
+
+-- ---- how it is asked
+dayNumber : Day → ℕ
+dayNumber (On d) = d .0
+dayNumber NoDay = 0
+
+quote : Side → ℕ → Option Order
+quote side p =
+    some (record { number = 0; member = 0; contract = 5; side = side; price = record { 0 = p }; lots = record { 0 = 50 }; day = record { 0 = 0 }; time = 0 })
+
+dayPrice : List (ℕ × ℕ) → Option Order → Option Order → ℕ
+dayPrice deals b s = priceOfDay (thresholdOf Month) (total (λ d. d .0) deals) (total (λ d. d .0 * d .1) deals) 0 b s
+
+-- Two members, no holidays, limits 1000.
+made : ℕ → Tables
+made start = makeSpec zeroTables (headerBytes (record { firstYear = 2020; startDay = start; members = 2; holidays = []; limits = 1000 ∷ 1000 ∷ [] })) .after
+
+order : ℕ → ℕ → Side → ℕ → ℕ → List ℕ
+order m c side p q =
+    bytesOf (Submit (record { time = 36000; member = m; contract = c; side = side; kind = Resting; price = record { 0 = p }; lots = record { 0 = q } })) []
+
+closes : ℕ → List (List ℕ)
+closes n = map (λ i. bytesOf (CloseOfDay 61200) []) (from 0 n)
+
+cascadeAfter : ℕ → Tables
+cascadeAfter n = tablesAfter (made 359) ((order 1 17 Sell 30000 4 ∷ order 0 17 Buy 30000 4 ∷ order 1 18 Buy 31000 1 ∷ order 0 18 Sell 31000 1 ∷ []) ++ closes n)
+
+leg : ℕ → ℕ → Leg
+leg n p = record { order = n; lots = record { 0 = 1 }; price = record { 0 = p } }
+
+proposalNumber : List Leg → ℕ
+proposalNumber legs =
+    told
+    (applySpec
+    (tablesAfter (made 359) (order 0 18 Buy 31000 1 ∷ order 1 22 Sell 31000 1 ∷ order 1 23 Sell 30500 1 ∷ order 1 24 Sell 30000 1 ∷ []))
+    (bytesOf (Proposal 4) legs)
+    .answer)
+    .number
+
+result : Input → List ℤ
+result (closing y c) = pos (dayNumber (closingDay (record { firstYear = y; holidays = [] }) (termOf c))) ∷ []
+result (ggfOfDeals deals) = pos (dayPrice deals none none) ∷ []
+result (ggfWithQuotes deals b s) = pos (dayPrice deals (quote Buy b) (quote Sell s)) ∷ []
+result (cascade n c) = let t = cascadeAfter n in lotsAt t c 0 ∷ valueAt t c 0 ∷ []
+result (proposal a b c d) = pos (proposalNumber (leg 0 a ∷ leg 1 b ∷ leg 2 c ∷ leg 3 d ∷ [])) ∷ []
+result (least l ws) = map pos (minimums l ws)
+result (received l ws) = map pos (dealtOut l ws)
+
+-- ---- the cases
+cases : List (Input × List ℤ)
+cases =
+    -- closing days: year 2021 on 359; January and first quarter 2021 on 363; second quarter 453
+    (closing 2020 17, pos 359 ∷ [])
+    ∷ (closing 2020 22, pos 363 ∷ [])
+    ∷ (closing 2020 18, pos 363 ∷ [])
+    ∷ (closing 2020 19, pos 453 ∷ [])
+    -- GGF
+    ∷ (ggfOfDeals ((10, 27500) ∷ (15, 27700) ∷ (5, 27600) ∷ (20, 27900) ∷ []), pos 27730 ∷ [])
+    ∷ (ggfWithQuotes ((20, 27900) ∷ []) 27500 27600, pos 27813 ∷ [])
+    -- the first close is of day 359, the third of day 363
+    ∷ (cascade 1 17, pos 0 ∷ pos 0 ∷ [])
+    ∷ (cascade 1 18, pos 3 ∷ pos 89000 ∷ [])
+    ∷ (cascade 1 19, pos 4 ∷ pos 120000 ∷ [])
+    ∷ (cascade 1 20, pos 4 ∷ pos 120000 ∷ [])
+    ∷ (cascade 1 21, pos 4 ∷ pos 120000 ∷ [])
+    ∷ (cascade 3 22, pos 3 ∷ pos 89000 ∷ [])
+    ∷ (cascade 3 23, pos 3 ∷ pos 89000 ∷ [])
+    ∷ (cascade 3 24, pos 3 ∷ pos 89000 ∷ [])
+    -- accepted with every leg at 31000, refused with any leg at 30900
+    ∷ (proposal 31000 31000 31000 31000, pos 0 ∷ [])
+    ∷ (proposal 30900 31000 31000 31000, pos 13 ∷ [])
+    ∷ (proposal 31000 30900 31000 31000, pos 13 ∷ [])
+    ∷ (proposal 31000 31000 30900 31000, pos 13 ∷ [])
+    ∷ (proposal 31000 31000 31000 30900, pos 13 ∷ [])
+    -- L = 10
+    ∷ (least 10 (890 ∷ 435 ∷ 580 ∷ 310 ∷ []), pos 5 ∷ pos 2 ∷ pos 3 ∷ pos 2 ∷ [])
+    ∷ (received 10 (890 ∷ 435 ∷ 580 ∷ 310 ∷ []), pos 3 ∷ pos 2 ∷ pos 3 ∷ pos 2 ∷ [])
+    ∷ []
+
+starred-cases : map (λ x. result (x .0)) cases ≡ map (λ x. x .1) cases
+unfolding computed result cases dayNumber quote dayPrice made order closes cascadeAfter leg proposalNumber
+starred-cases = refl

@@ -1,0 +1,124 @@
+-- Document 01, "Days and contracts": contracts.
+use Prim.Native.Nat.{ℕ, _+_, _*_, _-_, _/_, _%_}
+use mathlib.Core.Bool.{Bool, true, false, cond, _&&_}
+use mathlib.Core.List.{List, [], _++_}
+use lib.Dec.{eqb, leb, ltb}
+use lib.ListN.{take}
+use Rattle.arith.specs.Lists.{from, kept, any}
+use Rattle.rules.specs.declared.contract.ContractKind.{ContractKind}
+use Rattle.rules.specs.declared.contract.ContractKind.the-variants.{Year, Quarter, Month}
+use Rattle.rules.specs.declared.contract.Term.{Term}
+use Rattle.rules.specs.declared.units.Day.{Day}
+use Rattle.rules.specs.declared.units.Day.the-variants.{On, NoDay}
+use Rattle.rules.specs.Days.{Calendar, monthStart, firstMonth, businessDayBefore}
+
+-- ---- kinds
+-- The GGF threshold: 10, 20, 50 lots.
+abbrev pub thresholdOf : ContractKind → ℕ
+thresholdOf Year = 10
+thresholdOf Quarter = 20
+thresholdOf Month = 50
+
+-- How many of a kind are open: the first 4 years, 8 quarters, 15 months.
+abbrev pub openCount : ContractKind → ℕ
+openCount Year = 4
+openCount Quarter = 8
+openCount Month = 15
+
+-- A contract closes on the 5th business day before its first delivery day if it is a year, on the 3rd if a quarter or month (001, articles 4 and 5).
+abbrev pub closingDistance : ContractKind → ℕ
+closingDistance Year = 5
+closingDistance Quarter = 3
+closingDistance Month = 3
+
+abbrev pub monthsIn : ContractKind → ℕ
+monthsIn Year = 12
+monthsIn Quarter = 3
+monthsIn Month = 1
+
+abbrev pub sameKind : ContractKind → ContractKind → Bool
+sameKind Year Year = true
+sameKind Year Quarter = false
+sameKind Year Month = false
+sameKind Quarter Year = false
+sameKind Quarter Quarter = true
+sameKind Quarter Month = false
+sameKind Month Year = false
+sameKind Month Quarter = false
+sameKind Month Month = true
+
+-- ---- numbers
+-- Contract number = 17 times year index (0 to 5) + k: k = 0 year, 1 to 4 quarters, 5 to 16 months.
+unfoldable pub termOf : ℕ → Term
+termOf c =
+    cond (eqb (c % 17) 0) (record { kind = Year; index = c / 17 })
+    (cond (leb (c % 17) 4) (record { kind = Quarter; index = 4 * (c / 17) + (c % 17 - 1) })
+    (record { kind = Month; index = 12 * (c / 17) + (c % 17 - 5) }))
+
+abbrev pub kindOf : ℕ → ContractKind
+kindOf c = termOf c .kind
+
+-- All contracts of a kind, by delivery: within a kind the numbers rise with delivery.
+unfoldable pub contractsOf : ContractKind → List ℕ
+contractsOf s = kept (λ c. sameKind (kindOf c) s) (from 0 102)
+
+-- A year's four quarters, a quarter's three months.
+unfoldable pub childrenOf : ℕ → List ℕ
+childrenOf c = cond (eqb (c % 17) 0) (from (c + 1) 4) (cond (leb (c % 17) 4) (from (17 * (c / 17) + 5 + 3 * (c % 17 - 1)) 3) [])
+
+-- ---- periods
+-- The first delivery day, and the first day after the last.
+unfoldable pub firstDay : Calendar → Term → ℕ
+firstDay k t = monthStart (firstMonth k + monthsIn (t .kind) * t .index)
+
+unfoldable pub endDay : Calendar → Term → ℕ
+endDay k t = monthStart (firstMonth k + (monthsIn (t .kind) * t .index + monthsIn (t .kind)))
+
+-- How many days it delivers.
+unfoldable pub daysOf : Calendar → ℕ → ℕ
+daysOf k c = endDay k (termOf c) - firstDay k (termOf c)
+
+unfoldable pub holdsDay : Calendar → ℕ → ℕ → Bool
+holdsDay k c d = leb (firstDay k (termOf c)) d && ltb d (endDay k (termOf c))
+
+-- Every day has 24 delivery hours: hour h, counted from the first hour of day 0, is one of day h / 24.
+unfoldable pub holdsHour : Calendar → ℕ → ℕ → Bool
+holdsHour k c h = holdsDay k c (h / 24)
+
+-- ---- closing and open
+unfoldable pub closingDay : Calendar → Term → Day
+closingDay k t = businessDayBefore k (closingDistance (t .kind)) (firstDay k t)
+
+-- The closing day is day d or later; NoDay lies before day 0.
+abbrev pub notBefore : ℕ → Day → Bool
+notBefore d (On x) = leb d (x .0)
+notBefore d NoDay = false
+
+-- It is day d.
+abbrev pub isOn : ℕ → Day → Bool
+isOn d (On x) = eqb (x .0) d
+isOn d NoDay = false
+
+-- It is earlier than day d.
+abbrev pub isBefore : ℕ → Day → Bool
+isBefore d (On x) = ltb (x .0) d
+isBefore d NoDay = true
+
+-- The contract's closing day is day d or later.
+unfoldable pub stillToClose : Calendar → ℕ → Term → Bool
+stillToClose k d t = notBefore d (closingDay k t)
+
+-- Open on a day: of each kind, the first 4 years, 8 quarters, 15 months by delivery, among those in the ledger whose
+-- closing day is that day or later.
+unfoldable pub openOfKind : Calendar → ℕ → ContractKind → List ℕ
+openOfKind k d s = take (openCount s) (kept (λ c. stillToClose k d (termOf c)) (contractsOf s))
+
+unfoldable pub openContracts : Calendar → ℕ → List ℕ
+openContracts k d = openOfKind k d Year ++ (openOfKind k d Quarter ++ openOfKind k d Month)
+
+unfoldable pub openOn : Calendar → ℕ → ℕ → Bool
+openOn k d c = any (λ x. eqb x c) (openOfKind k d (kindOf c))
+
+-- A contract has cascaded once it is a year or quarter whose closing day is before the day.
+unfoldable pub hasCascaded : Calendar → ℕ → ℕ → Bool
+hasCascaded k d c = leb (c % 17) 4 && isBefore d (closingDay k (termOf c))

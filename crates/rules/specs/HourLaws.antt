@@ -1,0 +1,132 @@
+-- Delivery hours and months, the contracts that hold them, and the children of a contract. Assumes nothing.
+use Prim.Native.Nat.{ℕ, zero, suc, _+_, _*_, _-_, _/_, _%_, _≤_, _<_}
+use mathlib.Core.Path.{_≡_, sym, _∙_}
+use mathlib.Core.Bool.{Bool, true, false, _&&_, _||_}
+use mathlib.Core.List.{List, []}
+use native.Mathlib.Omega.{arith}
+use native.Mathlib.Nat.{add-zero}
+use lib.Dec.{T, eqb, leb, ltb}
+use borrow.Author.Tests.{le-leb, lt-leb, eq-eqb, ne-eqb}
+use Rattle.arith.specs.Lists.{from}
+use Rattle.arith.specs.Tests.{le-or-lt, same-or}
+use Rattle.arith.specs.Among.{by-span, every-from}
+use Rattle.rules.specs.Days.{Calendar, monthStart, firstMonth, spanStart, spanEnd}
+use Rattle.rules.specs.Contracts.{childrenOf, firstDay, endDay, holdsDay, holdsHour}
+use Rattle.rules.specs.CalendarLaws.{month-le, month-lt, firstMonthOf, term-year, term-quarter, term-month}
+use Rattle.rules.specs.Synthetic.{Named, inHour, balancedInHour, balanced}
+
+-- ---- the months of the span, counted from its first
+-- The hour lies in month i.
+pub record InMonth (k : Calendar) (i h : ℕ) : Type 0 where
+  pub begun : monthStart (firstMonth k + i) ≤ h / 24
+  pub unfinished : h / 24 < monthStart (firstMonth k + suc i)
+
+-- Every delivery hour lies in one of the 72 months.
+pub record MonthOfHour (k : Calendar) (h : ℕ) : Type 0 where
+  pub month : ℕ
+  pub month< : month < 72
+  pub lies : InMonth k month h
+
+pub month-of-hour : (k : Calendar) (h : ℕ) → 24 * spanStart k ≤ h → h < 24 * spanEnd k → MonthOfHour k h
+unfolding spanStart spanEnd
+month-of-hour k h from-start to-end = below 72 (omega arith) (omega arith)
+  where
+    below : (n : ℕ) → n ≤ 72 → h / 24 < monthStart (firstMonth k + n) → MonthOfHour k h
+    below zero l u = let e = add-zero (firstMonth k) in absurd (omega (arith, rw e at u))
+    below (suc n) l u =
+        le-or-lt (monthStart (firstMonth k + n)) (h / 24) (λ b. record { month = n; month< = omega arith; lies = record { begun = b; unfinished = u } })
+        (λ b. below n (omega arith) b)
+
+-- A month's first hour lies in it.
+pub first-hour : (k : Calendar) (i : ℕ) → InMonth k i (24 * monthStart (firstMonth k + i))
+first-hour k i = record { begun = omega arith; unfinished = omega (arith, month-lt (firstMonth k + i) (firstMonth k + suc i) (omega arith)) }
+
+-- ---- which contracts hold a month: its year, its quarter and the month itself
+abbrev pub yearOf : ℕ → ℕ
+yearOf i = 17 * (i / 12)
+
+abbrev pub quarterOf : ℕ → ℕ
+quarterOf i = 17 * (i / 12) + 1 + i % 12 / 3
+
+abbrev pub monthOf : ℕ → ℕ
+monthOf i = 17 * (i / 12) + 5 + i % 12
+
+unfoldable pub holdsMonth : ℕ → ℕ → Bool
+holdsMonth c i = eqb (yearOf i) c || (eqb (quarterOf i) c || eqb (monthOf i) c)
+
+module _ (c i : ℕ) where
+  holds-year : yearOf i ≡ c → holdsMonth c i ≡ true
+  unfolding holdsMonth
+  holds-year e = rw (eq-eqb (yearOf i) c e)
+
+  holds-quarter : quarterOf i ≡ c → holdsMonth c i ≡ true
+  unfolding holdsMonth
+  holds-quarter e = rw (ne-eqb (yearOf i) c (omega arith), eq-eqb (quarterOf i) c e)
+
+  holds-itself : monthOf i ≡ c → holdsMonth c i ≡ true
+  unfolding holdsMonth
+  holds-itself e = rw (ne-eqb (yearOf i) c (omega arith), ne-eqb (quarterOf i) c (omega arith), eq-eqb (monthOf i) c e)
+
+  holds-not : (yearOf i ≡ c → ⊥) → (quarterOf i ≡ c → ⊥) → (monthOf i ≡ c → ⊥) → holdsMonth c i ≡ false
+  unfolding holdsMonth
+  holds-not y q m = rw (ne-eqb (yearOf i) c y, ne-eqb (quarterOf i) c q, ne-eqb (monthOf i) c m)
+
+module _ (k : Calendar) (i h : ℕ) (lies : InMonth k i h) where
+  -- A month has begun exactly if it is no later than i.
+  begun-le : (j : ℕ) → monthStart (firstMonth k + j) ≤ h / 24 → j ≤ i
+  begun-le j b = le-or-lt j i (λ l. l) (λ l. absurd (omega (arith, month-le (firstMonth k + suc i) (firstMonth k + j) (omega arith))))
+
+  le-begun : (j : ℕ) → j ≤ i → monthStart (firstMonth k + j) ≤ h / 24
+  le-begun j l = omega (arith, month-le (firstMonth k + j) (firstMonth k + i) (omega arith))
+
+  -- So the hour lies in the w months from a on exactly if i is one of them.
+  in-months : (a w : ℕ) (b : Bool) → (a ≤ i → i < a + w → b ≡ true) → ((a ≤ i → i < a + w → ⊥) → b ≡ false)
+      → leb (monthStart (firstMonth k + a)) (h / 24) && ltb (h / 24) (monthStart (firstMonth k + (a + w))) ≡ b
+  in-months a w b f g =
+      let end = monthStart (firstMonth k + (a + w)) in
+      by-span (λ t. t ≡ b) (monthStart (firstMonth k + a)) end (h / 24)
+      (λ x y. sym (f (begun-le a x) (le-or-lt (a + w) i (λ l. absurd (omega (arith, le-begun (a + w) l))) (λ l. l))))
+      (λ out. sym (g (λ x y. out (le-begun a x) (le-or-lt end (h / 24) (λ l. absurd (omega (arith, begun-le (a + w) l))) (λ l. l)))))
+
+  -- Exactly three contracts hold the hour.
+  pub holds-hour : (c : ℕ) → holdsHour k c h ≡ holdsMonth c i
+  unfolding holdsHour holdsDay firstDay endDay
+  holds-hour c =
+      same-or (c % 17) 0
+      (λ z. rw (term-year c z) (in-months (12 * (c / 17)) 12 (holdsMonth c i) (λ x y. holds-year c i (omega arith))
+      (λ out. holds-not c i (λ e. out (omega arith) (omega arith)) (omega arith) (omega arith))))
+      (λ z. le-or-lt (c % 17) 4
+      (λ l. rw (term-quarter c (omega arith) l) (in-months (3 * (4 * (c / 17) + (c % 17 - 1))) 3 (holdsMonth c i) (λ x y. holds-quarter c i (omega arith))
+      (λ out. holds-not c i (omega arith) (λ e. out (omega arith) (omega arith)) (omega arith))))
+      (λ l. rw (term-month c l) (in-months (1 * (12 * (c / 17) + (c % 17 - 5))) 1 (holdsMonth c i) (λ x y. holds-itself c i (omega arith))
+      (λ out. holds-not c i (omega arith) (omega arith) (λ e. out (omega arith) (omega arith))))))
+
+-- Two hours of a month lie in the same contracts.
+pub same-month : (k : Calendar) (i h h′ : ℕ) → InMonth k i h → InMonth k i h′ → (c : ℕ) → holdsHour k c h ≡ holdsHour k c h′
+same-month k i h h′ l l′ c = holds-hour k i h l c ∙ sym (holds-hour k i h′ l′ c)
+
+-- ---- a proposal that is balanced in the first hour of each month is balanced in every hour
+pub balanced-every-hour : (k : Calendar) (ns : List Named) → T (balanced k ns) → (h : ℕ) → 24 * spanStart k ≤ h → h < 24 * spanEnd k → T (balancedInHour k ns h)
+unfolding balanced balancedInHour inHour
+balanced-every-hour k ns b h l u =
+    let m = month-of-hour k h l u in
+    let i = m .month in
+    simp (same-month k i h (24 * monthStart (firstMonth k + i)) (m .lies) (first-hour k i))
+    (every-from (λ i. balancedInHour k ns (24 * monthStart (firstMonth k + i))) 0 72 b i (omega arith) (omega (arith, m .month<)))
+
+-- ---- children
+-- The contracts that cascade: a year to its four quarters, a quarter to its three months.
+pub data Cascading (c : ℕ) : Type 0 where
+  year : c % 17 ≡ 0 → childrenOf c ≡ from (c + 1) 4 → Cascading c
+  quarter : 0 < c % 17 → c % 17 < 5 → childrenOf c ≡ from (firstMonthOf c) 3 → Cascading c
+
+pub cascading : (c : ℕ) → c % 17 < 5 → Cascading c
+unfolding childrenOf
+cascading c h =
+    same-or (c % 17) 0 (λ z. year z (rw (eq-eqb (c % 17) 0 z)))
+    (λ z. quarter (omega arith) h (rw (ne-eqb (c % 17) 0 z, le-leb (c % 17) 4 (omega arith))))
+
+-- A month has none.
+pub month-childless : (c : ℕ) → 5 ≤ c % 17 → childrenOf c ≡ []
+unfolding childrenOf
+month-childless c h = rw (ne-eqb (c % 17) 0 (omega arith), lt-leb (c % 17) 4 h)
