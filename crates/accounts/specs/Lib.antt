@@ -18,3 +18,4 @@ pub mod Closes
 pub mod Events
 pub mod Fresh
 pub mod TwoBookkeepers
+pub mod Refused

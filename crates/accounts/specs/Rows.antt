@@ -8,7 +8,7 @@ use lib.Dec.{eqb}
 use lib.ListN.{length, drop, getD, set, replicate, length-set, length-take, length-drop, length-replicate, getD-replicate}
 use lib.Seq.{getD-set-same, getD-set-other, getD-take, getD-drop}
 use lib.IntN.{ℤ, pos, _+ℤ_, +ℤ-assoc}
-use borrow.Author.Tests.{lt-leb, eqb-true, ne-eqb}
+use borrow.Author.Tests.{lt-leb, le-leb, eqb-true, ne-eqb}
 use Rattle.arith.specs.Alls.{All}
 use Rattle.arith.specs.Lists.{any, from, over}
 use Rattle.arith.specs.Ints.{when}
@@ -21,7 +21,7 @@ use Rattle.rules.specs.Contracts.{childrenOf}
 use Rattle.rules.specs.Ledger.{Line, posted}
 use Rattle.rules.specs.CloseOfDay.{contractRows, addedTo, zeroRows, cascaded}
 use Rattle.rules.specs.CalendarLaws.{firstMonthOf}
-use Rattle.rules.specs.HourLaws.{Cascading, year, quarter, cascading, month-childless}
+use Rattle.rules.specs.HourLaws.{Cascading, year, quarter, cascading}
 use Rattle.accounts.specs.Lines.{Fits, rowTotal}
 
 abbrev rowOf : List ℤ → ℕ → ℕ → ℤ
@@ -124,15 +124,16 @@ record Children (c : ℕ) : Type 0 where
   are : childrenOf c ≡ from first (suc more)
   after : c < first
   fit : first + suc more ≤ 102
+  parent : c % 17 ≤ 4
 
 children : (c : ℕ) → c < 102 → Cascading c → Children c
-children c h (year z e) = record { first = c + 1; more = 3; are = e; after = omega arith; fit = omega arith }
-children c h (quarter z y e) = record { first = firstMonthOf c; more = 2; are = e; after = omega arith; fit = omega arith }
+children c h (year z e) = record { first = c + 1; more = 3; are = e; after = omega arith; fit = omega arith; parent = omega arith }
+children c h (quarter z y e) = record { first = firstMonthOf c; more = 2; are = e; after = omega arith; fit = omega arith; parent = omega arith }
 
 -- A month's rows stay.
 pub cascaded-month : (n c : ℕ) (l : List ℤ) → 5 ≤ c % 17 → cascaded n c l ≡ l
 unfolding cascaded
-cascaded-month n c l h = rw (month-childless c h)
+cascaded-month n c l h = rw (lt-leb (c % 17) 4 h)
 
 module _ (n c : ℕ) (l : List ℤ) (s : 3264 ≤ length l) (hc : c < 102) (hn : n ≤ 32) where
   module _ (k : Children c) where
@@ -143,8 +144,8 @@ module _ (n c : ℕ) (l : List ℤ) (s : 3264 ≤ length l) (hc : c < 102) (hn :
     all-length = added-length n c hc hn (suc (k .more)) (k .first) l s (k .fit) (k .after)
 
     cascaded-parent : cascaded n c l ≡ over (c * 32) (replicate n (pos 0)) grownAll
-    unfolding cascaded zeroRows from
-    cascaded-parent = rw (k .are, lt-leb (length (from (k .first) (suc (k .more)))) 0 (omega arith))
+    unfolding cascaded zeroRows
+    cascaded-parent = rw (le-leb (c % 17) 4 (k .parent), k .are)
 
     parent-length : length (cascaded n c l) ≡ length l
     parent-length = rw cascaded-parent (put-length n c grownAll (omega (arith, all-length)) hc hn _ (length-replicate n (pos 0)) ∙ all-length)

@@ -21,8 +21,8 @@ use Rattle.rules.specs.Ledger.{Tables, lotsAt, valueAt}
 use Rattle.rules.specs.Records.{bytesOf}
 use Rattle.rules.specs.CloseOfDay.{priceOfDay}
 use Rattle.rules.specs.Default.{minimums, dealtOut}
-use Rattle.rules.specs.Refusals.{applySpec, makeSpec}
-use Rattle.rules.specs.Computed.{zeroTables, tablesAfter, computed}
+use Rattle.rules.specs.Refusals.{applySpec}
+use Rattle.rules.specs.Computed.{tablesAfter, madeLedger, orderBytes, closeBytes, proposalBytes, computed}
 
 -- What a case is asked of.
 data Input : Type 0 where
@@ -52,29 +52,18 @@ quote side p =
 dayPrice : List (ℕ × ℕ) → Option Order → Option Order → ℕ
 dayPrice deals b s = priceOfDay (thresholdOf Month) (total (λ d. d .0) deals) (total (λ d. d .0 * d .1) deals) 0 b s
 
--- Two members, no holidays, limits 1000.
-made : ℕ → Tables
-made start = makeSpec zeroTables (headerBytes (record { firstYear = 2020; startDay = start; members = 2; holidays = []; limits = 1000 ∷ 1000 ∷ [] })) .after
-
-order : ℕ → ℕ → Side → ℕ → ℕ → List ℕ
-order m c side p q =
-    bytesOf (Submit (record { time = 36000; member = m; contract = c; side = side; kind = Resting; price = record { 0 = p }; lots = record { 0 = q } })) []
-
-closes : ℕ → List (List ℕ)
-closes n = map (λ i. bytesOf (CloseOfDay 61200) []) (from 0 n)
-
 cascadeAfter : ℕ → Tables
-cascadeAfter n = tablesAfter (made 359) ((order 1 17 Sell 30000 4 ∷ order 0 17 Buy 30000 4 ∷ order 1 18 Buy 31000 1 ∷ order 0 18 Sell 31000 1 ∷ []) ++ closes n)
+cascadeAfter n =
+    tablesAfter (madeLedger 2020 359)
+    ((orderBytes 1 17 Sell 30000 4 ∷ orderBytes 0 17 Buy 30000 4 ∷ orderBytes 1 18 Buy 31000 1 ∷ orderBytes 0 18 Sell 31000 1 ∷ []) ++ map (λ i. closeBytes) (from 0 n))
 
-leg : ℕ → ℕ → Leg
-leg n p = record { order = n; lots = record { 0 = 1 }; price = record { 0 = p } }
-
-proposalNumber : List Leg → ℕ
+proposalNumber : List (ℕ × ℕ) → ℕ
 proposalNumber legs =
     told
     (applySpec
-    (tablesAfter (made 359) (order 0 18 Buy 31000 1 ∷ order 1 22 Sell 31000 1 ∷ order 1 23 Sell 30500 1 ∷ order 1 24 Sell 30000 1 ∷ []))
-    (bytesOf (Proposal 4) legs)
+    (tablesAfter (madeLedger 2020 359)
+    (orderBytes 0 18 Buy 31000 1 ∷ orderBytes 1 22 Sell 31000 1 ∷ orderBytes 1 23 Sell 30500 1 ∷ orderBytes 1 24 Sell 30000 1 ∷ []))
+    (proposalBytes legs)
     .answer)
     .number
 
@@ -83,7 +72,7 @@ result (closing y c) = pos (dayNumber (closingDay (record { firstYear = y; holid
 result (ggfOfDeals deals) = pos (dayPrice deals none none) ∷ []
 result (ggfWithQuotes deals b s) = pos (dayPrice deals (quote Buy b) (quote Sell s)) ∷ []
 result (cascade n c) = let t = cascadeAfter n in lotsAt t c 0 ∷ valueAt t c 0 ∷ []
-result (proposal a b c d) = pos (proposalNumber (leg 0 a ∷ leg 1 b ∷ leg 2 c ∷ leg 3 d ∷ [])) ∷ []
+result (proposal a b c d) = pos (proposalNumber ((0, a) ∷ (1, b) ∷ (2, c) ∷ (3, d) ∷ [])) ∷ []
 result (least l ws) = map pos (minimums l ws)
 result (received l ws) = map pos (dealtOut l ws)
 
@@ -119,5 +108,5 @@ cases =
     ∷ []
 
 starred-cases : map (λ x. result (x .0)) cases ≡ map (λ x. x .1) cases
-unfolding computed result cases dayNumber quote dayPrice made order closes cascadeAfter leg proposalNumber
+unfolding computed result cases dayNumber quote dayPrice cascadeAfter proposalNumber
 starred-cases = refl

@@ -1,5 +1,5 @@
 -- Document 01, "Close of day".
-use Prim.Native.Nat.{ℕ, _+_, _*_, _/_}
+use Prim.Native.Nat.{_%_, ℕ, _+_, _*_, _/_}
 use mathlib.Core.Bool.{Bool, true, false, cond, not, _&&_, _||_}
 use mathlib.Core.List.{List, [], _∷_, _++_, zipWith}
 use mathlib.Core.Option.{Option, none, some}
@@ -81,7 +81,7 @@ zeroRows n c l = over (c * 32) (replicate n (pos 0)) l
 
 -- A year's rows are added to its four quarters, a quarter's to its three months, and set to zero; a month's rows stay.
 unfoldable pub cascaded : ℕ → ℕ → List ℤ → List ℤ
-cascaded n c l = cond (leb (length (childrenOf c)) 0) l (zeroRows n c (addedTo n c (childrenOf c) l))
+cascaded n c l = cond (leb (c % 17) 4) (zeroRows n c (addedTo n c (childrenOf c) l)) l
 
 -- A closing contract: its resting orders go, its rows cascade.
 unfoldable pub closeContract : ℕ → Tables → Tables

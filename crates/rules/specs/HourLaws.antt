@@ -125,8 +125,3 @@ unfolding childrenOf
 cascading c h =
     same-or (c % 17) 0 (λ z. year z (rw (eq-eqb (c % 17) 0 z)))
     (λ z. quarter (omega arith) h (rw (ne-eqb (c % 17) 0 z, le-leb (c % 17) 4 (omega arith))))
-
--- A month has none.
-pub month-childless : (c : ℕ) → 5 ≤ c % 17 → childrenOf c ≡ []
-unfolding childrenOf
-month-childless c h = rw (ne-eqb (c % 17) 0 (omega arith), lt-leb (c % 17) 4 h)
