@@ -2,11 +2,11 @@
 use mathlib.Core.Path.{_≡_, refl, sym}
 use mathlib.Core.Bool.{Bool, true, false, not, cond, _||_}
 use mathlib.Core.List.{List, [], _∷_, _++_, append-nil}
-use Prim.Native.Nat.{ℕ, _+_, _≤_, _<_}
+use Prim.Native.Nat.{ℕ, _≤_, _<_}
 use native.Mathlib.Omega.{arith}
 use lib.Dec.{leb, ltb}
 use lib.ListN.{length}
-use lib.IntN.{ℤ, pos, _+ℤ_}
+use lib.IntN.{_+ℤ_}
 use borrow.Author.Tests.{leb-true, ltb-true, ltb-false}
 use Rattle.arith.specs.Tests.{and-right}
 use Rattle.arith.specs.Alls.{all-hold, All, all-map, every-all}
@@ -15,7 +15,7 @@ use Rattle.rules.specs.declared.order.Order.{Order}
 use Rattle.rules.specs.Answers.{Outcome, decide}
 use Rattle.rules.specs.Contracts.{hasCascaded}
 use Rattle.rules.specs.Header.{Header, calendarOf}
-use Rattle.rules.specs.Ledger.{Tables, Line, members, holidayCount, orders, ledgerShort, linesShort, lineLots, lineValue, posted, booked}
+use Rattle.rules.specs.Ledger.{Tables, Line, members, holidayCount, orders, ledgerShort, linesShort, lineLots, lineValue, booked}
 use Rattle.rules.specs.Refusals.{headSound, orderSound, bookSound, damaged}
 use Rattle.rules.specs.Accounts.{Column, lots, value, row, amount, isAccepted, linesOf}
 use Rattle.accounts.specs.Lines.{Fits, rowTotal}

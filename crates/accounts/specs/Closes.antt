@@ -1,5 +1,5 @@
 -- The close of day is a list of cascades; then the day is the next one.
-use mathlib.Core.Path.{_≡_, refl, sym, ap, subst, _∙_}
+use mathlib.Core.Path.{_≡_, refl, sym, ap, _∙_}
 use mathlib.Core.Bool.{Bool, true, false, not, cond, _&&_, _||_, or-true}
 use mathlib.Core.List.{List, [], _∷_, _++_, append-nil}
 use Prim.Native.Nat.{ℕ, zero, suc, _+_, _*_, _/_, _%_, _≤_, _<_}
@@ -7,26 +7,26 @@ use native.Mathlib.Omega.{arith}
 use lib.Dec.{T, eqb, leb, ltb}
 use lib.ListN.{length, getD, set, replicate, length-set, length-replicate}
 use lib.Seq.{getD-set-other, getD-set-same}
-use lib.IntN.{ℤ, pos, _+ℤ_}
+use lib.IntN.{pos, _+ℤ_}
 use borrow.Author.Tests.{leb-true, ltb-true, le-leb, lt-leb, eqb-true, eq-eqb, ne-eqb}
 use Rattle.arith.specs.Alls.{All, every-all, all-map, all-kept}
 use Rattle.arith.specs.Among.{by-among, every-from}
 use Rattle.arith.specs.Ints.{when}
 use Rattle.arith.specs.Lists.{every, any, kept, over, from}
 use Rattle.arith.specs.Overs.{over-outside}
-use Rattle.arith.specs.Tests.{never, by-bool, by-eqb, le-or-lt, true-or, and-left, and-right, passed}
+use Rattle.arith.specs.Tests.{never, by-eqb, le-or-lt, true-or, and-left, and-right, passed}
 use Rattle.rules.specs.declared.contract.ContractKind.the-variants.{Year, Quarter, Month}
 use Rattle.rules.specs.declared.order.Order.{Order}
 use Rattle.rules.specs.declared.units.Day.{Day}
 use Rattle.rules.specs.declared.units.Day.the-variants.{On, NoDay}
 use Rattle.rules.specs.declared.units.DayNo.{DayNo}
 use Rattle.rules.specs.Days.{Calendar, nextBusinessDay}
-use Rattle.rules.specs.Contracts.{termOf, contractsOf, childrenOf, closingDay, notBefore, isOn, isBefore, stillToClose, openOn, hasCascaded}
+use Rattle.rules.specs.Contracts.{termOf, contractsOf, childrenOf, closingDay, notBefore, isOn, isBefore, stillToClose, hasCascaded}
 use Rattle.rules.specs.CalendarLaws.{firstMonthOf, next-business, before-or-not, closes-today, closed-by-next, quarter-later-by-number, open-stays, open-in-ledger, open-to-close}
 use Rattle.rules.specs.HourLaws.{Cascading, year, quarter, cascading}
 use Rattle.rules.specs.Header.{Header, calendarOf}
 use Rattle.rules.specs.Ledger.{Tables, Line, members, day, calendar, orders, withOrders, withoutSubmits, firstLines}
-use Rattle.rules.specs.CloseOfDay.{cascaded, closeContract, closingContracts, closeAll, priced, hasNextDay, nextDay, onDay, closeBooked}
+use Rattle.rules.specs.CloseOfDay.{closeContract, closingContracts, closeAll, priced, nextDay, onDay, closeBooked}
 use Rattle.rules.specs.Accounts.{Column, lots, value, row}
 use Rattle.accounts.specs.Cascade.{cascade-keeps}
 use Rattle.accounts.specs.Heads.{SameHeader, field, changing, same-header, then-same, set-other, over-other, but-the-day}

@@ -1,15 +1,12 @@
 -- Every kind of record, and every call, shows what a call has to show.
 use mathlib.Core.Path.{_≡_, refl, sym, ap, subst, _∙_}
-use mathlib.Core.Bool.{Bool, true, false, not, cond, _&&_, _||_}
+use mathlib.Core.Bool.{true, false, not, cond, _&&_, _||_}
 use mathlib.Core.List.{List, [], _∷_}
-use Prim.Native.Nat.{ℕ, _+_, _*_, _≤_, _<_}
+use Prim.Native.Nat.{ℕ}
 use native.Mathlib.Omega.{arith}
 use lib.Dec.{eqb, leb, ltb}
-use lib.ListN.{length, set}
-use lib.IntN.{ℤ}
+use lib.ListN.{length}
 use borrow.Author.Tests.{leb-true, ltb-true}
-use Rattle.arith.specs.Alls.{All}
-use Rattle.arith.specs.Lists.{kept, every}
 use Rattle.arith.specs.Tests.{never, by-bool, and-left, and-right}
 use Rattle.rules.specs.declared.answer.Answer.{Answer}
 use Rattle.rules.specs.declared.answer.Answer.the-variants.{RecordUnsound}
@@ -24,16 +21,14 @@ use Rattle.rules.specs.declared.event.Reading.the-variants.{Sound, Unsound}
 use Rattle.rules.specs.declared.event.Submission.{Submission}
 use Rattle.rules.specs.declared.units.Day.{Day}
 use Rattle.rules.specs.declared.units.Day.the-variants.{On, NoDay}
-use Rattle.rules.specs.Answers.{Outcome}
 use Rattle.rules.specs.Days.{nextBusinessDay}
-use Rattle.rules.specs.Contracts.{hasCascaded}
 use Rattle.rules.specs.Header.{Header, calendarOf, membersSound}
-use Rattle.rules.specs.Ledger.{Tables, Line, withLines, withPrices, members, day, calendar, isOpen, orders, withOrders, timed, booked, ledgerShort, linesShort}
+use Rattle.rules.specs.Ledger.{Tables, members, day, ledgerShort, linesShort}
 use Rattle.rules.specs.Records.{timeSound, contractSound, priceSound, lotsSound, eventSound, fieldsOf, legsOf, ifSound, readOf}
 use Rattle.rules.specs.CloseOfDay.{hasNextDay, closeBooked}
 use Rattle.rules.specs.Refusals.{damaged, isCancelled, submitCauses, cancelCauses, limitsCauses, proposalCauses, defaultCauses, closeOutCauses, closeCauses, submitSpec, cancelSpec, limitsSpec, proposalSpec, defaultSpec, closeOutSpec, closeSpec, eventSpec, readingSpec, applySpec}
 use Rattle.rules.specs.Accounts.{isAccepted, dayReached, dayAfterEvent}
-use Rattle.accounts.specs.Runs.{Runs, orders-same, runs-calendar}
+use Rattle.accounts.specs.Runs.{Runs, runs-calendar}
 use Rattle.accounts.specs.Runs as runs
 use Rattle.accounts.specs.Calls.{Does, refused-does, decide-shows, not-false, sound-of}
 use Rattle.accounts.specs.Submits.{submit-does}

@@ -1,21 +1,21 @@
 -- A ledger made from a sound header: its head says the header, its book is empty, its rows are zero.
-use mathlib.Core.Path.{_≡_, refl, sym, ap, _∙_}
-use mathlib.Core.Bool.{Bool, true, false, not, _&&_}
+use mathlib.Core.Path.{_≡_, sym, ap, _∙_}
+use mathlib.Core.Bool.{true, _&&_}
 use mathlib.Core.List.{List, [], _∷_, _++_}
-use Prim.Native.Nat.{ℕ, zero, suc, _+_, _*_, _-_, _≤_, _<_, min}
+use Prim.Native.Nat.{ℕ, zero, suc, _+_, _*_, _≤_, _<_}
 use native.Mathlib.Omega.{arith}
 use native.Mathlib.Nat.{suc-mul, zero-add}
-use lib.Dec.{T, eqb, leb, ltb}
-use lib.ListN.{length, getD, take, drop, replicate, length-take, length-drop, length-append, length-replicate, getD-replicate, List·getD-append}
+use lib.Dec.{eqb, leb}
+use lib.ListN.{length, getD, take, drop, replicate, length-take, length-drop, length-replicate, getD-replicate, List·getD-append}
 use lib.Seq.{getD-append-add, getD-take, getD-drop, ext-getD}
-use lib.IntN.{ℤ, pos, _+ℤ_}
+use lib.IntN.{ℤ, pos}
 use borrow.Author.Tests.{leb-true, eqb-true}
 use Rattle.arith.specs.Lists.{over, inEachBlock, every, from}
 use Rattle.arith.specs.Overs.{over-length, over-inside, over-outside}
-use Rattle.arith.specs.Tests.{and-left, and-right, passed}
-use Rattle.rules.specs.Header.{Header, calendarOf, calendarSound, daySound, membersSound, limitSound, rising, headerSound, headerOf, beginsWithHeader}
+use Rattle.arith.specs.Tests.{and-left, and-right}
+use Rattle.rules.specs.Header.{Header, calendarOf, calendarSound, daySound, membersSound, limitSound, rising, headerSound}
 use Rattle.rules.specs.Days.{inSpan}
-use Rattle.rules.specs.Ledger.{Tables, members, holidayCount, holidays, day, orders, orderCount, freshHead, freshPrices, freshRows, fresh}
+use Rattle.rules.specs.Ledger.{Tables, members, holidays, orders, freshHead, freshRows, fresh}
 use Rattle.rules.specs.Accounts.{Column, lots, value, row}
 use Rattle.accounts.specs.Runs.{Runs}
 

@@ -1,21 +1,20 @@
 -- Records that print no lines but the close of day, and the close-out.
-use mathlib.Core.Path.{_≡_, refl, sym, ap, _∙_}
+use mathlib.Core.Path.{_≡_, refl, sym, ap, subst, _∙_}
 use mathlib.Core.Bool.{Bool, true, false, not, _&&_}
 use mathlib.Core.List.{List, []}
-use Prim.Native.Nat.{ℕ, _+_, _*_, _≤_, _<_}
+use Prim.Native.Nat.{ℕ, _+_, _<_}
 use native.Mathlib.Omega.{arith}
 use lib.Dec.{eqb, ltb}
 use lib.ListN.{length, set}
 use Rattle.arith.specs.Alls.{All, all-map, all-kept}
 use Rattle.arith.specs.Lists.{kept}
-use Rattle.rules.specs.declared.event.Cancellation.{Cancellation}
 use Rattle.rules.specs.declared.event.CloseOutTerms.{CloseOutTerms}
 use Rattle.rules.specs.declared.order.Order.{Order}
-use Rattle.rules.specs.Contracts.{openOn, hasCascaded}
+use Rattle.rules.specs.Contracts.{hasCascaded}
 use Rattle.rules.specs.Header.{Header, calendarOf}
 use Rattle.rules.specs.Ledger.{Tables, members, isOpen, withHead, withPrices, orders, withOrders, timed, booked}
 use Rattle.rules.specs.Default.{sumOf, lotsLeft, weights, closeOutLines, closeOutBooked, defaultBooked}
-use Rattle.accounts.specs.Lines.{hourTotal}
+use Rattle.accounts.specs.Lines.{Fits, hourTotal}
 use Rattle.accounts.specs.Heads.{SameHeader, changing, ofMember, same-header, then-same, set-other}
 use Rattle.accounts.specs.Holds.{Fair}
 use Rattle.accounts.specs.Runs.{InOpen, Runs, Sound, orders-same}
@@ -59,11 +58,8 @@ module _ (h : Header) (d : ℕ) (t : Tables) (r : Runs h d t) (s : Sound t) wher
   close-out-does e o c< w =
       booked-does h d (closeOutLines t e) t t r s (same-header 4 (t .head)) (r .resting) refl refl
       (record {
-        fits = ap-fits (close-out-fits t e c<);
+        fits = subst (λ n. All (Fits n) (closeOutLines t e)) (r .size) (close-out-fits t e c<);
         balanced = λ x hour b. close-out-balanced t e w (calendarOf h) x hour;
         clear = all-map (λ l. l .contract ≡ e .contract) (λ l. hasCascaded (calendarOf h) d (l .contract) ≡ false) (closeOutLines t e)
             (λ l q. ap (hasCascaded (calendarOf h) d) q ∙ open-not-cascaded (calendarOf h) d (e .contract) (sym (open-here h d t (e .contract) r) ∙ o)) (close-out-contract t e);
       })
-    where
-      ap-fits : All (Rattle.accounts.specs.Lines.Fits (members t)) (closeOutLines t e) → All (Rattle.accounts.specs.Lines.Fits (h .members)) (closeOutLines t e)
-      ap-fits f = rw (r .size) at f

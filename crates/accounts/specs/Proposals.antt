@@ -6,9 +6,9 @@ use mathlib.Core.Option.{Option, none, some}
 use Prim.Native.Nat.{ℕ, zero, suc, _+_, _*_, _<_}
 use native.Mathlib.Omega.{arith}
 use native.Mathlib.Nat.{zero-mul, zero-add}
-use lib.Dec.{T, eqb}
+use lib.Dec.{eqb}
 use lib.ListN.{length}
-use lib.IntN.{ℤ, pos, negℤ, _+ℤ_, _*ℤ_, +ℤ-assoc, +ℤ-idl, +ℤ-invr, negℤ-+ℤ, pos-+ℤ-pos}
+use lib.IntN.{ℤ, pos, negℤ, _+ℤ_, _*ℤ_, +ℤ-assoc, +ℤ-idl, +ℤ-invr, negℤ-+ℤ}
 use borrow.Author.Tests.{eqb-true}
 use Rattle.arith.specs.Ints.{when}
 use Rattle.arith.specs.Alls.{All, all-hold, all-map}
@@ -20,15 +20,15 @@ use Rattle.rules.specs.declared.order.Order.{Order}
 use Rattle.rules.specs.declared.order.Side.{Side}
 use Rattle.rules.specs.declared.order.Side.the-variants.{Buy, Sell}
 use Rattle.rules.specs.Days.{Calendar}
-use Rattle.rules.specs.Contracts.{holdsHour, openOn, hasCascaded}
+use Rattle.rules.specs.Contracts.{holdsHour, hasCascaded}
 use Rattle.rules.specs.Header.{Header, calendarOf}
-use Rattle.rules.specs.Ledger.{Tables, Line, members, calendar, orders, withOrders, booked}
-use Rattle.rules.specs.Matching.{sameSide, signed, used}
+use Rattle.rules.specs.Ledger.{Tables, members, orders, withOrders}
+use Rattle.rules.specs.Matching.{sameSide, signed, withLots, used}
 use Rattle.rules.specs.Synthetic.{numbered, Named, namedLegs, legLots, legValue, inHour, balancedInHour, balanced, acceptable, legLine, proposalLines, usedByLegs, proposalBooked}
 use Rattle.rules.specs.HourLaws.{balanced-every-hour}
-use Rattle.rules.specs.Accounts.{Column, lots, value, amount, DeliveryHour}
+use Rattle.rules.specs.Accounts.{Column, lots, value, amount}
 use Rattle.accounts.specs.Lines.{Fits, hourTotal}
-use Rattle.accounts.specs.Heads.{SameHeader, changing, set-other}
+use Rattle.accounts.specs.Heads.{changing, set-other}
 use Rattle.accounts.specs.Holds.{Fair}
 use Rattle.accounts.specs.Runs.{InOpen, Runs, Sound, runs-calendar}
 use Rattle.accounts.specs.Written.{orders-written}
@@ -54,7 +54,7 @@ module _ (P : Order → Type 0) where
       go none e ih = rw (e, namedLegs) ih
       go (some o) e ih = rw (e, namedLegs) (numbered-all (g .order) os o h e, ih)
 
-  legs-rest : (gs : List Leg) (os : List Order) → ((o : Order) (q : ℕ) → P o → P (Rattle.rules.specs.Matching.withLots q o)) → All P os → All P (usedByLegs gs os)
+  legs-rest : (gs : List Leg) (os : List Order) → ((o : Order) (q : ℕ) → P o → P (withLots q o)) → All P os → All P (usedByLegs gs os)
   unfolding usedByLegs
   legs-rest [] os f h = h
   legs-rest (g ∷ gs) os f h = legs-rest gs (used (g .order) (g .lots .0) os) f (used-all P (g .order) (g .lots .0) os h (λ o p _. f o _ p))

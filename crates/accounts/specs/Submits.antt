@@ -1,14 +1,13 @@
 -- A submit: its deals' lines come in pairs, and its orders rest in open contracts.
 use mathlib.Core.Path.{_≡_, refl, sym, ap, _∙_}
-use mathlib.Core.Bool.{Bool, true, false, not, cond, _&&_, _||_}
+use mathlib.Core.Bool.{Bool, true, false, cond}
 use mathlib.Core.List.{List, [], _∷_, _++_, flatMap}
-use Prim.Native.Nat.{ℕ, _+_, _*_, _-_, _%_, _≤_, _<_, min}
+use Prim.Native.Nat.{ℕ, _+_, _%_, _<_}
 use native.Mathlib.Omega.{arith}
 use lib.Dec.{leb, ltb}
-use lib.ListN.{length, set, replicate, length-set}
-use lib.IntN.{ℤ, pos, negℤ, _+ℤ_, _*ℤ_, +ℤ-invr, +ℤ-invl, zero-*ℤ}
+use lib.ListN.{length, set, replicate}
+use lib.IntN.{ℤ, pos, _+ℤ_, _*ℤ_, +ℤ-invr, +ℤ-invl, zero-*ℤ}
 use Rattle.arith.specs.Ints.{when}
-use Rattle.arith.specs.Lists.{over}
 use Rattle.arith.specs.Alls.{All, all-always, all-map, all-append}
 use Rattle.arith.specs.Tests.{by-bool, and-false}
 use Rattle.arith.specs.Sums.{sorted, *ℤ-distrib}
@@ -20,9 +19,9 @@ use Rattle.rules.specs.Days.{Calendar}
 use Rattle.rules.specs.Contracts.{holdsHour, termOf, closingDay, stillToClose, openOn, hasCascaded}
 use Rattle.rules.specs.CalendarLaws.{before-or-not, open-to-close}
 use Rattle.rules.specs.Header.{Header, calendarOf}
-use Rattle.rules.specs.Ledger.{Tables, Line, members, day, isOpen, time, accepted, submits, withHead, orders, withOrders, withoutSubmits, timed, booked}
-use Rattle.rules.specs.Matching.{signed, otherSide, best, opposes, withLots, used, Deal, Matched, afterDeal, stopped, matching, matched, dealLines, incoming, submitMatched, submitLines, wouldRest, submitOrders, withDeals, counted, submitBooked}
-use Rattle.rules.specs.Accounts.{Column, lots, value, amount, DeliveryHour}
+use Rattle.rules.specs.Ledger.{Tables, Line, members, day, isOpen, time, accepted, submits, withHead, orders, withOrders, withoutSubmits, timed}
+use Rattle.rules.specs.Matching.{signed, otherSide, opposes, withLots, Deal, matching, matched, dealLines, incoming, submitMatched, submitLines, wouldRest, submitOrders, withDeals, counted, submitBooked}
+use Rattle.rules.specs.Accounts.{Column, lots, value, amount}
 use Rattle.accounts.specs.Lines.{Fits, hourTotal}
 use Rattle.accounts.specs.Heads.{SameHeader, changing, ofMember, same-header, then-same, set-other, over-other}
 use Rattle.accounts.specs.Holds.{Fair}

@@ -1,23 +1,21 @@
 -- Demand 3, proved: for every sound header and every list of calls, from the fresh ledger.
-use mathlib.Core.Path.{_≡_, refl, sym, ap, _∙_}
-use mathlib.Core.Bool.{Bool, true, false, not, cond, _&&_, _||_}
+use mathlib.Core.Path.{_≡_, refl, ap, _∙_}
+use mathlib.Core.Bool.{true, not, cond, _&&_}
 use mathlib.Core.List.{List, [], _∷_, _++_, append-nil, append-assoc}
-use Prim.Native.Nat.{ℕ, _≤_, _<_}
-use native.Mathlib.Omega.{arith}
-use lib.Dec.{T, leb, ltb}
+use Prim.Native.Nat.{ℕ}
+use lib.Dec.{T, leb}
 use lib.ListN.{length, take}
 use lib.IntN.{ℤ, pos}
-use borrow.Author.Tests.{ltb-false}
 use Rattle.arith.specs.Alls.{All}
-use Rattle.arith.specs.Ints.{when, sum}
+use Rattle.arith.specs.Ints.{when}
 use Rattle.arith.specs.Sums.{when-zero, sum-zero, sum-ext}
 use Rattle.arith.specs.Tests.{and-right, passed, failed}
 use Rattle.rules.specs.Contracts.{holdsHour, openOn, hasCascaded}
 use Rattle.rules.specs.Header.{Header, calendarOf, sameBytes, lettersAndVersion, headerLength, headerOf, headerSound, beginsWithHeader}
 use Rattle.rules.specs.Ledger.{Tables, Line, withLines, orders, ledgerShort, fresh}
 use Rattle.rules.specs.Records.{readOf}
-use Rattle.rules.specs.Refusals.{applySpec, makeSpec}
-use Rattle.rules.specs.Accounts.{Column, lots, value, row, amount, Call, callSpec, after, isAccepted, linesOf, log, engineAccount, entered, otherAccount, dayAfterEvent, listsDay, Agrees, Demand3}
+use Rattle.rules.specs.Refusals.{makeSpec}
+use Rattle.rules.specs.Accounts.{Column, lots, value, row, Call, callSpec, after, isAccepted, linesOf, log, engineAccount, entered, otherAccount, dayAfterEvent, listsDay, Demand3}
 use Rattle.accounts.specs.Holds.{Holds, holds-same}
 use Rattle.accounts.specs.Runs.{Runs, orders-same}
 use Rattle.accounts.specs.Calls.{rowsOf, long-enough}

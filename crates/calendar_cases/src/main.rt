@@ -7,6 +7,25 @@ use rules::DayNo;
 // 25, 29 and 30 December 2020: a Friday, a Tuesday, a Wednesday.
 const HOLIDAYS: [u64; 3] = [359, 363, 364];
 
+// The public holidays of Turkey in 2021: 1 January, 23 April, 1 May, 13 to 15 and 19 May, 15 July, 20 to 23 July,
+// 30 August, 29 October. Two of them fall on weekend days.
+const FEASTS: [u64; 14] = [
+    366,
+    478,
+    486,
+    498,
+    499,
+    500,
+    504,
+    561,
+    566,
+    567,
+    568,
+    569,
+    607,
+    667,
+];
+
 fn print(n: u64) {
     io::print_decimal(STDOUT_FILENO, n);
     io::write_all(STDOUT_FILENO, b"\n");
@@ -39,6 +58,20 @@ fn print_open(holidays: &[u64], day: DayNo) {
     }
 }
 
+// A 1 for each business day from `from` up to but not including `end`, a 0 for each other day.
+fn print_business_days(holidays: &[u64], from: u64, end: u64) {
+    let mut day = from;
+    while day < end {
+        if calendar::is_business_day(holidays, DayNo(day)) {
+            io::write_all(STDOUT_FILENO, b"1");
+        } else {
+            io::write_all(STDOUT_FILENO, b"0");
+        }
+        day += 1;
+    }
+    io::write_all(STDOUT_FILENO, b"\n");
+}
+
 fn main() {
     let holidays = HOLIDAYS;
     // Year 2021, its January, its first and second quarter; the year 2020 closed before day 0.
@@ -58,4 +91,6 @@ fn main() {
     print(calendar::days_of(2020, 6));
     print(calendar::days_of(2020, 18));
     print_open(&holidays[..0], DayNo(363));
+    let feasts = FEASTS;
+    print_business_days(&feasts, 366, 731);
 }

@@ -6,9 +6,6 @@ use mathlib.Core.Option.{Option, none, some}
 use lib.IntN.{ℤ, pos}
 use Rattle.arith.specs.Lists.{total, from}
 use Rattle.rules.specs.declared.contract.ContractKind.the-variants.{Month}
-use Rattle.rules.specs.declared.event.Event.the-variants.{Submit, Proposal, CloseOfDay}
-use Rattle.rules.specs.declared.event.Leg.{Leg}
-use Rattle.rules.specs.declared.event.OrderKind.the-variants.{Resting}
 use Rattle.rules.specs.declared.order.Order.{Order}
 use Rattle.rules.specs.declared.order.Side.{Side}
 use Rattle.rules.specs.declared.order.Side.the-variants.{Buy, Sell}
@@ -16,9 +13,7 @@ use Rattle.rules.specs.declared.units.Day.{Day}
 use Rattle.rules.specs.declared.units.Day.the-variants.{On, NoDay}
 use Rattle.rules.specs.Answers.{told}
 use Rattle.rules.specs.Contracts.{thresholdOf, termOf, closingDay}
-use Rattle.rules.specs.Header.{headerBytes}
 use Rattle.rules.specs.Ledger.{Tables, lotsAt, valueAt}
-use Rattle.rules.specs.Records.{bytesOf}
 use Rattle.rules.specs.CloseOfDay.{priceOfDay}
 use Rattle.rules.specs.Default.{minimums, dealtOut}
 use Rattle.rules.specs.Refusals.{applySpec}

@@ -4,7 +4,7 @@ use mathlib.Core.Bool.{Bool, true, false, cond, not, _&&_, _||_}
 use mathlib.Core.List.{List, [], _∷_, _++_, zipWith}
 use mathlib.Core.Option.{Option, none, some}
 use lib.Dec.{eqb, leb, ltb}
-use lib.ListN.{length, take, drop, set, replicate}
+use lib.ListN.{take, drop, set, replicate}
 use lib.IntN.{ℤ, pos, _+ℤ_}
 use Rattle.arith.specs.Lists.{kept, over, inEachBlock}
 use Rattle.rules.specs.declared.answer.Answer.the-variants.{Accepted}
