@@ -1,6 +1,6 @@
 -- What is refused changes nothing: one law of decide, for every kind of record.
 use mathlib.Core.Path.{_≡_, refl}
-use mathlib.Core.Bool.{Bool, false, _||_}
+use mathlib.Core.Bool.{Bool, false, not, _||_}
 use mathlib.Core.List.{List, [], _∷_}
 use Prim.Native.Nat.{ℕ}
 use Rattle.arith.specs.Alls.{All}
@@ -11,14 +11,16 @@ use Rattle.rules.specs.declared.event.Event.the-variants.{Submit, Cancel, DayLi
 use Rattle.rules.specs.declared.event.Leg.{Leg}
 use Rattle.rules.specs.declared.event.Reading.{Reading}
 use Rattle.rules.specs.declared.event.Reading.the-variants.{Sound, Unsound}
+use Rattle.rules.specs.declared.answer.Answer.the-variants.{Accepted}
+use Rattle.rules.specs.Header.{headerOf, beginsWithHeader}
 use Rattle.rules.specs.Answers.{Outcome, decide}
-use Rattle.rules.specs.Ledger.{Tables, Line, members, booked, ledgerShort, linesShort}
+use Rattle.rules.specs.Ledger.{Tables, Line, members, booked, ledgerShort, linesShort, fresh}
 use Rattle.rules.specs.Records.{legsOf, readOf}
 use Rattle.rules.specs.Matching.{submitBooked}
 use Rattle.rules.specs.Synthetic.{proposalBooked}
 use Rattle.rules.specs.CloseOfDay.{closeBooked}
 use Rattle.rules.specs.Default.{defaultBooked, closeOutBooked}
-use Rattle.rules.specs.Refusals.{damaged, submitCauses, cancelCauses, limitsCauses, proposalCauses, defaultCauses, closeOutCauses, closeCauses, submitSpec, cancelSpec, limitsSpec, proposalSpec, defaultSpec, closeOutSpec, closeSpec, eventSpec, readingSpec, applySpec}
+use Rattle.rules.specs.Refusals.{damaged, submitCauses, cancelCauses, limitsCauses, proposalCauses, defaultCauses, closeOutCauses, closeCauses, submitSpec, cancelSpec, limitsSpec, proposalSpec, defaultSpec, closeOutSpec, closeSpec, eventSpec, readingSpec, applySpec, makeSpec}
 use Rattle.rules.specs.Accounts.{isAccepted}
 use Rattle.accounts.specs.Calls.{decide-shows}
 
@@ -54,3 +56,10 @@ unfolding applySpec
 refused-changes-nothing t bytes =
     decide-leaves t (readingSpec t (readOf (members t) bytes) (legsOf bytes)) ((ledgerShort t || linesShort t || damaged t, _) ∷ []) (refl, tt)
     (reading-leaves t (readOf (members t) bytes) (legsOf bytes))
+
+-- after 1 or 2 no ledger is made
+pub refused-makes-nothing : (t : Tables) (bytes : List ℕ) → isAccepted (makeSpec t bytes .answer) ≡ false → makeSpec t bytes .after ≡ t
+unfolding makeSpec
+refused-makes-nothing t bytes =
+    decide-leaves t (record { answer = Accepted 0; after = fresh (headerOf bytes) t }) ((ledgerShort t, _) ∷ (not (beginsWithHeader bytes), _) ∷ []) (refl, (refl, tt))
+    (λ e. never e)

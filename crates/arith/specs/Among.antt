@@ -35,6 +35,10 @@ both : (a b : Bool) → T (a && b) → T a × T b
 both true b t = (tt, t)
 both false b t = absurd t
 
+each : (a b : Bool) → T a → T b → T (a && b)
+each true b t u = u
+each false b t u = t
+
 -- what each of them passes, this one passes
 pub every-from : (p : ℕ → Bool) (a n : ℕ) → T (every p (from a n)) → (i : ℕ) → a ≤ i → i < a + n → T (p i)
 unfolding every from
@@ -42,3 +46,9 @@ every-from p a zero t i h k = absurd (omega arith)
 every-from p a (suc n) t i h k =
     let b = both (p a) (every p (from (suc a) n)) t in
     same-or i a (λ e. rw e (b .0)) (λ e. every-from p (suc a) n (b .1) i (omega arith) (omega arith))
+
+-- and back
+pub from-every : (p : ℕ → Bool) (a n : ℕ) → ((i : ℕ) → a ≤ i → i < a + n → T (p i)) → T (every p (from a n))
+unfolding every from
+from-every p a zero f = tt
+from-every p a (suc n) f = each (p a) (every p (from (suc a) n)) (f a (omega arith) (omega arith)) (from-every p (suc a) n (λ i h k. f i (omega arith) (omega arith)))

@@ -37,7 +37,8 @@ pub record Outcome (S : Type 0) : Type 0 where
   pub answer : Answer
   pub after : S
 
--- Lower number wins: the causes stand in rising number, and the first that holds refuses and leaves all as it was.
+-- Lower number wins: a record's causes stand in rising number, and the first that holds refuses and leaves all as it was.
+-- (A writer's stand in the order in which it tests.)
 abbrev pub decide : {S : Type 0} → List (Bool × Answer) → S → Outcome S → Outcome S
 decide [] s booked = booked
 decide ((true, a) ∷ causes) s booked = record { answer = a; after = s }

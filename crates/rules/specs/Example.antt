@@ -4,10 +4,10 @@ use mathlib.Core.Path.{_≡_, refl}
 use mathlib.Core.List.{List, [], _∷_, _++_, map}
 use lib.IntN.{ℤ, pos, negsuc}
 use Rattle.arith.specs.Lists.{from}
-use Rattle.rules.specs.declared.event.Event.the-variants.{Default, CloseOut}
+use Rattle.rules.specs.declared.event.Event.the-variants.{Default, CloseOut, CloseOfDay}
 use Rattle.rules.specs.declared.order.Side.the-variants.{Buy, Sell}
 use Rattle.rules.specs.Records.{bytesOf}
-use Rattle.rules.specs.Ledger.{lotsAt, valueAt, Line, lotsRun}
+use Rattle.rules.specs.Ledger.{ggf, lotsAt, valueAt, Line, lotsRun}
 use Rattle.rules.specs.Refusals.{makeSpec}
 use Rattle.rules.specs.Computed.{Printed, zeroTables, allPrinted, tablesAfter, madeLedger, orderBytes, closeBytes, proposalBytes, computed}
 
@@ -100,3 +100,32 @@ cascade-rows : rowAfter 1 17 ∷ rowAfter 1 18 ∷ rowAfter 1 19 ∷ rowAfter 3 
     ∷ []
 unfolding computed
 cascade-rows = refl
+
+-- ---- priority: the best price first, then the lower number; a remainder keeps its priority
+priority-printed : allPrinted (madeLedger 2021 369)
+    (orderBytes 0 17 Sell 26000 2 ∷ orderBytes 1 17 Sell 25900 2 ∷ orderBytes 0 17 Sell 25900 2 ∷ orderBytes 2 17 Buy 26000 3 ∷ orderBytes 2 17 Buy 26000 2 ∷ [])
+    ≡ booked 0 []
+    ∷ booked 0 []
+    ∷ booked 0 []
+    ∷ booked 4 (line 2 17 (pos 2) 25900 ∷ line 1 17 (negsuc 1) 25900 ∷ line 2 17 (pos 1) 25900 ∷ line 0 17 (negsuc 0) 25900 ∷ [])
+    ∷ booked 4 (line 2 17 (pos 1) 25900 ∷ line 0 17 (negsuc 0) 25900 ∷ line 2 17 (pos 1) 26000 ∷ line 0 17 (negsuc 0) 26000 ∷ [])
+    ∷ []
+unfolding computed
+priority-printed = refl
+
+-- ---- the GGF of a month with two quotes of 50 lots, entered at 36000 s: they count at a close 300 s later, not before;
+-- 49 lots do not quote
+abbrev ggfAfter : ℕ → ℕ → ℕ
+ggfAfter q s = ggf (tablesAfter (madeLedger 2021 369) (orderBytes 0 22 Buy 27500 50 ∷ orderBytes 1 22 Sell 27601 q ∷ bytesOf (CloseOfDay s) [] ∷ [])) 22
+
+quotes-count : ggfAfter 50 36300 ∷ ggfAfter 50 36299 ∷ ggfAfter 49 36300 ∷ [] ≡ 27551 ∷ 0 ∷ 0 ∷ []
+unfolding computed
+quotes-count = refl
+
+-- ---- step 1, a defaulted long against a defaulted short; step 2, the rest of the long to the other member
+netting-printed : allPrinted
+    (tablesAfter (madeLedger 2021 369) (orderBytes 0 17 Buy 26000 12 ∷ orderBytes 1 17 Sell 26000 10 ∷ orderBytes 2 17 Sell 26000 2 ∷ closeBytes ∷ bytesOf (Default 0) [] ∷ bytesOf (Default 1) [] ∷ []))
+    (bytesOf (CloseOut (record { contract = 17; ratio = 1 })) [] ∷ [])
+    ≡ booked 4 (line 0 17 (negsuc 9) 26000 ∷ line 1 17 (pos 10) 26000 ∷ line 0 17 (negsuc 1) 26000 ∷ line 2 17 (pos 2) 26000 ∷ []) ∷ []
+unfolding computed
+netting-printed = refl

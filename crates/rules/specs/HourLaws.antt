@@ -9,7 +9,7 @@ use lib.Dec.{T, eqb, leb, ltb}
 use borrow.Author.Tests.{le-leb, eq-eqb, ne-eqb}
 use Rattle.arith.specs.Lists.{from}
 use Rattle.arith.specs.Tests.{le-or-lt, same-or}
-use Rattle.arith.specs.Among.{by-span, every-from}
+use Rattle.arith.specs.Among.{by-span, every-from, from-every}
 use Rattle.rules.specs.Days.{Calendar, monthStart, firstMonth, spanStart, spanEnd}
 use Rattle.rules.specs.Contracts.{childrenOf, firstDay, endDay, holdsDay, holdsHour}
 use Rattle.rules.specs.CalendarLaws.{month-le, month-lt, firstMonthOf, term-year, term-quarter, term-month}
@@ -113,6 +113,14 @@ balanced-every-hour k ns b h l u =
     let i = m .month in
     simp (same-month k i h (24 * monthStart (firstMonth k + i)) (m .lies) (first-hour k i))
     (every-from (λ i. balancedInHour k ns (24 * monthStart (firstMonth k + i))) 0 72 b i (omega arith) (omega (arith, m .month<)))
+
+-- and one that is balanced in every hour of the six years is balanced
+pub every-hour-balanced : (k : Calendar) (ns : List Named) → ((h : ℕ) → 24 * spanStart k ≤ h → h < 24 * spanEnd k → T (balancedInHour k ns h)) → T (balanced k ns)
+unfolding balanced spanStart spanEnd
+every-hour-balanced k ns f =
+    from-every (λ i. balancedInHour k ns (24 * monthStart (firstMonth k + i))) 0 72
+    (λ i _ l. f (24 * monthStart (firstMonth k + i)) (omega (arith, month-le (firstMonth k) (firstMonth k + i) (omega arith)))
+    (omega (arith, month-lt (firstMonth k + i) (firstMonth k + 72) (omega arith))))
 
 -- ---- children
 -- The contracts that cascade: a year to its four quarters, a quarter to its three months.

@@ -16,3 +16,4 @@ pub mod Bytes
 pub mod Computed
 pub mod Cases
 pub mod Example
+pub mod Numbers
