@@ -48,7 +48,7 @@ decide-shows P t o ((true, a) ∷ cs) f r g = f a (r .0)
 decide-shows P t o ((false, a) ∷ cs) f r g = decide-shows P t o cs f (r .1) (λ q. g (refl, q))
 
 -- ---- a record with lines
-booked-row : (n : ℕ) (ls : List Line) (t t′ : Tables) → Sound t → n ≤ 32 → All (Fits n) ls → t′ .lots ≡ t .lots → t′ .value ≡ t .value
+pub booked-row : (n : ℕ) (ls : List Line) (t t′ : Tables) → Sound t → n ≤ 32 → All (Fits n) ls → t′ .lots ≡ t .lots → t′ .value ≡ t .value
     → (x : Column) (c m : ℕ) → m < 32 → row x (booked ls t′ .after) c m ≡ row x t c m +ℤ rowTotal (amount x) c m ls
 unfolding booked
 booked-row n ls t t′ s q f e v lots c m b = rw e (posted-row n lineLots ls (t .lots) c m (s .lots-long) f q b)

@@ -18,7 +18,7 @@ use Rattle.rules.specs.Accounts.{engineAccount, DeliveryHour}
 use Rattle.rules.specs.CalendarLaws.{firstMonthOf}
 use Rattle.rules.specs.HourLaws.{InMonth, month-of-hour, yearOf, quarterOf, monthOf, holdsMonth, holds-hour, Cascading, year, quarter, cascading}
 
-abbrev isChild : ℕ → ℕ → Bool
+abbrev pub isChild : ℕ → ℕ → Bool
 isChild c d = any (λ x. eqb x d) (childrenOf c)
 
 -- Of three rows the first goes to the second, or the second to the third, or all stay.
@@ -30,15 +30,15 @@ one-to-next false false x y z w e f g = simp sorted
 
 -- Of the three, the quarter alone is a child of the year, and the month alone one of the quarter.
 module _ (c i : ℕ) where
-  year-no-child : Cascading c → isChild c (yearOf i) ≡ false
+  pub year-no-child : Cascading c → isChild c (yearOf i) ≡ false
   year-no-child (year z e) = rw e (not-among (c + 1) 4 (yearOf i) (omega arith))
   year-no-child (quarter z y e) = rw e (not-among (firstMonthOf c) 3 (yearOf i) (λ h k. le-or-lt (i / 12) (c / 17) (omega arith) (omega arith)))
 
-  quarter-child : Cascading c → isChild c (quarterOf i) ≡ eqb c (yearOf i)
+  pub quarter-child : Cascading c → isChild c (quarterOf i) ≡ eqb c (yearOf i)
   quarter-child (year z e) = rw e (among-if (c + 1) 4 (quarterOf i) c (yearOf i) (omega arith) (omega arith))
   quarter-child (quarter z y e) = rw e (among-if (firstMonthOf c) 3 (quarterOf i) c (yearOf i) (λ h k. le-or-lt (i / 12) (c / 17) (omega arith) (omega arith)) (omega arith))
 
-  month-child : Cascading c → isChild c (monthOf i) ≡ eqb c (quarterOf i)
+  pub month-child : Cascading c → isChild c (monthOf i) ≡ eqb c (quarterOf i)
   month-child (year z e) = rw e (among-if (c + 1) 4 (monthOf i) c (quarterOf i) (λ h k. le-or-lt (c / 17) (i / 12) (omega arith) (omega arith)) (omega arith))
   month-child (quarter z y e) =
       rw e (among-if (firstMonthOf c) 3 (monthOf i) c (quarterOf i) (λ h k. let same : c / 17 ≡ i / 12 = omega arith in omega arith) (omega arith))

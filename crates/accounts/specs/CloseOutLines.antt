@@ -130,7 +130,7 @@ zip-length f (x ∷ xs) [] n d e = e
 zip-length f (x ∷ xs) (y ∷ ys) zero d e = absurd (omega arith)
 zip-length f (x ∷ xs) (y ∷ ys) (suc n) d e = ap suc (zip-length f xs ys n (omega arith) (omega arith))
 
-from-length : (a n : ℕ) → length (from a n) ≡ n
+pub from-length : (a n : ℕ) → length (from a n) ≡ n
 unfolding from
 from-length a zero = refl
 from-length a (suc n) = ap suc (from-length (suc a) n)

@@ -199,6 +199,14 @@ contracts-below : every (λ c. ltb c 102) all-contracts ≡ true
 unfolding contractsOf kept from every termOf
 contracts-below = refl
 
+-- each is one of the 102 and closes today
+pub closing-today : (t : Tables) → All (λ c. (c < 102) × (isOn (day t) (closingDay (calendar t) (termOf c)) ≡ true)) (closingContracts t)
+unfolding closingContracts
+closing-today t =
+    let p : ℕ → Bool = λ c. isOn (day t) (closingDay (calendar t) (termOf c)) in
+    all-map (λ c. (ltb c 102 ≡ true) × (p c ≡ true)) (λ c. (c < 102) × (p c ≡ true)) (kept p all-contracts) (λ c q. (ltb-true c 102 (q .0), q .1))
+    (all-kept (λ c. ltb c 102 ≡ true) p all-contracts (every-all (λ c. ltb c 102) all-contracts contracts-below))
+
 contracts-listed : T (every (λ c. any (λ x. eqb x c) all-contracts) (from 0 102))
 unfolding contractsOf kept from every any termOf
 contracts-listed = tt
@@ -222,7 +230,7 @@ closing-header [] u = same-header 4 (u .head)
 closing-header (c ∷ cs) u = then-same (set-other 4 (u .head) 7 _ (omega arith) (changing (omega arith) (omega arith))) (closing-header cs (closeContract c u))
 
 -- ---- the new day
-day-header : (x : ℕ) (v : Tables) → 224 ≤ length (v .head) → SameHeader 3 (v .head) (onDay x v .head)
+pub day-header : (x : ℕ) (v : Tables) → 224 ≤ length (v .head) → SameHeader 3 (v .head) (onDay x v .head)
 unfolding onDay withoutSubmits
 day-header x v b =
     let l = over 192 (replicate (members v) 0) (v .head) in
@@ -253,11 +261,7 @@ module _ (h : Header) (d : ℕ) (t : Tables) (r : Runs h d t) (s : Sound t) (n :
   closes-here c = ap (λ k. isOn (day t) (closingDay k (termOf c))) (runs-calendar r) ∙ ap (λ x. isOn x (closingDay (calendarOf h) (termOf c))) (r .today)
 
   closing-all : All (λ c. (c < 102) × (closes c ≡ true)) (closingContracts t)
-  unfolding closingContracts
-  closing-all =
-      let p : ℕ → Bool = λ c. isOn (day t) (closingDay (calendar t) (termOf c)) in
-      all-map (λ c. (ltb c 102 ≡ true) × (p c ≡ true)) (λ c. (c < 102) × (closes c ≡ true)) (kept p all-contracts) (λ c q. (ltb-true c 102 (q .0), sym (closes-here c) ∙ q .1))
-      (all-kept (λ c. ltb c 102 ≡ true) p all-contracts (every-all (λ c. ltb c 102) all-contracts contracts-below))
+  closing-all = all-map _ (λ c. (c < 102) × (closes c ≡ true)) (closingContracts t) (λ c q. (q .0, sym (closes-here c) ∙ q .1)) (closing-today t)
 
   closing-listed : (c : ℕ) → c < 102 → closes c ≡ true → any (λ x. eqb x c) (closingContracts t) ≡ true
   unfolding closingContracts

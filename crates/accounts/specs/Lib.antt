@@ -8,6 +8,7 @@ pub mod Runs
 pub mod Written
 pub mod Calls
 pub mod Matches
+pub mod Remains
 pub mod Submits
 pub mod OnePrice
 pub mod DealtOut
@@ -15,7 +16,10 @@ pub mod CloseOutLines
 pub mod Proposals
 pub mod Kinds
 pub mod Closes
+pub mod Books
 pub mod Events
 pub mod Fresh
+pub mod Bounds
+pub mod RowsStay
 pub mod TwoBookkeepers
 pub mod Refused

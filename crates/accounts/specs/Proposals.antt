@@ -59,7 +59,7 @@ module _ (P : Order → Type 0) where
   legs-rest [] os f h = h
   legs-rest (g ∷ gs) os f h = legs-rest gs (used (g .order) (g .lots .0) os) f (used-all P (g .order) (g .lots .0) os h (λ o p _. f o _ p))
 
-mapped-all : {A B : Type 0} (P : B → Type 0) (f : A → B) (l : List A) → All (λ a. P (f a)) l → All P (map f l)
+pub mapped-all : {A B : Type 0} (P : B → Type 0) (f : A → B) (l : List A) → All (λ a. P (f a)) l → All P (map f l)
 mapped-all P f [] h = tt
 mapped-all P f (x ∷ l) h = (h .0, mapped-all P f l (h .1))
 
@@ -130,7 +130,7 @@ hour-nothing k x h ns e =
 
 -- ---- a proposal
 module _ (h : Header) (d : ℕ) (t : Tables) (r : Runs h d t) (s : Sound t) (legs : List Leg) (ok : acceptable t legs ≡ true) where
-  proposal-fair : Fair h (hasCascaded (calendarOf h) d) (proposalLines t legs)
+  pub proposal-fair : Fair h (hasCascaded (calendarOf h) d) (proposalLines t legs)
   unfolding proposalLines acceptable
   proposal-fair =
       let ns = namedLegs (orders t) legs in

@@ -1,17 +1,19 @@
 -- What holds of the lent tables all along a list: the header's fields, the list's day, and where orders rest.
 use mathlib.Core.Path.{_≡_, refl, ap, _∙_}
-use mathlib.Core.Bool.{true}
+use mathlib.Core.Bool.{true, cond}
 use mathlib.Core.List.{List}
 use Prim.Native.Nat.{ℕ, _+_, _≤_, _<_}
 use native.Mathlib.Omega.{arith}
-use lib.ListN.{length, take, drop}
+use lib.Dec.{ltb}
+use lib.ListN.{length, set, take, drop, replicate}
 use lib.Seq.{getD-set-other}
 use Rattle.arith.specs.Alls.{All}
+use Rattle.arith.specs.Tests.{by-bool}
 use Rattle.rules.specs.declared.order.Order.{Order}
 use Rattle.rules.specs.Contracts.{openOn}
 use Rattle.rules.specs.Header.{Header, calendarOf}
-use Rattle.rules.specs.Ledger.{Tables, Line, firstYear, members, holidayCount, holidays, day, calendar, orderCount, orders, lotsRun, lineRun, booked}
-use Rattle.accounts.specs.Heads.{SameHeader, field, changing, then-same, set-other, same-holidays}
+use Rattle.rules.specs.Ledger.{Tables, Line, firstYear, members, holidayCount, holidays, day, time, calendar, orderCount, withHead, orders, withoutSubmits, timed, lotsRun, lineRun, booked}
+use Rattle.accounts.specs.Heads.{SameHeader, field, changing, same-header, then-same, set-other, over-other, same-holidays}
 
 -- an order of a contract that is open on day d
 abbrev pub InOpen : Header → ℕ → Order → Type 0
@@ -41,6 +43,15 @@ pub record Sound (t : Tables) : Type 0 where
   pub few-holidays : holidayCount t ≤ 120
   pub few-members : members t ≤ 32
   pub placed : All (λ o. (o .contract < 102) × (o .member < members t)) (orders t)
+
+-- an accepted record's time leaves the header
+pub timed-same : (n : ℕ) (t : Tables) → Sound t → SameHeader 4 (t .head) (timed n t .head)
+unfolding timed withoutSubmits
+timed-same n t s =
+    by-bool (λ b. SameHeader 4 (t .head) ((cond b (withHead (set (withoutSubmits t .head) 4 n) t) t) .head)) (ltb (time t) n)
+    (λ _. then-same (over-other 4 (t .head) (replicate (members t) 0) 192 (omega arith) (omega arith) (omega (arith, s .head-long)))
+    (set-other 4 (withoutSubmits t .head) 4 n (omega arith) (changing (omega arith) (omega arith))))
+    (λ _. same-header 4 (t .head))
 
 -- the tables after a record whose head kept the header, with these orders; with f = 3 the day is another one
 pub runs-with : (f : ℕ) (h : Header) (d d′ : ℕ) (t t′ : Tables) → 3 ≤ f → Runs h d t → Sound t → SameHeader f (t .head) (t′ .head)

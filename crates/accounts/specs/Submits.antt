@@ -5,7 +5,7 @@ use mathlib.Core.List.{List, [], _∷_, _++_, flatMap}
 use Prim.Native.Nat.{ℕ, _+_, _%_, _<_}
 use native.Mathlib.Omega.{arith}
 use lib.Dec.{leb, ltb}
-use lib.ListN.{length, set, replicate}
+use lib.ListN.{length, set}
 use lib.IntN.{ℤ, pos, _+ℤ_, _*ℤ_, +ℤ-invr, +ℤ-invl, zero-*ℤ}
 use Rattle.arith.specs.Ints.{when}
 use Rattle.arith.specs.Alls.{All, all-always, all-map, all-append}
@@ -23,9 +23,9 @@ use Rattle.rules.specs.Ledger.{Tables, Line, members, day, isOpen, time, accept
 use Rattle.rules.specs.Matching.{signed, otherSide, opposes, withLots, Deal, matching, matched, dealLines, incoming, submitMatched, submitLines, wouldRest, submitOrders, withDeals, counted, submitBooked}
 use Rattle.rules.specs.Accounts.{Column, lots, value, amount}
 use Rattle.accounts.specs.Lines.{Fits, hourTotal}
-use Rattle.accounts.specs.Heads.{SameHeader, changing, ofMember, same-header, then-same, set-other, over-other}
+use Rattle.accounts.specs.Heads.{SameHeader, changing, ofMember, then-same, set-other}
 use Rattle.accounts.specs.Holds.{Fair}
-use Rattle.accounts.specs.Runs.{InOpen, Runs, Sound, runs-calendar}
+use Rattle.accounts.specs.Runs.{InOpen, Runs, Sound, runs-calendar, timed-same}
 use Rattle.accounts.specs.Calls.{Does, booked-does}
 use Rattle.accounts.specs.Written.{orders-written}
 use Rattle.accounts.specs.Matches.{best-all, used-all, by-deals}
@@ -51,7 +51,7 @@ unfolding hourTotal flatMap
 deals-balanced k x h o [] = refl
 deals-balanced k x h o (d ∷ ds) = both-when (holdsHour k (o .contract) h) _ _ _ (pair-cancels x o d) (deals-balanced k x h o ds)
 
-deals-each : (P : Line → Type 0) (o : Order) (ds : List Deal) → All (λ d. All P (dealLines o d)) ds → All P (flatMap (dealLines o) ds)
+pub deals-each : (P : Line → Type 0) (o : Order) (ds : List Deal) → All (λ d. All P (dealLines o d)) ds → All P (flatMap (dealLines o) ds)
 unfolding flatMap
 deals-each P o [] h = tt
 deals-each P o (d ∷ ds) h = (h .0 .0, (h .0 .1 .0, deals-each P o ds (h .1)))
@@ -63,7 +63,7 @@ module _ (P : Order → Type 0) (keep : (o : Order) (q : ℕ) → P o → P (wit
   resting-all = by-deals (λ o os m. All P os → All P (m .resting)) (λ o os a. a)
       (λ o r os m e l ih a. ih (used-all P (r .number) _ os a (λ b p _. keep b _ p)))
 
-  dealt-all : (n : ℕ) (o : Order) (os : List Order) → All P os → All (λ d. P (d .resting)) (matching n o os .deals)
+  pub dealt-all : (n : ℕ) (o : Order) (os : List Order) → All P os → All (λ d. P (d .resting)) (matching n o os .deals)
   dealt-all = by-deals (λ o os m. All P os → All (λ d. P (d .resting)) (m .deals)) (λ o os a. tt)
       (λ o r os m e l ih a.
       (best-all P (opposes o) os (all-map P (λ b. opposes o b ≡ true → P b) os (λ b p _. p) a) r e, ih (used-all P (r .number) _ os a (λ b p _. keep b _ p))))
@@ -81,12 +81,7 @@ open-not-cascaded k d c e = rw (before-or-not d (closingDay k (termOf c)), open-
 module _ (h : Header) (d : ℕ) (t : Tables) (r : Runs h d t) (s : Sound t) where
   -- an accepted record's time
   pub timed-header : (n : ℕ) → SameHeader 4 (t .head) (timed n t .head)
-  unfolding timed withoutSubmits
-  timed-header n =
-      by-bool (λ b. SameHeader 4 (t .head) ((cond b (withHead (set (withoutSubmits t .head) 4 n) t) t) .head)) (ltb (time t) n)
-      (λ _. then-same (over-other 4 (t .head) (replicate (members t) 0) 192 (omega arith) (omega arith) (omega (arith, s .head-long)))
-      (set-other 4 (withoutSubmits t .head) 4 n (omega arith) (changing (omega arith) (omega arith))))
-      (λ _. same-header 4 (t .head))
+  timed-header n = timed-same n t s
 
   pub timed-rows : (n : ℕ) → (timed n t .lots ≡ t .lots) × (timed n t .value ≡ t .value) × (timed n t .book ≡ t .book)
   unfolding timed
@@ -98,7 +93,7 @@ module _ (h : Header) (d : ℕ) (t : Tables) (r : Runs h d t) (s : Sound t) wher
     here : openOn (calendarOf h) d (e .contract) ≡ true
     here = sym (open-here h d t (e .contract) r) ∙ opened
 
-    submit-fair : Fair h (hasCascaded (calendarOf h) d) (submitLines t e)
+    pub submit-fair : Fair h (hasCascaded (calendarOf h) d) (submitLines t e)
     unfolding submitLines submitMatched matched
     submit-fair =
         let o = incoming t e in

@@ -2,6 +2,9 @@
 use mathlib.Core.Path.{_≡_, refl}
 use mathlib.Core.Bool.{Bool, true, cond}
 use mathlib.Core.List.{List, [], _∷_, _++_}
+use Prim.Native.Nat.{ℕ, suc, _<_}
+use native.Mathlib.Omega.{arith}
+use lib.ListN.{length, getD}
 use Rattle.arith.specs.Lists.{every, kept, allOf}
 use Rattle.arith.specs.Tests.{by-bool, and-left, and-right}
 
@@ -30,6 +33,12 @@ module _ {A : Type 0} where
   unfolding every
   all-every p [] h = refl
   all-every p (x ∷ l) h = rw (h .0) (all-every p l (h .1))
+
+  -- a list passes if each of its places does
+  pub every-place : (p : A → Bool) (z : A) (l : List A) → ((i : ℕ) → i < length l → p (getD l i z) ≡ true) → every p l ≡ true
+  unfolding every
+  every-place p z [] f = refl
+  every-place p z (x ∷ l) f = rw (f 0 (omega arith)) (every-place p z l (λ i h. f (suc i) (omega arith)))
 
   pub all-always : (P : A → Type 0) (l : List A) → ((a : A) → P a) → All P l
   all-always P [] f = tt

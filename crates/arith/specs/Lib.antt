@@ -9,3 +9,5 @@ pub mod Alls
 pub mod Overs
 pub mod Among
 pub mod Terms
+pub mod Sizes
+pub mod EachBlock

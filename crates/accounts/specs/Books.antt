@@ -1,0 +1,419 @@
+-- The book stays sound: after every record its orders are sound, no two share a number, and there are 256 at most.
+use mathlib.Core.Path.{_≡_, refl, sym, ap, subst, _∙_}
+use mathlib.Core.Bool.{Bool, true, false, not, cond, _&&_}
+use mathlib.Core.List.{List, [], _∷_, _++_, flatMap}
+use Prim.Native.Nat.{ℕ, zero, suc, _+_, _*_, _≤_, _<_}
+use native.Mathlib.Omega.{arith}
+use lib.Dec.{T, eqb, leb, ltb}
+use lib.ListN.{length, getD, set, take, drop, replicate, length-map, length-append, length-replicate}
+use lib.Seq.{getD-append-add, getD-set-other, getD-set-same}
+use borrow.Author.Tests.{leb-true, leb-false, ltb-true, le-leb, lt-ltb, ne-eqb}
+use Rattle.arith.specs.Alls.{All, all-hold, hold-all, every-all, all-every, all-map, all-append}
+use Rattle.arith.specs.Among.{from-every}
+use Rattle.arith.specs.Lists.{every, kept, from, over}
+use Rattle.arith.specs.Overs.{over-outside}
+use Rattle.arith.specs.Tests.{by-bool, passed, and-left, and-right}
+use Rattle.rules.specs.declared.answer.Answer.{Answer}
+use Rattle.rules.specs.declared.event.CloseOutTerms.{CloseOutTerms}
+use Rattle.rules.specs.declared.event.Event.{Event}
+use Rattle.rules.specs.declared.event.Event.the-variants.{Submit, Cancel, DayLimits, Proposal, Default, CloseOut, CloseOfDay}
+use Rattle.rules.specs.declared.event.Leg.{Leg}
+use Rattle.rules.specs.declared.event.Submission.{Submission}
+use Rattle.rules.specs.declared.order.Order.{Order}
+use Rattle.rules.specs.declared.order.Side.{Side}
+use Rattle.rules.specs.declared.order.Side.the-variants.{Buy, Sell}
+use Rattle.rules.specs.Answers.{Outcome, decide}
+use Rattle.rules.specs.Days.{inSpan, businessDay}
+use Rattle.rules.specs.Header.{daySound}
+use Rattle.rules.specs.Ledger.{Tables, Line, withHead, withPrices, members, holidayCount, day, time, accepted, submits, calendar, orderCount, sideAt, sideNumber, orderPlaces, orders, withOrders, withoutSubmits, timed, booked}
+use Rattle.rules.specs.Records.{timeSound, contractSound, priceSound, lotsSound, eventSound}
+use Rattle.rules.specs.Matching.{withLots, Matched, matched, incoming, submitMatched, submitLines, isResting, wouldRest, submitOrders, withDeals, counted, submitBooked}
+use Rattle.rules.specs.Synthetic.{usedByLegs, proposalLines, proposalBooked}
+use Rattle.rules.specs.Default.{closeOutLines, closeOutBooked, defaultBooked}
+use Rattle.rules.specs.CloseOfDay.{closeContract, closingContracts, closeAll, priced, nextDay, onDay, closeBooked}
+use Rattle.rules.specs.Refusals.{headSound, orderSound, sidesSound, bookSound, damaged, isCancelled, submitCauses, cancelCauses, limitsCauses, proposalCauses, defaultCauses, closeOutCauses, closeCauses, submitSpec, cancelSpec, limitsSpec, proposalSpec, defaultSpec, closeOutSpec, closeSpec, eventSpec}
+use Rattle.rules.specs.Accounts.{isAccepted}
+use Rattle.accounts.specs.Heads.{SameHeader, field, changing, ofMember, same-header, then-same, set-other, same-holidays, but-the-day}
+use Rattle.accounts.specs.Runs.{Sound, orders-same, timed-same}
+use Rattle.accounts.specs.Written.{orders-written}
+use Rattle.accounts.specs.Calls.{decide-shows, not-false}
+use Rattle.accounts.specs.CloseOutLines.{from-length}
+use Rattle.accounts.specs.Closes.{day-header}
+use Rattle.accounts.specs.Remains.{Remain, Distinct, remain-same, remain-then, remain-length, remain-all, remain-distinct, distinct-more, distinct-orders, orders-distinct, kept-remain, legs-remain, matching-remain, deals-total, HasLots, deals-few}
+
+-- ---- orders
+-- what the soundness of an order reads of the tables: the members and the calendar stand, accepted submits do not fall
+pub record SameTerms (t t′ : Tables) : Type 0 where
+  pub more : accepted t ≤ accepted t′
+  pub size : members t′ ≡ members t
+  pub days : calendar t′ ≡ calendar t
+
+-- so it is after a record whose head kept the header; with f = 3 the day is another one
+pub header-terms : {f : ℕ} (t t′ : Tables) → 3 ≤ f → Sound t → SameHeader f (t .head) (t′ .head) → accepted t ≤ accepted t′ → SameTerms t t′
+header-terms {f} t t′ q s a b =
+    let year = a .places 0 (field (omega arith)) in
+    let listed = ap (λ n. take n (drop 8 (t′ .head))) (a .places 2 (field (omega arith))) ∙ same-holidays f (t .head) (t′ .head) (holidayCount t) a (s .head-long) (s .few-holidays) in
+    record { more = b; size = a .places 1 (field (omega arith)); days = λ i. record { firstYear = year i; holidays = listed i } }
+
+-- 1 to 100 lots
+lots-range : (q : ℕ) → lotsSound q ≡ true → (1 ≤ q) × (q ≤ 100)
+lots-range q e = (leb-true 1 q (and-left (leb 1 q) (leb q 100) e), leb-true q 100 (and-right (leb 1 q) (leb q 100) e))
+
+-- the tests of an order, one by one
+fields-sound : (t : Tables) (o : Order) → o .number < accepted t → ltb (o .member) (members t) ≡ true → contractSound (o .contract) ≡ true → priceSound (o .price .0) ≡ true
+    → (1 ≤ o .lots .0) × (o .lots .0 ≤ 100) → inSpan (calendar t) (o .day .0) ≡ true → timeSound (o .time) ≡ true → orderSound t o ≡ true
+unfolding orderSound
+fields-sound t o n m c p q d s = hold-all _ (lt-ltb _ _ n, (m, (c, (p, (rw (le-leb 1 (o .lots .0) (q .0), le-leb (o .lots .0) 100 (q .1)) refl, (d, (s, tt)))))))
+
+-- a sound order stays sound, with fewer lots too
+pub order-stays : (t t′ : Tables) → SameTerms t t′ → (o : Order) (q : ℕ) → (0 < o .lots .0 → 0 < q) → q ≤ o .lots .0 → orderSound t o ≡ true → orderSound t′ (withLots q o) ≡ true
+unfolding orderSound
+order-stays t t′ s o q u v e =
+    let a = all-hold _ e in
+    let range = lots-range (o .lots .0) (a .1 .1 .1 .1 .0) in
+    fields-sound t′ (withLots q o) (omega (arith, ltb-true (o .number) (accepted t) (a .0), s .more)) (ap (ltb (o .member)) (s .size) ∙ a .1 .0) (a .1 .1 .0) (a .1 .1 .1 .0)
+    (u (range .0), omega arith) (ap (λ k. inSpan k (o .day .0)) (s .days) ∙ a .1 .1 .1 .1 .1 .0) (a .1 .1 .1 .1 .1 .1 .0)
+
+-- ---- sides, as they stand in the book
+side-number : (s : Side) → T (leb (sideNumber s) 1)
+side-number Buy = tt
+side-number Sell = tt
+
+side-at : (os : List Order) (l : List ℕ) (i : ℕ) → i < length os → T (leb (sideAt (flatMap orderPlaces os ++ l) i) 1)
+unfolding flatMap
+side-at [] l i h = absurd (omega arith)
+side-at (o ∷ os) l zero h = side-number (o .side)
+side-at (o ∷ os) l (suc i) h =
+    let rest = flatMap orderPlaces os ++ l in
+    let next : suc i * 8 + 3 ≡ 8 + (i * 8 + 3) = omega arith in
+    subst (λ z. T (leb z 1)) (sym (ap (λ n. getD (orderPlaces o ++ rest) n 0) next ∙ getD-append-add (orderPlaces o) rest (i * 8 + 3) 0)) (side-at os l i (omega arith))
+
+-- what is written in the book is 0 or 1
+pub sides-written : (os : List Order) (t : Tables) → 7 < length (t .head) → sidesSound (withOrders os t) ≡ true
+unfolding sidesSound withOrders over
+sides-written os t h =
+    rw (getD-set-same (t .head) 7 (length os) 0 h)
+    (passed _ (from-every _ 0 (length os) (λ i _ b. side-at os (drop (0 + length (flatMap orderPlaces os)) (t .book)) i (omega arith))))
+
+-- sides are read from the count and the book alone
+pub sides-same : (t t′ : Tables) → orderCount t′ ≡ orderCount t → t′ .book ≡ t .book → sidesSound t′ ≡ sidesSound t
+unfolding sidesSound
+sides-same t t′ n b = rw (n, b)
+
+-- ---- the book
+-- a sound book with at most 256 orders
+pub record BookKept (t : Tables) : Type 0 where
+  pub sound : bookSound t ≡ true
+  pub few : orderCount t ≤ 256
+
+pub orders-count : (t : Tables) → length (orders t) ≡ orderCount t
+unfolding orders
+orders-count t = length-map (from 0 (orderCount t)) _ ∙ from-length 0 (orderCount t)
+
+-- a book is sound by its sides, its orders and their numbers
+pub sound-book : (t : Tables) → sidesSound t ≡ true → All (λ o. orderSound t o ≡ true) (orders t) → Distinct (orders t) → length (orders t) ≤ 256 → BookKept t
+unfolding bookSound
+sound-book t s a d f = record {
+  sound = hold-all _ (s, (all-every (orderSound t) (orders t) a, (orders-distinct (orders t) d, tt)));
+  few = omega (arith, orders-count t);
+}
+
+-- and a sound book shows each
+pub book-sides : (t : Tables) → bookSound t ≡ true → sidesSound t ≡ true
+unfolding bookSound
+book-sides t e = all-hold _ e .0
+
+pub book-orders : (t : Tables) → bookSound t ≡ true → All (λ o. orderSound t o ≡ true) (orders t)
+unfolding bookSound
+book-orders t e = every-all (orderSound t) (orders t) (all-hold _ e .1 .0)
+
+pub book-distinct : (t : Tables) → bookSound t ≡ true → Distinct (orders t)
+unfolding bookSound
+book-distinct t e = distinct-orders (orders t) (all-hold _ e .1 .1 .0)
+
+pub empty-book : (t : Tables) → orderCount t ≡ 0 → BookKept t
+unfolding orders sidesSound from every
+empty-book t e = sound-book t (rw e refl) (rw e tt) (rw e tt) (omega (arith, orders-count t))
+
+-- tables that are not damaged: their book, and that their day is in the span
+pub undamaged-book : (t : Tables) → damaged t ≡ false → BookKept t × (inSpan (calendar t) (day t) ≡ true)
+unfolding damaged headSound daySound
+undamaged-book t e =
+    let a = all-hold _ (not-false _ e) in
+    let head = all-hold _ (a .0) in (
+      record { sound = a .1 .1 .1 .0; few = leb-true (orderCount t) 256 (head .1 .1 .1 .1 .1 .1 .1 .0) },
+      and-left (inSpan (calendar t) (day t)) (businessDay (calendar t) (day t)) (head .1 .1 .1 .0),
+    )
+
+-- what remains of a sound book's orders, written or left as it was, is a sound book
+pub remains-kept : (t t′ : Tables) → SameTerms t t′ → BookKept t → sidesSound t′ ≡ true → Remain (orders t) (orders t′) → BookKept t′
+remains-kept t t′ s k sides x =
+    sound-book t′ sides
+    (remain-all (λ o. orderSound t o ≡ true) (λ o. orderSound t′ o ≡ true) (order-stays t t′ s) x (book-orders t (k .sound)))
+    (remain-distinct x (book-distinct t (k .sound))) (omega (arith, remain-length x, orders-count t, k .few))
+
+-- ---- places of the head
+booked-place : (ls : List Line) (t : Tables) (i : ℕ) → (i ≡ 6 → ⊥) → getD (booked ls t .after .head) i 0 ≡ getD (t .head) i 0
+unfolding booked
+booked-place ls t i z = getD-set-other (t .head) 6 i _ 0 z
+
+booked-header : (ls : List Line) (t : Tables) → SameHeader 4 (t .head) (booked ls t .after .head)
+unfolding booked
+booked-header ls t = set-other 4 (t .head) 6 _ (omega arith) (changing (omega arith) (omega arith))
+
+written-header : (os : List Order) (t : Tables) → SameHeader 4 (t .head) (withOrders os t .head)
+unfolding withOrders
+written-header os t = set-other 4 (t .head) 7 _ (omega arith) (changing (omega arith) (omega arith))
+
+written-accepted : (os : List Order) (t : Tables) → accepted (withOrders os t) ≡ accepted t
+unfolding withOrders
+written-accepted os t = getD-set-other (t .head) 7 5 (length os) 0 (λ e. omega arith)
+
+-- the second's counts lie behind the other places
+without-place : (t : Tables) (i : ℕ) → 224 ≤ length (t .head) → members t ≤ 32 → i < 192 → getD (withoutSubmits t .head) i 0 ≡ getD (t .head) i 0
+unfolding withoutSubmits
+without-place t i b m l = over-outside 192 (replicate (members t) 0) (t .head) (omega (arith, length-replicate {A = ℕ} (members t) 0)) i 0 (λ q. absurd (omega arith))
+
+-- a later time leaves the count of accepted submits
+timed-accepted : (n : ℕ) (t : Tables) → Sound t → accepted (timed n t) ≡ accepted t
+unfolding timed
+timed-accepted n t s =
+    by-bool (λ b. accepted (cond b (withHead (set (withoutSubmits t .head) 4 n) t) t) ≡ accepted t) (ltb (time t) n)
+    (λ _. getD-set-other (withoutSubmits t .head) 4 5 n 0 (λ e. omega arith) ∙ without-place t 5 (s .head-long) (s .few-members) (omega arith)) (λ _. refl)
+
+-- ---- a record that writes orders os in tables u, which have the header of t
+module _ (ls : List Line) (os : List Order) (t u : Tables) (s : Sound t) (a : SameHeader 4 (t .head) (u .head)) where
+  abbrev after : Tables
+  after = booked ls (withOrders os u) .after
+
+  long : 7 < length (u .head)
+  long = omega (arith, a .longer, s .head-long)
+
+  count-stays : orderCount after ≡ orderCount (withOrders os u)
+  count-stays = booked-place ls (withOrders os u) 7 (λ e. omega arith)
+
+  orders-after : orders after ≡ os
+  unfolding booked
+  orders-after = orders-same (withOrders os u) after count-stays refl ∙ orders-written os u long
+
+  sides-after : sidesSound after ≡ true
+  unfolding booked
+  sides-after = sides-same (withOrders os u) after count-stays refl ∙ sides-written os u long
+
+  accepted-after : accepted after ≡ accepted u
+  accepted-after = booked-place ls (withOrders os u) 5 (λ e. omega arith) ∙ written-accepted os u
+
+  terms-after : accepted t ≤ accepted u → SameTerms t after
+  terms-after b = header-terms t after (omega arith) s (then-same a (then-same (written-header os u) (booked-header ls (withOrders os u)))) (omega (arith, accepted-after))
+
+-- ---- records that take orders out of the book, or use lots of them, or leave it
+module _ (t : Tables) (s : Sound t) (k : BookKept t) where
+  -- os: what remains of the orders; u: tables with the header and the accepted submits of t
+  taken-book : (ls : List Line) (os : List Order) (u : Tables) → SameHeader 4 (t .head) (u .head) → accepted u ≡ accepted t → Remain (orders t) os
+      → BookKept (booked ls (withOrders os u) .after)
+  taken-book ls os u a same x =
+      remains-kept t (booked ls (withOrders os u) .after) (terms-after ls os t u s a (omega arith)) k (sides-after ls os t u s a) (rw (orders-after ls os t u s a) x)
+
+  pub cancel-book : (n : ℕ) (p : Order → Bool) → BookKept (booked [] (withOrders (kept p (orders t)) (timed n t)) .after)
+  cancel-book n p = taken-book [] (kept p (orders t)) (timed n t) (timed-same n t s) (timed-accepted n t s) (kept-remain p (orders t))
+
+  pub default-book : (m : ℕ) → BookKept (defaultBooked t m .after)
+  unfolding defaultBooked
+  default-book m =
+      taken-book [] (kept (λ o. not (eqb (o .member) m)) (orders t)) (withHead (set (t .head) (160 + m) 1) t) (set-other 4 (t .head) (160 + m) 1 (omega arith) (ofMember (omega arith)))
+      (getD-set-other (t .head) (160 + m) 5 1 0 (λ e. omega arith)) (kept-remain _ (orders t))
+
+  pub proposal-book : (legs : List Leg) → BookKept (proposalBooked t legs .after)
+  unfolding proposalBooked
+  proposal-book legs = taken-book (proposalLines t legs) (usedByLegs legs (orders t)) t (same-header 4 (t .head)) refl (legs-remain legs (orders t))
+
+  -- u: tables with the head and the book of t
+  left-book : (ls : List Line) (u : Tables) → u .head ≡ t .head → u .book ≡ t .book → BookKept (booked ls u .after)
+  unfolding booked
+  left-book ls u head book =
+      let t′ = booked ls u .after in
+      let at : (i : ℕ) → (i ≡ 6 → ⊥) → getD (t′ .head) i 0 ≡ getD (t .head) i 0 = λ i z. booked-place ls u i z ∙ ap (λ l. getD l i 0) head in
+      let same : SameHeader 4 (t .head) (t′ .head) = subst (λ l. SameHeader 4 l (t′ .head)) head (booked-header ls u) in
+      let count = at 7 (λ e. omega arith) in
+      remains-kept t t′ (header-terms t t′ (omega arith) s same (omega (arith, at 5 (λ e. omega arith)))) k
+      (sides-same t t′ count book ∙ book-sides t (k .sound)) (rw (orders-same t t′ count book) (remain-same (orders t)))
+
+  pub limits-book : (l : List ℕ) → BookKept (booked [] (withPrices l t) .after)
+  limits-book l = left-book [] (withPrices l t) refl refl
+
+  pub close-out-book : (e : CloseOutTerms) → BookKept (closeOutBooked t e .after)
+  unfolding closeOutBooked
+  close-out-book e = left-book (closeOutLines t e) t refl refl
+
+-- ---- a submit
+-- what its soundness says of the order
+pub submission-sound : (n : ℕ) (e : Submission) (legs : List Leg) → eventSound n (Submit e) legs ≡ true
+    → (timeSound (e .time) ≡ true) × (ltb (e .member) n ≡ true) × (contractSound (e .contract) ≡ true) × (priceSound (e .price .0) ≡ true) × (lotsSound (e .lots .0) ≡ true)
+unfolding eventSound
+submission-sound n e legs q =
+    let timeIs = timeSound (e .time) in
+    let memberIs = ltb (e .member) n in
+    let contractIs = contractSound (e .contract) in
+    let priceIs = priceSound (e .price .0) in
+    let lotsAre = lotsSound (e .lots .0) in
+    let five = and-left (timeIs && memberIs && contractIs && priceIs && lotsAre) (eqb (length legs) 0) q in
+    let four = and-left (timeIs && memberIs && contractIs && priceIs) lotsAre five in
+    let three = and-left (timeIs && memberIs && contractIs) priceIs four in
+    let two = and-left (timeIs && memberIs) contractIs three in (
+      and-left timeIs memberIs two,
+      and-right timeIs memberIs two,
+      and-right (timeIs && memberIs) contractIs three,
+      and-right (timeIs && memberIs && contractIs) priceIs four,
+      and-right (timeIs && memberIs && contractIs && priceIs) lotsAre five,
+    )
+
+-- on a sound book it has no more deals than lots
+pub submit-deals : (t : Tables) (e : Submission) → bookSound t ≡ true → length (submitMatched t e .deals) ≤ e .lots .0
+unfolding submitMatched matched orderSound
+submit-deals t e b =
+    let resting = all-map (λ o. orderSound t o ≡ true) HasLots (orders t) (λ o a. lots-range (o .lots .0) (all-hold _ a .1 .1 .1 .1 .0) .0) (book-orders t b) in
+    omega (arith, deals-few (length (orders t)) (incoming t e) (orders t) resting)
+
+-- t′: tables with one more accepted submit
+module _ (t t′ : Tables) (terms : SameTerms t t′) (later : accepted t < accepted t′) (k : BookKept t) (e : Submission) (legs : List Leg)
+    (fine : eventSound (members t) (Submit e) legs ≡ true) (today : inSpan (calendar t) (day t) ≡ true)
+    (room : wouldRest t e && leb 256 (length (submitMatched t e .resting)) ≡ false) where
+  abbrev m : Matched
+  m = submitMatched t e
+
+  abbrev new : Order
+  new = withLots (m .left) (incoming t e)
+
+  resting-remain : Remain (orders t) (m .resting)
+  unfolding submitMatched matched
+  resting-remain = matching-remain (length (orders t)) (incoming t e) (orders t)
+
+  left-most : m .left ≤ e .lots .0
+  unfolding submitMatched matched
+  left-most = omega (arith, deals-total (length (orders t)) (incoming t e) (orders t))
+
+  left-some : wouldRest t e ≡ true → 0 < m .left
+  unfolding wouldRest
+  left-some w = ltb-true 0 (m .left) (and-right (isResting (e .kind)) (ltb 0 (m .left)) w)
+
+  -- the order that rests is sound
+  new-sound : 0 < m .left → orderSound t′ new ≡ true
+  new-sound some =
+      let f = submission-sound (members t) e legs fine in
+      fields-sound t′ new later (ap (ltb (e .member)) (terms .size) ∙ f .1) (f .2) (f .3) (some, omega (arith, left-most, lots-range (e .lots .0) (f .4)))
+      (ap (λ c. inSpan c (day t)) (terms .days) ∙ today) (f .0)
+
+  resting-sound : All (λ o. orderSound t′ o ≡ true) (m .resting)
+  resting-sound = remain-all (λ o. orderSound t o ≡ true) (λ o. orderSound t′ o ≡ true) (order-stays t t′ terms) resting-remain (book-orders t (k .sound))
+
+  -- no other has its number
+  number-new : (o : Order) (q : ℕ) → (0 < o .lots .0 → 0 < q) → q ≤ o .lots .0 → orderSound t o ≡ true → eqb (o .number) (accepted t) ≡ false
+  unfolding orderSound
+  number-new o q u v a = ne-eqb (o .number) (accepted t) (omega (arith, ltb-true (o .number) (accepted t) (all-hold _ a .0)))
+
+  submit-sound : All (λ o. orderSound t′ o ≡ true) (submitOrders t e)
+  unfolding submitOrders
+  submit-sound =
+      by-bool (λ b. All (λ o. orderSound t′ o ≡ true) (cond b (m .resting ++ (new ∷ [])) (m .resting))) (wouldRest t e)
+      (λ w. all-append (λ o. orderSound t′ o ≡ true) (m .resting) (new ∷ []) resting-sound (new-sound (left-some w), tt)) (λ _. resting-sound)
+
+  submit-distinct : Distinct (submitOrders t e)
+  unfolding submitOrders
+  submit-distinct =
+      let d = remain-distinct resting-remain (book-distinct t (k .sound)) in
+      by-bool (λ b. Distinct (cond b (m .resting ++ (new ∷ [])) (m .resting))) (wouldRest t e)
+      (λ _. distinct-more (m .resting) new (remain-all (λ o. orderSound t o ≡ true) (λ o. eqb (o .number) (accepted t) ≡ false) number-new resting-remain (book-orders t (k .sound))) d)
+      (λ _. d)
+
+  submit-few : length (submitOrders t e) ≤ 256
+  unfolding submitOrders
+  submit-few =
+      by-bool (λ b. b && leb 256 (length (m .resting)) ≡ false → length (cond b (m .resting ++ (new ∷ [])) (m .resting)) ≤ 256) (wouldRest t e)
+      (λ _ f. simp length-append (omega (arith, leb-false 256 (length (m .resting)) f))) (λ _ _. omega (arith, remain-length resting-remain, orders-count t, k .few)) room
+
+pub submit-book : (t : Tables) → Sound t → BookKept t → (e : Submission) (legs : List Leg) → eventSound (members t) (Submit e) legs ≡ true → inSpan (calendar t) (day t) ≡ true
+    → wouldRest t e && leb 256 (length (submitMatched t e .resting)) ≡ false → BookKept (submitBooked t e .after)
+unfolding submitBooked withDeals counted
+submit-book t s k e legs fine today room =
+    let u = timed (e .time) t in
+    let one = submits u (e .member) + 1 in
+    let l = set (u .head) (192 + e .member) one in
+    let v = withDeals (e .contract) (submitMatched t e .deals) (counted (e .member) u) in
+    let os = submitOrders t e in
+    let ls = submitLines t e in
+    let t′ = submitBooked t e .after in
+    let a = then-same (timed-same (e .time) t s) (set-other 4 (u .head) (192 + e .member) one (omega arith) (ofMember (omega arith))) in
+    let b = then-same a (set-other 4 l 5 (accepted u + 1) (omega arith) (changing (omega arith) (omega arith))) in
+    let one-more : accepted v ≡ accepted t + 1 = getD-set-same l 5 (accepted u + 1) 0 (omega (arith, a .longer, s .head-long)) ∙ ap (λ n. n + 1) (timed-accepted (e .time) t s) in
+    let terms : SameTerms t t′ = terms-after ls os t v s b (omega arith) in
+    let later : accepted t < accepted t′ = omega (arith, accepted-after ls os t v s b) in
+    let is = orders-after ls os t v s b in
+    sound-book t′ (sides-after ls os t v s b) (rw is (submit-sound t t′ terms later k e legs fine today room)) (rw is (submit-distinct t t′ terms later k e legs fine today room))
+    (rw is (submit-few t t′ terms later k e legs fine today room))
+
+-- ---- the close of day
+-- v: the tables u with some contracts closed
+record Closed (u v : Tables) : Type 0 where
+  header : SameHeader 4 (u .head) (v .head)
+  numbers : accepted v ≡ accepted u
+  sides : sidesSound v ≡ true
+  remain : Remain (orders u) (orders v)
+
+closed-next : (c : ℕ) (u v : Tables) → 7 < length (u .head) → Closed u v → Closed u (closeContract c v)
+unfolding closeContract
+closed-next c u v b a =
+    let os = kept (λ o. not (eqb (o .contract) c)) (orders v) in
+    let w = withOrders os v in
+    let long : 7 < length (v .head) = omega (arith, a .header .longer) in
+    record {
+      header = then-same (a .header) (written-header os v);
+      numbers = written-accepted os v ∙ a .numbers;
+      sides = sides-same w (closeContract c v) refl refl ∙ sides-written os v long;
+      remain = remain-then (a .remain) (rw (orders-same w (closeContract c v) refl refl ∙ orders-written os v long) (kept-remain _ (orders v)));
+    }
+
+closed-all : (cs : List ℕ) (u v : Tables) → 7 < length (u .head) → Closed u v → Closed u (closeAll cs v)
+unfolding closeAll
+closed-all [] u v b a = a
+closed-all (c ∷ cs) u v b a = closed-all cs u (closeContract c v) b (closed-next c u v b a)
+
+-- the new day changes neither the book nor the count of accepted submits
+day-place : (x : ℕ) (t : Tables) (i : ℕ) → 224 ≤ length (t .head) → members t ≤ 32 → 4 < i → i < 192 → getD (onDay x t .head) i 0 ≡ getD (t .head) i 0
+unfolding onDay
+day-place x t i b m l h =
+    getD-set-other (set (withoutSubmits t .head) 3 x) 4 i 0 0 (λ e. omega arith) ∙ getD-set-other (withoutSubmits t .head) 3 i x 0 (λ e. omega arith)
+    ∙ without-place t i b m h
+
+pub close-book : (t : Tables) → Sound t → BookKept t → (n : ℕ) → BookKept (closeBooked t n .after)
+unfolding closeBooked priced onDay
+close-book t s k n =
+    let u = priced n t in
+    let v = closeAll (closingContracts t) u in
+    let t′ = onDay (nextDay t) v in
+    let a = closed-all (closingContracts t) u u (omega (arith, s .head-long))
+    (record { header = same-header 4 (t .head); numbers = refl; sides = sides-same t u refl refl ∙ book-sides t (k .sound); remain = remain-same (orders u) }) in
+    let long : 224 ≤ length (v .head) = omega (arith, a .header .longer, s .head-long) in
+    let few : members v ≤ 32 = omega (arith, a .header .places 1 (field (omega arith)), s .few-members) in
+    let at : (i : ℕ) → 4 < i → i < 192 → getD (t′ .head) i 0 ≡ getD (v .head) i 0 = λ i. day-place (nextDay t) v i long few in
+    let count = at 7 (omega arith) (omega arith) in
+    let same = then-same (but-the-day (a .header)) (day-header (nextDay t) v long) in
+    remains-kept t t′ (header-terms t t′ (omega arith) s same (omega (arith, at 5 (omega arith) (omega arith), a .numbers))) k (sides-same v t′ count refl ∙ a .sides)
+    (rw (orders-same v t′ count refl) (rw (orders-same t u refl refl) at (a .remain)))
+
+-- ---- every kind, refused or not
+module _ (t : Tables) (s : Sound t) (k : BookKept t) (today : inSpan (calendar t) (day t) ≡ true) where
+  decided : (causes : List (Bool × Answer)) (o : Outcome Tables) → All (λ c. isAccepted (c .1) ≡ false) causes → (All (λ c. c .0 ≡ false) causes → BookKept (o .after))
+      → BookKept (decide causes t o .after)
+  decided causes o r f = decide-shows (λ x. BookKept (x .after)) t o causes (λ a q. k) r f
+
+  pub event-book : (e : Event) (legs : List Leg) → eventSound (members t) e legs ≡ true → BookKept (eventSpec t e legs .after)
+  unfolding eventSpec submitSpec cancelSpec limitsSpec proposalSpec defaultSpec closeOutSpec closeSpec
+  event-book (Submit e) legs q =
+      decided (submitCauses t e) (submitBooked t e) (refl, (refl, (refl, (refl, (refl, (refl, (refl, (refl, (refl, tt)))))))))
+      (λ f. submit-book t s k e legs q today (f .1 .1 .1 .1 .1 .1 .1 .0))
+  event-book (Cancel e) legs q = decided (cancelCauses t e) _ (refl, (refl, tt)) (λ f. cancel-book t s k (e .time) (λ o. not (isCancelled e o)))
+  event-book (DayLimits e) legs q = decided (limitsCauses t e) _ (refl, tt) (λ f. limits-book t s k _)
+  event-book (Proposal n) legs q = decided (proposalCauses t legs) (proposalBooked t legs) (refl, (refl, tt)) (λ f. proposal-book t s k legs)
+  event-book (Default m) legs q = decided (defaultCauses t m) (defaultBooked t m) (refl, tt) (λ f. default-book t s k m)
+  event-book (CloseOut e) legs q = decided (closeOutCauses t e) (closeOutBooked t e) (refl, (refl, (refl, (refl, (refl, tt))))) (λ f. close-out-book t s k e)
+  event-book (CloseOfDay n) legs q = decided (closeCauses t n) (closeBooked t n) (refl, (refl, tt)) (λ f. close-book t s k n)
