@@ -21,5 +21,6 @@ pub mod Events
 pub mod Fresh
 pub mod Bounds
 pub mod RowsStay
+pub mod Lengths
 pub mod TwoBookkeepers
 pub mod Refused

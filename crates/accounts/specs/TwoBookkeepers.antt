@@ -68,9 +68,9 @@ module _ (header : List ℕ) (t : Tables) (sound : T (beginsWithHeader header)) 
   known-fresh =
       let f = fine h (begun header sound) in
       let l = long-enough t (failed (ledgerShort t) long) in
-      let zero = fresh-zero h t f (l .1) (l .2) in
+      let zero = fresh-zero h t f (l .lots) (l .value) in
       record {
-        runs = fresh-runs h t f (l .0);
+        runs = fresh-runs h t f (l .head);
         holds = record {
           same = λ x m hour b d. sum-ext 102 _ (λ c. pos 0) (λ c k. ap (when (holdsHour (calendarOf h) c hour)) (zero x c m k b) ∙ when-zero (holdsHour (calendarOf h) c hour)) ∙ sum-zero 102;
           zero = λ x hour d. sum-zero (h .members);
