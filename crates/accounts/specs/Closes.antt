@@ -237,7 +237,7 @@ day-header x v b =
     then-same (over-other 3 (v .head) (replicate (members v) 0) 192 (omega arith) (omega arith) (omega arith))
     (then-same (set-other 3 l 3 x (omega arith) (changing (omega arith) (omega arith))) (set-other 3 (set l 3 x) 4 0 (omega arith) (changing (omega arith) (omega arith))))
 
-day-is : (x : ℕ) (v : Tables) → 224 ≤ length (v .head) → day (onDay x v) ≡ x
+pub day-is : (x : ℕ) (v : Tables) → 224 ≤ length (v .head) → day (onDay x v) ≡ x
 unfolding onDay withoutSubmits
 day-is x v b =
     let l = over 192 (replicate (members v) 0) (v .head) in

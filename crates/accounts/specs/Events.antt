@@ -106,7 +106,7 @@ module _ (h : Header) (d : ℕ) (t : Tables) (r : Runs h d t) (s : runs.Sound t)
 
 -- ---- a call
 -- what a reader answers is sound
-read-sound : (n : ℕ) (bytes : List ℕ) (e : Event) → readOf n bytes ≡ Sound e → eventSound n e (legsOf bytes) ≡ true
+pub read-sound : (n : ℕ) (bytes : List ℕ) (e : Event) → readOf n bytes ≡ Sound e → eventSound n e (legsOf bytes) ≡ true
 unfolding readOf
 read-sound n bytes e =
     by-bool (λ b. cond b (ifSound n (legsOf bytes) (fieldsOf bytes)) Unsound ≡ Sound e → eventSound n e (legsOf bytes) ≡ true) (membersSound n) (λ _. go (fieldsOf bytes))

@@ -140,6 +140,34 @@ module _ (h : Header) (f : Fine h) (l : List ℕ) (long : 224 ≤ length l) wher
       length-of : length (take (length (h .holidays)) (drop 8 (freshHead h l))) ≡ length (h .holidays)
       length-of = simp (length-take, length-drop) (omega (arith, f .few-holidays, head-length))
 
+  -- time and counts are 0
+  pub counts-of : (getD (freshHead h l) 4 0 ≡ 0) × (getD (freshHead h l) 5 0 ≡ 0) × (getD (freshHead h l) 6 0 ≡ 0) × (getD (freshHead h l) 7 0 ≡ 0)
+  unfolding fields
+  counts-of = (field-of 4 (omega arith), field-of 5 (omega arith), field-of 6 (omega arith), field-of 7 (omega arith))
+
+  pub holiday-count-of : getD (freshHead h l) 2 0 ≡ length (h .holidays)
+  unfolding fields
+  holiday-count-of = field-of 2 (omega arith)
+
+  -- a member has the header's limit, no mark and no submits
+  module _ (m : ℕ) (m< : m < h .members) where
+    pub limit-of : getD (freshHead h l) (128 + m) 0 ≡ getD (h .limits) m 0
+    unfolding freshHead h₃ h₂ h₁ h₀ zeros fields
+    limit-of =
+        over-outside 192 zeros h₃ (omega (arith, f .few-members, zeros-length, length₃)) (128 + m) 0 (λ q. absurd (omega (arith, f .few-members)))
+        ∙ over-outside 160 zeros h₂ (omega (arith, f .few-members, zeros-length, length₂)) (128 + m) 0 (λ q. absurd (omega (arith, f .few-members)))
+        ∙ over-inside 128 (h .limits) h₁ (omega (arith, f .few-members, f .one-limit, length₁)) m 0 (omega (arith, f .one-limit))
+
+    pub mark-of : getD (freshHead h l) (160 + m) 0 ≡ 0
+    unfolding freshHead h₃ h₂ h₁ h₀ zeros fields
+    mark-of =
+        over-outside 192 zeros h₃ (omega (arith, f .few-members, zeros-length, length₃)) (160 + m) 0 (λ q. absurd (omega (arith, f .few-members)))
+        ∙ over-inside 160 zeros h₂ (omega (arith, f .few-members, zeros-length, length₂)) m 0 (omega (arith, zeros-length)) ∙ getD-replicate (h .members) m 0 0 m<
+
+    pub submits-of : getD (freshHead h l) (192 + m) 0 ≡ 0
+    unfolding freshHead h₃ h₂ h₁ h₀ zeros fields
+    submits-of = over-inside 192 zeros h₃ (omega (arith, f .few-members, zeros-length, length₃)) m 0 (omega (arith, zeros-length)) ∙ getD-replicate (h .members) m 0 0 m<
+
 -- the fresh ledger, on its start day
 pub fresh-runs : (h : Header) (t : Tables) → Fine h → 224 ≤ length (t .head) → Runs h (h .startDay) (fresh h t)
 unfolding fresh fields orders from

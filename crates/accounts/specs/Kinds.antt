@@ -12,7 +12,7 @@ use Rattle.rules.specs.declared.event.CloseOutTerms.{CloseOutTerms}
 use Rattle.rules.specs.declared.order.Order.{Order}
 use Rattle.rules.specs.Contracts.{hasCascaded}
 use Rattle.rules.specs.Header.{Header, calendarOf}
-use Rattle.rules.specs.Ledger.{Tables, members, isOpen, withHead, withPrices, orders, withOrders, timed, booked}
+use Rattle.rules.specs.Ledger.{Tables, isOpen, withHead, withPrices, orders, withOrders, timed, booked}
 use Rattle.rules.specs.Default.{sumOf, lotsLeft, weights, closeOutLines, closeOutBooked, defaultBooked}
 use Rattle.accounts.specs.Lines.{Fits, hourTotal}
 use Rattle.accounts.specs.Heads.{SameHeader, changing, ofMember, same-header, then-same, set-other}

@@ -1,7 +1,6 @@
 -- No record makes a table of the ledger shorter.
-use mathlib.Core.Path.{_≡_}
-use mathlib.Core.Bool.{Bool, true, false, not, cond, _||_}
-use mathlib.Core.List.{List, [], _∷_, _++_, flatMap, zipWith}
+use mathlib.Core.Bool.{Bool, not, cond}
+use mathlib.Core.List.{List, [], _∷_, flatMap, zipWith}
 use Prim.Native.Nat.{ℕ, zero, suc, _+_, _*_, _%_, _≤_}
 use native.Mathlib.Omega.{arith}
 use lib.Dec.{eqb, leb, ltb}
@@ -14,7 +13,8 @@ use Rattle.rules.specs.declared.event.Submission.{Submission}
 use Rattle.rules.specs.declared.event.Leg.{Leg}
 use Rattle.rules.specs.declared.order.Order.{Order}
 use Rattle.rules.specs.Contracts.{childrenOf, openContracts}
-use Rattle.rules.specs.Ledger.{Tables, Line, members, day, calendar, withHead, withPrices, time, orders, withOrders, withoutSubmits, timed, lineLots, lineValue, posted, booked, ledgerShort}
+use Rattle.rules.specs.Header.{Header}
+use Rattle.rules.specs.Ledger.{Tables, Line, members, day, calendar, withHead, withPrices, time, orders, withOrders, withoutSubmits, timed, lineLots, lineValue, booked, freshHead, freshPrices, freshRows, fresh}
 use Rattle.rules.specs.Matching.{Deal, submitMatched, submitLines, submitOrders, withDeals, counted, submitBooked}
 use Rattle.rules.specs.Synthetic.{proposalLines, usedByLegs, proposalBooked}
 use Rattle.rules.specs.CloseOfDay.{contractRows, ggfAtClose, addedTo, zeroRows, cascaded, closeContract, closeAll, withGgfs, withoutDeals, priced, closingContracts, nextDay, onDay, closeBooked}
@@ -45,10 +45,11 @@ over-longer : {A : Type 0} (a : ℕ) (xs l : List A) → length l ≤ length (ov
 unfolding over
 over-longer a xs l = simp (length-append, length-take, length-drop) (omega arith)
 
-blocks-longer : {A : Type 0} (w : ℕ) (f : List A → List A) → ((b : List A) → length b ≤ length (f b)) → (n : ℕ) (l : List A) → length l ≤ length (inEachBlock w f n l)
+blocks-longer : {A : Type 0} (w : ℕ) (f : List A → List A) → ((b : List A) → length b ≤ w → length b ≤ length (f b)) → (n : ℕ) (l : List A) → length l ≤ length (inEachBlock w f n l)
 unfolding inEachBlock
 blocks-longer w f up zero l = omega arith
-blocks-longer w f up (suc n) l = simp length-append (omega (arith, up (take w l), blocks-longer w f up n (drop w l), length-take w l, length-drop w l))
+blocks-longer w f up (suc n) l =
+    simp length-append (omega (arith, up (take w l) (omega (arith, length-take w l)), blocks-longer w f up n (drop w l), length-take w l, length-drop w l))
 
 -- ---- what records are made of
 booked-longer : (ls : List Line) (t : Tables) → Longer t (booked ls t .after)
@@ -105,7 +106,7 @@ priced-longer s t = record {
   head = omega arith;
   prices =
       let l = withGgfs t s (openContracts (calendar t) (day t)) (t .prices) in
-      omega (arith, ggfs-longer t s (openContracts (calendar t) (day t)) (t .prices), blocks-longer 5 (λ five. over 3 (0 ∷ 0 ∷ []) five) (λ b. over-longer 3 (0 ∷ 0 ∷ []) b) 102 l);
+      omega (arith, ggfs-longer t s (openContracts (calendar t) (day t)) (t .prices), blocks-longer 5 (λ five. over 3 (0 ∷ 0 ∷ []) five) (λ b _. over-longer 3 (0 ∷ 0 ∷ []) b) 102 l);
   lots = omega arith;
   value = omega arith;
   book = omega arith;
@@ -115,8 +116,26 @@ day-longer : (x : ℕ) (t : Tables) → Longer t (onDay x t)
 unfolding onDay withoutSubmits
 day-longer x t = record { head = simp length-set (over-longer 192 (replicate (members t) 0) (t .head)); prices = omega arith; lots = omega arith; value = omega arith; book = omega arith }
 
+pub fresh-longer : (h : Header) (t : Tables) → Longer t (fresh h t)
+unfolding fresh freshHead freshPrices freshRows
+fresh-longer h t =
+    let fields = h .firstYear ∷ h .members ∷ length (h .holidays) ∷ h .startDay ∷ 0 ∷ 0 ∷ 0 ∷ 0 ∷ [] in
+    let zeros : List ℕ = replicate (h .members) 0 in
+    let a = over 0 fields (t .head) in
+    let b = over 8 (h .holidays) a in
+    let c = over 128 (h .limits) b in
+    let d = over 160 zeros c in
+    let rows : (l : List ℤ) → length l ≤ length (freshRows (h .members) l) = λ l. blocks-longer 32 (over 0 (replicate (h .members) (pos 0))) (λ x _. over-longer 0 (replicate (h .members) (pos 0)) x) 102 l in
+    record {
+      head = omega (arith, over-longer 0 fields (t .head), over-longer 8 (h .holidays) a, over-longer 128 (h .limits) b, over-longer 160 zeros c, over-longer 192 zeros d);
+      prices = blocks-longer 5 (λ five. 0 ∷ 1 ∷ 1000000 ∷ 0 ∷ 0 ∷ []) (λ x k. k) 102 (t .prices);
+      lots = rows (t .lots);
+      value = rows (t .value);
+      book = omega arith;
+    }
+
 -- ---- so tables that are long enough stay so
-stays-long : {t t′ : Tables} → Longer t t′ → Long t → Long t′
+pub stays-long : {t t′ : Tables} → Longer t t′ → Long t → Long t′
 stays-long a l = record {
   head = omega (arith, a .head, l .head);
   prices = omega (arith, a .prices, l .prices);

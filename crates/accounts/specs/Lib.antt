@@ -8,7 +8,6 @@ pub mod Runs
 pub mod Written
 pub mod Calls
 pub mod Matches
-pub mod Remains
 pub mod Submits
 pub mod OnePrice
 pub mod DealtOut
@@ -16,11 +15,15 @@ pub mod CloseOutLines
 pub mod Proposals
 pub mod Kinds
 pub mod Closes
-pub mod Books
 pub mod Events
 pub mod Fresh
-pub mod Bounds
-pub mod RowsStay
-pub mod Lengths
 pub mod TwoBookkeepers
 pub mod Refused
+pub mod Lengths
+pub mod Bounds
+pub mod RowsStay
+pub mod Remains
+pub mod Books
+pub mod HeadStays
+pub mod PricesStay
+pub mod NeverDamaged

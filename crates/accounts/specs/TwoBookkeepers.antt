@@ -24,7 +24,7 @@ use Rattle.accounts.specs.Fresh.{fine, fresh-zero, fresh-runs}
 
 -- ---- from one call to every list
 -- a call's own line table is no part of the ledger
-lines-lent : (h : Header) (d : ℕ) (t : Tables) (l : List ℤ) → Runs h d t → Runs h d (withLines l t)
+pub lines-lent : (h : Header) (d : ℕ) (t : Tables) (l : List ℤ) → Runs h d t → Runs h d (withLines l t)
 lines-lent h d t l r = record { year = r .year; size = r .size; days = r .days; today = r .today; resting = rw (orders-same t (withLines l t) refl refl) (r .resting) }
 
 same-rows : (t : Tables) (l : List ℤ) (x : Column) (c m : ℕ) → row x (withLines l t) c m ≡ row x t c m
@@ -51,7 +51,7 @@ known-after h (call ∷ calls) d t ls a =
     }))
 
 -- ---- the fresh ledger
-begun : (header : List ℕ) → T (beginsWithHeader header) → headerSound (headerOf header) ≡ true
+pub begun : (header : List ℕ) → T (beginsWithHeader header) → headerSound (headerOf header) ≡ true
 unfolding beginsWithHeader
 begun s b = and-right (leb 11 (length s) && sameBytes (take 5 s) lettersAndVersion && leb (headerLength s) (length s)) (headerSound (headerOf s)) (passed _ b)
 
@@ -59,7 +59,7 @@ module _ (header : List ℕ) (t : Tables) (sound : T (beginsWithHeader header)) 
   abbrev h : Header
   h = headerOf header
 
-  made : makeSpec t header .after ≡ fresh h t
+  pub made : makeSpec t header .after ≡ fresh h t
   unfolding makeSpec
   made = rw (failed (ledgerShort t) long, passed (beginsWithHeader header) sound)
 

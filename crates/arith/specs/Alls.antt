@@ -2,7 +2,7 @@
 use mathlib.Core.Path.{_≡_, refl}
 use mathlib.Core.Bool.{Bool, true, cond}
 use mathlib.Core.List.{List, [], _∷_, _++_}
-use Prim.Native.Nat.{ℕ, suc, _<_}
+use Prim.Native.Nat.{ℕ, zero, suc, _<_}
 use native.Mathlib.Omega.{arith}
 use lib.ListN.{length, getD}
 use Rattle.arith.specs.Lists.{every, kept, allOf}
@@ -39,6 +39,11 @@ module _ {A : Type 0} where
   unfolding every
   every-place p z [] f = refl
   every-place p z (x ∷ l) f = rw (f 0 (omega arith)) (every-place p z l (λ i h. f (suc i) (omega arith)))
+
+  pub all-place : (P : A → Type 0) (z : A) (l : List A) → All P l → (i : ℕ) → i < length l → P (getD l i z)
+  all-place P z [] h i k = absurd (omega arith)
+  all-place P z (x ∷ l) h zero k = h .0
+  all-place P z (x ∷ l) h (suc i) k = all-place P z l (h .1) i (omega arith)
 
   pub all-always : (P : A → Type 0) (l : List A) → ((a : A) → P a) → All P l
   all-always P [] f = tt

@@ -1,10 +1,10 @@
 -- Each refusal number, and what is accepted just beside it, computed from tables and bytes.
 use Prim.Native.Nat.{ℕ}
 use mathlib.Core.Path.{_≡_, refl}
-use mathlib.Core.List.{List, [], _∷_, map, flatMap}
+use mathlib.Core.List.{List, [], _∷_, map}
 use lib.ListN.{set, replicate}
 use lib.IntN.{pos}
-use Rattle.arith.specs.Lists.{from, over}
+use Rattle.arith.specs.Lists.{from}
 use Rattle.rules.specs.declared.event.Event.the-variants.{Submit, Cancel, DayLimits, Default, CloseOut}
 use Rattle.rules.specs.declared.event.OrderKind.{OrderKind}
 use Rattle.rules.specs.declared.event.OrderKind.the-variants.{Resting, Oeye, Teye}
