@@ -28,6 +28,7 @@ use Rattle.rules.specs.CloseOfDay.{closeBooked}
 use Rattle.rules.specs.Default.{defaultBooked, closeOutBooked}
 use Rattle.rules.specs.Refusals.{headSound, memberSound, pricesSound, orderSound, sidesSound, bookSound, damaged, isCancelled, submitCauses, cancelCauses, limitsCauses, proposalCauses, defaultCauses, closeOutCauses, closeCauses, submitSpec, cancelSpec, limitsSpec, proposalSpec, defaultSpec, closeOutSpec, closeSpec, eventSpec, readingSpec, applySpec, makeSpec}
 use Rattle.rules.specs.Accounts.{Call, callSpec, after}
+use Rattle.accounts.specs.Runs as runs
 use Rattle.accounts.specs.Runs.{Runs}
 use Rattle.accounts.specs.Calls.{Long, long-enough, not-short, not-false, sound-parts, decide-leaves-what}
 use Rattle.accounts.specs.Events.{read-sound, apply-shows}
@@ -68,7 +69,7 @@ module _ (h : Header) (d : ℕ) (t : Tables) (r : Runs h d t) (a : InOrder t) wh
   abbrev LongRows : Tables → Type 0
   LongRows u = Long u × WithinRun u
 
-  s : Runs.Sound t
+  s : runs.Sound t
   s = sound-parts t (a .long) (a .head) (a .book .sound)
 
   -- lengths and rows, where the causes of a kind are as given
