@@ -1,0 +1,11 @@
+use Rattle.arith.specs.Tests.{and-true}
+use Rattle.rules.specs.Records.{eventSound}
+use Rattle.codec.proofs.sound.limits_sound.Statement.{statement}
+use Rattle.codec.proofs.sound.limits_sound.Tie as tie
+
+returns : tie.Need-returns
+unfolding eventSound
+returns c = search and-true
+
+pub limits-sound-spec : {M : Type 1} → statement M
+limits-sound-spec = tie.close (tie.spec returns)
