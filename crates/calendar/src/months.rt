@@ -4,7 +4,7 @@ ghost use Prim.Native.Nat.{_≤_};
 ghost use Rattle.rules.specs.Days.{monthStart};
 use rules::DayNo;
 
-const STARTS: [u64; 961] = [
+const STARTS: [u16; 961] = [
     0,
     31,
     60,
@@ -968,10 +968,16 @@ const STARTS: [u64; 961] = [
     29220,
 ];
 
+fn wide(x: u16) -> u64
+    ensures { λ r. ⌜ r ≡ x ⌝ }
+{
+    x as u64
+}
+
 // Months are counted from January 2020. Callers hold months to the table by the first year.
 pub fn month_start(month: u64) -> DayNo
     requires { ⌜ month ≤ 960 ⌝ }
     ensures { λ r. ⌜ r .0 ≡ monthStart month ⌝ }
 {
-    DayNo(STARTS[month as usize])
+    DayNo(wide(STARTS[month as usize]))
 }

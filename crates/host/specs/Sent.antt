@@ -1,0 +1,18 @@
+-- An outcome as a host gets it: the paper's number and value, and the tables.
+use Prim.Native.Nat.{ℕ}
+use mathlib.Core.Bool.{cond, _||_}
+use Rattle.rules.specs.Answers.{Outcome, told}
+use Rattle.rules.specs.Ledger.{Tables, ledgerShort, linesShort}
+use Rattle.rules.specs.Refusals.{damaged}
+
+pub record Sent : Type 0 where
+  pub number : ℕ
+  pub value : ℕ
+  pub after : Tables
+
+abbrev pub sent : Outcome Tables → Sent
+sent o = record { number = told (o .answer) .number; value = told (o .answer) .value; after = o .after }
+
+-- 1, the number of a short or damaged table, or 0.
+unfoldable pub damageNumber : Tables → ℕ
+damageNumber t = cond (ledgerShort t || linesShort t || damaged t) 1 0

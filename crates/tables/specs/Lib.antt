@@ -1,0 +1,4 @@
+pub mod Lent
+pub mod Orders
+pub mod Lines
+pub mod Spans
