@@ -4,7 +4,7 @@ ghost use mathlib.Core.List.{List};
 ghost use Prim.Native.Nat.{ℕ, _*_, _-_};
 ghost use lib.Dec.{eqb};
 ghost use Rattle.arith.specs.Lists.{any};
-ghost use Rattle.rules.specs.Days.{businessDay, spanEnd, inSpan, firstBusinessDay, nextBusinessDay, businessDayBefore};
+ghost use Rattle.rules.specs.Days.{businessDay, spanStart, spanEnd, inSpan, firstBusinessDay, nextBusinessDay, businessDayBefore};
 ghost use Rattle.calendar.specs.Bounds.{FirstYear};
 use crate::months::month_start;
 use rules::Day;
@@ -87,7 +87,16 @@ pub fn first_month(first_year: u64) -> u64
     12 * (first_year - BASE_YEAR)
 }
 
-fn span_end(first_year: u64) -> DayNo
+// The span's first day, whatever the holidays.
+pub fn span_start(first_year: u64) -> DayNo
+    requires { ⌜ FirstYear «first_year» ⌝ }
+    ensures { λ r. ⌜ ((h : List ℕ) → r .0 ≡ spanStart (record { firstYear = «first_year»; holidays = h })) ⌝ }
+{
+    month_start(first_month(first_year))
+}
+
+// The first day after the span, whatever the holidays.
+pub fn span_end(first_year: u64) -> DayNo
     requires { ⌜ FirstYear «first_year» ⌝ }
     ensures { λ r. ⌜ ((h : List ℕ) → r .0 ≡ spanEnd (record { firstYear = «first_year»; holidays = h })) ⌝ }
 {
@@ -99,7 +108,7 @@ pub fn in_span(first_year: u64, day: DayNo) -> bool
     requires { ⌜ FirstYear «first_year» ⌝ }
     ensures { λ r. ⌜ ((h : List ℕ) → r ≡ inSpan (record { firstYear = «first_year»; holidays = h }) (day .0)) ⌝ }
 {
-    let start = month_start(first_month(first_year));
+    let start = span_start(first_year);
     let end = span_end(first_year);
     (start.0 <= day.0) & (day.0 < end.0)
 }

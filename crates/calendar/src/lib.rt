@@ -15,3 +15,5 @@ pub use contracts::term_of;
 pub use days::in_span;
 pub use days::is_business_day;
 pub use days::next_business_day;
+pub use days::span_end;
+pub use days::span_start;

@@ -1,4 +1,4 @@
-// The ledger for a host program in C. c/ledger.h declares these functions, docs/LAYOUT.md names every place.
+// The ledger for a host program in C. include/ledger.h declares these functions, docs/LAYOUT.md names every place.
 ghost use mathlib.Core.Path.{_≡_};
 ghost use mathlib.Core.List.{List};
 ghost use lib.IntN.{ℤ};

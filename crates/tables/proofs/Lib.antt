@@ -7,4 +7,3 @@ pub mod Sound
 pub mod Writes
 pub mod Removal
 pub mod Booked
-pub mod Spans

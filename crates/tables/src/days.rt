@@ -31,20 +31,13 @@ pub struct Span {
     pub end: DayNo,
 }
 
-// The last year of the span, as a contract.
-const LAST_YEAR: u64 = 85;
-
 pub fn span_of(first_year: u64) -> Span
     requires { ⌜ FirstYear «first_year» ⌝ }
     ensures { λ r. ⌜ IsSpan r «first_year» ⌝ }
 {
-    let start = calendar::first_day(first_year, 0);
-    let last = calendar::first_day(first_year, LAST_YEAR);
-    let days = calendar::days_of(first_year, LAST_YEAR);
-    Span {
-        start: start,
-        end: DayNo(last.0 + days),
-    }
+    let start = calendar::span_start(first_year);
+    let end = calendar::span_end(first_year);
+    Span { start, end }
 }
 
 pub fn is_in(span: Span, day: DayNo) -> bool
