@@ -13,7 +13,7 @@ use calendar::is_business_day;
 use rules::DayNo;
 
 // The three letters VJR and the 16-bit version, 1.
-pub const LETTERS_AND_VERSION: [u8; 5] = [b'V', b'J', b'R', 0, 1];
+pub const LETTERS_AND_VERSION: [u8; 5] = *b"VJR\x00\x01";
 
 pub const MOST_HOLIDAYS: u64 = 120;
 
