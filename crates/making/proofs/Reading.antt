@@ -16,7 +16,7 @@ use Rattle.rules.specs.Header.{Header, u16At, u32At, u16sAt, u32sAt, headerLeng
 use Rattle.codec.specs.declared.header_reader.HeaderReading.{HeaderReading}
 use Rattle.codec.specs.Columns.{padded}
 use Rattle.codec.specs.Journal.{headerColumns, headerReading}
-use Rattle.tables.specs.Lent.{header}
+use Rattle.tables.specs.Headers.{header}
 use Rattle.tables.proofs.Removal.{from-length}
 
 -- ---- the lists of a header

@@ -3,7 +3,7 @@ ghost use mathlib.Core.Path.{_≡_};
 ghost use mathlib.Core.List.{List};
 ghost use lib.IntN.{ℤ};
 ghost use Rattle.rules.specs.Refusals.{makeSpec};
-ghost use Rattle.tables.specs.Lent.{lent};
+ghost use Rattle.rules.specs.Ledger.{lent};
 use rules::Answer;
 
 // Of the tables only their length is tested. The book stays as it was: a fresh ledger has no orders.

@@ -9,7 +9,7 @@ use lib.Seq.{set-getD}
 use Rattle.arith.specs.Lists.{over, total}
 use Rattle.rules.specs.declared.answer.Answer.the-variants.{Accepted}
 use Rattle.rules.specs.Ledger.{posted, lineRun, booked}
-use Rattle.tables.specs.Lent.{lent}
+use Rattle.rules.specs.Ledger.{lent}
 
 pub booked-none : (h p : List ℕ) (l v : List ℤ) (b : List ℕ) (n : List ℤ) → booked [] (lent h p l v b n) ≡ record { answer = Accepted 0; after = lent h p l v b n }
 unfolding booked posted lineRun total flatMap over

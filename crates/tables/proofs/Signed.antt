@@ -66,6 +66,10 @@ module _ (x y : ℤ) (h : natAbs x + natAbs y < 2 ^ 63) where
   pub add-is : rd (rd x +ℤ rd y) ≡ x +ℤ y
   add-is = simp (back x (omega arith), back y (omega arith)) (back (x +ℤ y) (omega (arith, abs-plus x y)))
 
+pub abs-signed : (s : Side) (q : ℕ) → natAbs (signed s q) ≡ q
+abs-signed Buy q = refl
+abs-signed Sell q = abs-neg (pos q)
+
 -- Lots times price with the sign of the side.
 pub signed-times : (s : Side) (q p : ℕ) → signed s (q * p) ≡ signed s q *ℤ pos p
 signed-times Buy q p = refl

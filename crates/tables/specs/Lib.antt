@@ -1,4 +1,6 @@
-pub mod Lent
-pub mod Orders
+pub mod Fit
+pub mod Left
 pub mod Lines
+pub mod Headers
+pub mod Orders
 pub mod Spans

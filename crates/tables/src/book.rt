@@ -5,12 +5,13 @@ ghost use Prim.Native.Nat.{ℕ, suc, _+_, _-_, _*_, _≤_, _<_};
 ghost use lib.Dec.{eqb};
 ghost use lib.ListN.{length, getD};
 ghost use lib.IntN.{ℤ};
-ghost use Rattle.arith.specs.Lists.{any, from};
+ghost use Rattle.arith.specs.Lists.{any, from, over};
 ghost use Rattle.rules.specs.Header.{rising};
-ghost use Rattle.rules.specs.Ledger.{orderAt, sideOf};
+ghost use Rattle.rules.specs.Ranges.{mostOrders};
+ghost use Rattle.rules.specs.Ledger.{bookLength, orderWidth, orderAt, orderPlaces, sideOf, sideNumber};
 ghost use Rattle.rules.specs.Refusals.{distinct, orderSound, bookSound};
 ghost use Rattle.calendar.specs.Bounds.{FirstYear};
-ghost use Rattle.tables.specs.Lent.{lent};
+ghost use Rattle.rules.specs.Ledger.{lent};
 ghost use Rattle.tables.specs.Orders.{placesSound, numberAt};
 ghost use Rattle.tables.specs.Spans.{IsSpan};
 use crate::days::Span;
@@ -21,8 +22,15 @@ use rules::Kurus;
 use rules::Lots;
 use rules::Order;
 use rules::Side;
-
-const WIDTH: usize = 8;
+use rules::layout::ORDER_CONTRACT;
+use rules::layout::ORDER_DAY;
+use rules::layout::ORDER_LOTS;
+use rules::layout::ORDER_MEMBER;
+use rules::layout::ORDER_NUMBER;
+use rules::layout::ORDER_PRICE;
+use rules::layout::ORDER_SIDE;
+use rules::layout::ORDER_TIME;
+use rules::layout::ORDER_WIDTH;
 
 fn side_of(n: u64) -> Side
     ensures { λ r. ⌜ r ≡ sideOf n ⌝ }
@@ -33,23 +41,50 @@ fn side_of(n: u64) -> Side
     Side::Sell
 }
 
+fn side_number(side: Side) -> u64
+    ensures { λ r. ⌜ r ≡ sideNumber side ⌝ }
+{
+    match side {
+        Side::Buy => 0,
+        Side::Sell => 1,
+    }
+}
+
 // The order at a place of the book.
 pub fn order_at(book: &[u64], i: usize) -> Order
-    requires { ⌜ (i < 256) × (2048 ≤ length (now book)) ⌝ }
+    requires { ⌜ (i < mostOrders) × (bookLength ≤ length (now book)) ⌝ }
     ensures { λ r. ⌜ r ≡ orderAt (now (book .entry)) i ⌝ }
 {
-    let at = i * WIDTH;
-    let side = side_of(book[at + 3]);
+    let at = i * ORDER_WIDTH;
+    let side = side_of(book[at + ORDER_SIDE]);
     Order {
-        number: book[at],
-        member: book[at + 1],
-        contract: book[at + 2],
+        number: book[at + ORDER_NUMBER],
+        member: book[at + ORDER_MEMBER],
+        contract: book[at + ORDER_CONTRACT],
         side: side,
-        price: Kurus(book[at + 4]),
-        lots: Lots(book[at + 5]),
-        day: DayNo(book[at + 6]),
-        time: book[at + 7],
+        price: Kurus(book[at + ORDER_PRICE]),
+        lots: Lots(book[at + ORDER_LOTS]),
+        day: DayNo(book[at + ORDER_DAY]),
+        time: book[at + ORDER_TIME],
     }
+}
+
+// An order written at a place of the book.
+pub fn put_order(book: &mut [u64], i: usize, o: Order)
+    requires { ⌜ (i < mostOrders) × (bookLength ≤ length (now book)) ⌝ }
+    ensures { λ _. ⌜ now (book .exit) ≡ over (i * orderWidth) (orderPlaces o) (now (book .entry)) ⌝ }
+{
+    let at = i * ORDER_WIDTH;
+    let side = o.side;
+    let n = side_number(side);
+    book[at + ORDER_NUMBER] = o.number;
+    book[at + ORDER_MEMBER] = o.member;
+    book[at + ORDER_CONTRACT] = o.contract;
+    book[at + ORDER_SIDE] = n;
+    book[at + ORDER_PRICE] = o.price.0;
+    book[at + ORDER_LOTS] = o.lots.0;
+    book[at + ORDER_DAY] = o.day.0;
+    book[at + ORDER_TIME] = o.time;
 }
 
 // An order's fields in their ranges, as the head gives them.
@@ -80,7 +115,7 @@ fn are_orders_sound(head: &[u64], book: &[u64], count: usize) -> bool
     let mut i: usize = 0;
     while i < count {
         let o = order_at(book, i);
-        ok = ok & ((book[i * WIDTH + 3] <= 1) & is_order_sound(head, span, o));
+        ok = ok & ((book[i * ORDER_WIDTH + 3] <= 1) & is_order_sound(head, span, o));
         i += 1;
     }
     ok
@@ -94,8 +129,8 @@ fn are_numbers_rising(book: &[u64], count: usize) -> bool
     let mut ok = true;
     let mut i: usize = 0;
     while i + 1 < count {
-        let at = i * WIDTH;
-        ok = ok & (book[at] < book[at + WIDTH]);
+        let at = i * ORDER_WIDTH;
+        ok = ok & (book[at] < book[at + ORDER_WIDTH]);
         i += 1;
     }
     ok
@@ -106,11 +141,11 @@ fn is_repeated(book: &[u64], i: usize, count: usize) -> bool
     requires { ⌜ (i < count) × (count ≤ 256) × (2048 ≤ length (now book)) ⌝ }
     ensures { λ r. ⌜ r ≡ any (eqb (numberAt (now (book .entry)) i)) (map (numberAt (now (book .entry))) (from (suc i) (count - suc i))) ⌝ }
 {
-    let number = book[i * WIDTH];
+    let number = book[i * ORDER_WIDTH];
     let mut found = false;
     let mut j: usize = i + 1;
     while j < count {
-        found = found | (number == book[j * WIDTH]);
+        found = found | (number == book[j * ORDER_WIDTH]);
         j += 1;
     }
     found

@@ -6,7 +6,7 @@ ghost use Prim.Native.Nat.{ℕ};
 ghost use lib.IntN.{ℤ};
 ghost use Rattle.rules.specs.Ledger.{ledgerShort, linesShort};
 ghost use Rattle.rules.specs.Refusals.{damaged};
-ghost use Rattle.tables.specs.Lent.{lent};
+ghost use Rattle.rules.specs.Ledger.{lent};
 use crate::book::is_book_sound;
 use crate::head::is_head_sound;
 use crate::prices::are_prices_sound;

@@ -8,7 +8,7 @@ ghost use Rattle.arith.specs.Lists.{every, from};
 ghost use Rattle.rules.specs.Ledger.{isOpen, timed};
 ghost use Rattle.rules.specs.Refusals.{memberSound, headSound};
 ghost use Rattle.calendar.specs.Bounds.{FirstYear};
-ghost use Rattle.tables.specs.Lent.{lent};
+ghost use Rattle.rules.specs.Ledger.{lent};
 use crate::days::is_calendar_sound;
 use crate::days::is_day_sound;
 use crate::fresh::clear_at;

@@ -4,7 +4,7 @@ ghost use mathlib.Core.Bool.{false, _||_};
 ghost use Prim.Native.Nat.{_<_};
 ghost use Rattle.rules.specs.Ledger.{ledgerShort, linesShort};
 ghost use Rattle.rules.specs.Refusals.{damaged, cancelSpec};
-ghost use Rattle.tables.specs.Lent.{lent};
+ghost use Rattle.rules.specs.Ledger.{lent};
 use rules::Answer;
 use rules::Cancellation;
 use tables::Leaving;

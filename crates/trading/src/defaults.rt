@@ -5,7 +5,7 @@ ghost use Prim.Native.Nat.{_<_};
 ghost use lib.ListN.{getD};
 ghost use Rattle.rules.specs.Ledger.{ledgerShort, linesShort};
 ghost use Rattle.rules.specs.Refusals.{damaged, defaultSpec};
-ghost use Rattle.tables.specs.Lent.{lent};
+ghost use Rattle.rules.specs.Ledger.{lent};
 use rules::Answer;
 use tables::Leaving;
 

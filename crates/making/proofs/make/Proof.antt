@@ -4,7 +4,7 @@ use mathlib.Core.Bool.{true}
 use mathlib.Core.List.{[]}
 use Rattle.rules.specs.Header.{beginsWithHeader}
 use Rattle.rules.specs.Refusals.{makeSpec}
-use Rattle.tables.specs.Lent.{lent}
+use Rattle.rules.specs.Ledger.{lent}
 use Rattle.tables.proofs.Sound.{lengths}
 use Rattle.making.proofs.Reading.{turned-back, read-well, holiday-room, limit-room, holiday-most, limit-most, as-written}
 use borrow.Author.Needs.{needs}

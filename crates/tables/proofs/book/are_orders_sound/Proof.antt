@@ -6,9 +6,9 @@ use mathlib.Core.List.{List}
 use Prim.Native.Nat.{ℕ, _-_, _≤_}
 use lib.IntN.{ℤ}
 use Rattle.arith.specs.Lists.{every, from}
-use Rattle.tables.specs.Lent.{lent}
+use Rattle.rules.specs.Ledger.{lent}
 use Rattle.tables.specs.Orders.{placeSound, placesSound}
-use Rattle.tables.proofs.Scans.{each-start, each-next, each-end}
+use Rattle.arith.proofs.Scans.{each-start, each-next, each-end}
 use Rattle.tables.proofs.book.are_orders_sound.Statement.{statement}
 use Rattle.tables.proofs.book.are_orders_sound.Tie as tie
 

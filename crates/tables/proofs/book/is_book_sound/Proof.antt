@@ -1,4 +1,4 @@
-use Rattle.tables.specs.Lent.{lent}
+use Rattle.rules.specs.Ledger.{lent}
 use Rattle.tables.proofs.Books.{book-is}
 use borrow.Author.Needs.{needs}
 use Rattle.tables.proofs.book.is_book_sound.Statement.{statement}

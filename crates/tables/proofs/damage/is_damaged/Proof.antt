@@ -11,7 +11,7 @@ use Rattle.arith.specs.Lists.{allOf}
 use Rattle.arith.specs.Tests.{and-true}
 use Rattle.rules.specs.Ledger.{Tables, members, lotsRun, ledgerShort, linesShort}
 use Rattle.rules.specs.Refusals.{everyRow, damaged, headSound, pricesSound, rowsSound}
-use Rattle.tables.specs.Lent.{lent}
+use Rattle.rules.specs.Ledger.{lent}
 use Rattle.tables.proofs.Sound.{HeadHolds, head-holds, Lengths, lengths}
 use Rattle.tables.proofs.damage.is_damaged.Statement.{statement}
 use Rattle.tables.proofs.damage.is_damaged.Tie as tie

@@ -9,8 +9,8 @@ use lib.IntN.{ℤ}
 use lib.ListN.{getD}
 use Rattle.arith.specs.Lists.{every, from}
 use Rattle.rules.specs.Refusals.{memberSound}
-use Rattle.tables.specs.Lent.{lent}
-use Rattle.tables.proofs.Scans.{each-start, each-next, each-end}
+use Rattle.rules.specs.Ledger.{lent}
+use Rattle.arith.proofs.Scans.{each-start, each-next, each-end}
 use Rattle.tables.proofs.Tests.{all-three}
 use Rattle.tables.proofs.head.are_members_sound.Statement.{statement}
 use Rattle.tables.proofs.head.are_members_sound.Tie as tie

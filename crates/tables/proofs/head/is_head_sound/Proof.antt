@@ -8,7 +8,7 @@ use borrow.Author.Tests.{le-leb, lt-leb, not-true, not-false}
 use Rattle.arith.specs.Lists.{every, allOf, from}
 use Rattle.rules.specs.Header.{calendarSound, membersSound, daySound}
 use Rattle.rules.specs.Refusals.{headSound, memberSound}
-use Rattle.tables.specs.Lent.{lent}
+use Rattle.rules.specs.Ledger.{lent}
 use Rattle.tables.proofs.Tests.{all-nine}
 use Rattle.tables.proofs.Sound.{years}
 use borrow.Author.Needs.{needs}

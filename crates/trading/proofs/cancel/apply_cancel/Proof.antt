@@ -6,7 +6,7 @@ use borrow.Author.Tests.{not-true, not-false, lt-ltb, le-ltb}
 use Rattle.arith.specs.Lists.{any}
 use Rattle.rules.specs.Ledger.{orders}
 use Rattle.rules.specs.Refusals.{isCancelled, cancelSpec}
-use Rattle.tables.specs.Lent.{lent}
+use Rattle.rules.specs.Ledger.{lent}
 use Rattle.tables.specs.Lines.{stays}
 use Rattle.tables.proofs.Sound.{Undamaged, undamaged}
 use Rattle.tables.proofs.Booked.{booked-none}

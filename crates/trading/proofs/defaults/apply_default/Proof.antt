@@ -6,7 +6,7 @@ use borrow.Author.Tests.{eq-eqb, ne-eqb}
 use Rattle.rules.specs.Default.{defaultBooked}
 use Rattle.rules.specs.Ledger.{orders}
 use Rattle.rules.specs.Refusals.{defaultSpec}
-use Rattle.tables.specs.Lent.{lent}
+use Rattle.rules.specs.Ledger.{lent}
 use Rattle.tables.specs.Lines.{stays}
 use Rattle.tables.proofs.Sound.{Undamaged, undamaged}
 use Rattle.tables.proofs.Booked.{booked-none}

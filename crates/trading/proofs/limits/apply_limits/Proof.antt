@@ -3,7 +3,7 @@ use mathlib.Core.Path.{sym, _∙_}
 use lib.ListN.{length-set}
 use borrow.Author.Tests.{not-true, not-false}
 use Rattle.rules.specs.Refusals.{dayLimitsSpec}
-use Rattle.tables.specs.Lent.{lent}
+use Rattle.rules.specs.Ledger.{lent}
 use Rattle.tables.proofs.Sound.{Undamaged, undamaged}
 use Rattle.tables.proofs.Booked.{booked-none}
 use borrow.Author.Needs.{needs}
