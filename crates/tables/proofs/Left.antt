@@ -15,7 +15,7 @@ use Rattle.arith.specs.Lists.{kept, from, over}
 use Rattle.arith.specs.Overs.{over-outside}
 use Rattle.arith.specs.Tests.{true-or}
 use Rattle.arith.proofs.Appends.{from-more, from-length, map-append, flat-append, flat-one, flat-length, map-at, from-at}
-use Rattle.arith.proofs.Writes.{over-more, again-front}
+use Rattle.arith.proofs.Writes.{over-more, again-long, again-front, again-many}
 use Rattle.rules.specs.declared.order.Order.{Order}
 use Rattle.rules.specs.Ledger.{orderAt, orderPlaces}
 use Rattle.rules.specs.Matching.{withLots}
@@ -79,10 +79,18 @@ module _ (w : Leaving) (n : ℕ) (b : List ℕ) where
       ∙ ap (λ o. cond (leaves w o) 0 (o .lots .0)) (map-at (orderAt b) (from 0 n) i 0 (orderAt b i) (omega (arith, from-length 0 n)) ∙ ap (orderAt b) (from-at 0 n i 0 h ∙ zero-add i))
 
 -- the column as `remove_orders` lends it: the first n places of an array
-pub column-kept : (w : Leaving) (n : ℕ) (ys l b : List ℕ) → n ≤ length l → ys ≡ staying w (ordersIn (length (take n l)) b) → All (λ o. 1 ≤ o .lots .0) (ordersIn n b)
-    → leftOver (take n (ys ++ drop n l)) (ordersIn n b) ≡ kept (λ o. not (leaves w o)) (ordersIn n b)
-column-kept w n ys l b fits e a =
-    rw (again-front n ys l (ap length e ∙ staying-length w (length (take n l)) b) fits, e, length-take-le n l fits) (staying-kept w (ordersIn n b) a)
+module _ (w : Leaving) (n : ℕ) (ys l b : List ℕ) (fits : n ≤ length l) (e : ys ≡ staying w (ordersIn (length (take n l)) b)) where
+  as-lent : length ys ≡ length (take n l)
+  as-lent = ap length e ∙ staying-length w (length (take n l)) b
+
+  pub column-long : n ≤ length (ys ++ drop n l)
+  column-long = again-long n ys l as-lent fits
+
+  pub column-many : n ≡ length (take n (ys ++ drop n l))
+  column-many = again-many n ys l as-lent fits
+
+  pub column-kept : All (λ o. 1 ≤ o .lots .0) (ordersIn n b) → leftOver (take n (ys ++ drop n l)) (ordersIn n b) ≡ kept (λ o. not (leaves w o)) (ordersIn n b)
+  column-kept a = rw (again-front n ys l as-lent fits, e, length-take-le n l fits) (staying-kept w (ordersIn n b) a)
 
 -- ---- one step
 -- An order behind what was written is read as it was.

@@ -5,3 +5,4 @@ pub mod Books
 pub mod Sound
 pub mod Left
 pub mod Booked
+pub mod Fits

@@ -1,3 +1,5 @@
+use Rattle.tables.proofs.Left.{column-long, column-many}
+use lib.ListN.{replicate}
 use native.Mathlib.Omega.{arith}
 use Prim.Native.Nat.{_≤_}
 use Rattle.tables.proofs.Left.{column-kept}
@@ -36,15 +38,18 @@ write-left-requires c κs = (rw (length-take-le _ _ (c .before .before .before .
 
 -- src/leaving.rt:140:41
 array-share-prefix-left : tie.Need-array-share-prefix-left
-array-share-prefix-left c = again-long _ _ _ (ap length (c .before .before .before .write-left .ensures) ∙ staying-length _ _ _) (c .before .before .before .before .before .before .before .before .before .pre .0 .most-orders)
+array-share-prefix-left c = let a = c .before .before .before .before .before .before .before .before .before .args in column-long (a .w) (getD (a .head .now) 7 0) (c .before .before .before .write-left .last .1 .0) (replicate 256 0) (a .book .now) (c .before .before .before .before .before .before .before .before .before .pre .0 .most-orders) (c .before .before .before .write-left .ensures)
 
 -- src/leaving.rt:140:41
 slice-aggregate-keep-orders : tie.Need-slice-aggregate-keep-orders
-slice-aggregate-keep-orders c = again-many _ _ _ (ap length (c .before .before .before .before .write-left .ensures) ∙ staying-length _ _ _) (c .before .before .before .before .before .before .before .before .before .before .pre .0 .most-orders)
+slice-aggregate-keep-orders c = let a = c .before .before .before .before .before .before .before .before .before .before .args in column-many (a .w) (getD (a .head .now) 7 0) (c .before .before .before .before .write-left .last .1 .0) (replicate 256 0) (a .book .now) (c .before .before .before .before .before .before .before .before .before .before .pre .0 .most-orders) (c .before .before .before .before .write-left .ensures)
 
 -- src/leaving.rt:140:5
 keep-orders-requires : tie.Need-keep-orders-requires
-keep-orders-requires c κs = (c .before .before .before .before .before .before .before .before .before .before .pre .0, c .before .before .before .before .before .before .before .before .before .before .pre .1 .long, rw (← again-many _ _ _ (ap length (c .before .before .before .before .write-left .ensures) ∙ staying-length _ _ _) (c .before .before .before .before .before .before .before .before .before .before .pre .0 .most-orders)) (omega arith))
+keep-orders-requires c κs =
+    let a = c .before .before .before .before .before .before .before .before .before .before .args in
+    let n = getD (a .head .now) 7 0 in
+    (c .before .before .before .before .before .before .before .before .before .before .pre .0, c .before .before .before .before .before .before .before .before .before .before .pre .1 .long, rw (← column-many (a .w) n (c .before .before .before .before .write-left .last .1 .0) (replicate 256 0) (a .book .now) (c .before .before .before .before .before .before .before .before .before .before .pre .0 .most-orders) (c .before .before .before .before .write-left .ensures)) (omega arith))
 
 -- src/leaving.rt:132:1
 same-length : tie.Need-same-length
@@ -60,7 +65,7 @@ returns c =
     let a = c .before .before .before .before .before .before .before .before .before .before .before .before .before .before .before .args in
     λ t. c .before .before .before .before .keep-orders .ensures t
     ∙ ap (λ os. withOrders os (withHead (a .head .now) (withBook (a .book .now) t)))
-    (column-kept (a .w) (getD (a .head .now) 7 0) _ _ (a .book .now) (c .before .before .before .before .before .before .before .before .before .before .before .before .before .before .before .pre .0 .most-orders) (c .before .before .before .before .before .before .before .before .before .write-left .ensures)
+    (column-kept (a .w) (getD (a .head .now) 7 0) _ (replicate 256 0) (a .book .now) (c .before .before .before .before .before .before .before .before .before .before .before .before .before .before .before .pre .0 .most-orders) (c .before .before .before .before .before .before .before .before .before .write-left .ensures)
     (all-orders (λ o. 1 ≤ o .lots .0) (a .book .now) (getD (a .head .now) 7 0) (λ i h. c .before .before .before .before .before .before .before .before .before .before .before .before .before .before .before .pre .1 .order-fit i h .least-lots)))
 
 pub remove-orders-spec : {M : Type 1} → statement M

@@ -60,9 +60,12 @@ loop-again c =
     let n = length (a .left .now) in
     let all = staying (a .w) (ordersIn n (a .book .now)) in
     let here : c .left-of .result ≡ getD all (l .i) 0
-      = c .left-of .ensures ∙ ap (λ o. cond (leaves (a .w) o) 0 (o .lots .0)) (c .before .order-at .ensures) ∙ sym (staying-at (a .w) n (a .book .now) (l .i) (omega arith)) in
-    (length-set (l .left) (l .i) (c .left-of .result) ∙ l .inv .0, omega arith, rw (here, l .inv .2)
-    (front-next (l .i) all (a .left .now) 0 (omega (arith, staying-length (a .w) n (a .book .now))) (omega arith)))
+    = c .left-of .ensures ∙ ap (λ o. cond (leaves (a .w) o) 0 (o .lots .0)) (c .before .order-at .ensures) ∙ sym (staying-at (a .w) n (a .book .now) (l .i) (omega arith)) in (
+      length-set (l .left) (l .i) (c .left-of .result) ∙ l .inv .0,
+      omega arith,
+      rw (here, l .inv .2)
+          (front-next (l .i) all (a .left .now) 0 (omega (arith, staying-length (a .w) n (a .book .now))) (omega arith)),
+    )
 
 -- src/leaving.rt:63:1
 same-length : tie.Need-same-length Inv-loop μ-loop

@@ -51,8 +51,7 @@ loop-again : tie.Need-loop-again Inv-loop μ-loop
 loop-again c =
     let a = c .before .before .before .before .before .before .before .before .before .args in
     let l = c .before .before .before .before .before .before .loop in
-    let qs = a .left .now in
-    (
+    let qs = a .left .now in (
       omega arith,
       omega (arith, c .before .before .keep-order .kept .0),
       c .before .before .keep-order .ensures .0 ∙ kept-count qs (a .book .now) (l .i) (omega arith) (omega arith) (omega arith) (l .free) (l .inv .2),
