@@ -78,35 +78,3 @@ lengths t e =
       value-length = ltb-false (length (t .value)) 3264 (none .3);
       book-length = ltb-false (length (t .book)) 2048 (none .4);
     }
-
--- ---- tables that pass every test
-none-of-three : (a b c : Bool) → a || b || c ≡ false → (a ≡ false) × (b ≡ false) × (c ≡ false)
-none-of-three false false false h = (refl, refl, refl)
-none-of-three false false true h = never h
-none-of-three false true c h = never h
-none-of-three true b c h = never h
-
-pub record Undamaged (t : Tables) : Type 0 where
-  pub long : Lengths t
-  pub lines-length : 800 ≤ length (t .lines)
-  pub numbers : HeadHolds t
-  pub head-sound : headSound t ≡ true
-  pub prices-sound : pricesSound t ≡ true
-  pub rows-sound : rowsSound t ≡ true
-  pub book-sound : bookSound t ≡ true
-
-pub undamaged : (t : Tables) → ledgerShort t || linesShort t || damaged t ≡ false → Undamaged t
-unfolding linesShort damaged
-undamaged t e =
-    let none = none-of-three (ledgerShort t) (linesShort t) (damaged t) e in
-    let tests = headSound t ∷ pricesSound t ∷ rowsSound t ∷ bookSound t ∷ [] in
-    let all = all-hold tests (not-false (allOf tests) (none .2)) in
-    record {
-      long = lengths t (none .0);
-      lines-length = ltb-false (length (t .lines)) 800 (none .1);
-      numbers = head-holds t (all .0);
-      head-sound = all .0;
-      prices-sound = all .1 .0;
-      rows-sound = all .1 .1 .0;
-      book-sound = all .1 .1 .1 .0;
-    }

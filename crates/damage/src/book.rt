@@ -41,7 +41,7 @@ pub fn order_at(book: &[u64], i: usize) -> Order
     let at = i * layout::ORDER_WIDTH;
     let side = side_of(book[at + layout::ORDER_SIDE]);
     Order {
-        number: book[at + layout::ORDER_NUMBER],
+        number: book[at],
         member: book[at + layout::ORDER_MEMBER],
         contract: book[at + layout::ORDER_CONTRACT],
         side: side,
@@ -80,7 +80,9 @@ fn are_orders_sound(head: &[u64], book: &[u64], count: usize) -> bool
     let mut i: usize = 0;
     while i < count {
         let o = order_at(book, i);
-        ok = ok & ((book[i * layout::ORDER_WIDTH + layout::ORDER_SIDE] <= 1) & is_order_sound(head, span, o));
+        ok = ok
+            & ((book[i * layout::ORDER_WIDTH + layout::ORDER_SIDE] <= 1)
+                & is_order_sound(head, span, o));
         i += 1;
     }
     ok
@@ -95,7 +97,7 @@ fn are_numbers_rising(book: &[u64], count: usize) -> bool
     let mut i: usize = 0;
     while i + 1 < count {
         let at = i * layout::ORDER_WIDTH;
-        ok = ok & (book[at + layout::ORDER_NUMBER] < book[at + layout::ORDER_WIDTH]);
+        ok = ok & (book[at] < book[at + layout::ORDER_WIDTH]);
         i += 1;
     }
     ok

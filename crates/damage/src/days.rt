@@ -70,7 +70,7 @@ pub fn is_calendar_sound(first_year: u64, holidays: &[u64]) -> bool
     if ranges::MOST_FIRST_YEAR < first_year {
         return false;
     }
-    if ranges::MOST_HOLIDAYS as usize < holidays.len() {
+    if ranges::MOST_HOLIDAYS < holidays.len() as u64 {
         return false;
     }
     are_rising(holidays) & are_in_span(first_year, holidays)

@@ -24,7 +24,9 @@ fn are_members_sound(head: &[u64], members: u64) -> bool
     let mut m: usize = 0;
     while m < count {
         ok = ok
-            & ((head[layout::LIMITS + m] <= ranges::MOST_LIMIT) & (head[layout::MARKS + m] <= 1) & (head[layout::SUBMITS + m] <= ranges::MOST_SUBMITS_IN_SECOND));
+            & ((head[layout::LIMITS + m] <= ranges::MOST_LIMIT)
+                & (head[layout::MARKS + m] <= 1)
+                & (head[layout::SUBMITS + m] <= ranges::MOST_SUBMITS_IN_SECOND));
         m += 1;
     }
     ok

@@ -10,7 +10,7 @@ use borrow.Author.Tests.{not-true, not-false}
 use Rattle.arith.specs.Lists.{allOf}
 use Rattle.arith.specs.Tests.{and-true}
 use Rattle.rules.specs.Ledger.{Tables, members, lotsRun, ledgerShort, linesShort}
-use Rattle.rules.specs.Refusals.{everyRow, damaged, headSound, pricesSound, rowsSound}
+use Rattle.rules.specs.Refusals.{everyRow, damaged, unsound, headSound, pricesSound, rowsSound}
 use Rattle.rules.specs.Ledger.{lent}
 use Rattle.damage.proofs.Sound.{HeadHolds, head-holds, Lengths, lengths}
 use Rattle.damage.proofs.unsound.is_unsound.Statement.{statement}
@@ -48,21 +48,21 @@ is-ledger-short-requires : tie.Need-is-ledger-short-requires
 is-ledger-short-requires c κs = search needs
 
 returns : tie.Need-returns
-unfolding damaged allOf pricesSound rowsSound
+unfolding unsound damaged allOf pricesSound rowsSound
 returns c = let a = c .before .before .before .before .before .args in rw (sym (c .before .is-ledger-short .ensures (a .lines .now)) ∙ c .if1 .taken)
 
 is-lines-short-requires : tie.Need-is-lines-short-requires
 is-lines-short-requires c κs = search needs
 
 returns-2 : tie.Need-returns-2
-unfolding damaged allOf pricesSound rowsSound
+unfolding unsound damaged allOf pricesSound rowsSound
 returns-2 c = let a = c .before .before .before .before .before .before .before .args in rw (long (c .before .before), sym (c .before .is-lines-short .ensures (a .head .now) (a .prices .now) (a .lots .now) (a .value .now) (a .book .now)) ∙ c .if2 .taken)
 
 is-head-sound-requires : tie.Need-is-head-sound-requires
 is-head-sound-requires c κs = lengths-at (c .before .before) .head-length
 
 returns-3 : tie.Need-returns-3
-unfolding damaged allOf pricesSound rowsSound
+unfolding unsound damaged allOf pricesSound rowsSound
 returns-3 c = let a = c .before .before .before .before .before .before .before .before .before .args in rw (long (c .before .before .before .before), lines-long (c .before .before), sym (c .before .is-head-sound .ensures (a .prices .now) (a .lots .now) (a .value .now) (a .book .now) (a .lines .now)) ∙ not-true (c .before .is-head-sound .result) (c .if3 .taken))
 
 shared-slice-read-members : tie.Need-shared-slice-read-members
@@ -75,14 +75,14 @@ are-prices-sound-requires : tie.Need-are-prices-sound-requires
 are-prices-sound-requires c κs = (lengths-at (c .before .before .before .before .before .before) .prices-length, numbers-at (c .before .before) .most-run)
 
 returns-4 : tie.Need-returns-4
-unfolding damaged allOf pricesSound rowsSound
+unfolding unsound damaged allOf pricesSound rowsSound
 returns-4 c = rw (long (c .before .before .before .before .before .before .before .before), lines-long (c .before .before .before .before .before .before), head-good (c .before .before .before .before), sym (c .before .are-prices-sound .ensures) ∙ not-true (c .before .are-prices-sound .result) (c .if4 .taken))
 
 are-rows-within-requires : tie.Need-are-rows-within-requires
 are-rows-within-requires c κs = let h = numbers-at (c .before .before .before .before) in (lengths-at (c .before .before .before .before .before .before .before .before) .lots-length, h .most-members, omega arith)
 
 returns-5 : tie.Need-returns-5
-unfolding damaged allOf pricesSound rowsSound
+unfolding unsound damaged allOf pricesSound rowsSound
 returns-5 c = rw (long (c .before .before .before .before .before .before .before .before .before .before), lines-long (c .before .before .before .before .before .before .before .before), head-good (c .before .before .before .before .before .before), prices-good (c .before .before), sym (c .before .are-rows-within .ensures) ∙ not-true (c .before .are-rows-within .result) (c .if5 .taken))
 
 mul-are-rows-within : tie.Need-mul-are-rows-within
@@ -92,14 +92,14 @@ are-rows-within-requires-2 : tie.Need-are-rows-within-requires-2
 are-rows-within-requires-2 c κs = let h = numbers-at (c .before .before .before .before .before .before) in (lengths-at (c .before .before .before .before .before .before .before .before .before .before) .value-length, h .most-members, omega arith)
 
 returns-6 : tie.Need-returns-6
-unfolding damaged allOf pricesSound rowsSound
+unfolding unsound damaged allOf pricesSound rowsSound
 returns-6 c = rw (long (c .before .before .before .before .before .before .before .before .before .before .before .before), lines-long (c .before .before .before .before .before .before .before .before .before .before), head-good (c .before .before .before .before .before .before .before .before), prices-good (c .before .before .before .before), lots-good (c .before .before), sym (c .before .are-rows-within2 .ensures) ∙ not-true (c .before .are-rows-within2 .result) (c .if6 .taken))
 
 is-book-sound-requires : tie.Need-is-book-sound-requires
 is-book-sound-requires c κs = let h = numbers-at (c .before .before .before .before .before .before .before .before) in let w = lengths-at (c .before .before .before .before .before .before .before .before .before .before .before .before) in ((w .head-length, h .years), (h .most-orders, w .book-length))
 
 returns-7 : tie.Need-returns-7
-unfolding damaged allOf pricesSound rowsSound
+unfolding unsound damaged allOf pricesSound rowsSound
 returns-7 c = let a = c .before .before .before .before .before .before .before .before .before .before .before .before .before .before .before .before .before .before .args in rw (c .is-book-sound .ensures (a .prices .now) (a .lots .now) (a .value .now) (a .lines .now), long (c .before .before .before .before .before .before .before .before .before .before .before .before .before), lines-long (c .before .before .before .before .before .before .before .before .before .before .before), head-good (c .before .before .before .before .before .before .before .before .before), prices-good (c .before .before .before .before .before), lots-good (c .before .before .before), value-good (c .before)) (simp and-true)
 
 pub is-unsound-spec : {M : Type 1} → statement M
