@@ -1,6 +1,4 @@
-pub mod Scans
 pub mod Numbers
 pub mod Tests
-pub mod Signed
 pub mod Books
 pub mod Sound

@@ -13,7 +13,7 @@ use Rattle.arith.specs.Lists.{every, any, from}
 use Rattle.arith.specs.Tests.{true-or, le-or-lt, and-left, and-right, and-false, and-true, or-false}
 use Rattle.rules.specs.Header.{rising}
 use Rattle.rules.specs.Refusals.{distinct}
-use Rattle.damage.proofs.Scans.{from-next, from-end}
+use Rattle.arith.proofs.Scans.{from-next, from-end}
 
 -- What is above a larger number is above a smaller one.
 above : (x y : ℕ) (l : List ℕ) → x < y → every (ltb y) l ≡ true → every (ltb x) l ≡ true
@@ -75,15 +75,6 @@ module _ (f : ℕ → ℕ) (n i : ℕ) (ok all : Bool) where
   pub distinct-end : ok && distinct (map f (from i (n - i))) ≡ all → n ≤ i → ok ≡ all
   unfolding distinct
   distinct-end known h = sym (and-true ok) ∙ rw (from-end i n h) at known
-
-module _ {A : Type 0} (f : ℕ → A) (p : A → Bool) (n i : ℕ) (found one : Bool) where
-  pub some-next : found || any p (map f (from i (n - i))) ≡ one → i < n → (found || p (f i)) || any p (map f (from (i + 1) (n - (i + 1)))) ≡ one
-  unfolding any
-  some-next known h = or-assoc found (p (f i)) (any p (map f (from (i + 1) (n - (i + 1))))) ∙ rw (from-next i n h) at known
-
-  pub some-end : found || any p (map f (from i (n - i))) ≡ one → n ≤ i → found ≡ one
-  unfolding any
-  some-end known h = sym (or-false found) ∙ rw (from-end i n h) at known
 
 -- ---- numbers that rise are distinct
 none-same : (x : ℕ) (l : List ℕ) → every (ltb x) l ≡ true → any (eqb x) l ≡ false

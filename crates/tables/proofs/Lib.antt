@@ -1,8 +1,6 @@
-pub mod Signed
-pub mod Numbers
 pub mod Tests
-pub mod Books
 pub mod Sound
 pub mod Left
+pub mod Amounts
 pub mod Booked
 pub mod Fits

@@ -2,5 +2,3 @@ pub mod Fit
 pub mod Left
 pub mod Lines
 pub mod Headers
-pub mod Orders
-pub mod Spans

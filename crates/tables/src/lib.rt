@@ -1,19 +1,12 @@
-// The lent tables: their lengths, whether they are damaged, and what is read and written in them.
-// docs/LAYOUT.md has every place.
+// The lent tables: what is read and written in them. docs/LAYOUT.md has every place.
 mod book;
-mod damage;
-mod days;
 mod fresh;
 mod head;
 mod leaving;
 mod lines;
-mod prices;
-mod rows;
 
 pub use book::order_at;
 pub use book::put_order;
-pub use damage::is_damaged;
-pub use damage::is_ledger_short;
 pub use fresh::write_fresh;
 pub use head::is_contract_open;
 pub use head::set_time;

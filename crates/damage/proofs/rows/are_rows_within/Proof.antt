@@ -9,7 +9,7 @@ use lib.Seq.{take-take}
 use lib.IntN.{natAbs}
 use Rattle.arith.specs.Lists.{every, everyBlock}
 use Rattle.rules.specs.Refusals.{everyRow}
-use Rattle.damage.proofs.Scans.{block-next, block-end}
+use Rattle.arith.proofs.Scans.{block-next, block-end}
 use Rattle.damage.proofs.rows.are_rows_within.Statement.{statement}
 use Rattle.damage.proofs.rows.are_rows_within.Tie as tie
 

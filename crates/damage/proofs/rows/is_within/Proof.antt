@@ -1,5 +1,5 @@
 use native.Mathlib.Omega.{arith}
-use Rattle.damage.proofs.Signed.{rd-pos, neg-ok, neg-is, within-is, back-mag}
+use Rattle.arith.proofs.Signed.{rd-pos, neg-ok, neg-is, within-is, back-mag}
 use borrow.Author.Needs.{needs}
 use Rattle.damage.proofs.rows.is_within.Statement.{statement}
 use Rattle.damage.proofs.rows.is_within.Tie as tie

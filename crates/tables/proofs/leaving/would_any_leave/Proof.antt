@@ -8,7 +8,7 @@ use Prim.Native.Nat.{_-_, _≤_}
 use Rattle.arith.specs.Lists.{any, from}
 use Rattle.rules.specs.Ledger.{orderAt}
 use Rattle.tables.specs.Left.{leaves}
-use Rattle.tables.proofs.Numbers.{some-next, some-end}
+use Rattle.arith.proofs.Scans.{some-next, some-end}
 use Rattle.tables.proofs.leaving.would_any_leave.Statement.{statement}
 use Rattle.tables.proofs.leaving.would_any_leave.Tie as tie
 

@@ -1,6 +1,6 @@
 use lib.ListN.{getD}
 use lib.IntN.{pos}
-use Rattle.tables.proofs.Signed.{add-ok, add-is}
+use Rattle.arith.proofs.Signed.{add-ok, add-is}
 use borrow.Author.Needs.{needs}
 use Rattle.tables.proofs.lines.add_at.Statement.{statement}
 use Rattle.tables.proofs.lines.add_at.Tie as tie

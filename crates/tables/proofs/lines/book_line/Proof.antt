@@ -1,5 +1,5 @@
 use Rattle.tables.specs.Lines.{withLine}
-use Rattle.tables.proofs.Signed.{abs-signed}
+use Rattle.tables.proofs.Amounts.{abs-signed}
 use borrow.Author.Needs.{needs}
 use Rattle.tables.proofs.lines.book_line.Statement.{statement}
 use Rattle.tables.proofs.lines.book_line.Tie as tie

@@ -1,4 +1,4 @@
-use Rattle.tables.proofs.Signed.{signed-times, worth-most}
+use Rattle.tables.proofs.Amounts.{signed-times, worth-most}
 use native.Mathlib.Omega.{arith}
 use Rattle.rules.specs.Ledger.{posted}
 use borrow.Author.Needs.{needs}

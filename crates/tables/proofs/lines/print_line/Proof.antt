@@ -5,7 +5,7 @@ use Prim.Native.Nat.{_*_}
 use lib.ListN.{length-set}
 use Rattle.rules.specs.Ledger.{linePlaces}
 use Rattle.tables.specs.Lines.{lineOf}
-use Rattle.tables.proofs.Signed.{rd-pos, back}
+use Rattle.arith.proofs.Signed.{rd-pos, back}
 use Rattle.arith.proofs.Writes.{stored}
 use borrow.Author.Needs.{needs}
 use Rattle.tables.proofs.lines.print_line.Statement.{statement}

@@ -1,7 +1,7 @@
 use native.Mathlib.Omega.{arith}
 use mathlib.Core.Path.{refl}
 use lib.IntN.{pos}
-use Rattle.tables.proofs.Signed.{rd-pos, neg-ok, neg-is, abs-neg}
+use Rattle.arith.proofs.Signed.{rd-pos, neg-ok, neg-is, abs-neg}
 use borrow.Author.Needs.{needs}
 use Rattle.tables.proofs.lines.with_sign.Statement.{statement}
 use Rattle.tables.proofs.lines.with_sign.Tie as tie

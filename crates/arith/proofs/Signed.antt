@@ -1,21 +1,17 @@
 -- Signed numbers as the machine has them: `rd z` is z read back from its 64 bits. Assumes nothing.
 use mathlib.Core.Path.{_≡_, refl, sym, _∙_}
 use mathlib.Core.Bool.{_&&_}
-use Prim.Native.Nat.{ℕ, zero, suc, _+_, _*_, _<_, _≤_, _^_}
+use Prim.Native.Nat.{ℕ, zero, suc, _+_, _<_, _≤_, _^_}
 use native.Mathlib.Omega.{arith}
-use native.Mathlib.Nat.{zero-mul, mul-le-mul}
 use borrow.Author.Tests.{le-leb, lt-leb}
 use lib.Dec.{leb}
-use lib.IntN.{ℤ, pos, negsuc, natAbs, negℤ, _+ℤ_, _-ℤ_, _*ℤ_, +ℤ-idl}
+use lib.IntN.{ℤ, pos, negsuc, natAbs, negℤ, _+ℤ_, _-ℤ_, +ℤ-idl}
 use lib.Signed.{mag, leZ}
 use mir.Syntax.{w64}
 use mir.Val.{SFits, toZ, ofZ}
 use mir.Facts.{toZ-ofZ, toZ-pos}
 use Rattle.arith.specs.Tests.{by-leb, and-true}
 use Rattle.arith.specs.Sizes.{abs-plus}
-use Rattle.rules.specs.declared.order.Side.{Side}
-use Rattle.rules.specs.declared.order.Side.the-variants.{Buy, Sell}
-use Rattle.rules.specs.Matching.{signed}
 
 abbrev pub rd : ℤ → ℤ
 rd z = toZ w64 (ofZ w64 z)
@@ -65,16 +61,3 @@ module _ (x y : ℤ) (h : natAbs x + natAbs y < 2 ^ 63) where
 
   pub add-is : rd (rd x +ℤ rd y) ≡ x +ℤ y
   add-is = simp (back x (omega arith), back y (omega arith)) (back (x +ℤ y) (omega (arith, abs-plus x y)))
-
-pub abs-signed : (s : Side) (q : ℕ) → natAbs (signed s q) ≡ q
-abs-signed Buy q = refl
-abs-signed Sell q = abs-neg (pos q)
-
--- Lots times price with the sign of the side.
-pub signed-times : (s : Side) (q p : ℕ) → signed s (q * p) ≡ signed s q *ℤ pos p
-signed-times Buy q p = refl
-signed-times Sell zero p = rw (zero-mul p)
-signed-times Sell (suc q) p = refl
-
-pub worth-most : (q p : ℕ) → q ≤ 5000000 → p ≤ 1000000 → q * p ≤ 5000000000000
-worth-most q p h g = mul-le-mul h g
