@@ -4,3 +4,4 @@ pub mod Left
 pub mod Amounts
 pub mod Booked
 pub mod Fits
+pub mod Heads

@@ -89,6 +89,12 @@ pub record BookFit (head book : List ℕ) : Type 0 where
   pub order-fit : (i : ℕ) → i < orderCountIn head → OrderFit head book i
   pub numbers-distinct : distinct (map (λ o. o .number) (ordersIn (orderCountIn head) book)) ≡ true
 
+-- So many orders that can be read, each with lots.
+pub record OrdersFit (count : ℕ) (book : List ℕ) : Type 0 where
+  pub most-orders : count ≤ mostOrders
+  pub long : bookLength ≤ length book
+  pub least-lots : (i : ℕ) → i < count → 1 ≤ orderAt book i .lots .0
+
 -- All lent tables.
 pub record Fits (t : Tables) : Type 0 where
   pub head-fit : HeadFit (t .head)

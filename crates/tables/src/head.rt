@@ -1,9 +1,10 @@
 // The head: its day, and its time with what is counted in the present second.
 ghost use mathlib.Core.Path.{_≡_};
-ghost use Prim.Native.Nat.{_<_};
-ghost use Rattle.rules.specs.Ranges.{contractCount};
-ghost use Rattle.rules.specs.Ledger.{Tables, withHead, isOpen, timed};
-ghost use Rattle.tables.specs.Fit.{HeadFit};
+ghost use Prim.Native.Nat.{_≤_, _<_};
+ghost use lib.ListN.{length};
+ghost use Rattle.rules.specs.Ranges.{contractCount, mostMembers};
+ghost use Rattle.rules.specs.Ledger.{Tables, withHead, headLength, isOpen, timed};
+ghost use Rattle.tables.specs.Fit.{HeadFit, membersIn};
 use crate::fresh::clear_at;
 use rules::DayNo;
 use rules::layout::DAY;
@@ -30,7 +31,7 @@ pub fn is_contract_open(head: &[u64], contract: u64) -> bool
 
 // An accepted record's time; in a later second nobody has submitted yet.
 pub fn set_time(head: &mut [u64], time: u64)
-    requires { ⌜ HeadFit (now head) ⌝ }
+    requires { ⌜ (headLength ≤ length (now head)) × (membersIn (now head) ≤ mostMembers) ⌝ }
     ensures { λ _. ⌜ ((t : Tables) → withHead (now (head .exit)) t ≡ timed time (withHead (now (head .entry)) t)) ⌝ }
 {
     if time <= head[TIME] {

@@ -7,9 +7,9 @@ ghost use lib.Dec.{eqb};
 ghost use lib.ListN.{length, getD};
 ghost use Rattle.arith.specs.Lists.{over, any, kept};
 ghost use Rattle.rules.specs.Ranges.{mostOrders};
-ghost use Rattle.rules.specs.Ledger.{Tables, withHead, withBook, bookLength, orderWidth, orderAt, orderPlaces, orders, withOrders};
+ghost use Rattle.rules.specs.Ledger.{Tables, withHead, withBook, headLength, bookLength, orderWidth, orderAt, orderPlaces, orders, withOrders};
 ghost use Rattle.rules.specs.Matching.{withLots};
-ghost use Rattle.tables.specs.Fit.{HeadFit, BookFit, orderCountIn, ordersIn};
+ghost use Rattle.tables.specs.Fit.{OrdersFit, orderCountIn, ordersIn};
 ghost use Rattle.tables.specs.Left.{leftOver, leaves, staying};
 use crate::book::order_at;
 use crate::book::put_order;
@@ -119,7 +119,7 @@ fn write_staying(book: &mut [u64], left: &[u64], count: usize) -> usize
 
 // The book holds what is left of its orders, and no other.
 pub fn keep_orders(head: &mut [u64], book: &mut [u64], left: &[u64])
-    requires { ⌜ HeadFit (now head) × (bookLength ≤ length (now book)) × (orderCountIn (now head) ≤ length (now left)) ⌝ }
+    requires { ⌜ (headLength ≤ length (now head)) × (bookLength ≤ length (now book)) × (orderCountIn (now head) ≤ mostOrders) × (orderCountIn (now head) ≤ length (now left)) ⌝ }
     ensures { λ _. ⌜ ((t : Tables) → withHead (now (head .exit)) (withBook (now (book .exit)) t)
         ≡ withOrders (leftOver (now (left .entry)) (ordersIn (orderCountIn (now (head .entry))) (now (book .entry)))) (withHead (now (head .entry)) (withBook (now (book .entry)) t))) ⌝ }
 {
@@ -130,7 +130,7 @@ pub fn keep_orders(head: &mut [u64], book: &mut [u64], left: &[u64])
 
 // Some orders leave the book.
 pub fn remove_orders(head: &mut [u64], book: &mut [u64], w: Leaving)
-    requires { ⌜ HeadFit (now head) × BookFit (now head) (now book) ⌝ }
+    requires { ⌜ (headLength ≤ length (now head)) × OrdersFit (orderCountIn (now head)) (now book) ⌝ }
     ensures { λ _. ⌜ ((t : Tables) → withHead (now (head .exit)) (withBook (now (book .exit)) t)
         ≡ withOrders (kept (λ o. not (leaves w o)) (ordersIn (orderCountIn (now (head .entry))) (now (book .entry)))) (withHead (now (head .entry)) (withBook (now (book .entry)) t))) ⌝ }
 {

@@ -30,26 +30,26 @@ array-borrow-prefix-left c = search needs
 
 -- src/leaving.rt:139:24
 slice-aggregate-write-left : tie.Need-slice-aggregate-write-left
-slice-aggregate-write-left c = sym (length-take-le _ _ (c .before .before .before .before .before .pre .0 .most-orders))
+slice-aggregate-write-left c = sym (length-take-le _ _ (c .before .before .before .before .before .pre .1 .most-orders))
 
 -- src/leaving.rt:139:5
 write-left-requires : tie.Need-write-left-requires
-write-left-requires c κs = (rw (length-take-le _ _ (c .before .before .before .before .before .pre .0 .most-orders)) (c .before .before .before .before .before .pre .0 .most-orders), c .before .before .before .before .before .pre .1 .long)
+write-left-requires c κs = (rw (length-take-le _ _ (c .before .before .before .before .before .pre .1 .most-orders)) (c .before .before .before .before .before .pre .1 .most-orders), c .before .before .before .before .before .pre .1 .long)
 
 -- src/leaving.rt:140:41
 array-share-prefix-left : tie.Need-array-share-prefix-left
-array-share-prefix-left c = let a = c .before .before .before .before .before .before .before .before .before .args in column-long (a .w) (getD (a .head .now) 7 0) (c .before .before .before .write-left .last .1 .0) (replicate 256 0) (a .book .now) (c .before .before .before .before .before .before .before .before .before .pre .0 .most-orders) (c .before .before .before .write-left .ensures)
+array-share-prefix-left c = let a = c .before .before .before .before .before .before .before .before .before .args in column-long (a .w) (getD (a .head .now) 7 0) (c .before .before .before .write-left .last .1 .0) (replicate 256 0) (a .book .now) (c .before .before .before .before .before .before .before .before .before .pre .1 .most-orders) (c .before .before .before .write-left .ensures)
 
 -- src/leaving.rt:140:41
 slice-aggregate-keep-orders : tie.Need-slice-aggregate-keep-orders
-slice-aggregate-keep-orders c = let a = c .before .before .before .before .before .before .before .before .before .before .args in column-many (a .w) (getD (a .head .now) 7 0) (c .before .before .before .before .write-left .last .1 .0) (replicate 256 0) (a .book .now) (c .before .before .before .before .before .before .before .before .before .before .pre .0 .most-orders) (c .before .before .before .before .write-left .ensures)
+slice-aggregate-keep-orders c = let a = c .before .before .before .before .before .before .before .before .before .before .args in column-many (a .w) (getD (a .head .now) 7 0) (c .before .before .before .before .write-left .last .1 .0) (replicate 256 0) (a .book .now) (c .before .before .before .before .before .before .before .before .before .before .pre .1 .most-orders) (c .before .before .before .before .write-left .ensures)
 
 -- src/leaving.rt:140:5
 keep-orders-requires : tie.Need-keep-orders-requires
 keep-orders-requires c κs =
     let a = c .before .before .before .before .before .before .before .before .before .before .args in
     let n = getD (a .head .now) 7 0 in
-    (c .before .before .before .before .before .before .before .before .before .before .pre .0, c .before .before .before .before .before .before .before .before .before .before .pre .1 .long, rw (← column-many (a .w) n (c .before .before .before .before .write-left .last .1 .0) (replicate 256 0) (a .book .now) (c .before .before .before .before .before .before .before .before .before .before .pre .0 .most-orders) (c .before .before .before .before .write-left .ensures)) (omega arith))
+    (c .before .before .before .before .before .before .before .before .before .before .pre .0, c .before .before .before .before .before .before .before .before .before .before .pre .1 .long, c .before .before .before .before .before .before .before .before .before .before .pre .1 .most-orders, rw (← column-many (a .w) n (c .before .before .before .before .write-left .last .1 .0) (replicate 256 0) (a .book .now) (c .before .before .before .before .before .before .before .before .before .before .pre .1 .most-orders) (c .before .before .before .before .write-left .ensures)) (omega arith))
 
 -- src/leaving.rt:132:1
 same-length : tie.Need-same-length
@@ -65,8 +65,8 @@ returns c =
     let a = c .before .before .before .before .before .before .before .before .before .before .before .before .before .before .before .args in
     λ t. c .before .before .before .before .keep-orders .ensures t
     ∙ ap (λ os. withOrders os (withHead (a .head .now) (withBook (a .book .now) t)))
-    (column-kept (a .w) (getD (a .head .now) 7 0) _ (replicate 256 0) (a .book .now) (c .before .before .before .before .before .before .before .before .before .before .before .before .before .before .before .pre .0 .most-orders) (c .before .before .before .before .before .before .before .before .before .write-left .ensures)
-    (all-orders (λ o. 1 ≤ o .lots .0) (a .book .now) (getD (a .head .now) 7 0) (λ i h. c .before .before .before .before .before .before .before .before .before .before .before .before .before .before .before .pre .1 .order-fit i h .least-lots)))
+    (column-kept (a .w) (getD (a .head .now) 7 0) _ (replicate 256 0) (a .book .now) (c .before .before .before .before .before .before .before .before .before .before .before .before .before .before .before .pre .1 .most-orders) (c .before .before .before .before .before .before .before .before .before .write-left .ensures)
+    (all-orders (λ o. 1 ≤ o .lots .0) (a .book .now) (getD (a .head .now) 7 0) (λ i h. c .before .before .before .before .before .before .before .before .before .before .before .before .before .before .before .pre .1 .least-lots i h)))
 
 pub remove-orders-spec : {M : Type 1} → statement M
 remove-orders-spec =
