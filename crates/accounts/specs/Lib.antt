@@ -27,3 +27,5 @@ pub mod Books
 pub mod HeadStays
 pub mod PricesStay
 pub mod NeverDamaged
+pub mod Answered
+pub mod Struck

@@ -1,0 +1,28 @@
+-- Refused records may be struck out of a list: the ledger and the log stay the same.
+use mathlib.Core.Path.{_≡_}
+use mathlib.Core.Bool.{cond}
+use mathlib.Core.List.{List, [], _∷_}
+use Rattle.rules.specs.Ledger.{Tables, Line}
+use Rattle.rules.specs.Accounts.{Call, callSpec, after, isAccepted, log}
+
+-- The calls of a list that are accepted, from tables t on.
+unfoldable pub acceptedCalls : Tables → List Call → List Call
+acceptedCalls t [] = []
+acceptedCalls t (call ∷ calls) =
+    let o = callSpec t call in
+    let rest = acceptedCalls (o .after) calls in
+    cond (isAccepted (o .answer)) (call ∷ rest) rest
+
+-- The same ledger: every table but the line table, which is each call's own.
+pub record SameLedger (t u : Tables) : Type 0 where
+  pub head : t .head ≡ u .head
+  pub prices : t .prices ≡ u .prices
+  pub lots : t .lots ≡ u .lots
+  pub value : t .value ≡ u .value
+  pub book : t .book ≡ u .book
+
+-- For all tables and calls.
+abbrev pub StrikingChangesNothing : Type 0
+StrikingChangesNothing =
+    (t : Tables) (calls : List Call)
+    → SameLedger (after t calls) (after t (acceptedCalls t calls)) × (log t calls ≡ log t (acceptedCalls t calls))
