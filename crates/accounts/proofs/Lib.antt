@@ -1,3 +1,4 @@
 pub mod Answered
 pub mod Struck
 pub mod EachKind
+pub mod Priority
