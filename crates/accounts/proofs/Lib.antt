@@ -2,3 +2,4 @@ pub mod Answered
 pub mod Struck
 pub mod EachKind
 pub mod Priority
+pub mod Complete

@@ -29,3 +29,4 @@ pub mod PricesStay
 pub mod NeverDamaged
 pub mod Answered
 pub mod Struck
+pub mod Complete
