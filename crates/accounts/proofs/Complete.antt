@@ -4,21 +4,28 @@ use Prim.Native.Nat.{ℕ, zero, suc, _-_, _≤_, _<_, min}
 use mathlib.Core.Logic.{_⊎_, inl, inr}
 use mathlib.Core.Path.{_≡_, refl, sym, ap, subst, _∙_}
 use mathlib.Core.Bool.{Bool, true, false, cond, _&&_}
-use mathlib.Core.List.{List, [], _∷_, List·Memᴰ, List·Memᴰ·head, List·Memᴰ·tail}
+use mathlib.Core.List.{List, [], _∷_, _++_, List·Memᴰ, List·Memᴰ·head, List·Memᴰ·tail}
 use mathlib.Core.Option.{Option, none, some}
 use native.Mathlib.Omega.{arith}
 use lib.Dec.{eqb, leb, ltb}
 use lib.ListN.{length}
 use borrow.Author.Tests.{le-leb, lt-leb, leb-false, lt-ltb, le-ltb, eq-eqb}
-use Rattle.arith.specs.Alls.{All, all-map, all-always}
-use Rattle.arith.specs.Tests.{never, by-bool, true-or, le-or-lt, and-left, and-right}
+use Rattle.arith.specs.Alls.{All, all-map, all-always, all-append}
+use Rattle.arith.specs.Tests.{never, by-bool, true-or, le-or-lt, and-right, and-false}
 use Rattle.rules.specs.declared.order.Order.{Order}
 use Rattle.rules.specs.declared.order.Side.{Side}
 use Rattle.rules.specs.declared.order.Side.the-variants.{Buy, Sell}
-use Rattle.rules.specs.Matching.{sameSide, otherSide, best, opposes, meetsPrice, meets, withLots, used, Matched, stopped, afterDeal, matching}
+use Rattle.rules.specs.declared.event.Event.the-variants.{Submit}
+use Rattle.rules.specs.declared.event.Submission.{Submission}
+use Rattle.rules.specs.Ledger.{Tables, orders}
+use Rattle.rules.specs.Matching.{sameSide, otherSide, precedes, best, opposes, meetsPrice, meets, withLots, used, Matched, stopped, afterDeal, matching, matched, incoming, submitMatched, wouldRest, submitOrders}
+use Rattle.rules.specs.Refusals.{applySpec}
 use Rattle.accounts.specs.Matches.{best-all, used-length}
 use Rattle.accounts.specs.Remains.{Remain, remain-all, used-remain, matching-remain, remain-then}
-use Rattle.accounts.proofs.Priority.{Behind, lower, higher, same, After, best-none, best-is}
+use Rattle.accounts.proofs.Priority.{Behind, lower, higher, same, After, after-not-before, best-none, best-is}
+use Rattle.accounts.specs.Complete.{AcceptedSubmit, MatchingIsComplete, NobodyIsPassedOver}
+use Rattle.accounts.proofs.EachKind.{accepted-call}
+use Rattle.accounts.proofs.OrdersAfter.{submit-orders}
 
 -- ---- what matching ends with
 -- r, if it opposes o, is behind the price that o meets
@@ -36,6 +43,14 @@ side-of Sell Sell e = refl
 pub opposing-side : (o r : Order) → opposes o r ≡ true → r .side ≡ otherSide (o .side)
 unfolding opposes
 opposing-side o r e = side-of (r .side) (otherSide (o .side)) (and-right (eqb (r .contract) (o .contract)) (sameSide (r .side) (otherSide (o .side))) e)
+
+not-own : (s : Side) → sameSide s (otherSide s) ≡ false
+not-own Buy = refl
+not-own Sell = refl
+
+not-both : (a b : Bool) → (a ≡ true → b ≡ false) → a && b ≡ false
+not-both true b f = f refl
+not-both false b f = refl
 
 -- a price behind one that does not meet p does not meet it either
 behind-unmet : (s : Side) (p x n r m : ℕ) → Behind (otherSide s) x n r m → meetsPrice s p r ≡ false → meetsPrice s p x ≡ false
@@ -134,3 +149,60 @@ matching-ends (suc n) o os h = go (best (opposes o) os) refl (λ o′ os′ k. m
         (by-bool (λ c. Ends o (cond c (afterDeal (record { resting = r; lots = q }) next) (stopped o os))) (ltb 0 (o .lots .0) && meets o r)
         (λ _. deal-ends o r os f q next (remain-then (used-remain (r .number) q os) (matching-remain n o′ os′)) (next-ends o r os f n h ih))
         (λ e. record { unmet = λ l. best-unmet o r os f (ap (λ b. b && meets o r) (sym (lt-ltb 0 (o .lots .0) l)) ∙ e); passed = tt }))
+
+-- ---- an accepted submit
+module _ (t : Tables) (e : Submission) where
+  abbrev new : Order
+  new = incoming t e
+
+  abbrev m : Matched
+  m = submitMatched t e
+
+  pub submit-ends : Ends new m
+  unfolding submitMatched matched
+  submit-ends = matching-ends (length (orders t)) new (orders t) (omega arith)
+
+  -- what holds of the orders that rest after the deals, and of the remainder, holds of all
+  pub submit-all : (P : Order → Type 0) → All P (m .resting) → (wouldRest t e ≡ true → P (withLots (m .left) new)) → All P (submitOrders t e)
+  unfolding submitOrders
+  submit-all P a f =
+      by-bool (λ b. All P (cond b (m .resting ++ (withLots (m .left) new ∷ [])) (m .resting))) (wouldRest t e)
+      (λ w. all-append P (m .resting) (withLots (m .left) new ∷ []) a (f w, tt)) (λ _. a)
+
+  -- the remainder does not oppose its own order
+  own-side : (q : ℕ) → opposes new (withLots q new) ≡ false
+  unfolding opposes
+  own-side q = rw (not-own (e .side)) (and-false (eqb (e .contract) (e .contract)))
+
+  opposing-none : (f : Order → Bool) → All (λ r. opposes new r ≡ true → f r ≡ false) (m .resting) → All (λ r. opposes new r && f r ≡ false) (submitOrders t e)
+  opposing-none f a =
+      submit-all (λ r. opposes new r && f r ≡ false) (all-map (λ r. opposes new r ≡ true → f r ≡ false) (λ r. opposes new r && f r ≡ false) (m .resting) (λ r. not-both (opposes new r) (f r)) a)
+      (λ _. rw (own-side (m .left)))
+
+module _ (t : Tables) (bytes : List ℕ) (e : Submission) (a : AcceptedSubmit t bytes e) where
+  -- the orders after it
+  now : orders (applySpec t bytes .after) ≡ submitOrders t e
+  now = let c = accepted-call t bytes (Submit e) (a .0) (a .1) in ap (λ o. orders (o .after)) (c .leads) ∙ submit-orders t (c .tables) e
+
+  complete : (submitMatched t e .left ≡ 0) ⊎ All (λ r. opposes (incoming t e) r && meets (incoming t e) r ≡ false) (orders (applySpec t bytes .after))
+  complete =
+      le-or-lt (submitMatched t e .left) 0 (λ l. inl (omega arith))
+      (λ l. inr (rw now (opposing-none t e (meets (incoming t e)) (submit-ends t e .unmet l))))
+
+  not-passed : All (λ deal. All (λ r. opposes (incoming t e) r && precedes r (deal .resting) ≡ false) (orders (applySpec t bytes .after))) (submitMatched t e .deals)
+  not-passed =
+      let o = incoming t e in
+      let m = submitMatched t e in
+      rw now
+      (all-map (λ d. All (λ r. opposes o r ≡ true → (r .side ≡ d .resting .side) × After r (d .resting)) (m .resting))
+      (λ d. All (λ r. opposes o r && precedes r (d .resting) ≡ false) (submitOrders t e)) (m .deals)
+      (λ d x. opposing-none t e (λ r. precedes r (d .resting))
+      (all-map (λ r. opposes o r ≡ true → (r .side ≡ d .resting .side) × After r (d .resting)) (λ r. opposes o r ≡ true → precedes r (d .resting) ≡ false) (m .resting)
+      (λ r f h. after-not-before r (d .resting) (f h .1)) x))
+      (submit-ends t e .passed))
+
+pub matching-is-complete : MatchingIsComplete
+matching-is-complete = complete
+
+pub nobody-is-passed-over : NobodyIsPassedOver
+nobody-is-passed-over = not-passed

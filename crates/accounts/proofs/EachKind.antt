@@ -1,5 +1,5 @@
 -- A law of every call, from what each kind of record shows where the tables are sound, the event is and no cause holds.
-use mathlib.Core.Path.{_≡_, refl}
+use mathlib.Core.Path.{_≡_, refl, sym, ap, _∙_}
 use mathlib.Core.Bool.{Bool, true, false, not, _||_}
 use mathlib.Core.List.{List, [], _∷_}
 use Prim.Native.Nat.{ℕ, _+_, _*_, _≤_}
@@ -7,6 +7,7 @@ use lib.ListN.{length, set}
 use borrow.Author.Tests.{ltb-false}
 use Rattle.arith.specs.Alls.{All, all-hold}
 use Rattle.arith.specs.Lists.{kept}
+use Rattle.arith.specs.Tests.{never}
 use Rattle.rules.specs.declared.answer.Answer.{Answer}
 use Rattle.rules.specs.declared.answer.Answer.the-variants.{TableUnsound, RecordUnsound}
 use Rattle.rules.specs.declared.event.Event.{Event}
@@ -23,7 +24,7 @@ use Rattle.rules.specs.CloseOfDay.{closeBooked}
 use Rattle.rules.specs.Default.{defaultBooked, closeOutBooked}
 use Rattle.rules.specs.Refusals.{isCancelled, headSound, pricesSound, bookSound, damaged, submitSpec, cancelSpec, limitsSpec, proposalSpec, defaultSpec, closeOutSpec, closeSpec, eventSpec, readingSpec, applySpec}
 use Rattle.rules.specs.Accounts.{isAccepted}
-use Rattle.accounts.specs.Answered.{kindCauses}
+use Rattle.accounts.specs.Answered.{Cause, kindCauses}
 use Rattle.accounts.specs.Runs as runs
 use Rattle.accounts.specs.Calls.{Long, long-enough, or-left, or-right, not-false, sound-of, decide-shows}
 use Rattle.accounts.specs.Books.{BookKept, undamaged-book}
@@ -86,6 +87,29 @@ causes-refuse t (CloseOfDay s) legs = (refl, (refl, tt))
 abbrev pub NoCause : Tables → Event → List Leg → Type 0
 NoCause t e legs = All (λ cause. cause .0 ≡ false) (kindCauses t e legs)
 
+-- ---- an accepted call: nothing is damaged, its event is sound, no cause holds, and it leads to what its kind books
+decided-accepted : (causes : List Cause) (t : Tables) (o : Outcome Tables) → All (λ cause. isAccepted (cause .1) ≡ false) causes → isAccepted (decide causes t o .answer) ≡ true
+    → All (λ cause. cause .0 ≡ false) causes × (decide causes t o ≡ o)
+decided-accepted [] t o r a = (tt, refl)
+decided-accepted ((true, x) ∷ causes) t o r a = never (sym a ∙ r .0)
+decided-accepted ((false, x) ∷ causes) t o r a = let d = decided-accepted causes t o (r .1) a in ((refl, d .0), d .1)
+
+pub record AcceptedCall (t : Tables) (bytes : List ℕ) (e : Event) : Type 0 where
+  pub tables : Undamaged t
+  pub event : eventSound (members t) e (legsOf bytes) ≡ true
+  pub no-cause : NoCause t e (legsOf bytes)
+  pub leads : applySpec t bytes ≡ acceptedAs t e (legsOf bytes)
+
+pub accepted-call : (t : Tables) (bytes : List ℕ) (e : Event) → readOf (members t) bytes ≡ Sound e → isAccepted (applySpec t bytes .answer) ≡ true → AcceptedCall t bytes e
+unfolding applySpec readingSpec
+accepted-call t bytes e r a =
+    let legs = legsOf bytes in
+    let told = decided-accepted ((ledgerShort t || linesShort t || damaged t, TableUnsound) ∷ []) t (readingSpec t (readOf (members t) bytes) legs) (refl, tt) a in
+    let is : readingSpec t (readOf (members t) bytes) legs ≡ decide (kindCauses t e legs) t (acceptedAs t e legs) = ap (λ x. readingSpec t x legs) r ∙ event-decided t e legs in
+    let kind = decided-accepted (kindCauses t e legs) t (acceptedAs t e legs) (causes-refuse t e legs) (ap (λ o. isAccepted (o .answer)) (sym (told .1 ∙ is)) ∙ a) in
+    record { tables = undamaged t (told .0 .0); event = read-sound (members t) bytes e r; no-cause = kind .0; leads = told .1 ∙ is ∙ kind .1 }
+
+-- ---- every call
 module _ (P : Tables → Outcome Tables → Type 0) (refused : (t : Tables) (a : Answer) → isAccepted a ≡ false → P t (record { answer = a; after = t }))
     (shows : (e : Event) (t : Tables) (legs : List Leg) → Undamaged t → eventSound (members t) e legs ≡ true → NoCause t e legs → P t (acceptedAs t e legs)) where
   reading-shows : (t : Tables) (x : Reading) (bytes : List ℕ) → readOf (members t) bytes ≡ x → Undamaged t → P t (readingSpec t x (legsOf bytes))

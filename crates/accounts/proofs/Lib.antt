@@ -3,3 +3,4 @@ pub mod Struck
 pub mod EachKind
 pub mod Priority
 pub mod Complete
+pub mod OrdersAfter

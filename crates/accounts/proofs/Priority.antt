@@ -24,6 +24,15 @@ pub data Behind : Side → ℕ → ℕ → ℕ → ℕ → Type 0 where
   higher : {p n q m : ℕ} → q < p → Behind Sell p n q m
   same : {s : Side} {p n q m : ℕ} → p ≡ q → m ≤ n → Behind s p n q m
 
+level : (s : Side) (p q : ℕ) → p ≡ q → betterPrice s p q ≡ false
+level Buy p q e = le-ltb q p (omega arith)
+level Sell p q e = le-ltb p q (omega arith)
+
+not-ahead : {s : Side} {p n q m : ℕ} → Behind s p n q m → ahead s p n q m ≡ false
+not-ahead {p = p} {q = q} (lower h) = rw (le-ltb q p (omega arith), ne-eqb p q (omega arith))
+not-ahead {p = p} {q = q} (higher h) = rw (le-ltb p q (omega arith), ne-eqb p q (omega arith))
+not-ahead {s = s} {p = p} {n = n} {q = q} {m = m} (same e h) = rw (level s p q e, eq-eqb p q e, le-ltb n m h)
+
 -- each is ahead of the other or behind it
 by-ahead : (P : Bool → Type 0) (s : Side) (p n q m : ℕ) → (Behind s q m p n → P true) → (Behind s p n q m → P false) → P (ahead s p n q m)
 by-ahead P s p n q m f g =
@@ -31,10 +40,6 @@ by-ahead P s p n q m f g =
     (λ e. le-or-lt m n (λ l. rw (level s p q e, eq-eqb p q e, le-ltb n m l) (g (same e l))) (λ l. rw (level s p q e, eq-eqb p q e, lt-ltb n m l) (f (same (sym e) (omega arith)))))
     (λ d. rw (ne-eqb p q d) (apart s d f g))
   where
-    level : (s : Side) (p q : ℕ) → p ≡ q → betterPrice s p q ≡ false
-    level Buy p q e = le-ltb q p (omega arith)
-    level Sell p q e = le-ltb p q (omega arith)
-
     apart : (s : Side) → (p ≡ q → ⊥) → (Behind s q m p n → P true) → (Behind s p n q m → P false) → P (betterPrice s p q || false)
     apart Buy d f g = le-or-lt p q (λ l. rw (le-ltb q p l) (g (lower (omega arith)))) (λ l. rw (lt-ltb q p l) (f (lower l)))
     apart Sell d f g = le-or-lt q p (λ l. rw (le-ltb p q l) (g (higher (omega arith)))) (λ l. rw (lt-ltb p q l) (f (higher l)))
@@ -58,6 +63,10 @@ unfolding precedes
 by-priority P a b e f g =
     by-ahead P (a .side) (a .price .0) (a .number) (b .price .0) (b .number)
     (λ x. f (subst (λ s. Behind s (b .price .0) (b .number) (a .price .0) (a .number)) e x)) g
+
+pub after-not-before : (a b : Order) → After a b → precedes a b ≡ false
+unfolding precedes
+after-not-before a b x = not-ahead x
 
 pub after-then : (a b c : Order) → a .side ≡ b .side → After a b → After b c → After a c
 after-then a b c e x y = behind-then x (subst (λ s. Behind s (b .price .0) (b .number) (c .price .0) (c .number)) (sym e) y)

@@ -153,7 +153,7 @@ remains-kept t t′ s k sides x =
     (remain-distinct x (book-distinct t (k .sound))) (omega (arith, remain-length x, orders-count t, k .few))
 
 -- ---- places of the head
-booked-place : (ls : List Line) (t : Tables) (i : ℕ) → (i ≡ 6 → ⊥) → getD (booked ls t .after .head) i 0 ≡ getD (t .head) i 0
+pub booked-place : (ls : List Line) (t : Tables) (i : ℕ) → (i ≡ 6 → ⊥) → getD (booked ls t .after .head) i 0 ≡ getD (t .head) i 0
 unfolding booked
 booked-place ls t i z = getD-set-other (t .head) 6 i _ 0 z
 
@@ -161,7 +161,7 @@ booked-header : (ls : List Line) (t : Tables) → SameHeader 4 (t .head) (booked
 unfolding booked
 booked-header ls t = set-other 4 (t .head) 6 _ (omega arith) (changing (omega arith) (omega arith))
 
-written-header : (os : List Order) (t : Tables) → SameHeader 4 (t .head) (withOrders os t .head)
+pub written-header : (os : List Order) (t : Tables) → SameHeader 4 (t .head) (withOrders os t .head)
 unfolding withOrders
 written-header os t = set-other 4 (t .head) 7 _ (omega arith) (changing (omega arith) (omega arith))
 
@@ -170,7 +170,7 @@ unfolding withOrders
 written-accepted os t = getD-set-other (t .head) 7 5 (length os) 0 (λ e. omega arith)
 
 -- the second's counts lie behind the other places
-without-place : (t : Tables) (i : ℕ) → 224 ≤ length (t .head) → members t ≤ 32 → i < 192 → getD (withoutSubmits t .head) i 0 ≡ getD (t .head) i 0
+pub without-place : (t : Tables) (i : ℕ) → 224 ≤ length (t .head) → members t ≤ 32 → i < 192 → getD (withoutSubmits t .head) i 0 ≡ getD (t .head) i 0
 unfolding withoutSubmits
 without-place t i b m l = over-outside 192 (replicate (members t) 0) (t .head) (omega (arith, length-replicate {A = ℕ} (members t) 0)) i 0 (λ q. absurd (omega arith))
 
@@ -192,7 +192,7 @@ module _ (ls : List Line) (os : List Order) (t u : Tables) (s : Sound t) (a : Sa
   count-stays : orderCount after ≡ orderCount (withOrders os u)
   count-stays = booked-place ls (withOrders os u) 7 (λ e. omega arith)
 
-  orders-after : orders after ≡ os
+  pub orders-after : orders after ≡ os
   unfolding booked
   orders-after = orders-same (withOrders os u) after count-stays refl ∙ orders-written os u long
 
@@ -353,11 +353,11 @@ submit-book t s k e legs fine today room =
 
 -- ---- the close of day
 -- v: the tables u with some contracts closed
-record Closed (u v : Tables) : Type 0 where
-  header : SameHeader 4 (u .head) (v .head)
-  numbers : accepted v ≡ accepted u
-  sides : sidesSound v ≡ true
-  remain : Remain (orders u) (orders v)
+pub record Closed (u v : Tables) : Type 0 where
+  pub header : SameHeader 4 (u .head) (v .head)
+  pub numbers : accepted v ≡ accepted u
+  pub sides : sidesSound v ≡ true
+  pub remain : Remain (orders u) (orders v)
 
 closed-next : (c : ℕ) (u v : Tables) → 7 < length (u .head) → Closed u v → Closed u (closeContract c v)
 unfolding closeContract
@@ -372,13 +372,13 @@ closed-next c u v b a =
       remain = remain-then (a .remain) (rw (orders-same w (closeContract c v) refl refl ∙ orders-written os v long) (kept-remain _ (orders v)));
     }
 
-closed-all : (cs : List ℕ) (u v : Tables) → 7 < length (u .head) → Closed u v → Closed u (closeAll cs v)
+pub closed-all : (cs : List ℕ) (u v : Tables) → 7 < length (u .head) → Closed u v → Closed u (closeAll cs v)
 unfolding closeAll
 closed-all [] u v b a = a
 closed-all (c ∷ cs) u v b a = closed-all cs u (closeContract c v) b (closed-next c u v b a)
 
 -- the new day changes neither the book nor the count of accepted submits
-day-place : (x : ℕ) (t : Tables) (i : ℕ) → 224 ≤ length (t .head) → members t ≤ 32 → 4 < i → i < 192 → getD (onDay x t .head) i 0 ≡ getD (t .head) i 0
+pub day-place : (x : ℕ) (t : Tables) (i : ℕ) → 224 ≤ length (t .head) → members t ≤ 32 → 4 < i → i < 192 → getD (onDay x t .head) i 0 ≡ getD (t .head) i 0
 unfolding onDay
 day-place x t i b m l h =
     getD-set-other (set (withoutSubmits t .head) 3 x) 4 i 0 0 (λ e. omega arith) ∙ getD-set-other (withoutSubmits t .head) 3 i x 0 (λ e. omega arith)
