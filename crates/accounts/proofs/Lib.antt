@@ -4,3 +4,4 @@ pub mod EachKind
 pub mod Priority
 pub mod Complete
 pub mod OrdersAfter
+pub mod Crossed

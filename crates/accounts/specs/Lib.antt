@@ -30,3 +30,4 @@ pub mod NeverDamaged
 pub mod Answered
 pub mod Struck
 pub mod Complete
+pub mod EveryList
