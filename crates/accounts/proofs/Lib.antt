@@ -5,3 +5,5 @@ pub mod Priority
 pub mod Complete
 pub mod OrdersAfter
 pub mod Crossed
+pub mod EveryList
+pub mod Marks
