@@ -1,23 +1,25 @@
 -- What every call keeps holds after every list, from a fresh ledger.
-use Prim.Native.Nat.{ℕ}
-use mathlib.Core.Path.{_≡_, refl, sym, subst}
+use Prim.Native.Nat.{ℕ, _+_}
+use mathlib.Core.Path.{_≡_, refl, sym, ap, subst, _∙_}
 use mathlib.Core.Bool.{not}
 use mathlib.Core.List.{List, [], _∷_}
+use native.Mathlib.Nat.{zero-add}
 use lib.Dec.{T}
 use lib.IntN.{ℤ}
 use Rattle.arith.specs.Lists.{from}
 use Rattle.arith.specs.Tests.{failed}
 use Rattle.rules.specs.Header.{headerOf, beginsWithHeader}
-use Rattle.rules.specs.Ledger.{Tables, withLines, orders, ledgerShort, fresh}
+use Rattle.rules.specs.Ledger.{Tables, withLines, lotsRun, orders, lineRun, ledgerShort, fresh}
 use Rattle.rules.specs.Refusals.{applySpec, makeSpec}
-use Rattle.rules.specs.Accounts.{Call, callSpec, after}
+use Rattle.rules.specs.Accounts.{Call, callSpec, after, log}
 use Rattle.accounts.specs.Calls.{Long, long-enough}
 use Rattle.accounts.specs.Fresh.{Fine, fine, counts-of}
 use Rattle.accounts.specs.Runs.{orders-same}
 use Rattle.accounts.specs.TwoBookkeepers.{made, begun, known}
-use Rattle.accounts.specs.EveryList.{Uncrossed, NoneDefaulted, NeverCrossed, DefaultedNeverRest, DayIsTheLists}
+use Rattle.accounts.specs.EveryList.{Uncrossed, NoneDefaulted, NeverCrossed, DefaultedNeverRest, RunIsLogged, DayIsTheLists}
 use Rattle.accounts.proofs.Crossed.{apply-uncrossed}
 use Rattle.accounts.proofs.Marks.{apply-marks}
+use Rattle.accounts.proofs.LotsRun.{run-after}
 
 module _ (I : Tables → Type 0) (lent : (l : List ℤ) (t : Tables) → I t → I (withLines l t)) (kept : (t : Tables) (bytes : List ℕ) → I t → I (applySpec t bytes .after)) where
   pub kept-after : (calls : List Call) (t : Tables) → I t → I (after t calls)
@@ -36,6 +38,10 @@ fresh-empty : (header : List ℕ) (t : Tables) → Fine (headerOf header) → Lo
 unfolding fresh orders from
 fresh-empty header t f l = rw (counts-of (headerOf header) f (t .head) (l .head) .3)
 
+fresh-run : (header : List ℕ) (t : Tables) → Fine (headerOf header) → Long t → lotsRun (fresh (headerOf header) t) ≡ 0
+unfolding fresh
+fresh-run header t f l = counts-of (headerOf header) f (t .head) (l .head) .2
+
 pub never-crossed : NeverCrossed
 never-crossed header t calls b long =
     kept-always (λ u. Uncrossed (orders u)) (λ l u a. rw (orders-same u (withLines l u) refl refl) a) apply-uncrossed header t calls b long
@@ -47,3 +53,10 @@ defaulted-never-rest header t calls b long =
 
 pub day-is-the-lists : DayIsTheLists
 day-is-the-lists header t calls b long = known header t b long calls .runs .today
+
+pub run-is-logged : RunIsLogged
+run-is-logged header t calls b long =
+    let h = headerOf header in
+    let start = makeSpec t header .after in
+    let zero = ap lotsRun (made header t b long) ∙ fresh-run header t (fine h (begun header b)) (long-enough t (failed (ledgerShort t) long)) in
+    run-after calls start ∙ ap (λ n. n + lineRun (log start calls)) zero ∙ zero-add (lineRun (log start calls))

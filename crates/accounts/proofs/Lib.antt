@@ -2,8 +2,10 @@ pub mod Answered
 pub mod Struck
 pub mod EachKind
 pub mod Priority
-pub mod Complete
+pub mod Places
 pub mod OrdersAfter
+pub mod Complete
 pub mod Crossed
-pub mod EveryList
 pub mod Marks
+pub mod LotsRun
+pub mod EveryList

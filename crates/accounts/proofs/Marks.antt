@@ -2,33 +2,35 @@
 -- member's submit is refused.
 use Prim.Native.Nat.{ℕ, _+_, _≤_, _<_}
 use mathlib.Core.Path.{_≡_, refl, sym, ap, _∙_}
-use mathlib.Core.Bool.{Bool, true, false, not, cond}
-use mathlib.Core.List.{List, [], _∷_}
+use mathlib.Core.Bool.{Bool, true, false, not}
+use mathlib.Core.List.{List, []}
 use native.Mathlib.Omega.{arith}
-use lib.Dec.{eqb, ltb}
-use lib.ListN.{length, set, getD, length-set}
+use lib.Dec.{eqb}
+use lib.ListN.{length}
 use lib.Seq.{getD-set-other}
 use borrow.Author.Tests.{ltb-true, eq-eqb}
 use Rattle.arith.specs.Alls.{All, all-map, all-both, all-kept}
 use Rattle.arith.specs.Lists.{kept}
-use Rattle.arith.specs.Tests.{never, by-bool}
+use Rattle.arith.specs.Tests.{never}
 use Rattle.rules.specs.declared.event.Event.{Event}
 use Rattle.rules.specs.declared.event.Event.the-variants.{Submit, Cancel, DayLimits, Proposal, Default, CloseOut, CloseOfDay}
 use Rattle.rules.specs.declared.event.Leg.{Leg}
 use Rattle.rules.specs.declared.event.Submission.{Submission}
 use Rattle.rules.specs.declared.order.Order.{Order}
-use Rattle.rules.specs.Ledger.{Tables, Line, members, withHead, withPrices, time, mark, defaulted, orders, withOrders, withoutSubmits, timed, booked}
+use Rattle.rules.specs.Ledger.{Tables, Line, members, mark, defaulted, orders, withOrders, timed, booked}
 use Rattle.rules.specs.Records.{eventSound}
-use Rattle.rules.specs.Matching.{submitMatched, withDeals, counted, submitLines, submitOrders, submitBooked, matched, incoming}
+use Rattle.rules.specs.Matching.{submitMatched, submitLines, submitBooked, matched, incoming}
 use Rattle.rules.specs.Synthetic.{proposalLines, usedByLegs, proposalBooked}
-use Rattle.rules.specs.CloseOfDay.{closeContract, closingContracts, closeAll, priced, nextDay, onDay, closeBooked}
+use Rattle.rules.specs.CloseOfDay.{closingContracts, priced, closeBooked}
 use Rattle.rules.specs.Default.{defaultBooked, closeOutLines, closeOutBooked}
 use Rattle.rules.specs.Refusals.{isCancelled, applySpec}
 use Rattle.accounts.specs.EveryList.{NoneDefaulted}
-use Rattle.accounts.specs.Books.{booked-place, without-place, submission-sound}
+use Rattle.accounts.specs.Books.{booked-place, submission-sound}
+use Rattle.accounts.specs.HeadStays.{submitUnbooked}
 use Rattle.accounts.specs.Remains.{Remain, remain-same, remain-all, kept-remain, legs-remain, matching-remain}
 use Rattle.accounts.proofs.EachKind.{Undamaged, acceptedAs, NoCause, every-call}
-use Rattle.accounts.proofs.OrdersAfter.{submit-orders, cancel-orders, limits-orders, proposal-orders, default-orders, close-out-orders, close-place, close-remain}
+use Rattle.accounts.proofs.OrdersAfter.{submit-orders, cancel-orders, limits-orders, proposal-orders, default-orders, close-out-orders, close-remain}
+use Rattle.accounts.proofs.Places.{written-place, timed-place, submit-place, closed-place, close-place}
 use Rattle.accounts.proofs.Complete.{submit-all}
 
 -- the marks of t′ are those of t
@@ -39,32 +41,7 @@ booked-marks : (ls : List Line) (u : Tables) → SameMarks u (booked ls u .after
 booked-marks ls u m h = booked-place ls u (160 + m) (λ e. omega arith)
 
 written-marks : (os : List Order) (u : Tables) → SameMarks u (withOrders os u)
-unfolding withOrders
-written-marks os u m h = getD-set-other (u .head) 7 (160 + m) (length os) 0 (λ e. omega arith)
-
-closed-marks : (cs : List ℕ) (u : Tables) → SameMarks u (closeAll cs u)
-unfolding closeAll closeContract
-closed-marks [] u m h = refl
-closed-marks (c ∷ cs) u m h = closed-marks cs (closeContract c u) m h ∙ written-marks (kept (λ o. not (eqb (o .contract) c)) (orders u)) u m h
-
-module _ (t : Tables) (u : Undamaged t) where
-  timed-marks : (n : ℕ) → SameMarks t (timed n t)
-  unfolding timed
-  timed-marks n m h =
-      by-bool (λ b. mark (cond b (withHead (set (withoutSubmits t .head) 4 n) t) t) m ≡ mark t m) (ltb (time t) n)
-      (λ _. getD-set-other (withoutSubmits t .head) 4 (160 + m) n 0 (λ e. omega arith) ∙ without-place t (160 + m) (u .long .head) (u .sound .few-members) (omega arith)) (λ _. refl)
-
-  submit-marks : (e : Submission) → SameMarks t (submitBooked t e .after)
-  unfolding submitBooked withDeals counted
-  submit-marks e m h =
-      let v = timed (e .time) t in
-      booked-marks (submitLines t e) _ m h ∙ written-marks (submitOrders t e) _ m h
-      ∙ getD-set-other (set (v .head) (192 + e .member) _) 5 (160 + m) _ 0 (λ q. omega arith) ∙ getD-set-other (v .head) (192 + e .member) (160 + m) _ 0 (λ q. omega arith)
-      ∙ timed-marks (e .time) m h
-
-  close-marks : (n : ℕ) → SameMarks t (closeBooked t n .after)
-  unfolding closeBooked priced
-  close-marks n m h = close-place t u n (160 + m) (omega arith) (omega arith) ∙ closed-marks (closingContracts t) (priced n t) m h
+written-marks os u m h = written-place os u (160 + m) (λ e. omega arith)
 
 -- ---- every kind
 -- what remains of the orders, with the same marks
@@ -84,10 +61,11 @@ module _ (t : Tables) (u : Undamaged t) (a : NoneDefaulted t) where
   remaining t′ same x = remain-all (Fine t) (λ o. defaulted t′ (o .member) ≡ false) (λ o q _ _ f. fine-kept t t′ same o f) x all-fine
 
   submitted : (e : Submission) → e .member < members t → defaulted t (e .member) ≡ false → NoneDefaulted (submitBooked t e .after)
-  unfolding submitMatched matched
+  unfolding submitBooked submitUnbooked submitMatched matched
   submitted e m< d =
       let t′ = submitBooked t e .after in
-      let same = submit-marks t u e in
+      let same : SameMarks t t′ = λ m h.
+      booked-marks (submitLines t e) (submitUnbooked t e) m h ∙ submit-place t u e (160 + m) (λ q. omega arith) (λ q. omega arith) (λ q. omega arith) (omega arith) in
       rw (submit-orders t u e)
       (submit-all t e (λ o. defaulted t′ (o .member) ≡ false)
       (remain-all (Fine t) (λ o. defaulted t′ (o .member) ≡ false) (λ o q _ _ f. fine-kept t t′ same o f) (matching-remain (length (orders t)) (incoming t e) (orders t)) all-fine)
@@ -107,11 +85,11 @@ module _ (t : Tables) (u : Undamaged t) (a : NoneDefaulted t) where
       (λ o f. ap (λ n. eqb n 1) (default-mark m (o .member) (f .0 .1) (λ e. never (sym (f .1) ∙ ap not (eq-eqb (o .member) m e)))) ∙ f .0 .0) (all-kept (Fine t) others (orders t) all-fine))
 
 kind-marks : (e : Event) (t : Tables) (legs : List Leg) → Undamaged t → eventSound (members t) e legs ≡ true → NoCause t e legs → NoneDefaulted t → NoneDefaulted (acceptedAs t e legs .after)
-unfolding proposalBooked closeOutBooked
+unfolding proposalBooked closeOutBooked priced
 kind-marks (Submit e) t legs u s n a = submitted t u a e (ltb-true (e .member) (members t) (submission-sound (members t) e legs s .1)) (n .1 .0)
 kind-marks (Cancel e) t legs u s n a =
     let others : Order → Bool = λ o. not (isCancelled e o) in
-    remaining t u a (acceptedAs t (Cancel e) legs .after) (λ m h. booked-marks [] _ m h ∙ written-marks (kept others (orders t)) (timed (e .time) t) m h ∙ timed-marks t u (e .time) m h)
+    remaining t u a (acceptedAs t (Cancel e) legs .after) (λ m h. booked-marks [] _ m h ∙ written-marks (kept others (orders t)) (timed (e .time) t) m h ∙ timed-place t u (e .time) (160 + m) (λ q. omega arith) (omega arith))
     (rw (cancel-orders t u (e .time) others) (kept-remain others (orders t)))
 kind-marks (DayLimits e) t legs u s n a = remaining t u a (acceptedAs t (DayLimits e) legs .after) (booked-marks [] _) (rw (limits-orders t u _) (remain-same (orders t)))
 kind-marks (Proposal k) t legs u s n a =
@@ -119,7 +97,7 @@ kind-marks (Proposal k) t legs u s n a =
     (rw (proposal-orders t u legs) (legs-remain legs (orders t)))
 kind-marks (Default m) t legs u s n a = removed t u a m
 kind-marks (CloseOut e) t legs u s n a = remaining t u a (closeOutBooked t e .after) (booked-marks (closeOutLines t e) t) (rw (close-out-orders t u e) (remain-same (orders t)))
-kind-marks (CloseOfDay k) t legs u s n a = remaining t u a (closeBooked t k .after) (close-marks t u k) (close-remain t u k)
+kind-marks (CloseOfDay k) t legs u s n a = remaining t u a (closeBooked t k .after) (λ m h. close-place t u k (160 + m) (omega arith) (omega arith) ∙ closed-place (closingContracts t) (priced k t) (160 + m) (λ q. omega arith)) (close-remain t u k)
 
 pub apply-marks : (t : Tables) (bytes : List ℕ) → NoneDefaulted t → NoneDefaulted (applySpec t bytes .after)
 apply-marks = every-call (λ t o. NoneDefaulted t → NoneDefaulted (o .after)) (λ t x q a. a) kind-marks

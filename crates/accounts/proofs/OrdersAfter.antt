@@ -16,12 +16,12 @@ use Rattle.rules.specs.Matching.{submitMatched, submitLines, submitOrders, with
 use Rattle.rules.specs.Synthetic.{proposalLines, usedByLegs, proposalBooked}
 use Rattle.rules.specs.CloseOfDay.{closingContracts, closeAll, priced, nextDay, onDay, closeBooked}
 use Rattle.rules.specs.Default.{defaultBooked, closeOutLines, closeOutBooked}
-use Rattle.accounts.specs.Heads.{field, same-header}
 use Rattle.accounts.specs.Runs.{orders-same, timed-same}
 use Rattle.accounts.specs.Written.{orders-written}
-use Rattle.accounts.specs.Remains.{Remain, remain-same, kept-remain, legs-remain}
-use Rattle.accounts.specs.Books.{booked-place, day-place, Closed, closed-all, book-sides, sides-same}
+use Rattle.accounts.specs.Remains.{Remain}
+use Rattle.accounts.specs.Books.{booked-place}
 use Rattle.accounts.proofs.EachKind.{Undamaged}
+use Rattle.accounts.proofs.Places.{evening, evening-closed, close-place}
 
 -- booking lines leaves the book
 pub booked-orders : (ls : List Line) (u : Tables) → orders (booked ls u .after) ≡ orders u
@@ -57,26 +57,8 @@ module _ (t : Tables) (u : Undamaged t) where
   unfolding closeOutBooked
   close-out-orders e = booked-orders (closeOutLines t e) t
 
-  -- the evening's tables, before the new day is written
-  abbrev evening : ℕ → Tables
-  evening n = closeAll (closingContracts t) (priced n t)
-
-  evening-closed : (n : ℕ) → Closed (priced n t) (evening n)
-  unfolding priced
-  evening-closed n =
-      let p = priced n t in
-      closed-all (closingContracts t) p p (omega (arith, u .long .head))
-      (record { header = same-header 4 (t .head); numbers = refl; sides = sides-same t p refl refl ∙ book-sides t (u .book .sound); remain = remain-same (orders p) })
-
-  -- the new day writes the day, the time and the second's counts alone
-  pub close-place : (n i : ℕ) → 4 < i → i < 192 → getD (closeBooked t n .after .head) i 0 ≡ getD (evening n .head) i 0
-  unfolding closeBooked priced
-  close-place n i l h =
-      let a = evening-closed n .header in
-      day-place (nextDay t) (evening n) i (omega (arith, a .longer, u .long .head)) (omega (arith, a .places 1 (field (omega arith)), u .sound .few-members)) l h
-
   pub close-remain : (n : ℕ) → Remain (orders t) (orders (closeBooked t n .after))
   unfolding closeBooked priced onDay
   close-remain n =
-      rw (orders-same (evening n) (closeBooked t n .after) (close-place n 7 (omega arith) (omega arith)) refl)
-      (rw (orders-same t (priced n t) refl refl) at (evening-closed n .remain))
+      rw (orders-same (evening t u n) (closeBooked t n .after) (close-place t u n 7 (omega arith) (omega arith)) refl)
+      (rw (orders-same t (priced n t) refl refl) at (evening-closed t u n .remain))
