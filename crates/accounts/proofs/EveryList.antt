@@ -1,5 +1,5 @@
 -- What every call keeps holds after every list, from a fresh ledger.
-use Prim.Native.Nat.{ℕ, _+_}
+use Prim.Native.Nat.{ℕ, _+_, _<_}
 use mathlib.Core.Path.{_≡_, refl, sym, ap, subst, _∙_}
 use mathlib.Core.Bool.{not}
 use mathlib.Core.List.{List, [], _∷_}
@@ -9,17 +9,18 @@ use lib.IntN.{ℤ}
 use Rattle.arith.specs.Lists.{from}
 use Rattle.arith.specs.Tests.{failed}
 use Rattle.rules.specs.Header.{headerOf, beginsWithHeader}
-use Rattle.rules.specs.Ledger.{Tables, withLines, lotsRun, orders, lineRun, ledgerShort, fresh}
+use Rattle.rules.specs.Ledger.{Tables, withLines, ggf, lotsRun, orders, lineRun, ledgerShort, fresh}
 use Rattle.rules.specs.Refusals.{applySpec, makeSpec}
 use Rattle.rules.specs.Accounts.{Call, callSpec, after, log}
 use Rattle.accounts.specs.Calls.{Long, long-enough}
 use Rattle.accounts.specs.Fresh.{Fine, fine, counts-of}
 use Rattle.accounts.specs.Runs.{orders-same}
 use Rattle.accounts.specs.TwoBookkeepers.{made, begun, known}
-use Rattle.accounts.specs.EveryList.{Uncrossed, NoneDefaulted, NeverCrossed, DefaultedNeverRest, RunIsLogged, DayIsTheLists}
+use Rattle.accounts.specs.EveryList.{Uncrossed, NoneDefaulted, NeverCrossed, DefaultedNeverRest, RunIsLogged, DayIsTheLists, GgfNeverLost}
 use Rattle.accounts.proofs.Crossed.{apply-uncrossed}
 use Rattle.accounts.proofs.Marks.{apply-marks}
 use Rattle.accounts.proofs.LotsRun.{run-after}
+use Rattle.accounts.proofs.GgfStays.{apply-found}
 
 module _ (I : Tables → Type 0) (lent : (l : List ℤ) (t : Tables) → I t → I (withLines l t)) (kept : (t : Tables) (bytes : List ℕ) → I t → I (applySpec t bytes .after)) where
   pub kept-after : (calls : List Call) (t : Tables) → I t → I (after t calls)
@@ -60,3 +61,6 @@ run-is-logged header t calls b long =
     let start = makeSpec t header .after in
     let zero = ap lotsRun (made header t b long) ∙ fresh-run header t (fine h (begun header b)) (long-enough t (failed (ledgerShort t) long)) in
     run-after calls start ∙ ap (λ n. n + lineRun (log start calls)) zero ∙ zero-add (lineRun (log start calls))
+
+pub ggf-never-lost : GgfNeverLost
+ggf-never-lost t calls c h = kept-after (λ u. 0 < ggf u c) (λ l u g. g) (λ u bytes. apply-found u bytes c h) calls t

@@ -8,4 +8,5 @@ pub mod Complete
 pub mod Crossed
 pub mod Marks
 pub mod LotsRun
+pub mod GgfStays
 pub mod EveryList

@@ -2,7 +2,7 @@
 use Prim.Native.Nat.{ℕ, _<_}
 use mathlib.Core.Path.{_≡_}
 use mathlib.Core.Bool.{false, not}
-use mathlib.Core.List.{List, _++_}
+use mathlib.Core.List.{List}
 use lib.Dec.{T}
 use Rattle.arith.specs.Alls.{All}
 use Rattle.rules.specs.declared.order.Order.{Order}
@@ -49,12 +49,6 @@ RunIsLogged = AfterEveryList (λ t ls d. lotsRun t ≡ lineRun ls)
 abbrev pub DayIsTheLists : Type 0
 DayIsTheLists = AfterEveryList (λ t ls d. day t ≡ d)
 
--- A GGF once found never becomes 0 again, whatever calls follow.
+-- A GGF once found never becomes 0 again, whatever calls follow: t are any tables, so also those that a list leads to.
 abbrev pub GgfNeverLost : Type 0
-GgfNeverLost =
-    (header : List ℕ) (t : Tables) (calls later : List Call) (c : ℕ)
-    → T (beginsWithHeader header)
-    → T (not (ledgerShort t))
-    → c < 102
-    → let start = makeSpec t header .after in
-    0 < ggf (after start calls) c → 0 < ggf (after start (calls ++ later)) c
+GgfNeverLost = (t : Tables) (calls : List Call) (c : ℕ) → c < 102 → 0 < ggf t c → 0 < ggf (after t calls) c

@@ -44,14 +44,14 @@ use Rattle.accounts.specs.Books.{book-orders, submission-sound}
 use Rattle.accounts.specs.HeadStays.{Stays, unchanged, run-booked, submitUnbooked, submit-stays, submit-head, cancel-stays, cancel-head, limits-head, proposal-stays, proposal-head, defaultUnbooked, default-stays, default-head, close-out-head, close-head}
 
 -- ---- a contract's five numbers: GGF, low, high, M and V
-record Five (run price low high m v : ℕ) : Type 0 where
-  price≤ : price ≤ 1000000
-  low≥ : 1 ≤ low
-  ordered : low ≤ high
-  high≤ : high ≤ 1000000
-  within : m ≤ run
-  least : m ≤ v
-  most : v ≤ 1000000 * m
+pub record Five (run price low high m v : ℕ) : Type 0 where
+  pub price≤ : price ≤ 1000000
+  pub low≥ : 1 ≤ low
+  pub ordered : low ≤ high
+  pub high≤ : high ≤ 1000000
+  pub within : m ≤ run
+  pub least : m ≤ v
+  pub most : v ≤ 1000000 * m
 
 -- what the test says of them, and back
 five-of : (run : ℕ) (b : List ℕ) → contractPricesSound run b ≡ true → Five run (getD b 0 0) (getD b 1 0) (getD b 2 0) (getD b 3 0) (getD b 4 0)
@@ -82,20 +82,20 @@ five-sound run b f = hold-all _ (
 )
 
 -- ---- the prices of all contracts, place by place
-abbrev at : List ℕ → ℕ → ℕ → ℕ
+abbrev pub at : List ℕ → ℕ → ℕ → ℕ
 at l c j = getD l (c * 5 + j) 0
 
-abbrev FiveAt : ℕ → List ℕ → ℕ → Type 0
+abbrev pub FiveAt : ℕ → List ℕ → ℕ → Type 0
 FiveAt run l c = Five run (at l c 0) (at l c 1) (at l c 2) (at l c 3) (at l c 4)
 
-abbrev Prices : ℕ → List ℕ → Type 0
+abbrev pub Prices : ℕ → List ℕ → Type 0
 Prices run l = (c : ℕ) → c < 102 → FiveAt run l c
 
 module _ (run : ℕ) (l : List ℕ) where
   read : (c j : ℕ) → j < 5 → getD (block 5 c l) j 0 ≡ at l c j
   read c j h = block-at 5 c j l 0 h
 
-  prices-of : everyBlock 5 (contractPricesSound run) 102 l ≡ true → Prices run l
+  pub prices-of : everyBlock 5 (contractPricesSound run) 102 l ≡ true → Prices run l
   prices-of e c h = rw (read c 0 (omega arith), read c 1 (omega arith), read c 2 (omega arith), read c 3 (omega arith), read c 4 (omega arith))
       at (five-of run (block 5 c l) (block-passes 5 (contractPricesSound run) 102 l e c h))
 
@@ -266,7 +266,7 @@ module _ (t : Tables) (head : headSound t ≡ true) (long : 224 ≤ length (t .h
   prices-left : (ls : List Line) (t′ : Tables) → Stays 4 (members t) (t .head) (t′ .head) → t′ .prices ≡ t .prices → pricesSound (booked ls t′ .after) ≡ true
   prices-left ls t′ w e = prices-booked ls t′ w (rw e (λ c h. more-run (omega arith) (now c h)))
 
-  timed-prices : (s : ℕ) → timed s t .prices ≡ t .prices
+  pub timed-prices : (s : ℕ) → timed s t .prices ≡ t .prices
   unfolding timed
   timed-prices s = by-bool (λ b. cond b (withHead (set (withoutSubmits t .head) 4 s) t) t .prices ≡ t .prices) (ltb (time t) s) (λ _. refl) (λ _. refl)
 
@@ -325,7 +325,7 @@ module _ (t : Tables) (head : headSound t ≡ true) (long : 224 ≤ length (t .h
       new-ggfs s [] l w p = (w, p)
       new-ggfs s (c ∷ cs) l w p = new-ggfs s cs (set l (c * 5) (ggfAtClose t s c)) (rw (length-set l (c * 5) (ggfAtClose t s c)) w) (new-ggf (lotsRun t) l c (ggfAtClose t s c) w (ggf-most s c) p)
 
-      closed-prices : (cs : List ℕ) (u : Tables) → closeAll cs u .prices ≡ u .prices
+      pub closed-prices : (cs : List ℕ) (u : Tables) → closeAll cs u .prices ≡ u .prices
       unfolding closeAll closeContract withOrders
       closed-prices [] u = refl
       closed-prices (c ∷ cs) u = closed-prices cs (closeContract c u)
