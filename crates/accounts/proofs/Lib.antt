@@ -10,3 +10,4 @@ pub mod Marks
 pub mod LotsRun
 pub mod GgfStays
 pub mod EveryList
+pub mod ClosedOut

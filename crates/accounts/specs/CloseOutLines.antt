@@ -28,7 +28,7 @@ unfoldable netOf : List ℤ → ℤ
 netOf [] = pos 0
 netOf (z ∷ zs) = z +ℤ netOf zs
 
-no-change : (z : ℤ) → natAbs z ≡ 0 → z ≡ pos 0
+pub no-change : (z : ℤ) → natAbs z ≡ 0 → z ≡ pos 0
 no-change (pos n) e = ap pos e
 no-change (negsuc n) e = absurd (omega arith)
 
@@ -107,7 +107,7 @@ taken-net false [] = refl
 taken-net b (q ∷ qs) = ap (λ z. signed b q +ℤ z) (taken-net b qs) ∙ signed-add b q (sumOf qs)
 
 -- ---- lots given up, lowest member first
-given-length : (q : ℕ) (xs : List ℕ) → length (givenUp q xs) ≡ length xs
+pub given-length : (q : ℕ) (xs : List ℕ) → length (givenUp q xs) ≡ length xs
 unfolding givenUp
 given-length q [] = refl
 given-length q (x ∷ xs) = ap suc (given-length (q - min q x) xs)
@@ -154,18 +154,18 @@ remainder-net l s f =
     (λ h. let e : l + s ≡ s = omega arith in let z : l ≡ 0 = omega arith in rw (le-ltb 0 l (omega arith), e, z) (ap (λ y. y -ℤ pos s) (+ℤ-idr (pos s)) ∙ +ℤ-invr (pos s)))
 
 module _ (t : Tables) (c : ℕ) where
-  longs-length : length (defaultedLongs t c) ≡ members t
+  pub longs-length : length (defaultedLongs t c) ≡ members t
   unfolding defaultedLongs
   longs-length = member-length t _
 
-  shorts-length : length (defaultedShorts t c) ≡ members t
+  pub shorts-length : length (defaultedShorts t c) ≡ members t
   unfolding defaultedShorts
   shorts-length = member-length t _
 
-  netted-length : (xs : List ℕ) → length xs ≡ members t → length (givenUp (smallerTotal t c) xs) ≡ members t
+  pub netted-length : (xs : List ℕ) → length xs ≡ members t → length (givenUp (smallerTotal t c) xs) ≡ members t
   netted-length xs e = given-length (smallerTotal t c) xs ∙ e
 
-  left-length : (xs : List ℕ) → length xs ≡ members t → length (less xs (givenUp (smallerTotal t c) xs)) ≡ members t
+  pub left-length : (xs : List ℕ) → length xs ≡ members t → length (less xs (givenUp (smallerTotal t c) xs)) ≡ members t
   left-length xs e = zip-length _ xs _ (members t) e (netted-length xs e)
 
   netting-length : length (nettingChanges t c) ≡ members t
@@ -213,7 +213,7 @@ module _ (t : Tables) (e : CloseOutTerms) where
   weights-length : length (weights t e) ≡ members t
   weights-length = by-weights (λ ws. length ws ≡ members t) (λ f. member-length t _)
 
-  taken-length : length (takerChanges t e) ≡ members t
+  pub taken-length : length (takerChanges t e) ≡ members t
   unfolding takerChanges taken
   taken-length = length-map (taken t e) _ ∙ dealt-length (lotsLeft t (e .contract)) (weights t e) ∙ weights-length
 

@@ -31,3 +31,4 @@ pub mod Answered
 pub mod Struck
 pub mod Complete
 pub mod EveryList
+pub mod ClosedOut
