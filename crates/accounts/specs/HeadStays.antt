@@ -262,7 +262,7 @@ module _ (t : Tables) (sound : headSound t ≡ true) (long : 224 ≤ length (t .
         (ltb-false _ _ (or-left runs counts passed), leb-false 4000000000 (accepted t) (or-right runs counts passed))
 
     -- one more order rests only where there is room
-    submit-few : length (submitOrders t e) ≤ 256
+    pub submit-few : length (submitOrders t e) ≤ 256
     unfolding submitOrders submitMatched matched most
     submit-few =
         let m = submitMatched t e in
