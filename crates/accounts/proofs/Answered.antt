@@ -1,7 +1,7 @@
 -- An answer names the lowest cause that holds: each kind's causes stand in rising number, and decide takes the first.
 use Prim.Native.Nat.{ℕ, _<_}
 use mathlib.Core.Path.{_≡_, refl, sym, _∙_}
-use mathlib.Core.Bool.{Bool, true, false, _||_, _&&_}
+use mathlib.Core.Bool.{Bool, true, false}
 use mathlib.Core.List.{List, [], _∷_, _++_, List·Memᴰ, List·Memᴰ·head, List·Memᴰ·tail}
 use native.Mathlib.Omega.{arith}
 use lib.Dec.{eqb, ltb}
@@ -16,13 +16,13 @@ use Rattle.rules.specs.declared.event.Leg.{Leg}
 use Rattle.rules.specs.declared.event.Reading.{Reading}
 use Rattle.rules.specs.declared.event.Reading.the-variants.{Sound, Unsound}
 use Rattle.rules.specs.Answers.{Outcome, decide}
-use Rattle.rules.specs.Ledger.{Tables, members, booked, ledgerShort, linesShort}
+use Rattle.rules.specs.Ledger.{Tables, members, booked}
 use Rattle.rules.specs.Records.{legsOf, readOf}
 use Rattle.rules.specs.Matching.{submitBooked}
 use Rattle.rules.specs.Synthetic.{proposalBooked}
 use Rattle.rules.specs.CloseOfDay.{closeBooked}
 use Rattle.rules.specs.Default.{defaultBooked, closeOutBooked}
-use Rattle.rules.specs.Refusals.{damaged, submitSpec, cancelSpec, limitsSpec, proposalSpec, defaultSpec, closeOutSpec, closeSpec, eventSpec, readingSpec, applySpec}
+use Rattle.rules.specs.Refusals.{unsound, submitSpec, cancelSpec, dayLimitsSpec, proposalSpec, defaultSpec, closeOutSpec, closeSpec, eventSpec, readingSpec, applySpec}
 use Rattle.rules.specs.Accounts.{isAccepted}
 use Rattle.accounts.specs.Answered.{Cause, numberOf, kindCauses, readingCauses, callCauses, Exact, AnswersExactly}
 
@@ -79,7 +79,7 @@ event-rising t (CloseOut e) legs = (omega arith, (omega arith, (omega arith, (om
 event-rising t (CloseOfDay s) legs = (omega arith, (omega arith, tt))
 
 event-exact : (t : Tables) (e : Event) (legs : List Leg) → Exact (kindCauses t e legs) (eventSpec t e legs .answer)
-unfolding eventSpec submitSpec cancelSpec limitsSpec proposalSpec defaultSpec closeOutSpec closeSpec submitBooked proposalBooked defaultBooked closeOutBooked closeBooked booked
+unfolding eventSpec submitSpec cancelSpec dayLimitsSpec proposalSpec defaultSpec closeOutSpec closeSpec submitBooked proposalBooked defaultBooked closeOutBooked closeBooked booked
 event-exact t (Submit e) legs = decide-exact 3 (kindCauses t (Submit e) legs) [] t (submitBooked t e) (event-rising t (Submit e) legs) (booked-exact _ refl)
 event-exact t (Cancel e) legs = decide-exact 3 (kindCauses t (Cancel e) legs) [] t _ (event-rising t (Cancel e) legs) (booked-exact _ refl)
 event-exact t (DayLimits e) legs = decide-exact 3 (kindCauses t (DayLimits e) legs) [] t _ (event-rising t (DayLimits e) legs) (booked-exact _ refl)
@@ -100,5 +100,5 @@ reading-exact t Unsound legs = record { holds = λ _. List·Memᴰ·head refl; l
 pub answers-exactly : AnswersExactly
 unfolding applySpec
 answers-exactly t bytes =
-    decide-exact 0 ((ledgerShort t || linesShort t || damaged t, TableUnsound) ∷ []) _ t (readingSpec t (readOf (members t) bytes) (legsOf bytes))
+    decide-exact 0 ((unsound t, TableUnsound) ∷ []) _ t (readingSpec t (readOf (members t) bytes) (legsOf bytes))
     (omega arith, reading-rising t (readOf (members t) bytes) (legsOf bytes)) (reading-exact t (readOf (members t) bytes) (legsOf bytes))

@@ -23,7 +23,7 @@ use Rattle.rules.specs.Refusals.{isCancelled, applySpec}
 use Rattle.accounts.specs.EveryList.{Below, Uncrossed}
 use Rattle.accounts.specs.Remains.{Remain, remain-same, remain-all, kept-remain, legs-remain, matching-remain}
 use Rattle.accounts.proofs.EachKind.{Undamaged, acceptedAs, NoCause, every-call}
-use Rattle.accounts.proofs.OrdersAfter.{submit-orders, cancel-orders, limits-orders, proposal-orders, default-orders, close-out-orders, close-remain}
+use Rattle.accounts.proofs.OrdersAfter.{submit-orders, cancel-orders, limits-orders, proposal-orders, default-orders, close-out-orders, close-orders}
 use Rattle.accounts.proofs.Complete.{submit-ends, submit-all}
 
 -- ---- fewer orders, or with fewer lots
@@ -72,7 +72,7 @@ kind-uncrossed (DayLimits e) t legs u s n a = rw (limits-orders t u _) a
 kind-uncrossed (Proposal k) t legs u s n a = rw (proposal-orders t u legs) (remain-uncrossed (legs-remain legs (orders t)) a)
 kind-uncrossed (Default m) t legs u s n a = rw (default-orders t u m) (remain-uncrossed (kept-remain _ (orders t)) a)
 kind-uncrossed (CloseOut e) t legs u s n a = rw (close-out-orders t u e) a
-kind-uncrossed (CloseOfDay k) t legs u s n a = remain-uncrossed (close-remain t u k) a
+kind-uncrossed (CloseOfDay k) t legs u s n a = rw (close-orders t u k) (remain-uncrossed (kept-remain _ (orders t)) a)
 
 pub apply-uncrossed : (t : Tables) (bytes : List ℕ) → Uncrossed (orders t) → Uncrossed (orders (applySpec t bytes .after))
 apply-uncrossed = every-call (λ t o. Uncrossed (orders t) → Uncrossed (orders (o .after))) (λ t x q a. a) kind-uncrossed

@@ -2,8 +2,8 @@
 use mathlib.Core.Path.{_≡_, refl, sym, ap, _∙_}
 use mathlib.Core.Bool.{Bool, true, false, not, _||_}
 use mathlib.Core.List.{List, [], _∷_}
-use Prim.Native.Nat.{ℕ, _+_, _*_, _≤_}
-use lib.ListN.{length, set}
+use Prim.Native.Nat.{ℕ, _≤_}
+use lib.ListN.{length}
 use borrow.Author.Tests.{ltb-false}
 use Rattle.arith.specs.Alls.{All, all-hold}
 use Rattle.arith.specs.Lists.{kept}
@@ -16,13 +16,13 @@ use Rattle.rules.specs.declared.event.Leg.{Leg}
 use Rattle.rules.specs.declared.event.Reading.{Reading}
 use Rattle.rules.specs.declared.event.Reading.the-variants.{Sound, Unsound}
 use Rattle.rules.specs.Answers.{Outcome, decide}
-use Rattle.rules.specs.Ledger.{Tables, members, withPrices, orders, withOrders, timed, booked, ledgerShort, linesShort}
+use Rattle.rules.specs.Ledger.{Tables, members, withPrices, withDayLimits, orders, withOrders, timed, booked, ledgerShort, linesShort}
 use Rattle.rules.specs.Records.{eventSound, legsOf, readOf}
 use Rattle.rules.specs.Matching.{submitBooked}
 use Rattle.rules.specs.Synthetic.{proposalBooked}
 use Rattle.rules.specs.CloseOfDay.{closeBooked}
 use Rattle.rules.specs.Default.{defaultBooked, closeOutBooked}
-use Rattle.rules.specs.Refusals.{isCancelled, headSound, pricesSound, bookSound, damaged, submitSpec, cancelSpec, limitsSpec, proposalSpec, defaultSpec, closeOutSpec, closeSpec, eventSpec, readingSpec, applySpec}
+use Rattle.rules.specs.Refusals.{isCancelled, headSound, pricesSound, bookSound, damaged, unsound, submitSpec, cancelSpec, dayLimitsSpec, proposalSpec, defaultSpec, closeOutSpec, closeSpec, eventSpec, readingSpec, applySpec}
 use Rattle.rules.specs.Accounts.{isAccepted}
 use Rattle.accounts.specs.Answered.{Cause, kindCauses}
 use Rattle.accounts.specs.Runs as runs
@@ -39,8 +39,8 @@ pub record Undamaged (t : Tables) : Type 0 where
   pub book : BookKept t
   pub sound : runs.Sound t
 
-pub undamaged : (t : Tables) → ledgerShort t || linesShort t || damaged t ≡ false → Undamaged t
-unfolding damaged linesShort
+pub undamaged : (t : Tables) → unsound t ≡ false → Undamaged t
+unfolding unsound damaged linesShort
 undamaged t e =
     let short = or-left (ledgerShort t || linesShort t) (damaged t) e in
     let whole = or-right (ledgerShort t || linesShort t) (damaged t) e in
@@ -58,14 +58,14 @@ undamaged t e =
 abbrev pub acceptedAs : Tables → Event → List Leg → Outcome Tables
 acceptedAs t (Submit e) legs = submitBooked t e
 acceptedAs t (Cancel e) legs = booked [] (withOrders (kept (λ o. not (isCancelled e o)) (orders t)) (timed (e .time) t))
-acceptedAs t (DayLimits e) legs = booked [] (withPrices (set (set (t .prices) (e .contract * 5 + 1) (e .low .0)) (e .contract * 5 + 2) (e .high .0)) t)
+acceptedAs t (DayLimits e) legs = booked [] (withPrices (withDayLimits (e .contract) (e .low .0) (e .high .0) (t .prices)) t)
 acceptedAs t (Proposal n) legs = proposalBooked t legs
 acceptedAs t (Default m) legs = defaultBooked t m
 acceptedAs t (CloseOut e) legs = closeOutBooked t e
 acceptedAs t (CloseOfDay s) legs = closeBooked t s
 
 event-decided : (t : Tables) (e : Event) (legs : List Leg) → eventSpec t e legs ≡ decide (kindCauses t e legs) t (acceptedAs t e legs)
-unfolding eventSpec submitSpec cancelSpec limitsSpec proposalSpec defaultSpec closeOutSpec closeSpec
+unfolding eventSpec submitSpec cancelSpec dayLimitsSpec proposalSpec defaultSpec closeOutSpec closeSpec
 event-decided t (Submit e) legs = refl
 event-decided t (Cancel e) legs = refl
 event-decided t (DayLimits e) legs = refl
@@ -104,7 +104,7 @@ pub accepted-call : (t : Tables) (bytes : List ℕ) (e : Event) → readOf (memb
 unfolding applySpec readingSpec
 accepted-call t bytes e r a =
     let legs = legsOf bytes in
-    let told = decided-accepted ((ledgerShort t || linesShort t || damaged t, TableUnsound) ∷ []) t (readingSpec t (readOf (members t) bytes) legs) (refl, tt) a in
+    let told = decided-accepted ((unsound t, TableUnsound) ∷ []) t (readingSpec t (readOf (members t) bytes) legs) (refl, tt) a in
     let is : readingSpec t (readOf (members t) bytes) legs ≡ decide (kindCauses t e legs) t (acceptedAs t e legs) = ap (λ x. readingSpec t x legs) r ∙ event-decided t e legs in
     let kind = decided-accepted (kindCauses t e legs) t (acceptedAs t e legs) (causes-refuse t e legs) (ap (λ o. isAccepted (o .answer)) (sym (told .1 ∙ is)) ∙ a) in
     record { tables = undamaged t (told .0 .0); event = read-sound (members t) bytes e r; no-cause = kind .0; leads = told .1 ∙ is ∙ kind .1 }
@@ -123,5 +123,5 @@ module _ (P : Tables → Outcome Tables → Type 0) (refused : (t : Tables) (a :
   pub every-call : (t : Tables) (bytes : List ℕ) → P t (applySpec t bytes)
   unfolding applySpec
   every-call t bytes =
-      decide-shows (P t) t (readingSpec t (readOf (members t) bytes) (legsOf bytes)) ((ledgerShort t || linesShort t || damaged t, TableUnsound) ∷ []) (refused t) (refl, tt)
+      decide-shows (P t) t (readingSpec t (readOf (members t) bytes) (legsOf bytes)) ((unsound t, TableUnsound) ∷ []) (refused t) (refl, tt)
       (λ sound. reading-shows t (readOf (members t) bytes) bytes refl (undamaged t (sound .0)))

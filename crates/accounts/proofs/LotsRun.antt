@@ -17,7 +17,7 @@ use Rattle.rules.specs.Ledger.{Tables, Line, members, withHead, withLines, lots
 use Rattle.rules.specs.Records.{eventSound}
 use Rattle.rules.specs.Matching.{submitLines, withDeals, counted, submitBooked}
 use Rattle.rules.specs.Synthetic.{proposalLines, usedByLegs, proposalBooked}
-use Rattle.rules.specs.CloseOfDay.{closingContracts, priced, closeBooked}
+use Rattle.rules.specs.CloseOfDay.{closeBooked}
 use Rattle.rules.specs.Default.{defaultBooked, closeOutLines, closeOutBooked}
 use Rattle.rules.specs.Refusals.{isCancelled, applySpec}
 use Rattle.rules.specs.Accounts.{Call, callSpec, after, isAccepted, linesOf, log}
@@ -25,7 +25,7 @@ use Rattle.accounts.specs.Written.{lines-printed}
 use Rattle.accounts.specs.HeadStays.{submitUnbooked}
 use Rattle.accounts.proofs.EachKind.{Undamaged, acceptedAs, NoCause, every-call}
 use Rattle.accounts.proofs.OrdersAfter.{timed-long}
-use Rattle.accounts.proofs.Places.{written-place, timed-place, submit-place, closed-place, close-place}
+use Rattle.accounts.proofs.Places.{written-place, timed-place, submit-place, close-place}
 
 -- what a call on t adds to the lots run is what its lines run to
 abbrev Runs : Tables → Outcome Tables → Type 0
@@ -41,9 +41,9 @@ no-run = refl
 
 -- a close of day prints no lines
 close-runs : (t : Tables) → Undamaged t → (n : ℕ) → Runs t (closeBooked t n)
-unfolding closeBooked priced firstLines from
+unfolding closeBooked firstLines from
 close-runs t u n =
-    omega (arith, close-place t u n 6 (omega arith) (omega arith) ∙ closed-place (closingContracts t) (priced n t) 6 (λ q. omega arith), no-run)
+    omega (arith, close-place t u n 6 (omega arith) (λ q. omega arith) (omega arith), no-run)
 
 kind-runs : (e : Event) (t : Tables) (legs : List Leg) → Undamaged t → eventSound (members t) e legs ≡ true → NoCause t e legs → Runs t (acceptedAs t e legs)
 unfolding submitBooked submitUnbooked withDeals counted withOrders proposalBooked defaultBooked closeOutBooked

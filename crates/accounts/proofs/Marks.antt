@@ -21,7 +21,7 @@ use Rattle.rules.specs.Ledger.{Tables, Line, members, mark, defaulted, orders, 
 use Rattle.rules.specs.Records.{eventSound}
 use Rattle.rules.specs.Matching.{submitMatched, submitLines, submitBooked, matched, incoming}
 use Rattle.rules.specs.Synthetic.{proposalLines, usedByLegs, proposalBooked}
-use Rattle.rules.specs.CloseOfDay.{closingContracts, priced, closeBooked}
+use Rattle.rules.specs.CloseOfDay.{closeBooked}
 use Rattle.rules.specs.Default.{defaultBooked, closeOutLines, closeOutBooked}
 use Rattle.rules.specs.Refusals.{isCancelled, applySpec}
 use Rattle.accounts.specs.EveryList.{NoneDefaulted}
@@ -29,8 +29,8 @@ use Rattle.accounts.specs.Books.{booked-place, submission-sound}
 use Rattle.accounts.specs.HeadStays.{submitUnbooked}
 use Rattle.accounts.specs.Remains.{Remain, remain-same, remain-all, kept-remain, legs-remain, matching-remain}
 use Rattle.accounts.proofs.EachKind.{Undamaged, acceptedAs, NoCause, every-call}
-use Rattle.accounts.proofs.OrdersAfter.{submit-orders, cancel-orders, limits-orders, proposal-orders, default-orders, close-out-orders, close-remain}
-use Rattle.accounts.proofs.Places.{written-place, timed-place, submit-place, closed-place, close-place}
+use Rattle.accounts.proofs.OrdersAfter.{submit-orders, cancel-orders, limits-orders, proposal-orders, default-orders, close-out-orders, close-orders}
+use Rattle.accounts.proofs.Places.{written-place, timed-place, submit-place, close-place}
 use Rattle.accounts.proofs.Complete.{submit-all}
 
 -- the marks of t′ are those of t
@@ -85,7 +85,7 @@ module _ (t : Tables) (u : Undamaged t) (a : NoneDefaulted t) where
       (λ o f. ap (λ n. eqb n 1) (default-mark m (o .member) (f .0 .1) (λ e. never (sym (f .1) ∙ ap not (eq-eqb (o .member) m e)))) ∙ f .0 .0) (all-kept (Fine t) others (orders t) all-fine))
 
 kind-marks : (e : Event) (t : Tables) (legs : List Leg) → Undamaged t → eventSound (members t) e legs ≡ true → NoCause t e legs → NoneDefaulted t → NoneDefaulted (acceptedAs t e legs .after)
-unfolding proposalBooked closeOutBooked priced
+unfolding proposalBooked closeOutBooked
 kind-marks (Submit e) t legs u s n a = submitted t u a e (ltb-true (e .member) (members t) (submission-sound (members t) e legs s .1)) (n .1 .0)
 kind-marks (Cancel e) t legs u s n a =
     let others : Order → Bool = λ o. not (isCancelled e o) in
@@ -97,7 +97,8 @@ kind-marks (Proposal k) t legs u s n a =
     (rw (proposal-orders t u legs) (legs-remain legs (orders t)))
 kind-marks (Default m) t legs u s n a = removed t u a m
 kind-marks (CloseOut e) t legs u s n a = remaining t u a (closeOutBooked t e .after) (booked-marks (closeOutLines t e) t) (rw (close-out-orders t u e) (remain-same (orders t)))
-kind-marks (CloseOfDay k) t legs u s n a = remaining t u a (closeBooked t k .after) (λ m h. close-place t u k (160 + m) (omega arith) (omega arith) ∙ closed-place (closingContracts t) (priced k t) (160 + m) (λ q. omega arith)) (close-remain t u k)
+kind-marks (CloseOfDay k) t legs u s n a = remaining t u a (closeBooked t k .after) (λ m h. close-place t u k (160 + m) (omega arith) (λ q. omega arith) (omega arith))
+    (rw (close-orders t u k) (kept-remain _ (orders t)))
 
 pub apply-marks : (t : Tables) (bytes : List ℕ) → NoneDefaulted t → NoneDefaulted (applySpec t bytes .after)
 apply-marks = every-call (λ t o. NoneDefaulted t → NoneDefaulted (o .after)) (λ t x q a. a) kind-marks

@@ -11,17 +11,16 @@ use Rattle.rules.specs.declared.event.CloseOutTerms.{CloseOutTerms}
 use Rattle.rules.specs.declared.event.Leg.{Leg}
 use Rattle.rules.specs.declared.event.Submission.{Submission}
 use Rattle.rules.specs.declared.order.Order.{Order}
-use Rattle.rules.specs.Ledger.{Tables, Line, members, withHead, withPrices, orders, withOrders, booked, timed, accepted, submits}
+use Rattle.rules.specs.Ledger.{Tables, Line, members, withHead, withPrices, orders, withOrders, booked, timed}
 use Rattle.rules.specs.Matching.{submitMatched, submitLines, submitOrders, withDeals, counted, submitBooked}
 use Rattle.rules.specs.Synthetic.{proposalLines, usedByLegs, proposalBooked}
-use Rattle.rules.specs.CloseOfDay.{closingContracts, closeAll, priced, nextDay, onDay, closeBooked}
+use Rattle.rules.specs.CloseOfDay.{closingContracts, isOfAny, withClosed, priced, onDay, closeBooked}
 use Rattle.rules.specs.Default.{defaultBooked, closeOutLines, closeOutBooked}
 use Rattle.accounts.specs.Runs.{orders-same, timed-same}
 use Rattle.accounts.specs.Written.{orders-written}
-use Rattle.accounts.specs.Remains.{Remain}
 use Rattle.accounts.specs.Books.{booked-place}
 use Rattle.accounts.proofs.EachKind.{Undamaged}
-use Rattle.accounts.proofs.Places.{evening, evening-closed, close-place}
+use Rattle.accounts.proofs.Places.{evening-place}
 
 -- booking lines leaves the book
 pub booked-orders : (ls : List Line) (u : Tables) → orders (booked ls u .after) ≡ orders u
@@ -57,8 +56,11 @@ module _ (t : Tables) (u : Undamaged t) where
   unfolding closeOutBooked
   close-out-orders e = booked-orders (closeOutLines t e) t
 
-  pub close-remain : (n : ℕ) → Remain (orders t) (orders (closeBooked t n .after))
-  unfolding closeBooked priced onDay
-  close-remain n =
-      rw (orders-same (evening t u n) (closeBooked t n .after) (close-place t u n 7 (omega arith) (omega arith)) refl)
-      (rw (orders-same t (priced n t) refl refl) at (evening-closed t u n .remain))
+  pub close-orders : (n : ℕ) → orders (closeBooked t n .after) ≡ kept (λ o. not (isOfAny (closingContracts t) o)) (orders t)
+  unfolding closeBooked priced onDay withClosed
+  close-orders n =
+      let p = priced n t in
+      let others : Order → Bool = λ o. not (isOfAny (closingContracts t) o) in
+      let v = withOrders (kept others (orders p)) p in
+      orders-same v (closeBooked t n .after) (evening-place t u n 7 (omega arith) (omega arith)) refl ∙ orders-written (kept others (orders p)) p (omega (arith, u .long .head))
+      ∙ ap (kept others) (orders-same t p refl refl)

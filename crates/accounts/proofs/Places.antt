@@ -2,9 +2,9 @@
 use Prim.Native.Nat.{ℕ, _+_, _≤_, _<_}
 use mathlib.Core.Path.{_≡_, refl, _∙_}
 use mathlib.Core.Bool.{not, cond}
-use mathlib.Core.List.{List, [], _∷_}
+use mathlib.Core.List.{List}
 use native.Mathlib.Omega.{arith}
-use lib.Dec.{eqb, ltb}
+use lib.Dec.{ltb}
 use lib.ListN.{length, getD, set}
 use lib.Seq.{getD-set-other}
 use Rattle.arith.specs.Lists.{kept}
@@ -13,12 +13,10 @@ use Rattle.rules.specs.declared.event.Submission.{Submission}
 use Rattle.rules.specs.declared.order.Order.{Order}
 use Rattle.rules.specs.Ledger.{Tables, members, time, withHead, orders, withOrders, withoutSubmits, timed}
 use Rattle.rules.specs.Matching.{submitMatched, submitOrders, withDeals, counted}
-use Rattle.rules.specs.CloseOfDay.{closeContract, closingContracts, closeAll, priced, nextDay, closeBooked}
-use Rattle.accounts.specs.Heads.{field, same-header}
+use Rattle.rules.specs.CloseOfDay.{closingContracts, isOfAny, withClosed, priced, nextDay, closeBooked}
+use Rattle.accounts.specs.Heads.{SameHeader, field}
 use Rattle.accounts.specs.HeadStays.{submitUnbooked}
-use Rattle.accounts.specs.Remains.{remain-same}
-use Rattle.accounts.specs.Runs.{orders-same}
-use Rattle.accounts.specs.Books.{without-place, day-place, Closed, closed-all, book-sides, sides-same}
+use Rattle.accounts.specs.Books.{written-header, without-place, day-place}
 use Rattle.accounts.proofs.EachKind.{Undamaged}
 
 abbrev pub place : Tables → ℕ → ℕ
@@ -27,11 +25,6 @@ place t i = getD (t .head) i 0
 pub written-place : (os : List Order) (u : Tables) (i : ℕ) → (i ≡ 7 → ⊥) → place (withOrders os u) i ≡ place u i
 unfolding withOrders
 written-place os u i d = getD-set-other (u .head) 7 i (length os) 0 d
-
-pub closed-place : (cs : List ℕ) (u : Tables) (i : ℕ) → (i ≡ 7 → ⊥) → place (closeAll cs u) i ≡ place u i
-unfolding closeAll closeContract
-closed-place [] u i d = refl
-closed-place (c ∷ cs) u i d = closed-place cs (closeContract c u) i d ∙ written-place (kept (λ o. not (eqb (o .contract) c)) (orders u)) u i d
 
 module _ (t : Tables) (u : Undamaged t) where
   -- a record's time is written, and the second's counts
@@ -48,20 +41,14 @@ module _ (t : Tables) (u : Undamaged t) where
       written-place (submitOrders t e) _ i c ∙ getD-set-other (set l (192 + e .member) _) 5 i _ 0 b ∙ getD-set-other l (192 + e .member) i _ 0 (λ q. omega arith)
       ∙ timed-place (e .time) i a h
 
-  -- the evening's tables, before the new day is written
-  abbrev pub evening : ℕ → Tables
-  evening n = closeAll (closingContracts t) (priced n t)
+  -- the new day writes the day, the time and the second's counts
+  pub evening-place : (n i : ℕ) → 4 < i → i < 192 → place (closeBooked t n .after) i ≡ place (withClosed (closingContracts t) (priced n t)) i
+  unfolding closeBooked priced withClosed
+  evening-place n i l h =
+      let w : SameHeader 4 (t .head) _ = written-header (kept (λ o. not (isOfAny (closingContracts t) o)) (orders (priced n t))) (priced n t) in
+      day-place (nextDay t) (withClosed (closingContracts t) (priced n t)) i (omega (arith, w .longer, u .long .head)) (omega (arith, w .places 1 (field (omega arith)), u .sound .few-members)) l h
 
-  pub evening-closed : (n : ℕ) → Closed (priced n t) (evening n)
-  unfolding priced
-  evening-closed n =
-      let p = priced n t in
-      closed-all (closingContracts t) p p (omega (arith, u .long .head))
-      (record { header = same-header 4 (t .head); numbers = refl; sides = sides-same t p refl refl ∙ book-sides t (u .book .sound); remain = remain-same (orders p) })
-
-  -- the new day writes the day, the time and the second's counts alone
-  pub close-place : (n i : ℕ) → 4 < i → i < 192 → getD (closeBooked t n .after .head) i 0 ≡ getD (evening n .head) i 0
-  unfolding closeBooked priced
-  close-place n i l h =
-      let a = evening-closed n .header in
-      day-place (nextDay t) (evening n) i (omega (arith, a .longer, u .long .head)) (omega (arith, a .places 1 (field (omega arith)), u .sound .few-members)) l h
+  -- and what closes, the count of orders
+  pub close-place : (n i : ℕ) → 4 < i → (i ≡ 7 → ⊥) → i < 192 → place (closeBooked t n .after) i ≡ place t i
+  unfolding priced withClosed
+  close-place n i l d h = evening-place n i l h ∙ written-place (kept (λ o. not (isOfAny (closingContracts t) o)) (orders (priced n t))) (priced n t) i d

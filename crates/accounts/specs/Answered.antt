@@ -1,7 +1,7 @@
 -- What an answer means: the causes of a call in rising number, and that the answer names the lowest that holds.
 use Prim.Native.Nat.{ℕ, _<_}
 use mathlib.Core.Path.{_≡_}
-use mathlib.Core.Bool.{Bool, true, false, _||_}
+use mathlib.Core.Bool.{Bool, true, false}
 use mathlib.Core.List.{List, [], _∷_, List·Memᴰ}
 use Rattle.arith.specs.Alls.{All}
 use Rattle.rules.specs.declared.answer.Answer.{Answer}
@@ -12,9 +12,9 @@ use Rattle.rules.specs.declared.event.Leg.{Leg}
 use Rattle.rules.specs.declared.event.Reading.{Reading}
 use Rattle.rules.specs.declared.event.Reading.the-variants.{Sound, Unsound}
 use Rattle.rules.specs.Answers.{told}
-use Rattle.rules.specs.Ledger.{Tables, members, ledgerShort, linesShort}
+use Rattle.rules.specs.Ledger.{Tables, members}
 use Rattle.rules.specs.Records.{legsOf, readOf}
-use Rattle.rules.specs.Refusals.{damaged, submitCauses, cancelCauses, limitsCauses, proposalCauses, defaultCauses, closeOutCauses, closeCauses, applySpec}
+use Rattle.rules.specs.Refusals.{unsound, submitCauses, cancelCauses, dayLimitsCauses, proposalCauses, defaultCauses, closeOutCauses, closeCauses, applySpec}
 use Rattle.rules.specs.Accounts.{isAccepted}
 
 -- A cause: whether it holds, and its answer.
@@ -28,7 +28,7 @@ numberOf a = told a .number
 abbrev pub kindCauses : Tables → Event → List Leg → List Cause
 kindCauses t (Submit e) legs = submitCauses t e
 kindCauses t (Cancel e) legs = cancelCauses t e
-kindCauses t (DayLimits e) legs = limitsCauses t e
+kindCauses t (DayLimits e) legs = dayLimitsCauses t e
 kindCauses t (Proposal n) legs = proposalCauses t legs
 kindCauses t (Default m) legs = defaultCauses t m
 kindCauses t (CloseOut e) legs = closeOutCauses t e
@@ -40,7 +40,7 @@ readingCauses t Unsound legs = (true, RecordUnsound) ∷ []
 
 -- All causes of a call: 1, then 3, then those of the kind that its bytes say.
 abbrev pub callCauses : Tables → List ℕ → List Cause
-callCauses t bytes = (ledgerShort t || linesShort t || damaged t, TableUnsound) ∷ readingCauses t (readOf (members t) bytes) (legsOf bytes)
+callCauses t bytes = (unsound t, TableUnsound) ∷ readingCauses t (readOf (members t) bytes) (legsOf bytes)
 
 pub record Exact (causes : List Cause) (a : Answer) : Type 0 where
   -- a refusal's cause is one of them and holds
