@@ -94,7 +94,7 @@ module _ (t : Tables) (u : Undamaged t) where
       written-least s c cs (set l (d * 5) price) (rw (length-set l (d * 5) price) w) p
       (same-or c d (λ e. rw (← e, getD-set-same l (c * 5) (ggfAtClose t s c) 0 w) p) (λ e. rw (getD-set-other l (d * 5) (c * 5) price 0 (λ z. e (omega arith))) g))
 
-  written-length : (s : ℕ) (cs l : List ℕ) → length (withGgfs t s cs l) ≡ length l
+  pub written-length : (s : ℕ) (cs l : List ℕ) → length (withGgfs t s cs l) ≡ length l
   unfolding withGgfs
   written-length s [] l = refl
   written-length s (c ∷ cs) l = written-length s cs (set l (c * 5) (ggfAtClose t s c)) ∙ length-set l (c * 5) (ggfAtClose t s c)

@@ -9,5 +9,6 @@ pub mod Crossed
 pub mod Marks
 pub mod LotsRun
 pub mod GgfStays
+pub mod SameLengths
 pub mod EveryList
 pub mod ClosedOut

@@ -32,3 +32,4 @@ pub mod Struck
 pub mod Complete
 pub mod EveryList
 pub mod ClosedOut
+pub mod SameLengths

@@ -5,7 +5,7 @@ use mathlib.Core.Bool.{Bool, true}
 use mathlib.Core.List.{List, _++_}
 use native.Mathlib.Omega.{arith}
 use native.Mathlib.Nat.{suc-mul, zero-mul}
-use lib.ListN.{length, take, drop, getD, length-drop}
+use lib.ListN.{length, take, drop, getD, length-drop, length-append}
 use lib.Seq.{length-take-le, drop-drop, take-at, drop-at, getD-take, getD-drop}
 use Rattle.arith.specs.Lists.{everyBlock, inEachBlock}
 use Rattle.arith.specs.Tests.{same-or, and-left, and-right}
@@ -61,3 +61,12 @@ module _ {A : Type 0} (w : ℕ) where
       rw e (next-block (c - 1) (f (take w l) ++ inEachBlock w f n (drop w l))
       ∙ ap (block (c - 1)) (drop-at (f (take w l)) (inEachBlock w f n (drop w l)) w (g (take w l) (length-take-le w l long)))
       ∙ in-each-block f g n (drop w l) (simp length-drop (omega (arith, suc-mul n w))) (c - 1) (omega arith) ∙ ap f (sym (next-block (c - 1) l))))
+
+  -- and the list is as long as it was
+  pub in-each-length : (f : List A → List A) → ((b : List A) → length b ≡ w → length (f b) ≡ w) → (n : ℕ) (l : List A) → n * w ≤ length l → length (inEachBlock w f n l) ≡ length l
+  unfolding inEachBlock
+  in-each-length f g zero l s = refl
+  in-each-length f g (suc n) l s =
+      let long : w ≤ length l = omega (arith, suc-mul n w) in
+      let rest = in-each-length f g n (drop w l) (simp length-drop (omega (arith, suc-mul n w))) in
+      simp length-append (omega (arith, g (take w l) (length-take-le w l long), rest, length-drop w l))

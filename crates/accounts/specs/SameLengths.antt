@@ -1,0 +1,24 @@
+-- Lengths: no call changes the length of a table, and an accepted record has at most 200 lines.
+use Prim.Native.Nat.{ℕ, _≤_}
+use mathlib.Core.Path.{_≡_}
+use mathlib.Core.Bool.{true}
+use mathlib.Core.List.{List}
+use lib.ListN.{length}
+use Rattle.rules.specs.Answers.{told}
+use Rattle.rules.specs.Ledger.{Tables}
+use Rattle.rules.specs.Refusals.{applySpec}
+use Rattle.rules.specs.Accounts.{isAccepted}
+
+pub record SameLengths (t u : Tables) : Type 0 where
+  pub head : length (u .head) ≡ length (t .head)
+  pub prices : length (u .prices) ≡ length (t .prices)
+  pub lots : length (u .lots) ≡ length (t .lots)
+  pub value : length (u .value) ≡ length (t .value)
+  pub book : length (u .book) ≡ length (t .book)
+  pub lines : length (u .lines) ≡ length (t .lines)
+
+abbrev pub LengthsStay : Type 0
+LengthsStay = (t : Tables) (bytes : List ℕ) → SameLengths t (applySpec t bytes .after)
+
+abbrev pub AtMost200Lines : Type 0
+AtMost200Lines = (t : Tables) (bytes : List ℕ) → isAccepted (applySpec t bytes .answer) ≡ true → told (applySpec t bytes .answer) .value ≤ 200
