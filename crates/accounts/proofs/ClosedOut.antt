@@ -23,10 +23,10 @@ use Rattle.rules.specs.Default.{sumOf, defaultedLongs, defaultedShorts, givenUp
 use Rattle.rules.specs.Refusals.{applySpec}
 use Rattle.rules.specs.Accounts.{lots}
 use Rattle.accounts.specs.ClosedOut.{DefaultedAreClosedOut}
-use Rattle.accounts.specs.Lines.{rowTotal}
-use Rattle.accounts.specs.Calls.{booked-row}
-use Rattle.accounts.specs.Books.{booked-place}
-use Rattle.accounts.specs.CloseOutLines.{no-change, longs-length, shorts-length, netted-length, left-length, close-out-fits, defaulted-take-none}
+use Rattle.accounts.proofs.Lines.{rowTotal}
+use Rattle.accounts.proofs.Calls.{booked-row}
+use Rattle.accounts.proofs.Books.{booked-place}
+use Rattle.accounts.proofs.CloseOutLines.{no-change, longs-length, shorts-length, netted-length, left-length, close-out-fits, defaulted-take-none}
 use Rattle.accounts.proofs.EachKind.{accepted-call}
 
 -- ---- what the lines of changes add to a row

@@ -20,8 +20,8 @@ use Rattle.rules.specs.declared.event.Submission.{Submission}
 use Rattle.rules.specs.Ledger.{Tables, orders}
 use Rattle.rules.specs.Matching.{sameSide, otherSide, precedes, best, opposes, meetsPrice, meets, withLots, used, Matched, stopped, afterDeal, matching, matched, incoming, submitMatched, wouldRest, submitOrders}
 use Rattle.rules.specs.Refusals.{applySpec}
-use Rattle.accounts.specs.Matches.{best-all, used-length}
-use Rattle.accounts.specs.Remains.{Remain, remain-all, used-remain, matching-remain, remain-then}
+use Rattle.accounts.proofs.Matches.{best-all, used-length}
+use Rattle.accounts.proofs.Remains.{Remain, remain-all, used-remain, matching-remain, remain-then}
 use Rattle.accounts.proofs.Priority.{Behind, lower, higher, same, After, after-not-before, best-none, best-is}
 use Rattle.accounts.specs.Complete.{AcceptedSubmit, MatchingIsComplete, NobodyIsPassedOver}
 use Rattle.accounts.proofs.EachKind.{accepted-call}

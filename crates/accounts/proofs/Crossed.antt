@@ -21,7 +21,7 @@ use Rattle.rules.specs.Records.{eventSound}
 use Rattle.rules.specs.Matching.{sameSide, otherSide, opposes, meets, withLots, matched, incoming, submitMatched, isResting, wouldRest, submitOrders}
 use Rattle.rules.specs.Refusals.{isCancelled, applySpec}
 use Rattle.accounts.specs.EveryList.{Below, Uncrossed}
-use Rattle.accounts.specs.Remains.{Remain, remain-same, remain-all, kept-remain, legs-remain, matching-remain}
+use Rattle.accounts.proofs.Remains.{Remain, remain-same, remain-all, kept-remain, legs-remain, matching-remain}
 use Rattle.accounts.proofs.EachKind.{Undamaged, acceptedAs, NoCause, every-call}
 use Rattle.accounts.proofs.OrdersAfter.{submit-orders, cancel-orders, limits-orders, proposal-orders, default-orders, close-out-orders, close-orders}
 use Rattle.accounts.proofs.Complete.{submit-ends, submit-all}

@@ -25,10 +25,10 @@ use Rattle.rules.specs.Default.{defaultBooked, closeOutBooked}
 use Rattle.rules.specs.Refusals.{isCancelled, headSound, pricesSound, bookSound, damaged, unsound, submitSpec, cancelSpec, dayLimitsSpec, proposalSpec, defaultSpec, closeOutSpec, closeSpec, eventSpec, readingSpec, applySpec}
 use Rattle.rules.specs.Accounts.{isAccepted}
 use Rattle.accounts.specs.Answered.{Cause, kindCauses}
-use Rattle.accounts.specs.Runs as runs
-use Rattle.accounts.specs.Calls.{Long, long-enough, or-left, or-right, not-false, sound-of, decide-shows}
-use Rattle.accounts.specs.Books.{BookKept, undamaged-book}
-use Rattle.accounts.specs.Events.{read-sound}
+use Rattle.accounts.proofs.Runs as runs
+use Rattle.accounts.proofs.Calls.{Long, long-enough, or-left, or-right, not-false, sound-of, decide-shows}
+use Rattle.accounts.proofs.Books.{BookKept, undamaged-book}
+use Rattle.accounts.proofs.Events.{read-sound}
 
 -- what tables give that are neither short nor damaged
 pub record Undamaged (t : Tables) : Type 0 where

@@ -12,10 +12,10 @@ use Rattle.rules.specs.Header.{headerOf, beginsWithHeader}
 use Rattle.rules.specs.Ledger.{Tables, withLines, ggf, lotsRun, orders, lineRun, ledgerShort, fresh}
 use Rattle.rules.specs.Refusals.{applySpec, makeSpec}
 use Rattle.rules.specs.Accounts.{Call, callSpec, after, log}
-use Rattle.accounts.specs.Calls.{Long, long-enough}
-use Rattle.accounts.specs.Fresh.{Fine, fine, counts-of}
-use Rattle.accounts.specs.Runs.{orders-same}
-use Rattle.accounts.specs.TwoBookkeepers.{made, begun, known}
+use Rattle.accounts.proofs.Calls.{Long, long-enough}
+use Rattle.accounts.proofs.Fresh.{Fine, fine, counts-of}
+use Rattle.accounts.proofs.Runs.{orders-same}
+use Rattle.accounts.proofs.TwoBookkeepers.{made, begun, known}
 use Rattle.accounts.specs.EveryList.{Uncrossed, NoneDefaulted, NeverCrossed, DefaultedNeverRest, RunIsLogged, DayIsTheLists, GgfNeverLost}
 use Rattle.accounts.proofs.Crossed.{apply-uncrossed}
 use Rattle.accounts.proofs.Marks.{apply-marks}

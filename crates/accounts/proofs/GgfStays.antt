@@ -31,8 +31,8 @@ use Rattle.rules.specs.Synthetic.{proposalBooked}
 use Rattle.rules.specs.CloseOfDay.{roundedHalfUp, quotes, bestQuote, quotedPrice, ggfAtClose, withGgfs, withoutDeals, closingContracts, priced, onDay, closeBooked}
 use Rattle.rules.specs.Default.{defaultBooked, closeOutBooked}
 use Rattle.rules.specs.Refusals.{pricesSound, applySpec}
-use Rattle.accounts.specs.Matches.{best-all}
-use Rattle.accounts.specs.PricesStay.{Prices, prices-of, Priced, orders-priced, timed-prices, closed-prices}
+use Rattle.accounts.proofs.Matches.{best-all}
+use Rattle.accounts.proofs.PricesStay.{Prices, prices-of, Priced, orders-priced, timed-prices, closed-prices}
 use Rattle.accounts.proofs.EachKind.{Undamaged, acceptedAs, NoCause, every-call}
 
 -- ---- the price that a close of day finds

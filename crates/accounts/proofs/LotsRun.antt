@@ -21,8 +21,8 @@ use Rattle.rules.specs.CloseOfDay.{closeBooked}
 use Rattle.rules.specs.Default.{defaultBooked, closeOutLines, closeOutBooked}
 use Rattle.rules.specs.Refusals.{isCancelled, applySpec}
 use Rattle.rules.specs.Accounts.{Call, callSpec, after, isAccepted, linesOf, log}
-use Rattle.accounts.specs.Written.{lines-printed}
-use Rattle.accounts.specs.HeadStays.{submitUnbooked}
+use Rattle.accounts.proofs.Written.{lines-printed}
+use Rattle.accounts.proofs.HeadStays.{submitUnbooked}
 use Rattle.accounts.proofs.EachKind.{Undamaged, acceptedAs, NoCause, every-call}
 use Rattle.accounts.proofs.OrdersAfter.{timed-long}
 use Rattle.accounts.proofs.Places.{written-place, timed-place, submit-place, close-place}

@@ -25,9 +25,9 @@ use Rattle.rules.specs.CloseOfDay.{closeBooked}
 use Rattle.rules.specs.Default.{defaultBooked, closeOutLines, closeOutBooked}
 use Rattle.rules.specs.Refusals.{isCancelled, applySpec}
 use Rattle.accounts.specs.EveryList.{NoneDefaulted}
-use Rattle.accounts.specs.Books.{booked-place, submission-sound}
-use Rattle.accounts.specs.HeadStays.{submitUnbooked}
-use Rattle.accounts.specs.Remains.{Remain, remain-same, remain-all, kept-remain, legs-remain, matching-remain}
+use Rattle.accounts.proofs.Books.{booked-place, submission-sound}
+use Rattle.accounts.proofs.HeadStays.{submitUnbooked}
+use Rattle.accounts.proofs.Remains.{Remain, remain-same, remain-all, kept-remain, legs-remain, matching-remain}
 use Rattle.accounts.proofs.EachKind.{Undamaged, acceptedAs, NoCause, every-call}
 use Rattle.accounts.proofs.OrdersAfter.{submit-orders, cancel-orders, limits-orders, proposal-orders, default-orders, close-out-orders, close-orders}
 use Rattle.accounts.proofs.Places.{written-place, timed-place, submit-place, close-place}

@@ -16,9 +16,9 @@ use Rattle.rules.specs.Matching.{submitMatched, submitLines, submitOrders, with
 use Rattle.rules.specs.Synthetic.{proposalLines, usedByLegs, proposalBooked}
 use Rattle.rules.specs.CloseOfDay.{closingContracts, isOfAny, withClosed, priced, onDay, closeBooked}
 use Rattle.rules.specs.Default.{defaultBooked, closeOutLines, closeOutBooked}
-use Rattle.accounts.specs.Runs.{orders-same, timed-same}
-use Rattle.accounts.specs.Written.{orders-written}
-use Rattle.accounts.specs.Books.{booked-place}
+use Rattle.accounts.proofs.Runs.{orders-same, timed-same}
+use Rattle.accounts.proofs.Written.{orders-written}
+use Rattle.accounts.proofs.Books.{booked-place}
 use Rattle.accounts.proofs.EachKind.{Undamaged}
 use Rattle.accounts.proofs.Places.{evening-place}
 

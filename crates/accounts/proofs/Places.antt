@@ -14,9 +14,9 @@ use Rattle.rules.specs.declared.order.Order.{Order}
 use Rattle.rules.specs.Ledger.{Tables, members, time, withHead, orders, withOrders, withoutSubmits, timed}
 use Rattle.rules.specs.Matching.{submitMatched, submitOrders, withDeals, counted}
 use Rattle.rules.specs.CloseOfDay.{closingContracts, isOfAny, withClosed, priced, nextDay, closeBooked}
-use Rattle.accounts.specs.Heads.{SameHeader, field}
-use Rattle.accounts.specs.HeadStays.{submitUnbooked}
-use Rattle.accounts.specs.Books.{written-header, without-place, day-place}
+use Rattle.accounts.proofs.Heads.{SameHeader, field}
+use Rattle.accounts.proofs.HeadStays.{submitUnbooked}
+use Rattle.accounts.proofs.Books.{written-header, without-place, day-place}
 use Rattle.accounts.proofs.EachKind.{Undamaged}
 
 abbrev pub place : Tables → ℕ → ℕ

@@ -33,13 +33,13 @@ use Rattle.rules.specs.Default.{defaultBooked, closeOutLines, closeOutBooked}
 use Rattle.rules.specs.Refusals.{isCancelled, applySpec}
 use Rattle.rules.specs.Accounts.{isAccepted}
 use Rattle.accounts.specs.SameLengths.{SameLengths, LengthsStay, AtMost200Lines}
-use Rattle.accounts.specs.Runs.{orders-same}
-use Rattle.accounts.specs.Rows.{posted-length, cascaded-length}
-use Rattle.accounts.specs.Closes.{closing-today}
-use Rattle.accounts.specs.CloseOutLines.{close-out-few}
-use Rattle.accounts.specs.Remains.{Remain, remain-length, kept-remain, legs-remain}
-use Rattle.accounts.specs.Books.{orders-count, submission-sound, submit-deals}
-use Rattle.accounts.specs.HeadStays.{submit-few}
+use Rattle.accounts.proofs.Runs.{orders-same}
+use Rattle.accounts.proofs.Rows.{posted-length, cascaded-length}
+use Rattle.accounts.proofs.Closes.{closing-today}
+use Rattle.accounts.proofs.CloseOutLines.{close-out-few}
+use Rattle.accounts.proofs.Remains.{Remain, remain-length, kept-remain, legs-remain}
+use Rattle.accounts.proofs.Books.{orders-count, submission-sound, submit-deals}
+use Rattle.accounts.proofs.HeadStays.{submit-few}
 use Rattle.accounts.proofs.EachKind.{Undamaged, acceptedAs, NoCause, every-call}
 use Rattle.accounts.proofs.GgfStays.{written-length}
 use Rattle.accounts.proofs.Places.{written-place}

@@ -8,7 +8,7 @@ use Rattle.rules.specs.Answers.{Outcome, told}
 use Rattle.rules.specs.Ledger.{Tables, withLines, firstLines}
 use Rattle.rules.specs.Refusals.{applySpec}
 use Rattle.rules.specs.Accounts.{Call, callSpec, after, isAccepted, linesOf, log}
-use Rattle.accounts.specs.Refused.{refused-changes-nothing}
+use Rattle.accounts.proofs.Refused.{refused-changes-nothing}
 use Rattle.accounts.specs.Struck.{acceptedCalls, SameLedger, StrikingChangesNothing}
 
 ledger-same : (t : Tables) → SameLedger t t

@@ -37,11 +37,11 @@ use Rattle.rules.specs.Default.{defaultBooked, closeOutLines, closeOutBooked}
 use Rattle.rules.specs.CloseOfDay.{roundedHalfUp, quotes, bestQuote, quotedPrice, ggfAtClose, withGgfs, withoutDeals, closingContracts, withClosed, priced, onDay, closeBooked}
 use Rattle.rules.specs.Refusals.{contractPricesSound, pricesSound, headSound, orderSound, bookSound, submitCauses, cancelCauses, dayLimitsCauses, proposalCauses, defaultCauses, closeOutCauses, closeCauses, submitSpec, cancelSpec, dayLimitsSpec, proposalSpec, defaultSpec, closeOutSpec, closeSpec, eventSpec}
 use Rattle.rules.specs.Accounts.{isAccepted}
-use Rattle.accounts.specs.Calls.{decide-shows, Long}
-use Rattle.accounts.specs.Matches.{best-all}
-use Rattle.accounts.specs.Submits.{dealt-all}
-use Rattle.accounts.specs.Books.{book-orders, submission-sound}
-use Rattle.accounts.specs.HeadStays.{Stays, unchanged, run-booked, submitUnbooked, submit-stays, submit-head, cancel-stays, cancel-head, limits-head, proposal-stays, proposal-head, defaultUnbooked, default-stays, default-head, close-out-head, close-head}
+use Rattle.accounts.proofs.Calls.{decide-shows, Long}
+use Rattle.accounts.proofs.Matches.{best-all}
+use Rattle.accounts.proofs.Submits.{dealt-all}
+use Rattle.accounts.proofs.Books.{book-orders, submission-sound}
+use Rattle.accounts.proofs.HeadStays.{Stays, unchanged, run-booked, submitUnbooked, submit-stays, submit-head, cancel-stays, cancel-head, limits-head, proposal-stays, proposal-head, defaultUnbooked, default-stays, default-head, close-out-head, close-head}
 
 -- ---- a contract's five numbers: GGF, low, high, M and V
 pub record Five (run price low high m v : ℕ) : Type 0 where

@@ -17,7 +17,7 @@ use Rattle.rules.specs.Header.{Header, calendarOf, calendarSound, daySound, mem
 use Rattle.rules.specs.Days.{inSpan}
 use Rattle.rules.specs.Ledger.{Tables, members, holidays, orders, freshHead, freshRows, fresh}
 use Rattle.rules.specs.Accounts.{Column, lots, value, row}
-use Rattle.accounts.specs.Runs.{Runs}
+use Rattle.accounts.proofs.Runs.{Runs}
 
 -- what a sound header shows of itself
 pub record Fine (h : Header) : Type 0 where

@@ -14,14 +14,14 @@ use Rattle.rules.specs.Contracts.{hasCascaded}
 use Rattle.rules.specs.Header.{Header, calendarOf}
 use Rattle.rules.specs.Ledger.{Tables, isOpen, withHead, withPrices, orders, withOrders, timed, booked}
 use Rattle.rules.specs.Default.{sumOf, lotsLeft, weights, closeOutLines, closeOutBooked, defaultBooked}
-use Rattle.accounts.specs.Lines.{Fits, hourTotal}
-use Rattle.accounts.specs.Heads.{SameHeader, changing, ofMember, same-header, then-same, set-other}
-use Rattle.accounts.specs.Holds.{Fair}
-use Rattle.accounts.specs.Runs.{InOpen, Runs, Sound, orders-same}
-use Rattle.accounts.specs.Written.{orders-written}
-use Rattle.accounts.specs.Calls.{Does, booked-does}
-use Rattle.accounts.specs.CloseOutLines.{close-out-fits, close-out-contract, close-out-balanced}
-use Rattle.accounts.specs.Submits.{open-here, open-not-cascaded, timed-header, timed-rows}
+use Rattle.accounts.proofs.Lines.{Fits, hourTotal}
+use Rattle.accounts.proofs.Heads.{SameHeader, changing, ofMember, same-header, then-same, set-other}
+use Rattle.accounts.proofs.Holds.{Fair}
+use Rattle.accounts.proofs.Runs.{InOpen, Runs, Sound, orders-same}
+use Rattle.accounts.proofs.Written.{orders-written}
+use Rattle.accounts.proofs.Calls.{Does, booked-does}
+use Rattle.accounts.proofs.CloseOutLines.{close-out-fits, close-out-contract, close-out-balanced}
+use Rattle.accounts.proofs.Submits.{open-here, open-not-cascaded, timed-header, timed-rows}
 
 no-lines : (h : Header) (K : ℕ → Bool) → Fair h K []
 unfolding hourTotal

@@ -15,8 +15,8 @@ use Rattle.rules.specs.declared.order.Order.{Order}
 use Rattle.rules.specs.Matching.{opposes, withLots, used, matching}
 use Rattle.rules.specs.Refusals.{distinct}
 use Rattle.rules.specs.Synthetic.{usedByLegs}
-use Rattle.accounts.specs.Calls.{or-left, or-right}
-use Rattle.accounts.specs.Matches.{best-all, by-deals}
+use Rattle.accounts.proofs.Calls.{or-left, or-right}
+use Rattle.accounts.proofs.Matches.{best-all, by-deals}
 
 -- ---- what is left of orders: some are gone, others rest with all of their lots or some
 pub data Remain : List Order → List Order → Type 0 where

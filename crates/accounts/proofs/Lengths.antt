@@ -19,8 +19,8 @@ use Rattle.rules.specs.Matching.{Deal, submitMatched, submitLines, submitOrders
 use Rattle.rules.specs.Synthetic.{proposalLines, usedByLegs, proposalBooked}
 use Rattle.rules.specs.CloseOfDay.{contractRows, ggfAtClose, addedTo, zeroRows, cascaded, allCascaded, isOfAny, withClosed, withGgfs, withoutDeals, priced, closingContracts, nextDay, onDay, closeBooked}
 use Rattle.rules.specs.Default.{defaultBooked, closeOutLines, closeOutBooked}
-use Rattle.accounts.specs.Calls.{Long}
-use Rattle.accounts.specs.Rows.{posted-length}
+use Rattle.accounts.proofs.Calls.{Long}
+use Rattle.accounts.proofs.Rows.{posted-length}
 
 pub record Longer (t t′ : Tables) : Type 0 where
   pub head : length (t .head) ≤ length (t′ .head)

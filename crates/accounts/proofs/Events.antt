@@ -28,13 +28,13 @@ use Rattle.rules.specs.Records.{timeSound, contractSound, priceSound, lotsSound
 use Rattle.rules.specs.CloseOfDay.{hasNextDay, closeBooked}
 use Rattle.rules.specs.Refusals.{unsound, isCancelled, submitCauses, cancelCauses, dayLimitsCauses, proposalCauses, defaultCauses, closeOutCauses, closeCauses, submitSpec, cancelSpec, dayLimitsSpec, proposalSpec, defaultSpec, closeOutSpec, closeSpec, eventSpec, readingSpec, applySpec}
 use Rattle.rules.specs.Accounts.{isAccepted, dayReached, dayAfterEvent}
-use Rattle.accounts.specs.Runs.{Runs, runs-calendar}
-use Rattle.accounts.specs.Runs as runs
-use Rattle.accounts.specs.Calls.{Does, refused-does, decide-shows, not-false, sound-of}
-use Rattle.accounts.specs.Submits.{submit-does}
-use Rattle.accounts.specs.Proposals.{proposal-does}
-use Rattle.accounts.specs.Kinds.{cancel-does, default-does, limits-does, close-out-does}
-use Rattle.accounts.specs.Closes.{close-does}
+use Rattle.accounts.proofs.Runs.{Runs, runs-calendar}
+use Rattle.accounts.proofs.Runs as runs
+use Rattle.accounts.proofs.Calls.{Does, refused-does, decide-shows, not-false, sound-of}
+use Rattle.accounts.proofs.Submits.{submit-does}
+use Rattle.accounts.proofs.Proposals.{proposal-does}
+use Rattle.accounts.proofs.OtherKinds.{cancel-does, default-does, limits-does, close-out-does}
+use Rattle.accounts.proofs.Closes.{close-does}
 
 -- ---- each kind
 module _ (h : Header) (d : ℕ) (t : Tables) (r : Runs h d t) (s : runs.Sound t) where

@@ -24,10 +24,10 @@ use Rattle.rules.specs.Ledger.{Tables, Line, members, lotsRun, rowPlace, lineRu
 use Rattle.rules.specs.CloseOfDay.{cascaded, allCascaded, withClosed}
 use Rattle.rules.specs.Refusals.{everyRow, rowsSound}
 use Rattle.rules.specs.Accounts.{Column, lots, value, row, amount}
-use Rattle.accounts.specs.Lines.{rowTotal}
-use Rattle.accounts.specs.Rows.{cascaded-month, cascaded-length, cascaded-row}
-use Rattle.accounts.specs.Cascade.{year-no-child, quarter-child, month-child}
-use Rattle.accounts.specs.Fresh.{Fine, fresh-zero, fresh-runs}
+use Rattle.accounts.proofs.Lines.{rowTotal}
+use Rattle.accounts.proofs.Rows.{cascaded-month, cascaded-length, cascaded-row}
+use Rattle.accounts.proofs.Cascade.{year-no-child, quarter-child, month-child}
+use Rattle.accounts.proofs.Fresh.{Fine, fresh-zero, fresh-runs}
 
 -- ---- the bound
 -- a member's absolute rows of the year, the quarter and the month that hold month i, together

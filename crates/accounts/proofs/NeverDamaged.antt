@@ -28,18 +28,18 @@ use Rattle.rules.specs.CloseOfDay.{closeBooked}
 use Rattle.rules.specs.Default.{defaultBooked, closeOutBooked}
 use Rattle.rules.specs.Refusals.{headSound, memberSound, pricesSound, orderSound, sidesSound, bookSound, damaged, unsound, isCancelled, submitCauses, cancelCauses, dayLimitsCauses, proposalCauses, defaultCauses, closeOutCauses, closeCauses, submitSpec, cancelSpec, dayLimitsSpec, proposalSpec, defaultSpec, closeOutSpec, closeSpec, eventSpec, readingSpec, applySpec, makeSpec}
 use Rattle.rules.specs.Accounts.{Call, callSpec, after}
-use Rattle.accounts.specs.Runs as runs
-use Rattle.accounts.specs.Runs.{Runs}
-use Rattle.accounts.specs.Calls.{Long, long-enough, not-short, not-false, sound-parts, decide-leaves-what}
-use Rattle.accounts.specs.Events.{read-sound, apply-shows}
-use Rattle.accounts.specs.Fresh.{fine, fresh-runs, counts-of}
-use Rattle.accounts.specs.Lengths.{stays-long, fresh-longer, submit-long, cancel-long, limits-long, proposal-long, default-long, close-out-long, close-long}
-use Rattle.accounts.specs.Bounds.{WithinRun, rows-sound, within-fresh}
-use Rattle.accounts.specs.RowsStay.{run-start, within-kept, submit-rows, cancel-rows, limits-rows, proposal-rows, default-rows, close-out-rows, close-rows}
-use Rattle.accounts.specs.Books.{BookKept, empty-book, submission-sound, event-book}
-use Rattle.accounts.specs.PricesStay.{event-head-prices, fresh-prices}
-use Rattle.accounts.specs.HeadStays.{fresh-head}
-use Rattle.accounts.specs.TwoBookkeepers.{lines-lent, made, begun}
+use Rattle.accounts.proofs.Runs as runs
+use Rattle.accounts.proofs.Runs.{Runs}
+use Rattle.accounts.proofs.Calls.{Long, long-enough, not-short, not-false, sound-parts, decide-leaves-what}
+use Rattle.accounts.proofs.Events.{read-sound, apply-shows}
+use Rattle.accounts.proofs.Fresh.{fine, fresh-runs, counts-of}
+use Rattle.accounts.proofs.Lengths.{stays-long, fresh-longer, submit-long, cancel-long, limits-long, proposal-long, default-long, close-out-long, close-long}
+use Rattle.accounts.proofs.Bounds.{WithinRun, rows-sound, within-fresh}
+use Rattle.accounts.proofs.RowsStay.{run-start, within-kept, submit-rows, cancel-rows, limits-rows, proposal-rows, default-rows, close-out-rows, close-rows}
+use Rattle.accounts.proofs.Books.{BookKept, empty-book, submission-sound, event-book}
+use Rattle.accounts.proofs.PricesStay.{event-head-prices, fresh-prices}
+use Rattle.accounts.proofs.HeadStays.{fresh-head}
+use Rattle.accounts.proofs.TwoBookkeepers.{lines-lent, made, begun}
 
 -- ---- a ledger in order
 pub record InOrder (t : Tables) : Type 0 where

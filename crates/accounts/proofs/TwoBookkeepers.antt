@@ -16,11 +16,11 @@ use Rattle.rules.specs.Ledger.{Tables, Line, withLines, orders, ledgerShort, fr
 use Rattle.rules.specs.Records.{readOf}
 use Rattle.rules.specs.Refusals.{makeSpec}
 use Rattle.rules.specs.Accounts.{Column, lots, value, row, Call, callSpec, after, isAccepted, linesOf, log, engineAccount, entered, otherAccount, dayAfterEvent, listsDay, Demand3}
-use Rattle.accounts.specs.Holds.{Holds, holds-same}
-use Rattle.accounts.specs.Runs.{Runs, orders-same}
-use Rattle.accounts.specs.Calls.{rowsOf, long-enough}
-use Rattle.accounts.specs.Events.{apply-shows}
-use Rattle.accounts.specs.Fresh.{fine, fresh-zero, fresh-runs}
+use Rattle.accounts.proofs.Holds.{Holds, holds-same}
+use Rattle.accounts.proofs.Runs.{Runs, orders-same}
+use Rattle.accounts.proofs.Calls.{rowsOf, long-enough}
+use Rattle.accounts.proofs.Events.{apply-shows}
+use Rattle.accounts.proofs.Fresh.{fine, fresh-zero, fresh-runs}
 
 -- ---- from one call to every list
 -- a call's own line table is no part of the ledger

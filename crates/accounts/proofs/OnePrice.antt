@@ -10,7 +10,7 @@ use Rattle.rules.specs.Days.{Calendar}
 use Rattle.rules.specs.Contracts.{holdsHour}
 use Rattle.rules.specs.Ledger.{Line}
 use Rattle.rules.specs.Accounts.{Column, lots, value, amount}
-use Rattle.accounts.specs.Lines.{hourTotal}
+use Rattle.accounts.proofs.Lines.{hourTotal}
 
 -- the lots of the lines, added up
 unfoldable pub netLots : List Line → ℤ

@@ -28,13 +28,13 @@ use Rattle.rules.specs.Header.{Header, calendarOf}
 use Rattle.rules.specs.Ledger.{Tables, Line, withRows, members, day, calendar, orders, withOrders, withoutSubmits, firstLines}
 use Rattle.rules.specs.CloseOfDay.{cascaded, closingContracts, allCascaded, isOfAny, withClosed, priced, nextDay, onDay, closeBooked}
 use Rattle.rules.specs.Accounts.{Column, lots, value, row}
-use Rattle.accounts.specs.Cascade.{cascade-keeps}
-use Rattle.accounts.specs.Heads.{SameHeader, field, changing, same-header, then-same, set-other, over-other, but-the-day}
-use Rattle.accounts.specs.Holds.{Rows, Holds, holds-same}
-use Rattle.accounts.specs.Rows.{cascaded-month, cascaded-length, cascaded-row}
-use Rattle.accounts.specs.Runs.{InOpen, Runs, Sound, runs-calendar, runs-with, orders-same}
-use Rattle.accounts.specs.Calls.{rowsOf, Does, not-false}
-use Rattle.accounts.specs.Written.{orders-written}
+use Rattle.accounts.proofs.Cascade.{cascade-keeps}
+use Rattle.accounts.proofs.Heads.{SameHeader, field, changing, same-header, then-same, set-other, over-other, but-the-day}
+use Rattle.accounts.proofs.Holds.{Rows, Holds, holds-same}
+use Rattle.accounts.proofs.Rows.{cascaded-month, cascaded-length, cascaded-row}
+use Rattle.accounts.proofs.Runs.{InOpen, Runs, Sound, runs-calendar, runs-with, orders-same}
+use Rattle.accounts.proofs.Calls.{rowsOf, Does, not-false}
+use Rattle.accounts.proofs.Written.{orders-written}
 
 abbrev childOf : ℕ → ℕ → Bool
 childOf c e = any (λ x. eqb x e) (childrenOf c)

@@ -33,13 +33,13 @@ use Rattle.rules.specs.Default.{closeOutLines, closeOutBooked, defaultBooked}
 use Rattle.rules.specs.CloseOfDay.{closingContracts, isOfAny, withClosed, priced, nextDay, onDay, closeBooked}
 use Rattle.rules.specs.Refusals.{headSound, orderSound, sidesSound, bookSound, damaged, isCancelled, submitCauses, cancelCauses, dayLimitsCauses, proposalCauses, defaultCauses, closeOutCauses, closeCauses, submitSpec, cancelSpec, dayLimitsSpec, proposalSpec, defaultSpec, closeOutSpec, closeSpec, eventSpec}
 use Rattle.rules.specs.Accounts.{isAccepted}
-use Rattle.accounts.specs.Heads.{SameHeader, field, changing, ofMember, same-header, then-same, set-other, same-holidays, but-the-day}
-use Rattle.accounts.specs.Runs.{Sound, orders-same, timed-same}
-use Rattle.accounts.specs.Written.{orders-written}
-use Rattle.accounts.specs.Calls.{decide-shows, not-false}
-use Rattle.accounts.specs.CloseOutLines.{from-length}
-use Rattle.accounts.specs.Closes.{day-header}
-use Rattle.accounts.specs.Remains.{Remain, Distinct, remain-same, remain-then, remain-length, remain-all, remain-distinct, distinct-more, distinct-orders, orders-distinct, kept-remain, legs-remain, matching-remain, deals-total, HasLots, deals-few}
+use Rattle.accounts.proofs.Heads.{SameHeader, field, changing, ofMember, same-header, then-same, set-other, same-holidays, but-the-day}
+use Rattle.accounts.proofs.Runs.{Sound, orders-same, timed-same}
+use Rattle.accounts.proofs.Written.{orders-written}
+use Rattle.accounts.proofs.Calls.{decide-shows, not-false}
+use Rattle.accounts.proofs.CloseOutLines.{from-length}
+use Rattle.accounts.proofs.Closes.{day-header}
+use Rattle.accounts.proofs.Remains.{Remain, Distinct, remain-same, remain-then, remain-length, remain-all, remain-distinct, distinct-more, distinct-orders, orders-distinct, kept-remain, legs-remain, matching-remain, deals-total, HasLots, deals-few}
 
 -- ---- orders
 -- what the soundness of an order reads of the tables: the members and the calendar stand, accepted submits do not fall

@@ -22,7 +22,7 @@ use Rattle.rules.specs.CloseOfDay.{closeBooked}
 use Rattle.rules.specs.Default.{defaultBooked, closeOutBooked}
 use Rattle.rules.specs.Refusals.{unsound, submitCauses, cancelCauses, dayLimitsCauses, proposalCauses, defaultCauses, closeOutCauses, closeCauses, submitSpec, cancelSpec, dayLimitsSpec, proposalSpec, defaultSpec, closeOutSpec, closeSpec, eventSpec, readingSpec, applySpec, makeSpec}
 use Rattle.rules.specs.Accounts.{isAccepted}
-use Rattle.accounts.specs.Calls.{decide-shows}
+use Rattle.accounts.proofs.Calls.{decide-shows}
 
 -- an outcome of a call on t that leaves t where it is refused
 abbrev Leaves : Tables → Outcome Tables → Type 0

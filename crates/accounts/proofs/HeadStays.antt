@@ -28,13 +28,13 @@ use Rattle.rules.specs.Synthetic.{proposalLines, usedByLegs, proposalBooked}
 use Rattle.rules.specs.Default.{defaultBooked, closeOutLines, closeOutBooked}
 use Rattle.rules.specs.CloseOfDay.{closingContracts, isOfAny, withClosed, priced, hasNextDay, nextDay, onDay, closeBooked}
 use Rattle.rules.specs.Refusals.{memberSound, headSound, submitCauses, proposalCauses, closeOutCauses, closeCauses}
-use Rattle.accounts.specs.Heads.{SameHeader, OtherPlace, field, changing, ofMember, same-header, then-same, set-other, over-other, same-holidays}
-use Rattle.accounts.specs.Runs.{runs-calendar}
-use Rattle.accounts.specs.Calls.{or-left, or-right, not-false}
-use Rattle.accounts.specs.Remains.{Remain, remain-length, kept-remain, legs-remain, matching-remain}
-use Rattle.accounts.specs.Books.{orders-count}
-use Rattle.accounts.specs.Closes.{day-is}
-use Rattle.accounts.specs.Fresh.{Fine, fine, counts-of, holiday-count-of, limit-of, mark-of, submits-of, fresh-runs}
+use Rattle.accounts.proofs.Heads.{SameHeader, OtherPlace, field, changing, ofMember, same-header, then-same, set-other, over-other, same-holidays}
+use Rattle.accounts.proofs.Runs.{runs-calendar}
+use Rattle.accounts.proofs.Calls.{or-left, or-right, not-false}
+use Rattle.accounts.proofs.Remains.{Remain, remain-length, kept-remain, legs-remain, matching-remain}
+use Rattle.accounts.proofs.Books.{orders-count}
+use Rattle.accounts.proofs.Closes.{day-is}
+use Rattle.accounts.proofs.Fresh.{Fine, fine, counts-of, holiday-count-of, limit-of, mark-of, submits-of, fresh-runs}
 
 -- ---- the places that records change, and the most that may stand at each
 pub data Place (n i : ℕ) : Type 0 where

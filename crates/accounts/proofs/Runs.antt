@@ -13,7 +13,7 @@ use Rattle.rules.specs.declared.order.Order.{Order}
 use Rattle.rules.specs.Contracts.{openOn}
 use Rattle.rules.specs.Header.{Header, calendarOf}
 use Rattle.rules.specs.Ledger.{Tables, Line, firstYear, members, holidayCount, holidays, day, time, calendar, orderCount, withHead, orders, withoutSubmits, timed, lotsRun, lineRun, booked}
-use Rattle.accounts.specs.Heads.{SameHeader, field, changing, same-header, then-same, set-other, over-other, same-holidays}
+use Rattle.accounts.proofs.Heads.{SameHeader, field, changing, same-header, then-same, set-other, over-other, same-holidays}
 
 -- an order of a contract that is open on day d
 abbrev pub InOpen : Header → ℕ → Order → Type 0

@@ -22,13 +22,13 @@ use Rattle.rules.specs.Header.{Header, calendarOf}
 use Rattle.rules.specs.Ledger.{Tables, Line, members, day, isOpen, time, acceptedSubmits, submitsThisSecond, withHead, orders, withOrders, withoutSubmits, timed}
 use Rattle.rules.specs.Matching.{signed, otherSide, opposes, withLots, Deal, matching, matched, dealLines, incoming, submitMatched, submitLines, wouldRest, submitOrders, withDeals, counted, submitBooked}
 use Rattle.rules.specs.Accounts.{Column, lots, value, amount}
-use Rattle.accounts.specs.Lines.{Fits, hourTotal}
-use Rattle.accounts.specs.Heads.{SameHeader, changing, ofMember, then-same, set-other}
-use Rattle.accounts.specs.Holds.{Fair}
-use Rattle.accounts.specs.Runs.{InOpen, Runs, Sound, runs-calendar, timed-same}
-use Rattle.accounts.specs.Calls.{Does, booked-does}
-use Rattle.accounts.specs.Written.{orders-written}
-use Rattle.accounts.specs.Matches.{best-all, used-all, by-deals}
+use Rattle.accounts.proofs.Lines.{Fits, hourTotal}
+use Rattle.accounts.proofs.Heads.{SameHeader, changing, ofMember, then-same, set-other}
+use Rattle.accounts.proofs.Holds.{Fair}
+use Rattle.accounts.proofs.Runs.{InOpen, Runs, Sound, runs-calendar, timed-same}
+use Rattle.accounts.proofs.Calls.{Does, booked-does}
+use Rattle.accounts.proofs.Written.{orders-written}
+use Rattle.accounts.proofs.Matches.{best-all, used-all, by-deals}
 
 -- ---- the lines of a deal cancel
 sides-cancel : (s : Side) (q : ℕ) → signed s q +ℤ signed (otherSide s) q ≡ pos 0

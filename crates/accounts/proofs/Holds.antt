@@ -11,8 +11,8 @@ use Rattle.rules.specs.Contracts.{holdsHour}
 use Rattle.rules.specs.Header.{Header, calendarOf}
 use Rattle.rules.specs.Ledger.{Line}
 use Rattle.rules.specs.Accounts.{Column, amount, DeliveryHour, engineAccount, otherAccount}
-use Rattle.accounts.specs.Lines.{Fits, hourTotal, memberTotal, rowTotal}
-use Rattle.accounts.specs.Posting.{engine-posted, other-entered, members-total, row-untouched}
+use Rattle.accounts.proofs.Lines.{Fits, hourTotal, memberTotal, rowTotal}
+use Rattle.accounts.proofs.Posting.{engine-posted, other-entered, members-total, row-untouched}
 
 abbrev pub Rows : Type 0
 Rows = Column → ℕ → ℕ → ℤ

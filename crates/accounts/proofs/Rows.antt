@@ -22,7 +22,7 @@ use Rattle.rules.specs.Ledger.{Line, posted}
 use Rattle.rules.specs.CloseOfDay.{contractRows, addedTo, zeroRows, cascaded}
 use Rattle.rules.specs.CalendarLaws.{firstMonthOf}
 use Rattle.rules.specs.HourLaws.{Cascading, year, quarter, cascading}
-use Rattle.accounts.specs.Lines.{Fits, rowTotal}
+use Rattle.accounts.proofs.Lines.{Fits, rowTotal}
 
 abbrev rowOf : List ℤ → ℕ → ℕ → ℤ
 rowOf l c m = getD l (c * 32 + m) (pos 0)

@@ -28,14 +28,14 @@ use Rattle.rules.specs.CloseOfDay.{closingContracts, withClosed, priced, nextDa
 use Rattle.rules.specs.Default.{closeOutLines, closeOutBooked, defaultBooked}
 use Rattle.rules.specs.Refusals.{contractPricesSound, pricesSound, orderSound, bookSound}
 use Rattle.rules.specs.Accounts.{Column, lots, value, row, amount}
-use Rattle.accounts.specs.Lines.{Fits}
-use Rattle.accounts.specs.Runs.{Runs, Sound}
-use Rattle.accounts.specs.Calls.{booked-row}
-use Rattle.accounts.specs.Submits.{timed-rows, dealt-all, deals-each, submit-fair}
-use Rattle.accounts.specs.Proposals.{mapped-all, proposal-fair}
-use Rattle.accounts.specs.CloseOutLines.{close-out-fits, close-out-price}
-use Rattle.accounts.specs.Closes.{closing-today}
-use Rattle.accounts.specs.Bounds.{Bounded, bounded-same, bounded-posted, weight, lines-weigh, bounded-closed, WithinRun}
+use Rattle.accounts.proofs.Lines.{Fits}
+use Rattle.accounts.proofs.Runs.{Runs, Sound}
+use Rattle.accounts.proofs.Calls.{booked-row}
+use Rattle.accounts.proofs.Submits.{timed-rows, dealt-all, deals-each, submit-fair}
+use Rattle.accounts.proofs.Proposals.{mapped-all, proposal-fair}
+use Rattle.accounts.proofs.CloseOutLines.{close-out-fits, close-out-price}
+use Rattle.accounts.proofs.Closes.{closing-today}
+use Rattle.accounts.proofs.Bounds.{Bounded, bounded-same, bounded-posted, weight, lines-weigh, bounded-closed, WithinRun}
 
 -- ---- a head on its way from l: members and lots run stand
 pub record SameRun (l l′ : List ℕ) : Type 0 where

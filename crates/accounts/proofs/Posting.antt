@@ -13,7 +13,7 @@ use Rattle.rules.specs.Days.{Calendar}
 use Rattle.rules.specs.Contracts.{holdsHour}
 use Rattle.rules.specs.Ledger.{Line}
 use Rattle.rules.specs.Accounts.{engineAccount, entered, otherAccount}
-use Rattle.accounts.specs.Lines.{Fits, hourTotal, memberTotal, rowTotal}
+use Rattle.accounts.proofs.Lines.{Fits, hourTotal, memberTotal, rowTotal}
 
 module _ (k : Calendar) (amount : Line → ℤ) (n : ℕ) where
   -- a line's amount stands in one contract's row

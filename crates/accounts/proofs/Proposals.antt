@@ -27,14 +27,14 @@ use Rattle.rules.specs.Matching.{sameSide, signed, withLots, used}
 use Rattle.rules.specs.Synthetic.{numbered, Named, namedLegs, legLots, legValue, inHour, balancedInHour, balanced, acceptable, legLine, proposalLines, usedByLegs, proposalBooked}
 use Rattle.rules.specs.HourLaws.{balanced-every-hour}
 use Rattle.rules.specs.Accounts.{Column, lots, value, amount}
-use Rattle.accounts.specs.Lines.{Fits, hourTotal}
-use Rattle.accounts.specs.Heads.{changing, set-other}
-use Rattle.accounts.specs.Holds.{Fair}
-use Rattle.accounts.specs.Runs.{InOpen, Runs, Sound, runs-calendar}
-use Rattle.accounts.specs.Written.{orders-written}
-use Rattle.accounts.specs.Calls.{Does, booked-does}
-use Rattle.accounts.specs.Matches.{used-all}
-use Rattle.accounts.specs.Submits.{open-not-cascaded}
+use Rattle.accounts.proofs.Lines.{Fits, hourTotal}
+use Rattle.accounts.proofs.Heads.{changing, set-other}
+use Rattle.accounts.proofs.Holds.{Fair}
+use Rattle.accounts.proofs.Runs.{InOpen, Runs, Sound, runs-calendar}
+use Rattle.accounts.proofs.Written.{orders-written}
+use Rattle.accounts.proofs.Calls.{Does, booked-does}
+use Rattle.accounts.proofs.Matches.{used-all}
+use Rattle.accounts.proofs.Submits.{open-not-cascaded}
 
 -- ---- the legs' orders are resting orders
 module _ (P : Order → Type 0) where

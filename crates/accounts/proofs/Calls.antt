@@ -18,12 +18,12 @@ use Rattle.rules.specs.Header.{Header, calendarOf}
 use Rattle.rules.specs.Ledger.{Tables, Line, members, holidayCount, orders, ledgerShort, linesShort, lineLots, lineValue, booked}
 use Rattle.rules.specs.Refusals.{headSound, orderSound, bookSound, damaged, unsound}
 use Rattle.rules.specs.Accounts.{Column, lots, value, row, amount, isAccepted, linesOf}
-use Rattle.accounts.specs.Lines.{Fits, rowTotal}
-use Rattle.accounts.specs.Heads.{SameHeader}
-use Rattle.accounts.specs.Rows.{posted-row}
-use Rattle.accounts.specs.Written.{lines-printed}
-use Rattle.accounts.specs.Holds.{Rows, Holds, Fair, holds-same, holds-posted}
-use Rattle.accounts.specs.Runs.{InOpen, Runs, Sound, booked-runs}
+use Rattle.accounts.proofs.Lines.{Fits, rowTotal}
+use Rattle.accounts.proofs.Heads.{SameHeader}
+use Rattle.accounts.proofs.Rows.{posted-row}
+use Rattle.accounts.proofs.Written.{lines-printed}
+use Rattle.accounts.proofs.Holds.{Rows, Holds, Fair, holds-same, holds-posted}
+use Rattle.accounts.proofs.Runs.{InOpen, Runs, Sound, booked-runs}
 
 -- ---- a call
 abbrev pub rowsOf : Tables → Rows
