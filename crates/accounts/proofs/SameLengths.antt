@@ -32,7 +32,7 @@ use Rattle.rules.specs.CloseOfDay.{ggfAtClose, withGgfs, withoutDeals, priced, 
 use Rattle.rules.specs.Default.{defaultBooked, closeOutLines, closeOutBooked}
 use Rattle.rules.specs.Refusals.{isCancelled, applySpec}
 use Rattle.rules.specs.Accounts.{isAccepted}
-use Rattle.accounts.specs.SameLengths.{SameLengths, LengthsStay, AtMost200Lines}
+use Rattle.accounts.specs.Lengths.{SameLengths, LengthsStay, AtMost200Lines}
 use Rattle.accounts.proofs.Runs.{orders-same}
 use Rattle.accounts.proofs.Rows.{posted-length, cascaded-length}
 use Rattle.accounts.proofs.Closes.{closing-today}

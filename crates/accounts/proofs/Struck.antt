@@ -9,7 +9,7 @@ use Rattle.rules.specs.Ledger.{Tables, withLines, firstLines}
 use Rattle.rules.specs.Refusals.{applySpec}
 use Rattle.rules.specs.Accounts.{Call, callSpec, after, isAccepted, linesOf, log}
 use Rattle.accounts.proofs.Refused.{refused-changes-nothing}
-use Rattle.accounts.specs.Struck.{acceptedCalls, SameLedger, StrikingChangesNothing}
+use Rattle.accounts.specs.Refused.{acceptedCalls, SameLedger, StrikingChangesNothing}
 
 ledger-same : (t : Tables) → SameLedger t t
 ledger-same t = record { head = refl; prices = refl; lots = refl; value = refl; book = refl }

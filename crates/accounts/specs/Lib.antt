@@ -1,6 +1,6 @@
 pub mod Answered
-pub mod Struck
+pub mod Refused
+pub mod Lengths
 pub mod Complete
 pub mod EveryList
 pub mod ClosedOut
-pub mod SameLengths

@@ -1,9 +1,18 @@
--- Refused records may be struck out of a list: the ledger and the log stay the same.
+-- A refused record changes nothing, and may be struck out of a list.
+use Prim.Native.Nat.{ℕ}
 use mathlib.Core.Path.{_≡_}
-use mathlib.Core.Bool.{cond}
+use mathlib.Core.Bool.{false, cond}
 use mathlib.Core.List.{List, [], _∷_}
-use Rattle.rules.specs.Ledger.{Tables, Line}
+use Rattle.rules.specs.Ledger.{Tables}
+use Rattle.rules.specs.Refusals.{applySpec, makeSpec}
 use Rattle.rules.specs.Accounts.{Call, callSpec, after, isAccepted, log}
+
+abbrev pub RefusedChangesNothing : Type 0
+RefusedChangesNothing = (t : Tables) (bytes : List ℕ) → isAccepted (applySpec t bytes .answer) ≡ false → applySpec t bytes .after ≡ t
+
+-- After 1 or 2 no ledger is made.
+abbrev pub RefusedMakesNothing : Type 0
+RefusedMakesNothing = (t : Tables) (bytes : List ℕ) → isAccepted (makeSpec t bytes .answer) ≡ false → makeSpec t bytes .after ≡ t
 
 -- The calls of a list that are accepted, from tables t on.
 unfoldable pub acceptedCalls : Tables → List Call → List Call
@@ -21,7 +30,7 @@ pub record SameLedger (t u : Tables) : Type 0 where
   pub value : t .value ≡ u .value
   pub book : t .book ≡ u .book
 
--- For all tables and calls.
+-- Without its refused calls a list leads to the same ledger and the same log.
 abbrev pub StrikingChangesNothing : Type 0
 StrikingChangesNothing =
     (t : Tables) (calls : List Call)
