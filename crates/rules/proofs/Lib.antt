@@ -1,0 +1,3 @@
+pub mod SoundEvents
+pub mod SoundTables
+pub mod Priority
