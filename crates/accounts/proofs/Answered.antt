@@ -1,13 +1,12 @@
 -- An answer names the lowest cause that holds: each kind's causes stand in rising number, and decide takes the first.
 use Prim.Native.Nat.{ℕ, _<_}
-use mathlib.Core.Path.{_≡_, refl, sym, _∙_}
-use mathlib.Core.Bool.{Bool, true, false}
+use mathlib.Core.Path.{_≡_, refl, sym, subst, _∙_}
+use mathlib.Core.Bool.{true, false}
 use mathlib.Core.List.{List, [], _∷_, _++_, List·Memᴰ, List·Memᴰ·head, List·Memᴰ·tail}
 use native.Mathlib.Omega.{arith}
-use lib.Dec.{eqb, ltb}
-use borrow.Author.Tests.{ltb-true, ne-eqb}
-use Rattle.arith.specs.Alls.{All, all-map, every-all}
-use Rattle.arith.specs.Tests.{never, and-left, and-right}
+use borrow.Author.Tests.{ne-eqb}
+use Rattle.arith.specs.Alls.{All, all-map}
+use Rattle.arith.specs.Tests.{never}
 use Rattle.rules.specs.declared.answer.Answer.{Answer}
 use Rattle.rules.specs.declared.answer.Answer.the-variants.{TableUnsound, RecordUnsound}
 use Rattle.rules.specs.declared.event.Event.{Event}
@@ -24,7 +23,7 @@ use Rattle.rules.specs.CloseOfDay.{closeBooked}
 use Rattle.rules.specs.Default.{defaultBooked, closeOutBooked}
 use Rattle.rules.specs.Refusals.{unsound, submitSpec, cancelSpec, dayLimitsSpec, proposalSpec, defaultSpec, closeOutSpec, closeSpec, eventSpec, readingSpec, applySpec}
 use Rattle.rules.specs.Accounts.{isAccepted}
-use Rattle.accounts.specs.Answered.{Cause, numberOf, kindCauses, readingCauses, callCauses, Exact, AnswersExactly}
+use Rattle.accounts.specs.Answered.{Cause, numberOf, kindCauses, readingCauses, Exact, AnswersExactly}
 
 -- the numbers of causes, with n before them, rise
 abbrev Rising : ℕ → List Cause → Type 0
@@ -102,3 +101,16 @@ unfolding applySpec
 answers-exactly t bytes =
     decide-exact 0 ((unsound t, TableUnsound) ∷ []) _ t (readingSpec t (readOf (members t) bytes) (legsOf bytes))
     (omega arith, reading-rising t (readOf (members t) bytes) (legsOf bytes)) (reading-exact t (readOf (members t) bytes) (legsOf bytes))
+
+-- ---- number 1 is for tables alone
+all-member : {A : Type 0} (P : A → Type 0) {x : A} {l : List A} → List·Memᴰ x l → All P l → P x
+all-member P (List·Memᴰ·head e) h = subst P (sym e) (h .0)
+all-member P (List·Memᴰ·tail m) h = all-member P m (h .1)
+
+pub one-is-unsound : (t : Tables) (bytes : List ℕ) → numberOf (applySpec t bytes .answer) ≡ 1 → unsound t ≡ true
+one-is-unsound t bytes e =
+    let a = applySpec t bytes .answer in
+    let later = readingCauses t (readOf (members t) bytes) (legsOf bytes) in
+    let Says : Cause → Type 0 = λ cause. numberOf (cause .1) ≡ 1 → cause .0 ≡ true → unsound t ≡ true in
+    all-member Says (answers-exactly t bytes .holds (not-accepted a (omega arith)))
+    (λ _ q. q, all-map (λ cause. 1 < numberOf (cause .1)) Says later (λ cause h q _. absurd (omega arith)) (all-above 1 later (reading-rising t (readOf (members t) bytes) (legsOf bytes)))) e refl

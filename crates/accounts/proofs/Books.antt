@@ -7,39 +7,33 @@ use native.Mathlib.Omega.{arith}
 use lib.Dec.{T, eqb, leb, ltb}
 use lib.ListN.{length, getD, set, take, drop, replicate, length-map, length-append, length-replicate}
 use lib.Seq.{getD-append-add, getD-set-other, getD-set-same}
-use borrow.Author.Tests.{leb-true, leb-false, ltb-true, le-leb, lt-ltb, ne-eqb}
-use Rattle.arith.specs.Alls.{All, all-hold, hold-all, every-all, all-every, all-map, all-append}
+use borrow.Author.Tests.{leb-false, ltb-true, ne-eqb}
+use Rattle.arith.specs.Alls.{All, hold-all, all-every, all-map, all-append}
 use Rattle.arith.specs.Among.{from-every}
 use Rattle.arith.specs.Lists.{every, kept, from, over}
 use Rattle.arith.specs.Overs.{over-outside}
-use Rattle.arith.specs.Tests.{by-bool, passed, and-left, and-right}
-use Rattle.rules.specs.declared.answer.Answer.{Answer}
+use Rattle.arith.specs.Tests.{by-bool, passed, and-right}
 use Rattle.rules.specs.declared.event.CloseOutTerms.{CloseOutTerms}
-use Rattle.rules.specs.declared.event.Event.{Event}
-use Rattle.rules.specs.declared.event.Event.the-variants.{Submit, Cancel, DayLimits, Proposal, Default, CloseOut, CloseOfDay}
 use Rattle.rules.specs.declared.event.Leg.{Leg}
 use Rattle.rules.specs.declared.event.Submission.{Submission}
 use Rattle.rules.specs.declared.order.Order.{Order}
 use Rattle.rules.specs.declared.order.Side.{Side}
 use Rattle.rules.specs.declared.order.Side.the-variants.{Buy, Sell}
-use Rattle.rules.specs.Answers.{Outcome, decide}
-use Rattle.rules.specs.Days.{inSpan, businessDay}
-use Rattle.rules.specs.Header.{daySound}
+use Rattle.rules.specs.Days.{inSpan}
 use Rattle.rules.specs.Ledger.{Tables, Line, withHead, withPrices, members, holidayCount, day, time, acceptedSubmits, submitsThisSecond, calendar, orderCount, sideAt, sideNumber, orderPlaces, orders, withOrders, withoutSubmits, timed, booked}
-use Rattle.rules.specs.Records.{timeSound, contractSound, priceSound, lotsSound, eventSound}
 use Rattle.rules.specs.Matching.{withLots, Matched, matched, incoming, submitMatched, submitLines, isResting, wouldRest, submitOrders, withDeals, counted, submitBooked}
 use Rattle.rules.specs.Synthetic.{usedByLegs, proposalLines, proposalBooked}
 use Rattle.rules.specs.Default.{closeOutLines, closeOutBooked, defaultBooked}
 use Rattle.rules.specs.CloseOfDay.{closingContracts, isOfAny, withClosed, priced, nextDay, onDay, closeBooked}
-use Rattle.rules.specs.Refusals.{headSound, orderSound, sidesSound, bookSound, damaged, isCancelled, submitCauses, cancelCauses, dayLimitsCauses, proposalCauses, defaultCauses, closeOutCauses, closeCauses, submitSpec, cancelSpec, dayLimitsSpec, proposalSpec, defaultSpec, closeOutSpec, closeSpec, eventSpec}
-use Rattle.rules.specs.Accounts.{isAccepted}
+use Rattle.rules.specs.Refusals.{orderSound, sidesSound, bookSound}
+use Rattle.rules.proofs.SoundEvents.{SoundSubmission}
+use Rattle.rules.proofs.SoundTables.{SoundOrder, order-sound, book-gives}
 use Rattle.accounts.proofs.Heads.{SameHeader, field, changing, ofMember, same-header, then-same, set-other, same-holidays, but-the-day}
 use Rattle.accounts.proofs.Runs.{Sound, orders-same, timed-same}
 use Rattle.accounts.proofs.Written.{orders-written}
-use Rattle.accounts.proofs.Calls.{decide-shows, not-false}
 use Rattle.accounts.proofs.CloseOutLines.{from-length}
 use Rattle.accounts.proofs.Closes.{day-header}
-use Rattle.accounts.proofs.Remains.{Remain, Distinct, remain-same, remain-then, remain-length, remain-all, remain-distinct, distinct-more, distinct-orders, orders-distinct, kept-remain, legs-remain, matching-remain, deals-total, HasLots, deals-few}
+use Rattle.accounts.proofs.Remains.{Remain, Distinct, remain-same, remain-length, remain-all, remain-distinct, distinct-more, distinct-orders, orders-distinct, kept-remain, legs-remain, matching-remain, deals-total, HasLots, deals-few}
 
 -- ---- orders
 -- what the soundness of an order reads of the tables: the members and the calendar stand, accepted submits do not fall
@@ -55,24 +49,17 @@ header-terms {f} t t′ q s a b =
     let listed = ap (λ n. take n (drop 8 (t′ .head))) (a .places 2 (field (omega arith))) ∙ same-holidays f (t .head) (t′ .head) (holidayCount t) a (s .head-long) (s .few-holidays) in
     record { more = b; size = a .places 1 (field (omega arith)); days = λ i. record { firstYear = year i; holidays = listed i } }
 
--- 1 to 100 lots
-lots-range : (q : ℕ) → lotsSound q ≡ true → (1 ≤ q) × (q ≤ 100)
-lots-range q e = (leb-true 1 q (and-left (leb 1 q) (leb q 100) e), leb-true q 100 (and-right (leb 1 q) (leb q 100) e))
-
--- the tests of an order, one by one
-fields-sound : (t : Tables) (o : Order) → o .number < acceptedSubmits t → ltb (o .member) (members t) ≡ true → contractSound (o .contract) ≡ true → priceSound (o .price .0) ≡ true
-    → (1 ≤ o .lots .0) × (o .lots .0 ≤ 100) → inSpan (calendar t) (o .day .0) ≡ true → timeSound (o .time) ≡ true → orderSound t o ≡ true
-unfolding orderSound
-fields-sound t o n m c p q d s = hold-all _ (lt-ltb _ _ n, (m, (c, (p, (rw (le-leb 1 (o .lots .0) (q .0), le-leb (o .lots .0) 100 (q .1)) refl, (d, (s, tt)))))))
-
 -- a sound order stays sound, with fewer lots too
-pub order-stays : (t t′ : Tables) → SameTerms t t′ → (o : Order) (q : ℕ) → (0 < o .lots .0 → 0 < q) → q ≤ o .lots .0 → orderSound t o ≡ true → orderSound t′ (withLots q o) ≡ true
-unfolding orderSound
-order-stays t t′ s o q u v e =
-    let a = all-hold _ e in
-    let range = lots-range (o .lots .0) (a .1 .1 .1 .1 .0) in
-    fields-sound t′ (withLots q o) (omega (arith, ltb-true (o .number) (acceptedSubmits t) (a .0), s .more)) (ap (ltb (o .member)) (s .size) ∙ a .1 .0) (a .1 .1 .0) (a .1 .1 .1 .0)
-    (u (range .0), omega arith) (ap (λ k. inSpan k (o .day .0)) (s .days) ∙ a .1 .1 .1 .1 .1 .0) (a .1 .1 .1 .1 .1 .1 .0)
+order-stays : (t t′ : Tables) → SameTerms t t′ → (o : Order) (q : ℕ) → (0 < o .lots .0 → 0 < q) → q ≤ o .lots .0 → SoundOrder t o → SoundOrder t′ (withLots q o)
+order-stays t t′ s o q u v a = record {
+  number< = omega (arith, a .number<, s .more);
+  member< = rw (s .size) (a .member<);
+  contract< = a .contract<;
+  price = a .price;
+  lots = record { from = u (a .lots .from); to = omega (arith, a .lots .to) };
+  day-in-span = ap (λ k. inSpan k (o .day .0)) (s .days) ∙ a .day-in-span;
+  time≤ = a .time≤;
+}
 
 -- ---- sides, as they stand in the book
 side-number : (s : Side) → T (leb (sideNumber s) 1)
@@ -111,45 +98,32 @@ unfolding orders
 orders-count t = length-map (from 0 (orderCount t)) _ ∙ from-length 0 (orderCount t)
 
 -- a book is sound by its sides, its orders and their numbers
-pub sound-book : (t : Tables) → sidesSound t ≡ true → All (λ o. orderSound t o ≡ true) (orders t) → Distinct (orders t) → length (orders t) ≤ 256 → BookKept t
+sound-book : (t : Tables) → sidesSound t ≡ true → All (SoundOrder t) (orders t) → Distinct (orders t) → length (orders t) ≤ 256 → BookKept t
 unfolding bookSound
 sound-book t s a d f = record {
-  sound = hold-all _ (s, (all-every (orderSound t) (orders t) a, (orders-distinct (orders t) d, tt)));
+  sound = hold-all _ (s, (all-every (orderSound t) (orders t) (all-map (SoundOrder t) (λ o. orderSound t o ≡ true) (orders t) (order-sound t) a), (orders-distinct (orders t) d, tt)));
   few = omega (arith, orders-count t);
 }
 
 -- and a sound book shows each
-pub book-sides : (t : Tables) → bookSound t ≡ true → sidesSound t ≡ true
-unfolding bookSound
-book-sides t e = all-hold _ e .0
+book-sides : (t : Tables) → bookSound t ≡ true → sidesSound t ≡ true
+book-sides t e = book-gives t e .sides
 
-pub book-orders : (t : Tables) → bookSound t ≡ true → All (λ o. orderSound t o ≡ true) (orders t)
-unfolding bookSound
-book-orders t e = every-all (orderSound t) (orders t) (all-hold _ e .1 .0)
+book-orders : (t : Tables) → bookSound t ≡ true → All (SoundOrder t) (orders t)
+book-orders t e = book-gives t e .each
 
-pub book-distinct : (t : Tables) → bookSound t ≡ true → Distinct (orders t)
-unfolding bookSound
-book-distinct t e = distinct-orders (orders t) (all-hold _ e .1 .1 .0)
+book-distinct : (t : Tables) → bookSound t ≡ true → Distinct (orders t)
+book-distinct t e = distinct-orders (orders t) (book-gives t e .numbers)
 
 pub empty-book : (t : Tables) → orderCount t ≡ 0 → BookKept t
 unfolding orders sidesSound from every
 empty-book t e = sound-book t (rw e refl) (rw e tt) (rw e tt) (omega (arith, orders-count t))
 
--- tables that are not damaged: their book, and that their day is in the span
-pub undamaged-book : (t : Tables) → damaged t ≡ false → BookKept t × (inSpan (calendar t) (day t) ≡ true)
-unfolding damaged headSound daySound
-undamaged-book t e =
-    let a = all-hold _ (not-false _ e) in
-    let head = all-hold _ (a .0) in (
-      record { sound = a .1 .1 .1 .0; few = leb-true (orderCount t) 256 (head .1 .1 .1 .1 .1 .1 .1 .0) },
-      and-left (inSpan (calendar t) (day t)) (businessDay (calendar t) (day t)) (head .1 .1 .1 .0),
-    )
-
 -- what remains of a sound book's orders, written or left as it was, is a sound book
 pub remains-kept : (t t′ : Tables) → SameTerms t t′ → BookKept t → sidesSound t′ ≡ true → Remain (orders t) (orders t′) → BookKept t′
 remains-kept t t′ s k sides x =
     sound-book t′ sides
-    (remain-all (λ o. orderSound t o ≡ true) (λ o. orderSound t′ o ≡ true) (order-stays t t′ s) x (book-orders t (k .sound)))
+    (remain-all (SoundOrder t) (SoundOrder t′) (order-stays t t′ s) x (book-orders t (k .sound)))
     (remain-distinct x (book-distinct t (k .sound))) (omega (arith, remain-length x, orders-count t, k .few))
 
 -- ---- places of the head
@@ -192,7 +166,7 @@ module _ (ls : List Line) (os : List Order) (t u : Tables) (s : Sound t) (a : Sa
   count-stays : orderCount after ≡ orderCount (withOrders os u)
   count-stays = booked-place ls (withOrders os u) 7 (λ e. omega arith)
 
-  pub orders-after : orders after ≡ os
+  orders-after : orders after ≡ os
   unfolding booked
   orders-after = orders-same (withOrders os u) after count-stays refl ∙ orders-written os u long
 
@@ -246,37 +220,16 @@ module _ (t : Tables) (s : Sound t) (k : BookKept t) where
   close-out-book e = left-book (closeOutLines t e) t refl refl
 
 -- ---- a submit
--- what its soundness says of the order
-pub submission-sound : (n : ℕ) (e : Submission) (legs : List Leg) → eventSound n (Submit e) legs ≡ true
-    → (timeSound (e .time) ≡ true) × (ltb (e .member) n ≡ true) × (contractSound (e .contract) ≡ true) × (priceSound (e .price .0) ≡ true) × (lotsSound (e .lots .0) ≡ true)
-unfolding eventSound
-submission-sound n e legs q =
-    let timeIs = timeSound (e .time) in
-    let memberIs = ltb (e .member) n in
-    let contractIs = contractSound (e .contract) in
-    let priceIs = priceSound (e .price .0) in
-    let lotsAre = lotsSound (e .lots .0) in
-    let five = and-left (timeIs && memberIs && contractIs && priceIs && lotsAre) (eqb (length legs) 0) q in
-    let four = and-left (timeIs && memberIs && contractIs && priceIs) lotsAre five in
-    let three = and-left (timeIs && memberIs && contractIs) priceIs four in
-    let two = and-left (timeIs && memberIs) contractIs three in (
-      and-left timeIs memberIs two,
-      and-right timeIs memberIs two,
-      and-right (timeIs && memberIs) contractIs three,
-      and-right (timeIs && memberIs && contractIs) priceIs four,
-      and-right (timeIs && memberIs && contractIs && priceIs) lotsAre five,
-    )
-
 -- on a sound book it has no more deals than lots
 pub submit-deals : (t : Tables) (e : Submission) → bookSound t ≡ true → length (submitMatched t e .deals) ≤ e .lots .0
-unfolding submitMatched matched orderSound
+unfolding submitMatched matched
 submit-deals t e b =
-    let resting = all-map (λ o. orderSound t o ≡ true) HasLots (orders t) (λ o a. lots-range (o .lots .0) (all-hold _ a .1 .1 .1 .1 .0) .0) (book-orders t b) in
+    let resting = all-map (SoundOrder t) HasLots (orders t) (λ o a. a .lots .from) (book-orders t b) in
     omega (arith, deals-few (length (orders t)) (incoming t e) (orders t) resting)
 
 -- t′: tables with one more accepted submit
-module _ (t t′ : Tables) (terms : SameTerms t t′) (later : acceptedSubmits t < acceptedSubmits t′) (k : BookKept t) (e : Submission) (legs : List Leg)
-    (fine : eventSound (members t) (Submit e) legs ≡ true) (today : inSpan (calendar t) (day t) ≡ true)
+module _ (t t′ : Tables) (terms : SameTerms t t′) (later : acceptedSubmits t < acceptedSubmits t′) (k : BookKept t) (e : Submission)
+    (fine : SoundSubmission (members t) e) (today : inSpan (calendar t) (day t) ≡ true)
     (room : wouldRest t e && leb 256 (length (submitMatched t e .resting)) ≡ false) where
   abbrev m : Matched
   m = submitMatched t e
@@ -297,32 +250,36 @@ module _ (t t′ : Tables) (terms : SameTerms t t′) (later : acceptedSubmits t
   left-some w = ltb-true 0 (m .left) (and-right (isResting (e .kind)) (ltb 0 (m .left)) w)
 
   -- the order that rests is sound
-  new-sound : 0 < m .left → orderSound t′ new ≡ true
-  new-sound some =
-      let f = submission-sound (members t) e legs fine in
-      fields-sound t′ new later (ap (ltb (e .member)) (terms .size) ∙ f .1) (f .2) (f .3) (some, omega (arith, left-most, lots-range (e .lots .0) (f .4)))
-      (ap (λ c. inSpan c (day t)) (terms .days) ∙ today) (f .0)
+  new-sound : 0 < m .left → SoundOrder t′ new
+  new-sound some = record {
+    number< = later;
+    member< = rw (terms .size) (fine .member<);
+    contract< = fine .contract<;
+    price = fine .price;
+    lots = record { from = some; to = omega (arith, left-most, fine .lots .to) };
+    day-in-span = ap (λ c. inSpan c (day t)) (terms .days) ∙ today;
+    time≤ = fine .time≤;
+  }
 
-  resting-sound : All (λ o. orderSound t′ o ≡ true) (m .resting)
-  resting-sound = remain-all (λ o. orderSound t o ≡ true) (λ o. orderSound t′ o ≡ true) (order-stays t t′ terms) resting-remain (book-orders t (k .sound))
+  resting-sound : All (SoundOrder t′) (m .resting)
+  resting-sound = remain-all (SoundOrder t) (SoundOrder t′) (order-stays t t′ terms) resting-remain (book-orders t (k .sound))
 
   -- no other has its number
-  number-new : (o : Order) (q : ℕ) → (0 < o .lots .0 → 0 < q) → q ≤ o .lots .0 → orderSound t o ≡ true → eqb (o .number) (acceptedSubmits t) ≡ false
-  unfolding orderSound
-  number-new o q u v a = ne-eqb (o .number) (acceptedSubmits t) (omega (arith, ltb-true (o .number) (acceptedSubmits t) (all-hold _ a .0)))
+  number-new : (o : Order) (q : ℕ) → (0 < o .lots .0 → 0 < q) → q ≤ o .lots .0 → SoundOrder t o → eqb (o .number) (acceptedSubmits t) ≡ false
+  number-new o q u v a = ne-eqb (o .number) (acceptedSubmits t) (omega (arith, a .number<))
 
-  submit-sound : All (λ o. orderSound t′ o ≡ true) (submitOrders t e)
+  submit-sound : All (SoundOrder t′) (submitOrders t e)
   unfolding submitOrders
   submit-sound =
-      by-bool (λ b. All (λ o. orderSound t′ o ≡ true) (cond b (m .resting ++ (new ∷ [])) (m .resting))) (wouldRest t e)
-      (λ w. all-append (λ o. orderSound t′ o ≡ true) (m .resting) (new ∷ []) resting-sound (new-sound (left-some w), tt)) (λ _. resting-sound)
+      by-bool (λ b. All (SoundOrder t′) (cond b (m .resting ++ (new ∷ [])) (m .resting))) (wouldRest t e)
+      (λ w. all-append (SoundOrder t′) (m .resting) (new ∷ []) resting-sound (new-sound (left-some w), tt)) (λ _. resting-sound)
 
   submit-distinct : Distinct (submitOrders t e)
   unfolding submitOrders
   submit-distinct =
       let d = remain-distinct resting-remain (book-distinct t (k .sound)) in
       by-bool (λ b. Distinct (cond b (m .resting ++ (new ∷ [])) (m .resting))) (wouldRest t e)
-      (λ _. distinct-more (m .resting) new (remain-all (λ o. orderSound t o ≡ true) (λ o. eqb (o .number) (acceptedSubmits t) ≡ false) number-new resting-remain (book-orders t (k .sound))) d)
+      (λ _. distinct-more (m .resting) new (remain-all (SoundOrder t) (λ o. eqb (o .number) (acceptedSubmits t) ≡ false) number-new resting-remain (book-orders t (k .sound))) d)
       (λ _. d)
 
   submit-few : length (submitOrders t e) ≤ 256
@@ -331,10 +288,10 @@ module _ (t t′ : Tables) (terms : SameTerms t t′) (later : acceptedSubmits t
       by-bool (λ b. b && leb 256 (length (m .resting)) ≡ false → length (cond b (m .resting ++ (new ∷ [])) (m .resting)) ≤ 256) (wouldRest t e)
       (λ _ f. simp length-append (omega (arith, leb-false 256 (length (m .resting)) f))) (λ _ _. omega (arith, remain-length resting-remain, orders-count t, k .few)) room
 
-pub submit-book : (t : Tables) → Sound t → BookKept t → (e : Submission) (legs : List Leg) → eventSound (members t) (Submit e) legs ≡ true → inSpan (calendar t) (day t) ≡ true
+pub submit-book : (t : Tables) → Sound t → BookKept t → (e : Submission) → SoundSubmission (members t) e → inSpan (calendar t) (day t) ≡ true
     → wouldRest t e && leb 256 (length (submitMatched t e .resting)) ≡ false → BookKept (submitBooked t e .after)
 unfolding submitBooked withDeals counted
-submit-book t s k e legs fine today room =
+submit-book t s k e fine today room =
     let u = timed (e .time) t in
     let one = submitsThisSecond u (e .member) + 1 in
     let l = set (u .head) (192 + e .member) one in
@@ -348,18 +305,18 @@ submit-book t s k e legs fine today room =
     let terms : SameTerms t t′ = terms-after ls os t v s b (omega arith) in
     let later : acceptedSubmits t < acceptedSubmits t′ = omega (arith, accepted-after ls os t v s b) in
     let is = orders-after ls os t v s b in
-    sound-book t′ (sides-after ls os t v s b) (rw is (submit-sound t t′ terms later k e legs fine today room)) (rw is (submit-distinct t t′ terms later k e legs fine today room))
-    (rw is (submit-few t t′ terms later k e legs fine today room))
+    sound-book t′ (sides-after ls os t v s b) (rw is (submit-sound t t′ terms later k e fine today room)) (rw is (submit-distinct t t′ terms later k e fine today room))
+    (rw is (submit-few t t′ terms later k e fine today room))
 
 -- ---- the close of day
 -- v: the tables u with some contracts closed
-pub record Closed (u v : Tables) : Type 0 where
-  pub header : SameHeader 4 (u .head) (v .head)
-  pub numbers : acceptedSubmits v ≡ acceptedSubmits u
-  pub sides : sidesSound v ≡ true
-  pub remain : Remain (orders u) (orders v)
+record Closed (u v : Tables) : Type 0 where
+  header : SameHeader 4 (u .head) (v .head)
+  numbers : acceptedSubmits v ≡ acceptedSubmits u
+  sides : sidesSound v ≡ true
+  remain : Remain (orders u) (orders v)
 
-pub closed-all : (cs : List ℕ) (u : Tables) → 7 < length (u .head) → sidesSound u ≡ true → Closed u (withClosed cs u)
+closed-all : (cs : List ℕ) (u : Tables) → 7 < length (u .head) → sidesSound u ≡ true → Closed u (withClosed cs u)
 unfolding withClosed
 closed-all cs u long a =
     let os = kept (λ o. not (isOfAny cs o)) (orders u) in
@@ -392,21 +349,3 @@ close-book t s k n =
     let same = then-same (but-the-day (a .header)) (day-header (nextDay t) v long) in
     remains-kept t t′ (header-terms t t′ (omega arith) s same (omega (arith, at 5 (omega arith) (omega arith), a .numbers))) k (sides-same v t′ count refl ∙ a .sides)
     (rw (orders-same v t′ count refl) (rw (orders-same t u refl refl) at (a .remain)))
-
--- ---- every kind, refused or not
-module _ (t : Tables) (s : Sound t) (k : BookKept t) (today : inSpan (calendar t) (day t) ≡ true) where
-  decided : (causes : List (Bool × Answer)) (o : Outcome Tables) → All (λ c. isAccepted (c .1) ≡ false) causes → (All (λ c. c .0 ≡ false) causes → BookKept (o .after))
-      → BookKept (decide causes t o .after)
-  decided causes o r f = decide-shows (λ x. BookKept (x .after)) t o causes (λ a q. k) r f
-
-  pub event-book : (e : Event) (legs : List Leg) → eventSound (members t) e legs ≡ true → BookKept (eventSpec t e legs .after)
-  unfolding eventSpec submitSpec cancelSpec dayLimitsSpec proposalSpec defaultSpec closeOutSpec closeSpec
-  event-book (Submit e) legs q =
-      decided (submitCauses t e) (submitBooked t e) (refl, (refl, (refl, (refl, (refl, (refl, (refl, (refl, (refl, tt)))))))))
-      (λ f. submit-book t s k e legs q today (f .1 .1 .1 .1 .1 .1 .1 .0))
-  event-book (Cancel e) legs q = decided (cancelCauses t e) _ (refl, (refl, tt)) (λ f. cancel-book t s k (e .time) (λ o. not (isCancelled e o)))
-  event-book (DayLimits e) legs q = decided (dayLimitsCauses t e) _ (refl, tt) (λ f. limits-book t s k _)
-  event-book (Proposal n) legs q = decided (proposalCauses t legs) (proposalBooked t legs) (refl, (refl, tt)) (λ f. proposal-book t s k legs)
-  event-book (Default m) legs q = decided (defaultCauses t m) (defaultBooked t m) (refl, tt) (λ f. default-book t s k m)
-  event-book (CloseOut e) legs q = decided (closeOutCauses t e) (closeOutBooked t e) (refl, (refl, (refl, (refl, (refl, tt))))) (λ f. close-out-book t s k e)
-  event-book (CloseOfDay n) legs q = decided (closeCauses t n) (closeBooked t n) (refl, (refl, tt)) (λ f. close-book t s k n)

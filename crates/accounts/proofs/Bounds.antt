@@ -1,6 +1,6 @@
 -- The rows never pass the lots run. A cascade adds rows to rows, so more is kept: for each member and month, the absolute rows of the
 -- three contracts that hold the month do not pass it together.
-use mathlib.Core.Path.{_≡_, refl, sym, ap, subst, _∙_}
+use mathlib.Core.Path.{_≡_, refl, sym, ap, subst}
 use mathlib.Core.Bool.{Bool, true, false, cond}
 use mathlib.Core.List.{List, [], _∷_}
 use Prim.Native.Nat.{ℕ, _+_, _*_, _-_, _/_, _%_, _≤_, _<_}
@@ -8,7 +8,7 @@ use native.Mathlib.Omega.{arith}
 use native.Mathlib.Nat.{le-trans, one-mul, mul-add, mul-le-mul-left}
 use lib.Dec.{eqb, leb}
 use lib.ListN.{length, take, getD, length-take}
-use lib.Seq.{getD-set-other, getD-take}
+use lib.Seq.{getD-take}
 use lib.IntN.{ℤ, pos, natAbs, _+ℤ_}
 use borrow.Author.Tests.{le-leb, eqb-true, eq-eqb, ne-eqb}
 use Rattle.arith.specs.Alls.{All, all-map, every-place}
@@ -20,7 +20,7 @@ use Rattle.arith.specs.Tests.{le-or-lt, same-or}
 use Rattle.rules.specs.Contracts.{childrenOf}
 use Rattle.rules.specs.HourLaws.{yearOf, quarterOf, monthOf, cascading}
 use Rattle.rules.specs.Header.{Header}
-use Rattle.rules.specs.Ledger.{Tables, Line, members, lotsRun, rowPlace, lineRun, withOrders, fresh}
+use Rattle.rules.specs.Ledger.{Tables, Line, members, lotsRun, rowPlace, lineRun, fresh}
 use Rattle.rules.specs.CloseOfDay.{cascaded, allCascaded, withClosed}
 use Rattle.rules.specs.Refusals.{everyRow, rowsSound}
 use Rattle.rules.specs.Accounts.{Column, lots, value, row, amount}

@@ -1,28 +1,29 @@
 -- A defaulted member's lines of a close-out are the opposite of its row: what it gives up in the first step and what is left of it in the
 -- second are its lots, and it takes none.
-use Prim.Native.Nat.{ℕ, zero, suc, _+_, _-_, _≤_, _<_, min}
-use mathlib.Core.Path.{_≡_, refl, sym, ap, ap₂, subst, _∙_}
-use mathlib.Core.Bool.{Bool, true, false, cond, _&&_}
+use Prim.Native.Nat.{ℕ, zero, suc, _+_, _-_, _<_, min}
+use mathlib.Core.Path.{_≡_, refl, sym, ap, ap₂, _∙_}
+use mathlib.Core.Bool.{true, cond}
 use mathlib.Core.List.{List, [], _∷_, _++_, map, zipWith}
 use native.Mathlib.Omega.{arith}
 use native.Mathlib.Nat.{zero-add}
-use lib.Dec.{eqb, leb, ltb}
+use lib.Dec.{eqb, ltb}
 use lib.ListN.{length, getD, List·getD-map}
 use lib.IntN.{ℤ, pos, negsuc, natAbs, negℤ, _+ℤ_, _-ℤ_, +ℤ-idl, +ℤ-idr, +ℤ-assoc, +ℤ-invr, +ℤ-invl}
-use borrow.Author.Tests.{leb-true, eq-eqb, ne-eqb}
+use borrow.Author.Tests.{eq-eqb, ne-eqb}
 use Rattle.arith.specs.Ints.{when, up, dn}
 use Rattle.arith.specs.Lists.{from}
-use Rattle.arith.specs.Sums.{sorted, group}
-use Rattle.arith.specs.Tests.{by-bool, by-eqb, and-left}
+use Rattle.arith.specs.Sums.{group}
+use Rattle.arith.specs.Tests.{by-bool, by-eqb}
 use Rattle.rules.specs.declared.event.CloseOutTerms.{CloseOutTerms}
 use Rattle.rules.specs.declared.event.Event.the-variants.{CloseOut}
-use Rattle.rules.specs.declared.event.Leg.{Leg}
 use Rattle.rules.specs.Ledger.{Tables, Line, members, mark, defaulted, ggf, lotsAt, lineLots, booked}
-use Rattle.rules.specs.Records.{contractSound, eventSound, legsOf}
+use Rattle.rules.specs.Records.{legsOf}
 use Rattle.rules.specs.Default.{sumOf, defaultedLongs, defaultedShorts, givenUp, less, changeLines, smallerTotal, nettedLongs, nettedShorts, nettingChanges, longsLeft, shortsLeft, taken, defaultedChanges, takerChanges, closeOutLines, closeOutBooked}
 use Rattle.rules.specs.Refusals.{applySpec}
 use Rattle.rules.specs.Accounts.{lots}
+use Rattle.rules.proofs.SoundEvents.{close-out-contract}
 use Rattle.accounts.specs.ClosedOut.{DefaultedAreClosedOut}
+use Rattle.accounts.proofs.Runs.{sound-of}
 use Rattle.accounts.proofs.Lines.{rowTotal}
 use Rattle.accounts.proofs.Calls.{booked-row}
 use Rattle.accounts.proofs.Books.{booked-place}
@@ -150,19 +151,11 @@ module _ (t : Tables) (e : CloseOutTerms) (m : ℕ) (member< : m < members t) (d
       ∙ ap₂ _+ℤ_ (at ns) (row-append lineLots c m (changeLines c p 0 ds) (changeLines c p 0 ts) ∙ ap₂ _+ℤ_ (at ds) (at ts ∙ takes-none) ∙ +ℤ-idr _) in
       ap (λ z. lotsAt t c m +ℤ z) (steps ∙ given-up) ∙ closed (lotsAt t c m)
 
-close-out-contract : (n : ℕ) (e : CloseOutTerms) (legs : List Leg) → eventSound n (CloseOut e) legs ≡ true → e .contract < 102
-unfolding eventSound
-close-out-contract n e legs q =
-    let contractIs = contractSound (e .contract) in
-    let ratioIs = leb 1 (e .ratio) in
-    let three = and-left (contractIs && ratioIs && leb (e .ratio) 1000) (eqb (length legs) 0) q in
-    omega (arith, leb-true (e .contract) 101 (and-left contractIs ratioIs (and-left (contractIs && ratioIs) (leb (e .ratio) 1000) three)))
-
 pub defaulted-are-closed-out : DefaultedAreClosedOut
 unfolding closeOutBooked
 defaulted-are-closed-out t bytes e r a m h d =
     let k = accepted-call t bytes (CloseOut e) r a in
-    let s = k .tables .sound in
+    let s = sound-of (k .tables) in
     let ls = closeOutLines t e in
     let c< : e .contract < 102 = close-out-contract (members t) e (legsOf bytes) (k .event) in
     let same : applySpec t bytes .after ≡ booked ls t .after = ap (λ o. o .after) (k .leads) in

@@ -5,10 +5,10 @@ use mathlib.Core.List.{List, [], _∷_, _++_, append-nil}
 use Prim.Native.Nat.{ℕ, zero, suc, _+_, _*_, _/_, _%_, _≤_, _<_}
 use native.Mathlib.Omega.{arith}
 use lib.Dec.{T, eqb, leb, ltb}
-use lib.ListN.{length, getD, set, replicate, length-set, length-replicate}
+use lib.ListN.{length, getD, set, replicate, length-replicate}
 use lib.Seq.{getD-set-other, getD-set-same}
 use lib.IntN.{pos, _+ℤ_}
-use borrow.Author.Tests.{leb-true, ltb-true, le-leb, lt-leb, eqb-true, eq-eqb, ne-eqb}
+use borrow.Author.Tests.{leb-true, ltb-true, le-leb, lt-leb, eqb-true, eq-eqb, not-false}
 use Rattle.arith.specs.Alls.{All, every-all, all-map, all-kept}
 use Rattle.arith.specs.Among.{by-among, every-from}
 use Rattle.arith.specs.Ints.{when}
@@ -33,7 +33,7 @@ use Rattle.accounts.proofs.Heads.{SameHeader, field, changing, same-hea
 use Rattle.accounts.proofs.Holds.{Rows, Holds, holds-same}
 use Rattle.accounts.proofs.Rows.{cascaded-month, cascaded-length, cascaded-row}
 use Rattle.accounts.proofs.Runs.{InOpen, Runs, Sound, runs-calendar, runs-with, orders-same}
-use Rattle.accounts.proofs.Calls.{rowsOf, Does, not-false}
+use Rattle.accounts.proofs.Calls.{rowsOf, Does}
 use Rattle.accounts.proofs.Written.{orders-written}
 
 abbrev childOf : ℕ → ℕ → Bool

@@ -11,7 +11,7 @@ use lib.Dec.{eqb, leb, ltb}
 use lib.ListN.{length}
 use borrow.Author.Tests.{le-leb, lt-leb, leb-false, lt-ltb, le-ltb, eq-eqb}
 use Rattle.arith.specs.Alls.{All, all-map, all-always, all-append}
-use Rattle.arith.specs.Tests.{never, by-bool, true-or, le-or-lt, and-right, and-false}
+use Rattle.arith.specs.Tests.{never, by-bool, le-or-lt, and-right, and-false}
 use Rattle.rules.specs.declared.order.Order.{Order}
 use Rattle.rules.specs.declared.order.Side.{Side}
 use Rattle.rules.specs.declared.order.Side.the-variants.{Buy, Sell}
@@ -22,7 +22,7 @@ use Rattle.rules.specs.Matching.{sameSide, otherSide, precedes, best, opposes, 
 use Rattle.rules.specs.Refusals.{applySpec}
 use Rattle.accounts.proofs.Matches.{best-all, used-length}
 use Rattle.accounts.proofs.Remains.{Remain, remain-all, used-remain, matching-remain, remain-then}
-use Rattle.accounts.proofs.Priority.{Behind, lower, higher, same, After, after-not-before, best-none, best-is}
+use Rattle.rules.proofs.Priority.{Behind, lower, higher, same, After, after-not-before, best-none, best-is}
 use Rattle.accounts.specs.Complete.{AcceptedSubmit, MatchingIsComplete, NobodyIsPassedOver}
 use Rattle.accounts.proofs.EachKind.{accepted-call}
 use Rattle.accounts.proofs.OrdersAfter.{submit-orders}

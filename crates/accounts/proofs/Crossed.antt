@@ -1,10 +1,10 @@
 -- The book is never crossed: what remains of an uncrossed book is uncrossed, and an order rests only where none that opposes it meets its price.
-use Prim.Native.Nat.{ℕ, _<_}
-use mathlib.Core.Path.{_≡_, refl, sym, ap, _∙_}
-use mathlib.Core.Bool.{true, false, not, cond, _&&_}
+use Prim.Native.Nat.{ℕ}
+use mathlib.Core.Path.{_≡_, refl, sym}
+use mathlib.Core.Bool.{true, false, not, cond}
 use mathlib.Core.List.{List, [], _∷_, _++_}
 use native.Mathlib.Omega.{arith}
-use lib.Dec.{eqb, leb, ltb}
+use lib.Dec.{ltb}
 use lib.ListN.{length}
 use borrow.Author.Tests.{leb-false, ltb-true, eq-eqb}
 use Rattle.arith.specs.Alls.{All, all-map, all-both, all-append}
@@ -14,17 +14,16 @@ use Rattle.rules.specs.declared.event.Event.the-variants.{Submit, Cancel, DayLi
 use Rattle.rules.specs.declared.event.Leg.{Leg}
 use Rattle.rules.specs.declared.event.Submission.{Submission}
 use Rattle.rules.specs.declared.order.Order.{Order}
-use Rattle.rules.specs.declared.order.Side.{Side}
-use Rattle.rules.specs.declared.order.Side.the-variants.{Buy, Sell}
 use Rattle.rules.specs.Ledger.{Tables, members, orders}
 use Rattle.rules.specs.Records.{eventSound}
-use Rattle.rules.specs.Matching.{sameSide, otherSide, opposes, meets, withLots, matched, incoming, submitMatched, isResting, wouldRest, submitOrders}
+use Rattle.rules.specs.Matching.{opposes, meets, withLots, matched, incoming, submitMatched, isResting, wouldRest, submitOrders}
 use Rattle.rules.specs.Refusals.{isCancelled, applySpec}
+use Rattle.rules.proofs.SoundTables.{Undamaged}
 use Rattle.accounts.specs.EveryList.{Below, Uncrossed}
-use Rattle.accounts.proofs.Remains.{Remain, remain-same, remain-all, kept-remain, legs-remain, matching-remain}
-use Rattle.accounts.proofs.EachKind.{Undamaged, acceptedAs, NoCause, every-call}
+use Rattle.accounts.proofs.Remains.{Remain, remain-all, kept-remain, legs-remain, matching-remain}
+use Rattle.accounts.proofs.EachKind.{acceptedAs, NoCause, every-call}
 use Rattle.accounts.proofs.OrdersAfter.{submit-orders, cancel-orders, limits-orders, proposal-orders, default-orders, close-out-orders, close-orders}
-use Rattle.accounts.proofs.Complete.{submit-ends, submit-all}
+use Rattle.accounts.proofs.Complete.{submit-ends}
 
 -- ---- fewer orders, or with fewer lots
 pub remain-uncrossed : {os ls : List Order} → Remain os ls → Uncrossed os → Uncrossed ls

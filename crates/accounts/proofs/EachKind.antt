@@ -1,13 +1,12 @@
--- A law of every call, from what each kind of record shows where the tables are sound, the event is and no cause holds.
+-- A law of every call, from what each kind of record shows where the tables are not damaged, the event is sound and no cause holds.
 use mathlib.Core.Path.{_≡_, refl, sym, ap, _∙_}
-use mathlib.Core.Bool.{Bool, true, false, not, _||_}
+use mathlib.Core.Bool.{true, false, not, cond}
 use mathlib.Core.List.{List, [], _∷_}
-use Prim.Native.Nat.{ℕ, _≤_}
-use lib.ListN.{length}
-use borrow.Author.Tests.{ltb-false}
-use Rattle.arith.specs.Alls.{All, all-hold}
+use Prim.Native.Nat.{ℕ}
+use native.Mathlib.Omega.{arith}
+use Rattle.arith.specs.Alls.{All}
 use Rattle.arith.specs.Lists.{kept}
-use Rattle.arith.specs.Tests.{never}
+use Rattle.arith.specs.Tests.{never, by-bool}
 use Rattle.rules.specs.declared.answer.Answer.{Answer}
 use Rattle.rules.specs.declared.answer.Answer.the-variants.{TableUnsound, RecordUnsound}
 use Rattle.rules.specs.declared.event.Event.{Event}
@@ -16,44 +15,51 @@ use Rattle.rules.specs.declared.event.Leg.{Leg}
 use Rattle.rules.specs.declared.event.Reading.{Reading}
 use Rattle.rules.specs.declared.event.Reading.the-variants.{Sound, Unsound}
 use Rattle.rules.specs.Answers.{Outcome, decide}
-use Rattle.rules.specs.Ledger.{Tables, members, withPrices, withDayLimits, orders, withOrders, timed, booked, ledgerShort, linesShort}
-use Rattle.rules.specs.Records.{eventSound, legsOf, readOf}
+use Rattle.rules.specs.Header.{membersSound}
+use Rattle.rules.specs.Ledger.{Tables, members, withPrices, withDayLimits, orders, withOrders, timed, booked}
+use Rattle.rules.specs.Records.{eventSound, fieldsOf, legsOf, ifSound, readOf}
 use Rattle.rules.specs.Matching.{submitBooked}
 use Rattle.rules.specs.Synthetic.{proposalBooked}
 use Rattle.rules.specs.CloseOfDay.{closeBooked}
 use Rattle.rules.specs.Default.{defaultBooked, closeOutBooked}
-use Rattle.rules.specs.Refusals.{isCancelled, headSound, pricesSound, bookSound, damaged, unsound, submitSpec, cancelSpec, dayLimitsSpec, proposalSpec, defaultSpec, closeOutSpec, closeSpec, eventSpec, readingSpec, applySpec}
+use Rattle.rules.specs.Refusals.{unsound, isCancelled, submitSpec, cancelSpec, dayLimitsSpec, proposalSpec, defaultSpec, closeOutSpec, closeSpec, eventSpec, readingSpec, applySpec}
 use Rattle.rules.specs.Accounts.{isAccepted}
+use Rattle.rules.proofs.SoundTables.{Undamaged, undamaged}
 use Rattle.accounts.specs.Answered.{Cause, kindCauses}
-use Rattle.accounts.proofs.Runs as runs
-use Rattle.accounts.proofs.Calls.{Long, long-enough, or-left, or-right, not-false, sound-of, decide-shows}
-use Rattle.accounts.proofs.Books.{BookKept, undamaged-book}
-use Rattle.accounts.proofs.Events.{read-sound}
 
--- what tables give that are neither short nor damaged
-pub record Undamaged (t : Tables) : Type 0 where
-  pub long : Long t
-  pub lines : 800 ≤ length (t .lines)
-  pub head : headSound t ≡ true
-  pub prices : pricesSound t ≡ true
-  pub book : BookKept t
-  pub sound : runs.Sound t
+-- ---- decide
+abbrev Refuses : List Cause → Type 0
+Refuses causes = All (λ cause. isAccepted (cause .1) ≡ false) causes
 
-pub undamaged : (t : Tables) → unsound t ≡ false → Undamaged t
-unfolding unsound damaged linesShort
-undamaged t e =
-    let short = or-left (ledgerShort t || linesShort t) (damaged t) e in
-    let whole = or-right (ledgerShort t || linesShort t) (damaged t) e in
-    let a = all-hold _ (not-false _ whole) in
-    record {
-      long = long-enough t (or-left (ledgerShort t) (linesShort t) short);
-      lines = ltb-false (length (t .lines)) 800 (or-right (ledgerShort t) (linesShort t) short);
-      head = a .0;
-      prices = a .1 .0;
-      book = undamaged-book t whole .0;
-      sound = sound-of t e;
-    }
+abbrev NoneHolds : List Cause → Type 0
+NoneHolds causes = All (λ cause. cause .0 ≡ false) causes
 
+-- the first cause that holds refuses; where none does, what is booked decides
+pub decide-shows : (P : Outcome Tables → Type 0) (t : Tables) (o : Outcome Tables) (causes : List Cause)
+    → ((a : Answer) → isAccepted a ≡ false → P (record { answer = a; after = t })) → Refuses causes → (NoneHolds causes → P o) → P (decide causes t o)
+decide-shows P t o [] f r g = g tt
+decide-shows P t o ((true, a) ∷ causes) f r g = f a (r .0)
+decide-shows P t o ((false, a) ∷ causes) f r g = decide-shows P t o causes f (r .1) (λ q. g (refl, q))
+
+decided-accepted : (causes : List Cause) (t : Tables) (o : Outcome Tables) → Refuses causes → isAccepted (decide causes t o .answer) ≡ true → NoneHolds causes × (decide causes t o ≡ o)
+decided-accepted [] t o r a = (tt, refl)
+decided-accepted ((true, x) ∷ causes) t o r a = never (sym a ∙ r .0)
+decided-accepted ((false, x) ∷ causes) t o r a = let d = decided-accepted causes t o (r .1) a in ((refl, d .0), d .1)
+
+-- ---- what a reader answers is sound
+pub read-sound : (n : ℕ) (bytes : List ℕ) (e : Event) → readOf n bytes ≡ Sound e → eventSound n e (legsOf bytes) ≡ true
+unfolding readOf
+read-sound n bytes e =
+    by-bool (λ b. cond b (ifSound n (legsOf bytes) (fieldsOf bytes)) Unsound ≡ Sound e → eventSound n e (legsOf bytes) ≡ true) (membersSound n) (λ _. go (fieldsOf bytes))
+    (λ _ q. absurd (let z : _≡_ {A = ℕ} 0 1 = cc in omega arith))
+  where
+    go : (f : Reading) → ifSound n (legsOf bytes) f ≡ Sound e → eventSound n e (legsOf bytes) ≡ true
+    go (Sound x) =
+        by-bool (λ b. cond b (Sound x) Unsound ≡ Sound e → eventSound n e (legsOf bytes) ≡ true) (eventSound n x (legsOf bytes))
+        (λ f q. let same : x ≡ e = cc in rw (← same) f) (λ _ q. absurd (let z : _≡_ {A = ℕ} 0 1 = cc in omega arith))
+    go Unsound = λ q. absurd (let z : _≡_ {A = ℕ} 0 1 = cc in omega arith)
+
+-- ---- the kinds of record
 -- what an event leads to where no cause holds
 abbrev pub acceptedAs : Tables → Event → List Leg → Outcome Tables
 acceptedAs t (Submit e) legs = submitBooked t e
@@ -74,7 +80,7 @@ event-decided t (Default m) legs = refl
 event-decided t (CloseOut e) legs = refl
 event-decided t (CloseOfDay s) legs = refl
 
-causes-refuse : (t : Tables) (e : Event) (legs : List Leg) → All (λ cause. isAccepted (cause .1) ≡ false) (kindCauses t e legs)
+causes-refuse : (t : Tables) (e : Event) (legs : List Leg) → Refuses (kindCauses t e legs)
 causes-refuse t (Submit e) legs = (refl, (refl, (refl, (refl, (refl, (refl, (refl, (refl, (refl, tt)))))))))
 causes-refuse t (Cancel e) legs = (refl, (refl, tt))
 causes-refuse t (DayLimits e) legs = (refl, tt)
@@ -83,17 +89,20 @@ causes-refuse t (Default m) legs = (refl, tt)
 causes-refuse t (CloseOut e) legs = (refl, (refl, (refl, (refl, (refl, tt)))))
 causes-refuse t (CloseOfDay s) legs = (refl, (refl, tt))
 
--- no cause holds
+pub kind-accepted : (t : Tables) (e : Event) (legs : List Leg) → isAccepted (acceptedAs t e legs .answer) ≡ true
+unfolding submitBooked proposalBooked defaultBooked closeOutBooked closeBooked booked
+kind-accepted t (Submit e) legs = refl
+kind-accepted t (Cancel e) legs = refl
+kind-accepted t (DayLimits e) legs = refl
+kind-accepted t (Proposal n) legs = refl
+kind-accepted t (Default m) legs = refl
+kind-accepted t (CloseOut e) legs = refl
+kind-accepted t (CloseOfDay s) legs = refl
+
 abbrev pub NoCause : Tables → Event → List Leg → Type 0
-NoCause t e legs = All (λ cause. cause .0 ≡ false) (kindCauses t e legs)
+NoCause t e legs = NoneHolds (kindCauses t e legs)
 
 -- ---- an accepted call: nothing is damaged, its event is sound, no cause holds, and it leads to what its kind books
-decided-accepted : (causes : List Cause) (t : Tables) (o : Outcome Tables) → All (λ cause. isAccepted (cause .1) ≡ false) causes → isAccepted (decide causes t o .answer) ≡ true
-    → All (λ cause. cause .0 ≡ false) causes × (decide causes t o ≡ o)
-decided-accepted [] t o r a = (tt, refl)
-decided-accepted ((true, x) ∷ causes) t o r a = never (sym a ∙ r .0)
-decided-accepted ((false, x) ∷ causes) t o r a = let d = decided-accepted causes t o (r .1) a in ((refl, d .0), d .1)
-
 pub record AcceptedCall (t : Tables) (bytes : List ℕ) (e : Event) : Type 0 where
   pub tables : Undamaged t
   pub event : eventSound (members t) e (legsOf bytes) ≡ true
@@ -109,19 +118,26 @@ accepted-call t bytes e r a =
     let kind = decided-accepted (kindCauses t e legs) t (acceptedAs t e legs) (causes-refuse t e legs) (ap (λ o. isAccepted (o .answer)) (sym (told .1 ∙ is)) ∙ a) in
     record { tables = undamaged t (told .0 .0); event = read-sound (members t) bytes e r; no-cause = kind .0; leads = told .1 ∙ is ∙ kind .1 }
 
--- ---- every call
-module _ (P : Tables → Outcome Tables → Type 0) (refused : (t : Tables) (a : Answer) → isAccepted a ≡ false → P t (record { answer = a; after = t }))
-    (shows : (e : Event) (t : Tables) (legs : List Leg) → Undamaged t → eventSound (members t) e legs ≡ true → NoCause t e legs → P t (acceptedAs t e legs)) where
-  reading-shows : (t : Tables) (x : Reading) (bytes : List ℕ) → readOf (members t) bytes ≡ x → Undamaged t → P t (readingSpec t x (legsOf bytes))
+-- ---- every call, with what its bytes say
+module _ (P : Reading → Tables → Outcome Tables → Type 0) (refused : (x : Reading) (t : Tables) (a : Answer) → isAccepted a ≡ false → P x t (record { answer = a; after = t }))
+    (shows : (e : Event) (t : Tables) (legs : List Leg) → Undamaged t → eventSound (members t) e legs ≡ true → NoCause t e legs → P (Sound e) t (acceptedAs t e legs)) where
+  reading-shows : (t : Tables) (x : Reading) (bytes : List ℕ) → readOf (members t) bytes ≡ x → Undamaged t → P x t (readingSpec t x (legsOf bytes))
   unfolding readingSpec
   reading-shows t (Sound e) bytes q u =
       rw (event-decided t e (legsOf bytes))
-      (decide-shows (P t) t (acceptedAs t e (legsOf bytes)) (kindCauses t e (legsOf bytes)) (refused t) (causes-refuse t e (legsOf bytes))
+      (decide-shows (P (Sound e) t) t (acceptedAs t e (legsOf bytes)) (kindCauses t e (legsOf bytes)) (refused (Sound e) t) (causes-refuse t e (legsOf bytes))
       (λ none. shows e t (legsOf bytes) u (read-sound (members t) bytes e q) none))
-  reading-shows t Unsound bytes q u = refused t RecordUnsound refl
+  reading-shows t Unsound bytes q u = refused Unsound t RecordUnsound refl
 
-  pub every-call : (t : Tables) (bytes : List ℕ) → P t (applySpec t bytes)
+  pub every-reading : (t : Tables) (bytes : List ℕ) → P (readOf (members t) bytes) t (applySpec t bytes)
   unfolding applySpec
-  every-call t bytes =
-      decide-shows (P t) t (readingSpec t (readOf (members t) bytes) (legsOf bytes)) ((unsound t, TableUnsound) ∷ []) (refused t) (refl, tt)
-      (λ sound. reading-shows t (readOf (members t) bytes) bytes refl (undamaged t (sound .0)))
+  every-reading t bytes =
+      let x = readOf (members t) bytes in
+      decide-shows (P x t) t (readingSpec t x (legsOf bytes)) ((unsound t, TableUnsound) ∷ []) (refused x t) (refl, tt)
+      (λ sound. reading-shows t x bytes refl (undamaged t (sound .0)))
+
+-- the same where it does not matter what they say
+pub every-call : (P : Tables → Outcome Tables → Type 0) → ((t : Tables) (a : Answer) → isAccepted a ≡ false → P t (record { answer = a; after = t }))
+    → ((e : Event) (t : Tables) (legs : List Leg) → Undamaged t → eventSound (members t) e legs ≡ true → NoCause t e legs → P t (acceptedAs t e legs))
+    → (t : Tables) (bytes : List ℕ) → P t (applySpec t bytes)
+every-call P refused shows = every-reading (λ _. P) (λ _. refused) shows

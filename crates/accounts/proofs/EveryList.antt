@@ -12,7 +12,7 @@ use Rattle.rules.specs.Header.{headerOf, beginsWithHeader}
 use Rattle.rules.specs.Ledger.{Tables, withLines, ggf, lotsRun, orders, lineRun, ledgerShort, fresh}
 use Rattle.rules.specs.Refusals.{applySpec, makeSpec}
 use Rattle.rules.specs.Accounts.{Call, callSpec, after, log}
-use Rattle.accounts.proofs.Calls.{Long, long-enough}
+use Rattle.rules.proofs.SoundTables.{Long, long-enough}
 use Rattle.accounts.proofs.Fresh.{Fine, fine, counts-of}
 use Rattle.accounts.proofs.Runs.{orders-same}
 use Rattle.accounts.proofs.TwoBookkeepers.{made, begun, known}

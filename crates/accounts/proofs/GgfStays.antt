@@ -1,7 +1,7 @@
 -- A GGF once found never becomes 0 again: a close of day finds a price of 1 at least or keeps the former, and no other record writes one.
 use Prim.Native.Nat.{ℕ, _+_, _*_, _/_, _≤_, _<_}
-use mathlib.Core.Path.{_≡_, refl, sym, ap, subst, _∙_}
-use mathlib.Core.Bool.{Bool, true, not, cond}
+use mathlib.Core.Path.{_≡_, refl, ap, _∙_}
+use mathlib.Core.Bool.{true, cond}
 use mathlib.Core.List.{List, [], _∷_}
 use mathlib.Core.Option.{Option, none, some}
 use native.Mathlib.Omega.{arith}
@@ -10,7 +10,7 @@ use lib.Dec.{leb, ltb}
 use lib.ListN.{length, getD, set, length-set, length-take, length-drop}
 use lib.Seq.{getD-set-same, getD-set-other}
 use borrow.Author.Tests.{leb-true, ltb-true}
-use Rattle.arith.specs.Alls.{All, all-map}
+use Rattle.arith.specs.Alls.{all-map}
 use Rattle.arith.specs.EachBlock.{block, block-at, in-each-block}
 use Rattle.arith.specs.Lists.{over}
 use Rattle.arith.specs.Overs.{over-length, over-outside}
@@ -24,16 +24,17 @@ use Rattle.rules.specs.declared.order.Order.{Order}
 use Rattle.rules.specs.declared.order.Side.{Side}
 use Rattle.rules.specs.declared.order.Side.the-variants.{Buy, Sell}
 use Rattle.rules.specs.Contracts.{thresholdOf, kindOf, openContracts}
-use Rattle.rules.specs.Ledger.{Tables, members, day, calendar, lotsRun, ggf, dayLots, dayValue, orders, withOrders, timed, booked}
+use Rattle.rules.specs.Ledger.{Tables, members, day, calendar, lotsRun, ggf, dayLots, dayValue, orders, withOrders, booked}
 use Rattle.rules.specs.Records.{eventSound}
 use Rattle.rules.specs.Matching.{withDeals, counted, submitBooked}
 use Rattle.rules.specs.Synthetic.{proposalBooked}
 use Rattle.rules.specs.CloseOfDay.{roundedHalfUp, quotes, bestQuote, quotedPrice, ggfAtClose, withGgfs, withoutDeals, closingContracts, priced, onDay, closeBooked}
 use Rattle.rules.specs.Default.{defaultBooked, closeOutBooked}
 use Rattle.rules.specs.Refusals.{pricesSound, applySpec}
+use Rattle.rules.proofs.SoundTables.{Undamaged}
 use Rattle.accounts.proofs.Matches.{best-all}
-use Rattle.accounts.proofs.PricesStay.{Prices, prices-of, Priced, orders-priced, timed-prices, closed-prices}
-use Rattle.accounts.proofs.EachKind.{Undamaged, acceptedAs, NoCause, every-call}
+use Rattle.accounts.proofs.PricesStay.{prices-of, Priced, orders-priced, timed-prices, closed-prices}
+use Rattle.accounts.proofs.EachKind.{acceptedAs, NoCause, every-call}
 
 -- ---- the price that a close of day finds
 -- a quotient of 1 at least, rounded
@@ -72,12 +73,12 @@ module _ (t : Tables) (u : Undamaged t) where
   quote-priced : (s c : ℕ) (side : Side) (o : Order) → bestQuote t s c side ≡ some o → Priced o
   unfolding bestQuote
   quote-priced s c side o e =
-      best-all Priced (quotes t s c side) (orders t) (all-map Priced (λ b. quotes t s c side b ≡ true → Priced b) (orders t) (λ b p _. p) (orders-priced t (u .book .sound))) o e
+      best-all Priced (quotes t s c side) (orders t) (all-map Priced (λ b. quotes t s c side b ≡ true → Priced b) (orders t) (λ b p _. p) (orders-priced t (u .book-sound))) o e
 
   found-least : (s c : ℕ) → c < 102 → 0 < ggf t c → 0 < ggfAtClose t s c
   unfolding ggfAtClose pricesSound
   found-least s c h g =
-      let five = prices-of (lotsRun t) (t .prices) (u .prices) c h in
+      let five = prices-of (lotsRun t) (t .prices) (u .prices-sound) c h in
       let threshold = thresholdOf (kindOf c) in
       let b = bestQuote t s c Buy in
       let q = bestQuote t s c Sell in
@@ -105,7 +106,7 @@ module _ (t : Tables) (u : Undamaged t) where
       let cs = openContracts (calendar t) (day t) in
       let l = withGgfs t s cs (t .prices) in
       let long : 510 ≤ length l = omega (arith, written-length s cs (t .prices), u .long .prices) in
-      let left = closed-prices t (u .head) (u .long .head) (u .prices) (u .long .prices) (orders-priced t (u .book .sound)) (closingContracts t) (priced s t) in
+      let left = closed-prices t (u .head-sound) (u .long .head) (u .prices-sound) (u .long .prices) (orders-priced t (u .book-sound)) (closingContracts t) (priced s t) in
       rw (left, without-deals-found c l h long) (written-least s c cs (t .prices) (omega (arith, u .long .prices)) (found-least s c h g) g)
 
 -- ---- every kind
@@ -120,8 +121,8 @@ set-found l d j v c a b = getD-set-other l (d * 5 + j) (c * 5) v 0 (λ e. omega 
 kind-found : (e : Event) (t : Tables) (legs : List Leg) → Undamaged t → eventSound (members t) e legs ≡ true → NoCause t e legs → Found t (acceptedAs t e legs .after)
 unfolding submitBooked withDeals counted withOrders proposalBooked defaultBooked closeOutBooked booked
 kind-found (Submit e) t legs u s n c h g =
-    rw (set-found (set _ _ _) (e .contract) 4 _ c (omega arith) (omega arith), set-found _ (e .contract) 3 _ c (omega arith) (omega arith), timed-prices t (u .head) (u .long .head) (u .prices) (e .time)) g
-kind-found (Cancel e) t legs u s n c h g = rw (timed-prices t (u .head) (u .long .head) (u .prices) (e .time)) g
+    rw (set-found (set _ _ _) (e .contract) 4 _ c (omega arith) (omega arith), set-found _ (e .contract) 3 _ c (omega arith) (omega arith), timed-prices t (u .head-sound) (u .long .head) (u .prices-sound) (e .time)) g
+kind-found (Cancel e) t legs u s n c h g = rw (timed-prices t (u .head-sound) (u .long .head) (u .prices-sound) (e .time)) g
 kind-found (DayLimits e) t legs u s n c h g = rw (set-found (set _ _ _) (e .contract) 2 _ c (omega arith) (omega arith), set-found _ (e .contract) 1 _ c (omega arith) (omega arith)) g
 kind-found (Proposal k) t legs u s n c h g = g
 kind-found (Default m) t legs u s n c h g = g

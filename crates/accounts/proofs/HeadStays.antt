@@ -7,12 +7,12 @@ use native.Mathlib.Omega.{arith}
 use lib.Dec.{eqb, leb, ltb}
 use lib.ListN.{length, getD, set, take, drop, replicate, length-append, length-replicate, getD-replicate}
 use lib.Seq.{getD-set-same, getD-set-other, set-out}
-use borrow.Author.Tests.{leb-true, leb-false, ltb-false, le-leb, lt-ltb, le-ltb}
+use borrow.Author.Tests.{leb-true, leb-false, ltb-false, le-leb, lt-ltb, le-ltb, not-false}
 use Rattle.arith.specs.Alls.{All, all-hold, hold-all, all-map, every-all, all-place}
 use Rattle.arith.specs.Among.{every-from, from-every}
 use Rattle.arith.specs.Lists.{every, kept, total, over}
 use Rattle.arith.specs.Overs.{over-inside, over-outside}
-use Rattle.arith.specs.Tests.{never, by-bool, le-or-lt, same-or, and-left, and-right, passed, passes}
+use Rattle.arith.specs.Tests.{never, by-bool, le-or-lt, same-or, and-left, and-right, passed, passes, or-left, or-right}
 use Rattle.rules.specs.declared.event.CloseOutTerms.{CloseOutTerms}
 use Rattle.rules.specs.declared.event.Leg.{Leg}
 use Rattle.rules.specs.declared.event.Submission.{Submission}
@@ -30,7 +30,6 @@ use Rattle.rules.specs.CloseOfDay.{closingContracts, isOfAny, withClosed, price
 use Rattle.rules.specs.Refusals.{memberSound, headSound, submitCauses, proposalCauses, closeOutCauses, closeCauses}
 use Rattle.accounts.proofs.Heads.{SameHeader, OtherPlace, field, changing, ofMember, same-header, then-same, set-other, over-other, same-holidays}
 use Rattle.accounts.proofs.Runs.{runs-calendar}
-use Rattle.accounts.proofs.Calls.{or-left, or-right, not-false}
 use Rattle.accounts.proofs.Remains.{Remain, remain-length, kept-remain, legs-remain, matching-remain}
 use Rattle.accounts.proofs.Books.{orders-count}
 use Rattle.accounts.proofs.Closes.{day-is}

@@ -19,7 +19,6 @@ pub mod Events
 pub mod Fresh
 pub mod TwoBookkeepers
 pub mod Refused
-pub mod Lengths
 pub mod Bounds
 pub mod RowsStay
 pub mod Remains
@@ -28,9 +27,7 @@ pub mod HeadStays
 pub mod PricesStay
 pub mod NeverDamaged
 pub mod Answered
-pub mod Struck
 pub mod EachKind
-pub mod Priority
 pub mod Places
 pub mod OrdersAfter
 pub mod Complete

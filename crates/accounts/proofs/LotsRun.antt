@@ -1,6 +1,6 @@
 -- The lots run grows by the lines of each call.
 use Prim.Native.Nat.{ℕ, _+_, _<_}
-use mathlib.Core.Path.{_≡_, refl, sym, ap, _∙_}
+use mathlib.Core.Path.{_≡_, refl, _∙_}
 use mathlib.Core.Bool.{true, false, not}
 use mathlib.Core.List.{List, [], _∷_, _++_}
 use native.Mathlib.Omega.{arith}
@@ -12,18 +12,19 @@ use Rattle.rules.specs.declared.answer.Answer.{Answer}
 use Rattle.rules.specs.declared.event.Event.{Event}
 use Rattle.rules.specs.declared.event.Event.the-variants.{Submit, Cancel, DayLimits, Proposal, Default, CloseOut, CloseOfDay}
 use Rattle.rules.specs.declared.event.Leg.{Leg}
-use Rattle.rules.specs.Answers.{Outcome, told}
+use Rattle.rules.specs.Answers.{Outcome}
 use Rattle.rules.specs.Ledger.{Tables, Line, members, withHead, withLines, lotsRun, orders, withOrders, firstLines, timed, lineRun, booked}
 use Rattle.rules.specs.Records.{eventSound}
 use Rattle.rules.specs.Matching.{submitLines, withDeals, counted, submitBooked}
 use Rattle.rules.specs.Synthetic.{proposalLines, usedByLegs, proposalBooked}
 use Rattle.rules.specs.CloseOfDay.{closeBooked}
 use Rattle.rules.specs.Default.{defaultBooked, closeOutLines, closeOutBooked}
-use Rattle.rules.specs.Refusals.{isCancelled, applySpec}
+use Rattle.rules.specs.Refusals.{isCancelled}
 use Rattle.rules.specs.Accounts.{Call, callSpec, after, isAccepted, linesOf, log}
+use Rattle.rules.proofs.SoundTables.{Undamaged}
 use Rattle.accounts.proofs.Written.{lines-printed}
 use Rattle.accounts.proofs.HeadStays.{submitUnbooked}
-use Rattle.accounts.proofs.EachKind.{Undamaged, acceptedAs, NoCause, every-call}
+use Rattle.accounts.proofs.EachKind.{acceptedAs, NoCause, every-call}
 use Rattle.accounts.proofs.OrdersAfter.{timed-long}
 use Rattle.accounts.proofs.Places.{written-place, timed-place, submit-place, close-place}
 

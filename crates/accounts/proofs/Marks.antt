@@ -1,14 +1,14 @@
 -- No order of a defaulted member rests: a default record takes its member's orders out, no other record changes a mark, and a defaulted
 -- member's submit is refused.
-use Prim.Native.Nat.{ℕ, _+_, _≤_, _<_}
-use mathlib.Core.Path.{_≡_, refl, sym, ap, _∙_}
+use Prim.Native.Nat.{ℕ, _+_, _<_}
+use mathlib.Core.Path.{_≡_, sym, ap, _∙_}
 use mathlib.Core.Bool.{Bool, true, false, not}
 use mathlib.Core.List.{List, []}
 use native.Mathlib.Omega.{arith}
 use lib.Dec.{eqb}
 use lib.ListN.{length}
 use lib.Seq.{getD-set-other}
-use borrow.Author.Tests.{ltb-true, eq-eqb}
+use borrow.Author.Tests.{eq-eqb}
 use Rattle.arith.specs.Alls.{All, all-map, all-both, all-kept}
 use Rattle.arith.specs.Lists.{kept}
 use Rattle.arith.specs.Tests.{never}
@@ -24,11 +24,14 @@ use Rattle.rules.specs.Synthetic.{proposalLines, usedByLegs, proposalBooked}
 use Rattle.rules.specs.CloseOfDay.{closeBooked}
 use Rattle.rules.specs.Default.{defaultBooked, closeOutLines, closeOutBooked}
 use Rattle.rules.specs.Refusals.{isCancelled, applySpec}
+use Rattle.rules.proofs.SoundTables.{Undamaged}
+use Rattle.rules.proofs.SoundEvents.{submission}
 use Rattle.accounts.specs.EveryList.{NoneDefaulted}
-use Rattle.accounts.proofs.Books.{booked-place, submission-sound}
+use Rattle.accounts.proofs.Runs.{sound-of}
+use Rattle.accounts.proofs.Books.{booked-place}
 use Rattle.accounts.proofs.HeadStays.{submitUnbooked}
 use Rattle.accounts.proofs.Remains.{Remain, remain-same, remain-all, kept-remain, legs-remain, matching-remain}
-use Rattle.accounts.proofs.EachKind.{Undamaged, acceptedAs, NoCause, every-call}
+use Rattle.accounts.proofs.EachKind.{acceptedAs, NoCause, every-call}
 use Rattle.accounts.proofs.OrdersAfter.{submit-orders, cancel-orders, limits-orders, proposal-orders, default-orders, close-out-orders, close-orders}
 use Rattle.accounts.proofs.Places.{written-place, timed-place, submit-place, close-place}
 use Rattle.accounts.proofs.Complete.{submit-all}
@@ -55,7 +58,7 @@ module _ (t : Tables) (u : Undamaged t) (a : NoneDefaulted t) where
   all-fine : All (Fine t) (orders t)
   all-fine =
       all-both (λ o. defaulted t (o .member) ≡ false) (λ o. o .member < 32) (orders t) a
-      (all-map (λ o. (o .contract < 102) × (o .member < members t)) (λ o. o .member < 32) (orders t) (λ o p. omega (arith, u .sound .few-members)) (u .sound .placed))
+      (all-map (λ o. (o .contract < 102) × (o .member < members t)) (λ o. o .member < 32) (orders t) (λ o p. omega (arith, u .head .members-range .to)) (sound-of u .placed))
 
   remaining : (t′ : Tables) → SameMarks t t′ → Remain (orders t) (orders t′) → NoneDefaulted t′
   remaining t′ same x = remain-all (Fine t) (λ o. defaulted t′ (o .member) ≡ false) (λ o q _ _ f. fine-kept t t′ same o f) x all-fine
@@ -69,7 +72,7 @@ module _ (t : Tables) (u : Undamaged t) (a : NoneDefaulted t) where
       rw (submit-orders t u e)
       (submit-all t e (λ o. defaulted t′ (o .member) ≡ false)
       (remain-all (Fine t) (λ o. defaulted t′ (o .member) ≡ false) (λ o q _ _ f. fine-kept t t′ same o f) (matching-remain (length (orders t)) (incoming t e) (orders t)) all-fine)
-      (λ _. fine-kept t t′ same (incoming t e) (d, omega (arith, u .sound .few-members))))
+      (λ _. fine-kept t t′ same (incoming t e) (d, omega (arith, u .head .members-range .to))))
 
   -- the member's orders are gone, and no other mark is set
   default-mark : (m k : ℕ) → k < 32 → (k ≡ m → ⊥) → mark (defaultBooked t m .after) k ≡ mark t k
@@ -86,7 +89,7 @@ module _ (t : Tables) (u : Undamaged t) (a : NoneDefaulted t) where
 
 kind-marks : (e : Event) (t : Tables) (legs : List Leg) → Undamaged t → eventSound (members t) e legs ≡ true → NoCause t e legs → NoneDefaulted t → NoneDefaulted (acceptedAs t e legs .after)
 unfolding proposalBooked closeOutBooked
-kind-marks (Submit e) t legs u s n a = submitted t u a e (ltb-true (e .member) (members t) (submission-sound (members t) e legs s .1)) (n .1 .0)
+kind-marks (Submit e) t legs u s n a = submitted t u a e (submission (members t) e legs s .member<) (n .1 .0)
 kind-marks (Cancel e) t legs u s n a =
     let others : Order → Bool = λ o. not (isCancelled e o) in
     remaining t u a (acceptedAs t (Cancel e) legs .after) (λ m h. booked-marks [] _ m h ∙ written-marks (kept others (orders t)) (timed (e .time) t) m h ∙ timed-place t u (e .time) (160 + m) (λ q. omega arith) (omega arith))

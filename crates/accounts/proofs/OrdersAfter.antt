@@ -1,25 +1,25 @@
 -- The resting orders after each kind of record: a submit may add its own, any other leaves what remains of them.
-use Prim.Native.Nat.{ℕ, _+_, _*_, _≤_, _<_}
-use mathlib.Core.Path.{_≡_, refl, sym, ap, subst, _∙_}
-use mathlib.Core.Bool.{Bool, true, not, cond}
+use Prim.Native.Nat.{ℕ, _<_}
+use mathlib.Core.Path.{_≡_, refl, ap, _∙_}
+use mathlib.Core.Bool.{Bool, not}
 use mathlib.Core.List.{List, []}
 use native.Mathlib.Omega.{arith}
 use lib.Dec.{eqb}
-use lib.ListN.{length, getD, length-set}
+use lib.ListN.{length, length-set}
 use Rattle.arith.specs.Lists.{kept}
 use Rattle.rules.specs.declared.event.CloseOutTerms.{CloseOutTerms}
 use Rattle.rules.specs.declared.event.Leg.{Leg}
 use Rattle.rules.specs.declared.event.Submission.{Submission}
 use Rattle.rules.specs.declared.order.Order.{Order}
-use Rattle.rules.specs.Ledger.{Tables, Line, members, withHead, withPrices, orders, withOrders, booked, timed}
-use Rattle.rules.specs.Matching.{submitMatched, submitLines, submitOrders, withDeals, counted, submitBooked}
+use Rattle.rules.specs.Ledger.{Tables, Line, withPrices, orders, withOrders, booked, timed}
+use Rattle.rules.specs.Matching.{submitLines, submitOrders, withDeals, counted, submitBooked}
 use Rattle.rules.specs.Synthetic.{proposalLines, usedByLegs, proposalBooked}
 use Rattle.rules.specs.CloseOfDay.{closingContracts, isOfAny, withClosed, priced, onDay, closeBooked}
 use Rattle.rules.specs.Default.{defaultBooked, closeOutLines, closeOutBooked}
-use Rattle.accounts.proofs.Runs.{orders-same, timed-same}
+use Rattle.rules.proofs.SoundTables.{Undamaged}
+use Rattle.accounts.proofs.Runs.{sound-of, orders-same, timed-same}
 use Rattle.accounts.proofs.Written.{orders-written}
 use Rattle.accounts.proofs.Books.{booked-place}
-use Rattle.accounts.proofs.EachKind.{Undamaged}
 use Rattle.accounts.proofs.Places.{evening-place}
 
 -- booking lines leaves the book
@@ -32,7 +32,7 @@ written-orders ls os u h = booked-orders ls (withOrders os u) ∙ orders-written
 
 module _ (t : Tables) (u : Undamaged t) where
   pub timed-long : (n : ℕ) → 7 < length (timed n t .head)
-  timed-long n = omega (arith, timed-same n t (u .sound) .longer, u .long .head)
+  timed-long n = omega (arith, timed-same n t (sound-of u) .longer, u .long .head)
 
   pub submit-orders : (e : Submission) → orders (submitBooked t e .after) ≡ submitOrders t e
   unfolding submitBooked withDeals counted

@@ -1,5 +1,5 @@
 -- The places of the head that a record leaves as they were.
-use Prim.Native.Nat.{ℕ, _+_, _≤_, _<_}
+use Prim.Native.Nat.{ℕ, _+_, _<_}
 use mathlib.Core.Path.{_≡_, refl, _∙_}
 use mathlib.Core.Bool.{not, cond}
 use mathlib.Core.List.{List}
@@ -11,13 +11,13 @@ use Rattle.arith.specs.Lists.{kept}
 use Rattle.arith.specs.Tests.{by-bool}
 use Rattle.rules.specs.declared.event.Submission.{Submission}
 use Rattle.rules.specs.declared.order.Order.{Order}
-use Rattle.rules.specs.Ledger.{Tables, members, time, withHead, orders, withOrders, withoutSubmits, timed}
-use Rattle.rules.specs.Matching.{submitMatched, submitOrders, withDeals, counted}
+use Rattle.rules.specs.Ledger.{Tables, time, withHead, orders, withOrders, withoutSubmits, timed}
+use Rattle.rules.specs.Matching.{submitOrders, withDeals, counted}
 use Rattle.rules.specs.CloseOfDay.{closingContracts, isOfAny, withClosed, priced, nextDay, closeBooked}
+use Rattle.rules.proofs.SoundTables.{Undamaged}
 use Rattle.accounts.proofs.Heads.{SameHeader, field}
 use Rattle.accounts.proofs.HeadStays.{submitUnbooked}
 use Rattle.accounts.proofs.Books.{written-header, without-place, day-place}
-use Rattle.accounts.proofs.EachKind.{Undamaged}
 
 abbrev pub place : Tables → ℕ → ℕ
 place t i = getD (t .head) i 0
@@ -32,7 +32,7 @@ module _ (t : Tables) (u : Undamaged t) where
   unfolding timed
   timed-place n i d h =
       by-bool (λ b. place (cond b (withHead (set (withoutSubmits t .head) 4 n) t) t) i ≡ place t i) (ltb (time t) n)
-      (λ _. getD-set-other (withoutSubmits t .head) 4 i n 0 d ∙ without-place t i (u .long .head) (u .sound .few-members) h) (λ _. refl)
+      (λ _. getD-set-other (withoutSubmits t .head) 4 i n 0 d ∙ without-place t i (u .long .head) (u .head .members-range .to) h) (λ _. refl)
 
   pub submit-place : (e : Submission) (i : ℕ) → (i ≡ 4 → ⊥) → (i ≡ 5 → ⊥) → (i ≡ 7 → ⊥) → i < 192 → place (submitUnbooked t e) i ≡ place t i
   unfolding submitUnbooked withDeals counted
@@ -46,7 +46,7 @@ module _ (t : Tables) (u : Undamaged t) where
   unfolding closeBooked priced withClosed
   evening-place n i l h =
       let w : SameHeader 4 (t .head) _ = written-header (kept (λ o. not (isOfAny (closingContracts t) o)) (orders (priced n t))) (priced n t) in
-      day-place (nextDay t) (withClosed (closingContracts t) (priced n t)) i (omega (arith, w .longer, u .long .head)) (omega (arith, w .places 1 (field (omega arith)), u .sound .few-members)) l h
+      day-place (nextDay t) (withClosed (closingContracts t) (priced n t)) i (omega (arith, w .longer, u .long .head)) (omega (arith, w .places 1 (field (omega arith)), u .head .members-range .to)) l h
 
   -- and what closes, the count of orders
   pub close-place : (n i : ℕ) → 4 < i → (i ≡ 7 → ⊥) → i < 192 → place (closeBooked t n .after) i ≡ place t i

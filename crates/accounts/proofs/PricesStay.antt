@@ -6,42 +6,35 @@ use mathlib.Core.Option.{Option, none, some}
 use Prim.Native.Nat.{ℕ, zero, suc, _+_, _*_, _/_, _≤_, _<_}
 use native.Mathlib.Omega.{arith}
 use native.Mathlib.Nat.{add-zero, mul-le-mul-left, div-lt-iff-lt-mul, div-zero}
-use lib.Dec.{eqb, leb, ltb}
+use lib.Dec.{leb, ltb}
 use lib.ListN.{length, getD, set, length-set}
 use lib.Seq.{getD-set-same, getD-set-other}
 use lib.IntN.{natAbs}
-use borrow.Author.Tests.{leb-true, le-leb, ltb-true}
+use borrow.Author.Tests.{leb-true, le-leb}
 use Rattle.arith.specs.Alls.{All, all-hold, hold-all, all-map}
 use Rattle.arith.specs.EachBlock.{block, block-at, block-passes, every-block, blocks-done}
 use Rattle.arith.specs.Lists.{kept, total, over, everyBlock}
 use Rattle.arith.specs.Overs.{over-length, over-inside, over-outside}
 use Rattle.arith.specs.Tests.{by-bool, same-or, and-left, and-right}
-use Rattle.rules.specs.declared.answer.Answer.{Answer}
 use Rattle.rules.specs.declared.event.CloseOutTerms.{CloseOutTerms}
-use Rattle.rules.specs.declared.event.Event.{Event}
-use Rattle.rules.specs.declared.event.Event.the-variants.{Submit, Cancel, DayLimits, Proposal, Default, CloseOut, CloseOfDay}
 use Rattle.rules.specs.declared.event.Leg.{Leg}
 use Rattle.rules.specs.declared.event.NewDayLimits.{NewDayLimits}
 use Rattle.rules.specs.declared.event.Submission.{Submission}
 use Rattle.rules.specs.declared.order.Order.{Order}
 use Rattle.rules.specs.declared.order.Side.{Side}
 use Rattle.rules.specs.declared.order.Side.the-variants.{Buy, Sell}
-use Rattle.rules.specs.Answers.{Outcome, decide}
 use Rattle.rules.specs.Contracts.{thresholdOf, kindOf, openContracts}
 use Rattle.rules.specs.Header.{Header}
 use Rattle.rules.specs.Ledger.{Tables, Line, withHead, withPrices, members, day, time, lotsRun, calendar, ggf, dayLots, dayValue, orders, withOrders, lineRun, booked, withoutSubmits, timed, freshPrices, fresh}
-use Rattle.rules.specs.Records.{timeSound, contractSound, dayLimitsSound, numberSound, eventSound}
 use Rattle.rules.specs.Matching.{signed, otherSide, Deal, dealLines, incoming, matched, submitMatched, submitLines, withDeals, counted, submitBooked}
 use Rattle.rules.specs.Synthetic.{proposalLines, usedByLegs, proposalBooked}
 use Rattle.rules.specs.Default.{defaultBooked, closeOutLines, closeOutBooked}
 use Rattle.rules.specs.CloseOfDay.{roundedHalfUp, quotes, bestQuote, quotedPrice, ggfAtClose, withGgfs, withoutDeals, closingContracts, withClosed, priced, onDay, closeBooked}
-use Rattle.rules.specs.Refusals.{contractPricesSound, pricesSound, headSound, orderSound, bookSound, submitCauses, cancelCauses, dayLimitsCauses, proposalCauses, defaultCauses, closeOutCauses, closeCauses, submitSpec, cancelSpec, dayLimitsSpec, proposalSpec, defaultSpec, closeOutSpec, closeSpec, eventSpec}
-use Rattle.rules.specs.Accounts.{isAccepted}
-use Rattle.accounts.proofs.Calls.{decide-shows, Long}
+use Rattle.rules.specs.Refusals.{contractPricesSound, pricesSound, headSound, bookSound, submitCauses}
+use Rattle.rules.proofs.SoundTables.{SoundOrder, book-gives}
 use Rattle.accounts.proofs.Matches.{best-all}
 use Rattle.accounts.proofs.Submits.{dealt-all}
-use Rattle.accounts.proofs.Books.{book-orders, submission-sound}
-use Rattle.accounts.proofs.HeadStays.{Stays, unchanged, run-booked, submitUnbooked, submit-stays, submit-head, cancel-stays, cancel-head, limits-head, proposal-stays, proposal-head, defaultUnbooked, default-stays, default-head, close-out-head, close-head}
+use Rattle.accounts.proofs.HeadStays.{Stays, unchanged, run-booked, submitUnbooked, submit-stays, cancel-stays, proposal-stays, defaultUnbooked, default-stays}
 
 -- ---- a contract's five numbers: GGF, low, high, M and V
 pub record Five (run price low high m v : ℕ) : Type 0 where
@@ -189,13 +182,7 @@ abbrev pub Priced : Order → Type 0
 Priced o = (1 ≤ o .price .0) × (o .price .0 ≤ 1000000)
 
 pub orders-priced : (t : Tables) → bookSound t ≡ true → All Priced (orders t)
-unfolding orderSound
-orders-priced t e =
-    all-map (λ o. orderSound t o ≡ true) Priced (orders t) (λ o s.
-    let p = all-hold _ s .1 .1 .1 .0 in
-    let n = o .price .0 in
-    (leb-true 1 n (and-left (leb 1 n) (leb n 1000000) p), leb-true n 1000000 (and-right (leb 1 n) (leb n 1000000) p)))
-    (book-orders t e)
+orders-priced t e = all-map (SoundOrder t) Priced (orders t) (λ o s. (s .price .from, s .price .to)) (book-gives t e .each)
 
 abbrev dealtLots : List Deal → ℕ
 dealtLots ds = total (λ d. d .lots) ds
@@ -353,56 +340,3 @@ fresh-prices h t wide =
           (record { price≤ = omega arith; low≥ = omega arith; ordered = omega arith; high≤ = omega arith; within = omega arith; least = omega arith; most = omega arith }),
     ))
     102 (t .prices) wide (every-block 5 (λ b. true) 102 (t .prices) (λ c h. refl))
-
--- ---- every kind of record, refused or not
-abbrev pub HeadAndPrices : Tables → Type 0
-HeadAndPrices t = (headSound t ≡ true) × (pricesSound t ≡ true)
-
-module _ (t : Tables) (head : headSound t ≡ true) (sound : pricesSound t ≡ true) (book : bookSound t ≡ true) (l : Long t) where
-  long : 224 ≤ length (t .head)
-  long = l .head
-
-  wide : 510 ≤ length (t .prices)
-  wide = l .prices
-
-  decided : (causes : List (Bool × Answer)) (o : Outcome Tables) → All (λ c. isAccepted (c .1) ≡ false) causes → (All (λ c. c .0 ≡ false) causes → HeadAndPrices (o .after))
-      → HeadAndPrices (decide causes t o .after)
-  decided causes o r f = decide-shows (λ x. HeadAndPrices (x .after)) t o causes (λ a q. (head, sound)) r f
-
-  pub event-head-prices : (e : Event) (legs : List Leg) → eventSound (members t) e legs ≡ true → HeadAndPrices (eventSpec t e legs .after)
-  unfolding eventSpec eventSound submitSpec cancelSpec dayLimitsSpec proposalSpec defaultSpec closeOutSpec closeSpec
-  event-head-prices (Submit e) legs q =
-      let s = submission-sound (members t) e legs q in
-      let time≤ = leb-true (e .time) 86399 (s .0) in
-      let member< = ltb-true (e .member) (members t) (s .1) in
-      let contract< : e .contract < 102 = omega (arith, leb-true (e .contract) 101 (s .2)) in
-      decided (submitCauses t e) (submitBooked t e) (refl, (refl, (refl, (refl, (refl, (refl, (refl, (refl, (refl, tt)))))))))
-      (λ f. (submit-head t head long e time≤ member< f, submit-prices t head long sound wide (orders-priced t book) e time≤ member< contract< f))
-  event-head-prices (Cancel e) legs q =
-      let timeIs = timeSound (e .time) in
-      let memberIs = ltb (e .member) (members t) in
-      let numberIs = numberSound (e .order) in
-      let time≤ = leb-true (e .time) 86399 (and-left timeIs memberIs (and-left (timeIs && memberIs) numberIs (and-left (timeIs && memberIs && numberIs) (eqb (length legs) 0) q))) in
-      decided (cancelCauses t e) _ (refl, (refl, tt)) (λ f. (cancel-head t head long (e .time) _ time≤, cancel-prices t head long sound (e .time) _ time≤))
-  event-head-prices (DayLimits e) legs q =
-      let l = e .low .0 in
-      let h = e .high .0 in
-      let contractIs = contractSound (e .contract) in
-      let both = and-left (contractIs && dayLimitsSound l h) (eqb (length legs) 0) q in
-      let limits = and-right contractIs (dayLimitsSound l h) both in
-      let front = and-left (leb 1 l && leb l h) (leb h 1000000) limits in
-      decided (dayLimitsCauses t e) _ (refl, tt)
-      (λ f. (
-        limits-head t head long _,
-        limits-prices t head long sound wide e (omega (arith, leb-true (e .contract) 101 (and-left contractIs (dayLimitsSound l h) both)))
-            (leb-true 1 l (and-left (leb 1 l) (leb l h) front)) (leb-true l h (and-right (leb 1 l) (leb l h) front)) (leb-true h 1000000 (and-right (leb 1 l && leb l h) (leb h 1000000) limits)),
-      ))
-  event-head-prices (Proposal n) legs q =
-      decided (proposalCauses t legs) (proposalBooked t legs) (refl, (refl, tt)) (λ f. (proposal-head t head long legs f, proposal-prices t head long sound legs))
-  event-head-prices (Default m) legs q =
-      let member< = ltb-true m (members t) (and-left (ltb m (members t)) (eqb (length legs) 0) q) in
-      decided (defaultCauses t m) (defaultBooked t m) (refl, tt) (λ f. (default-head t head long m member<, default-prices t head long sound m member<))
-  event-head-prices (CloseOut e) legs q =
-      decided (closeOutCauses t e) (closeOutBooked t e) (refl, (refl, (refl, (refl, (refl, tt))))) (λ f. (close-out-head t head long e f, close-out-prices t head long sound e))
-  event-head-prices (CloseOfDay n) legs q =
-      decided (closeCauses t n) (closeBooked t n) (refl, (refl, tt)) (λ f. (close-head t head long n f, close-prices t head long sound wide (orders-priced t book) n))

@@ -1,65 +1,59 @@
--- What is refused changes nothing: one law of decide, for every kind of record.
-use mathlib.Core.Path.{_≡_, refl}
-use mathlib.Core.Bool.{Bool, false, not, _||_}
-use mathlib.Core.List.{List, [], _∷_}
-use Prim.Native.Nat.{ℕ}
-use Rattle.arith.specs.Alls.{All}
-use Rattle.arith.specs.Tests.{never}
-use Rattle.rules.specs.declared.answer.Answer.{Answer}
-use Rattle.rules.specs.declared.event.Event.{Event}
-use Rattle.rules.specs.declared.event.Event.the-variants.{Submit, Cancel, DayLimits, Proposal, Default, CloseOut, CloseOfDay}
-use Rattle.rules.specs.declared.event.Leg.{Leg}
-use Rattle.rules.specs.declared.event.Reading.{Reading}
-use Rattle.rules.specs.declared.event.Reading.the-variants.{Sound, Unsound}
-use Rattle.rules.specs.declared.answer.Answer.the-variants.{Accepted}
+-- What is refused changes nothing: where a cause holds the tables stay, and what is booked is accepted.
+use mathlib.Core.Path.{_≡_, refl, sym, ap, subst, _∙_}
+use mathlib.Core.Bool.{false, not, cond}
+use mathlib.Core.List.{List, [], _∷_, _++_}
+use lib.IntN.{ℤ}
+use Rattle.arith.specs.Tests.{never, by-bool}
+use Rattle.rules.specs.declared.answer.Answer.the-variants.{Accepted, TableUnsound, HeaderUnsound}
+use Rattle.rules.specs.Answers.{Outcome, told}
 use Rattle.rules.specs.Header.{headerOf, beginsWithHeader}
-use Rattle.rules.specs.Answers.{Outcome, decide}
-use Rattle.rules.specs.Ledger.{Tables, Line, members, booked, ledgerShort, linesShort, fresh}
-use Rattle.rules.specs.Records.{legsOf, readOf}
-use Rattle.rules.specs.Matching.{submitBooked}
-use Rattle.rules.specs.Synthetic.{proposalBooked}
-use Rattle.rules.specs.CloseOfDay.{closeBooked}
-use Rattle.rules.specs.Default.{defaultBooked, closeOutBooked}
-use Rattle.rules.specs.Refusals.{unsound, submitCauses, cancelCauses, dayLimitsCauses, proposalCauses, defaultCauses, closeOutCauses, closeCauses, submitSpec, cancelSpec, dayLimitsSpec, proposalSpec, defaultSpec, closeOutSpec, closeSpec, eventSpec, readingSpec, applySpec, makeSpec}
-use Rattle.rules.specs.Accounts.{isAccepted}
-use Rattle.accounts.proofs.Calls.{decide-shows}
+use Rattle.rules.specs.Ledger.{Tables, withLines, firstLines, ledgerShort, fresh}
+use Rattle.rules.specs.Refusals.{applySpec, makeSpec}
+use Rattle.rules.specs.Accounts.{Call, callSpec, after, isAccepted, linesOf, log}
+use Rattle.accounts.specs.Refused.{RefusedChangesNothing, RefusedMakesNothing, acceptedCalls, SameLedger, StrikingChangesNothing}
+use Rattle.accounts.proofs.EachKind.{decide-shows, kind-accepted, every-call}
 
--- an outcome of a call on t that leaves t where it is refused
 abbrev Leaves : Tables → Outcome Tables → Type 0
 Leaves t o = isAccepted (o .answer) ≡ false → o .after ≡ t
 
-decide-leaves : (t : Tables) (o : Outcome Tables) (causes : List (Bool × Answer)) → All (λ c. isAccepted (c .1) ≡ false) causes → Leaves t o → Leaves t (decide causes t o)
-decide-leaves t o causes r l = decide-shows (Leaves t) t o causes (λ a q _. refl) r (λ _. l)
+pub refused-changes-nothing : RefusedChangesNothing
+refused-changes-nothing = every-call Leaves (λ t a q _. refl) (λ e t legs u s n q. never (sym (kind-accepted t e legs) ∙ q))
 
--- what is booked is accepted
-booked-leaves : (t u : Tables) (ls : List Line) → Leaves t (booked ls u)
-unfolding booked
-booked-leaves t u ls e = never e
-
-event-leaves : (t : Tables) (e : Event) (legs : List Leg) → Leaves t (eventSpec t e legs)
-unfolding eventSpec submitSpec cancelSpec dayLimitsSpec proposalSpec defaultSpec closeOutSpec closeSpec submitBooked proposalBooked defaultBooked closeOutBooked closeBooked
-event-leaves t (Submit e) legs = decide-leaves t _ (submitCauses t e) (refl, (refl, (refl, (refl, (refl, (refl, (refl, (refl, (refl, tt))))))))) (booked-leaves t _ _)
-event-leaves t (Cancel e) legs = decide-leaves t _ (cancelCauses t e) (refl, (refl, tt)) (booked-leaves t _ _)
-event-leaves t (DayLimits e) legs = decide-leaves t _ (dayLimitsCauses t e) (refl, tt) (booked-leaves t _ _)
-event-leaves t (Proposal n) legs = decide-leaves t _ (proposalCauses t legs) (refl, (refl, tt)) (booked-leaves t _ _)
-event-leaves t (Default m) legs = decide-leaves t _ (defaultCauses t m) (refl, tt) (booked-leaves t _ _)
-event-leaves t (CloseOut e) legs = decide-leaves t _ (closeOutCauses t e) (refl, (refl, (refl, (refl, (refl, tt))))) (booked-leaves t _ _)
-event-leaves t (CloseOfDay s) legs = decide-leaves t _ (closeCauses t s) (refl, (refl, tt)) (λ e. never e)
-
-reading-leaves : (t : Tables) (x : Reading) (legs : List Leg) → Leaves t (readingSpec t x legs)
-unfolding readingSpec
-reading-leaves t (Sound e) legs = event-leaves t e legs
-reading-leaves t Unsound legs = λ _. refl
-
-pub refused-changes-nothing : (t : Tables) (bytes : List ℕ) → isAccepted (applySpec t bytes .answer) ≡ false → applySpec t bytes .after ≡ t
-unfolding applySpec
-refused-changes-nothing t bytes =
-    decide-leaves t (readingSpec t (readOf (members t) bytes) (legsOf bytes)) ((unsound t, _) ∷ []) (refl, tt)
-    (reading-leaves t (readOf (members t) bytes) (legsOf bytes))
-
--- after 1 or 2 no ledger is made
-pub refused-makes-nothing : (t : Tables) (bytes : List ℕ) → isAccepted (makeSpec t bytes .answer) ≡ false → makeSpec t bytes .after ≡ t
+pub refused-makes-nothing : RefusedMakesNothing
 unfolding makeSpec
 refused-makes-nothing t bytes =
-    decide-leaves t (record { answer = Accepted 0; after = fresh (headerOf bytes) t }) ((ledgerShort t, _) ∷ (not (beginsWithHeader bytes), _) ∷ []) (refl, (refl, tt))
-    (λ e. never e)
+    decide-shows (Leaves t) t (record { answer = Accepted 0; after = fresh (headerOf bytes) t }) ((ledgerShort t, TableUnsound) ∷ (not (beginsWithHeader bytes), HeaderUnsound) ∷ [])
+    (λ a q _. refl) (refl, (refl, tt)) (λ _ q. never q)
+
+-- ---- a list without its refused calls
+ledger-same : (t : Tables) → SameLedger t t
+ledger-same t = record { head = refl; prices = refl; lots = refl; value = refl; book = refl }
+
+-- with the same line table lent, the same tables
+lent-same : {t u : Tables} (l : List ℤ) → SameLedger t u → withLines l t ≡ withLines l u
+lent-same l s = λ i. record { head = s .head i; prices = s .prices i; lots = s .lots i; value = s .value i; book = s .book i; lines = l }
+
+-- a line table is no part of the ledger
+relent : {t u : Tables} (l : List ℤ) → SameLedger t u → SameLedger (withLines l t) u
+relent l s = record { head = s .head; prices = s .prices; lots = s .lots; value = s .value; book = s .book }
+
+-- t and u: the tables so far, with and without the refused calls
+struck-same : (t u : Tables) (calls : List Call) → SameLedger t u
+    → SameLedger (after t calls) (after u (acceptedCalls t calls)) × (log t calls ≡ log u (acceptedCalls t calls))
+unfolding after log acceptedCalls
+struck-same t u [] s = (s, refl)
+struck-same t u (call ∷ calls) s =
+    let o = callSpec t call in
+    let rest = acceptedCalls (o .after) calls in
+    let lines = linesOf (o .answer) (o .after .lines) in
+    by-bool (λ b. SameLedger (after (o .after) calls) (after u (cond b (call ∷ rest) rest)) × (lines ++ log (o .after) calls ≡ log u (cond b (call ∷ rest) rest)))
+    (isAccepted (o .answer))
+    (λ _. let ih = struck-same (o .after) (o .after) calls (ledger-same (o .after)) in
+    subst (λ (x : Outcome Tables). SameLedger (after (o .after) calls) (after (x .after) rest) × (lines ++ log (o .after) calls ≡ linesOf (x .answer) (x .after .lines) ++ log (x .after) rest))
+    (ap (λ v. applySpec v (call .bytes)) (lent-same (call .lines) s)) (ih .0, ap (λ ls. lines ++ ls) (ih .1)))
+    (λ e. let left = refused-changes-nothing (withLines (call .lines) t) (call .bytes) e in
+    let ih = struck-same (o .after) u calls (subst (λ v. SameLedger v u) (sym left) (relent (call .lines) s)) in
+    (ih .0, ap (λ b. cond b (firstLines (told (o .answer) .value) (o .after .lines)) [] ++ log (o .after) calls) e ∙ ih .1))
+
+pub striking-changes-nothing : StrikingChangesNothing
+striking-changes-nothing t calls = struck-same t t calls (ledger-same t)

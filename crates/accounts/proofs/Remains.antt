@@ -9,13 +9,12 @@ use lib.ListN.{length}
 use borrow.Author.Tests.{leb-false, not-true}
 use Rattle.arith.specs.Alls.{All, all-map, all-append}
 use Rattle.arith.specs.Lists.{any, kept, total}
-use Rattle.arith.specs.Tests.{by-bool, and-left, and-right}
+use Rattle.arith.specs.Tests.{by-bool, and-left, and-right, or-left, or-right}
 use Rattle.rules.specs.declared.event.Leg.{Leg}
 use Rattle.rules.specs.declared.order.Order.{Order}
 use Rattle.rules.specs.Matching.{opposes, withLots, used, matching}
 use Rattle.rules.specs.Refusals.{distinct}
 use Rattle.rules.specs.Synthetic.{usedByLegs}
-use Rattle.accounts.proofs.Calls.{or-left, or-right}
 use Rattle.accounts.proofs.Matches.{best-all, by-deals}
 
 -- ---- what is left of orders: some are gone, others rest with all of their lots or some

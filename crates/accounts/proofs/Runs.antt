@@ -7,12 +7,14 @@ use native.Mathlib.Omega.{arith}
 use lib.Dec.{ltb}
 use lib.ListN.{length, set, take, drop, replicate}
 use lib.Seq.{getD-set-other}
-use Rattle.arith.specs.Alls.{All}
+use Rattle.arith.specs.Alls.{All, all-map}
 use Rattle.arith.specs.Tests.{by-bool}
 use Rattle.rules.specs.declared.order.Order.{Order}
 use Rattle.rules.specs.Contracts.{openOn}
 use Rattle.rules.specs.Header.{Header, calendarOf}
 use Rattle.rules.specs.Ledger.{Tables, Line, firstYear, members, holidayCount, holidays, day, time, calendar, orderCount, withHead, orders, withoutSubmits, timed, lotsRun, lineRun, booked}
+use Rattle.rules.specs.Refusals.{headSound, bookSound}
+use Rattle.rules.proofs.SoundTables.{Long, SoundOrder, head-gives, book-gives, Undamaged}
 use Rattle.accounts.proofs.Heads.{SameHeader, field, changing, same-header, then-same, set-other, over-other, same-holidays}
 
 -- an order of a contract that is open on day d
@@ -43,6 +45,21 @@ pub record Sound (t : Tables) : Type 0 where
   pub few-holidays : holidayCount t ≤ 120
   pub few-members : members t ≤ 32
   pub placed : All (λ o. (o .contract < 102) × (o .member < members t)) (orders t)
+
+pub sound-parts : (t : Tables) → Long t → headSound t ≡ true → bookSound t ≡ true → Sound t
+sound-parts t long a b =
+    let head = head-gives t a in
+    record {
+      head-long = long .head;
+      lots-long = long .lots;
+      value-long = long .value;
+      few-holidays = head .holidays≤;
+      few-members = head .members-range .to;
+      placed = all-map (SoundOrder t) _ (orders t) (λ o s. (s .contract<, s .member<)) (book-gives t b .each);
+    }
+
+pub sound-of : {t : Tables} → Undamaged t → Sound t
+sound-of {t} u = sound-parts t (u .long) (u .head-sound) (u .book-sound)
 
 -- an accepted record's time leaves the header
 pub timed-same : (n : ℕ) (t : Tables) → Sound t → SameHeader 4 (t .head) (timed n t .head)

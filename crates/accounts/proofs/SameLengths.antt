@@ -1,22 +1,19 @@
 -- Every list that a record writes fits in its table: orders are 256 at most, lines 200, members 32.
-use Prim.Native.Nat.{ℕ, zero, suc, _+_, _*_, _≤_, _<_}
-use mathlib.Core.Path.{_≡_, refl, sym, ap, _∙_}
-use mathlib.Core.Bool.{Bool, true, not, cond, _&&_}
+use Prim.Native.Nat.{ℕ, suc, _*_, _≤_, _<_}
+use mathlib.Core.Path.{_≡_, refl, sym, _∙_}
+use mathlib.Core.Bool.{true, not, cond}
 use mathlib.Core.List.{List, [], _∷_, flatMap}
 use mathlib.Core.Option.{Option, none, some}
 use native.Mathlib.Omega.{arith}
 use native.Mathlib.Nat.{zero-mul, suc-mul}
-use lib.Dec.{eqb, leb, ltb}
-use lib.ListN.{length, set, replicate, length-map, length-append, length-set, length-replicate}
-use lib.IntN.{ℤ}
-use borrow.Author.Tests.{leb-true, ltb-true, eqb-true}
+use lib.Dec.{eqb, ltb}
+use lib.ListN.{length, replicate, length-map, length-append, length-set, length-replicate}
+use lib.IntN.{ℤ, pos}
 use Rattle.arith.specs.Alls.{All, all-map}
 use Rattle.arith.specs.EachBlock.{in-each-length}
-use Rattle.arith.specs.Lists.{kept, over, every}
+use Rattle.arith.specs.Lists.{kept, over}
 use Rattle.arith.specs.Overs.{over-length}
-use Rattle.arith.specs.Tests.{never, by-bool, and-left, and-right}
-use Rattle.rules.specs.declared.answer.Answer.{Answer}
-use Rattle.rules.specs.declared.event.CloseOutTerms.{CloseOutTerms}
+use Rattle.arith.specs.Tests.{never, by-bool}
 use Rattle.rules.specs.declared.event.Event.{Event}
 use Rattle.rules.specs.declared.event.Event.the-variants.{Submit, Cancel, DayLimits, Proposal, Default, CloseOut, CloseOfDay}
 use Rattle.rules.specs.declared.event.Leg.{Leg}
@@ -24,23 +21,27 @@ use Rattle.rules.specs.declared.event.Submission.{Submission}
 use Rattle.rules.specs.declared.order.Order.{Order}
 use Rattle.rules.specs.Answers.{Outcome, told}
 use Rattle.rules.specs.Contracts.{openContracts}
-use Rattle.rules.specs.Ledger.{Tables, Line, withHead, withPrices, withDayLimits, members, day, calendar, time, withTime, withMark, orders, withOrders, orderPlaces, linePlaces, lineLots, lineValue, booked, withoutSubmits, timed}
-use Rattle.rules.specs.Records.{legSound, eventSound}
+use Rattle.rules.specs.Header.{Header}
+use Rattle.rules.specs.Ledger.{Tables, Line, withHead, withPrices, withDayLimits, members, day, calendar, time, withTime, withMark, orders, withOrders, orderPlaces, linePlaces, lineLots, lineValue, booked, withoutSubmits, timed, freshHead, freshPrices, freshRows, fresh}
+use Rattle.rules.specs.Records.{eventSound}
 use Rattle.rules.specs.Matching.{Deal, dealLines, incoming, submitMatched, submitLines, submitOrders, withDeals, counted, submitBooked}
 use Rattle.rules.specs.Synthetic.{numbered, namedLegs, legLine, proposalLines, usedByLegs, proposalBooked}
-use Rattle.rules.specs.CloseOfDay.{ggfAtClose, withGgfs, withoutDeals, priced, cascaded, allCascaded, closingContracts, isOfAny, withClosed, nextDay, onDay, closeBooked}
+use Rattle.rules.specs.CloseOfDay.{withGgfs, withoutDeals, priced, cascaded, allCascaded, closingContracts, isOfAny, withClosed, onDay, closeBooked}
 use Rattle.rules.specs.Default.{defaultBooked, closeOutLines, closeOutBooked}
 use Rattle.rules.specs.Refusals.{isCancelled, applySpec}
 use Rattle.rules.specs.Accounts.{isAccepted}
+use Rattle.rules.proofs.SoundTables.{Long, Undamaged}
+use Rattle.rules.proofs.SoundEvents.{submission, proposal}
 use Rattle.accounts.specs.Lengths.{SameLengths, LengthsStay, AtMost200Lines}
 use Rattle.accounts.proofs.Runs.{orders-same}
 use Rattle.accounts.proofs.Rows.{posted-length, cascaded-length}
+use Rattle.accounts.proofs.Fresh.{Fine}
 use Rattle.accounts.proofs.Closes.{closing-today}
 use Rattle.accounts.proofs.CloseOutLines.{close-out-few}
 use Rattle.accounts.proofs.Remains.{Remain, remain-length, kept-remain, legs-remain}
-use Rattle.accounts.proofs.Books.{orders-count, submission-sound, submit-deals}
+use Rattle.accounts.proofs.Books.{orders-count, submit-deals}
 use Rattle.accounts.proofs.HeadStays.{submit-few}
-use Rattle.accounts.proofs.EachKind.{Undamaged, acceptedAs, NoCause, every-call}
+use Rattle.accounts.proofs.EachKind.{acceptedAs, NoCause, every-call}
 use Rattle.accounts.proofs.GgfStays.{written-length}
 use Rattle.accounts.proofs.Places.{written-place}
 
@@ -113,11 +114,11 @@ module _ (t : Tables) (u : Undamaged t) where
   unfolding timed
   timed-lengths n =
       by-bool (λ b. SameLengths t (cond b (withHead (withTime n (withoutSubmits t .head)) t) t)) (ltb (time t) n)
-      (λ _. head-lengths t _ (simp length-set (without-lengths t (u .sound .few-members) (u .long .head)))) (λ _. same-lengths t)
+      (λ _. head-lengths t _ (simp length-set (without-lengths t (u .head .members-range .to) (u .long .head)))) (λ _. same-lengths t)
 
   -- what remains of the orders fits
   remain-few : (os : List Order) → Remain (orders t) os → length os ≤ 256
-  remain-few os x = omega (arith, remain-length x, orders-count t, u .book .few)
+  remain-few os x = omega (arith, remain-length x, orders-count t, u .head .orders≤)
 
   -- orders and lines written in tables v, as long as t
   both-lengths : (v : Tables) (os : List Order) (ls : List Line) → SameLengths t v → length os ≤ 256 → length ls ≤ 200 → SameLengths t (booked ls (withOrders os v) .after)
@@ -129,13 +130,13 @@ module _ (t : Tables) (u : Undamaged t) where
       → SameLengths t (submitBooked t e .after) × (length (submitLines t e) ≤ 200)
   unfolding submitBooked submitLines withDeals counted
   submit-lengths e legs s n =
-      let f = submission-sound (members t) e legs s in
+      let f = submission (members t) e legs s in
       let few : length (submitLines t e) ≤ 200 =
-      omega (arith, deal-lines (incoming t e) (submitMatched t e .deals), submit-deals t e (u .book .sound), leb-true (e .lots .0) 100 (and-right (leb 1 (e .lots .0)) (leb (e .lots .0) 100) (f .4))) in
+      omega (arith, deal-lines (incoming t e) (submitMatched t e .deals), submit-deals t e (u .book-sound), f .lots .to) in
       let a = timed-lengths (e .time) in (
         both-lengths (withDeals (e .contract) (submitMatched t e .deals) (counted (e .member) (timed (e .time) t))) (submitOrders t e) (submitLines t e)
             (record { head = simp length-set (a .head); prices = simp length-set (a .prices); lots = a .lots; value = a .value; book = a .book; lines = a .lines })
-            (submit-few t (u .head) (u .long .head) e (leb-true (e .time) 86399 (f .0)) (ltb-true (e .member) (members t) (f .1)) n) few,
+            (submit-few t (u .head-sound) (u .long .head) e (f .time≤) (f .member<) n) few,
         few,
       )
 
@@ -166,7 +167,7 @@ module _ (t : Tables) (u : Undamaged t) where
   close-lengths n =
       let p = priced n t in
       let cs = closingContracts t in
-      let few = u .sound .few-members in
+      let few = u .head .members-range .to in
       let listed = all-map _ (λ c. c < 102) cs (λ c q. q .0) (closing-today t) in
       let os = kept (λ o. not (isOfAny cs o)) (orders p) in
       let w = then-lengths (priced-lengths n) (written-lengths os p (rw (orders-same t p refl refl) (remain-few _ (kept-remain _ (orders t)))) (u .long .book)) in
@@ -180,6 +181,44 @@ module _ (t : Tables) (u : Undamaged t) where
         book = w .book;
         lines = w .lines;
       }
+
+-- ---- making a ledger
+zeros-fit : (w n : ℕ) (b : List ℤ) → n ≤ w → length b ≡ w → length (over 0 (replicate n (pos 0)) b) ≡ w
+zeros-fit w n b h e = over-length 0 (replicate n (pos 0)) b (omega (arith, length-replicate {A = ℤ} n (pos 0))) ∙ e
+
+pub fresh-lengths : (h : Header) (t : Tables) → Fine h → Long t → SameLengths t (fresh h t)
+unfolding fresh freshHead freshPrices freshRows
+fresh-lengths h t f l =
+    let n = h .members in
+    let zeros : List ℕ = replicate n 0 in
+    let none = length-replicate {A = ℕ} n 0 in
+    let fields = h .firstYear ∷ n ∷ length (h .holidays) ∷ h .startDay ∷ 0 ∷ 0 ∷ 0 ∷ 0 ∷ [] in
+    let a = over 0 fields (t .head) in
+    let a-length = over-length 0 fields (t .head) (omega (arith, l .head)) in
+    let b = over 8 (h .holidays) a in
+    let b-length = over-length 8 (h .holidays) a (omega (arith, f .few-holidays, l .head)) in
+    let c = over 128 (h .limits) b in
+    let c-length = over-length 128 (h .limits) b (omega (arith, f .one-limit, f .few-members, l .head)) in
+    let d = over 160 zeros c in
+    let d-length = over-length 160 zeros c (omega (arith, f .few-members, l .head)) in
+    record {
+      head = over-length 192 zeros d (omega (arith, f .few-members, l .head)) ∙ d-length ∙ c-length ∙ b-length ∙ a-length;
+      prices = in-each-length 5 (λ five. 0 ∷ 1 ∷ 1000000 ∷ 0 ∷ 0 ∷ []) (λ _ _. refl) 102 (t .prices) (l .prices);
+      lots = in-each-length 32 (over 0 (replicate n (pos 0))) (λ b e. zeros-fit 32 n b (f .few-members) e) 102 (t .lots) (l .lots);
+      value = in-each-length 32 (over 0 (replicate n (pos 0))) (λ b e. zeros-fit 32 n b (f .few-members) e) 102 (t .value) (l .value);
+      book = refl;
+      lines = refl;
+    }
+
+-- tables that are long enough stay so
+pub stays-long : {t u : Tables} → SameLengths t u → Long t → Long u
+stays-long a l = record {
+  head = omega (arith, a .head, l .head);
+  prices = omega (arith, a .prices, l .prices);
+  lots = omega (arith, a .lots, l .lots);
+  value = omega (arith, a .value, l .value);
+  book = omega (arith, a .book, l .book);
+}
 
 -- ---- every kind
 -- lengths stay, and an accepted record's lines fit
@@ -195,8 +234,8 @@ close-fits : (t : Tables) → Undamaged t → (n : ℕ) → Fits t (closeBooked 
 unfolding closeBooked
 close-fits t u n = record { lengths = close-lengths t u n; few = λ _. omega arith }
 
-kind-fits : (e : Event) (t : Tables) (legs : List Leg) → Undamaged t → eventSound (members t) e legs ≡ true → NoCause t e legs → Fits t (acceptedAs t e legs)
-unfolding submitBooked proposalBooked proposalLines defaultBooked closeOutBooked eventSound
+pub kind-fits : (e : Event) (t : Tables) (legs : List Leg) → Undamaged t → eventSound (members t) e legs ≡ true → NoCause t e legs → Fits t (acceptedAs t e legs)
+unfolding submitBooked proposalBooked proposalLines defaultBooked closeOutBooked
 kind-fits (Submit e) t legs u s n = let a = submit-lengths t u e legs s n in booked-fits t _ (submitLines t e) (a .1) (a .0)
 kind-fits (Cancel e) t legs u s n =
     let os = kept (λ o. not (isCancelled e o)) (orders t) in
@@ -207,18 +246,14 @@ kind-fits (DayLimits e) t legs u s n =
     booked-fits t (withPrices p t) [] (omega arith) (then-lengths a (booked-lengths [] (withPrices p t) (omega arith) (u .lines)))
 kind-fits (Proposal k) t legs u s n =
     let os = usedByLegs legs (orders t) in
-    let counts = leb 2 k && leb k 12 in
-    let three = and-left (counts && eqb (length legs) k) (every legSound legs) s in
-    let twelve = leb-true k 12 (and-right (leb 2 k) (leb k 12) (and-left counts (eqb (length legs) k) three)) in
-    let few : length (proposalLines t legs) ≤ 200 =
-    omega (arith, length-map (namedLegs (orders t) legs) legLine, named-few (orders t) legs, eqb-true (length legs) k (and-right counts (eqb (length legs) k) three)) in
+    let few : length (proposalLines t legs) ≤ 200 = omega (arith, length-map (namedLegs (orders t) legs) legLine, named-few (orders t) legs, proposal (members t) k legs s .few) in
     booked-fits t _ (proposalLines t legs) few (both-lengths t u t os (proposalLines t legs) (same-lengths t) (remain-few t u os (legs-remain legs (orders t))) few)
 kind-fits (Default m) t legs u s n =
     let os = kept (λ o. not (eqb (o .member) m)) (orders t) in
     booked-fits t _ [] (omega arith)
     (both-lengths t u (withHead (withMark m (t .head)) t) os [] (head-lengths t (withMark m (t .head)) (simp length-set)) (remain-few t u os (kept-remain _ (orders t))) (omega arith))
 kind-fits (CloseOut e) t legs u s n =
-    let few : length (closeOutLines t e) ≤ 200 = omega (arith, close-out-few t e, u .sound .few-members) in
+    let few : length (closeOutLines t e) ≤ 200 = omega (arith, close-out-few t e, u .head .members-range .to) in
     booked-fits t t (closeOutLines t e) few (booked-lengths (closeOutLines t e) t few (u .lines))
 kind-fits (CloseOfDay k) t legs u s n = close-fits t u k
 

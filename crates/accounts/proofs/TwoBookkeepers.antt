@@ -6,19 +6,20 @@ use Prim.Native.Nat.{ℕ}
 use lib.Dec.{T, leb}
 use lib.ListN.{length, take}
 use lib.IntN.{ℤ, pos}
-use Rattle.arith.specs.Alls.{All}
 use Rattle.arith.specs.Ints.{when}
 use Rattle.arith.specs.Sums.{when-zero, sum-zero, sum-ext}
 use Rattle.arith.specs.Tests.{and-right, passed, failed}
-use Rattle.rules.specs.Contracts.{holdsHour, openOn, hasCascaded}
+use Rattle.rules.specs.Contracts.{holdsHour, hasCascaded}
 use Rattle.rules.specs.Header.{Header, calendarOf, sameBytes, lettersAndVersion, headerLength, headerOf, headerSound, beginsWithHeader}
-use Rattle.rules.specs.Ledger.{Tables, Line, withLines, orders, ledgerShort, fresh}
+use Rattle.rules.specs.Ledger.{Tables, Line, withLines, ledgerShort, fresh}
 use Rattle.rules.specs.Records.{readOf}
 use Rattle.rules.specs.Refusals.{makeSpec}
 use Rattle.rules.specs.Accounts.{Column, lots, value, row, Call, callSpec, after, isAccepted, linesOf, log, engineAccount, entered, otherAccount, dayAfterEvent, listsDay, Demand3}
+use Rattle.rules.proofs.SoundTables.{long-enough}
+use Rattle.accounts.specs.EveryList.{OrdersRestInOpen}
 use Rattle.accounts.proofs.Holds.{Holds, holds-same}
 use Rattle.accounts.proofs.Runs.{Runs, orders-same}
-use Rattle.accounts.proofs.Calls.{rowsOf, long-enough}
+use Rattle.accounts.proofs.Calls.{rowsOf}
 use Rattle.accounts.proofs.Events.{apply-shows}
 use Rattle.accounts.proofs.Fresh.{fine, fresh-zero, fresh-runs}
 
@@ -94,9 +95,5 @@ two-bookkeepers header t calls sound long =
       nothing-left = λ x c m l b e. a .empty x c m l b (passed _ e);
     }
 
--- after any list an order rests only in a contract that is open on the list's day
-pub orders-rest-in-open : (header : List ℕ) (t : Tables) (calls : List Call) → T (beginsWithHeader header) → T (not (ledgerShort t))
-    → let h = headerOf header in
-    let start = makeSpec t header .after in
-    All (λ o. openOn (calendarOf h) (listsDay h (h .startDay) start calls) (o .contract) ≡ true) (orders (after start calls))
+pub orders-rest-in-open : OrdersRestInOpen
 orders-rest-in-open header t calls sound long = known header t sound long calls .runs .resting

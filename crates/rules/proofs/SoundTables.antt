@@ -1,22 +1,21 @@
 -- What tables give that are neither short nor damaged. Assumes nothing.
 use Prim.Native.Nat.{ℕ, _≤_, _<_}
-use mathlib.Core.Path.{_≡_, refl}
-use mathlib.Core.Bool.{Bool, true, false, not, _&&_, _||_}
-use mathlib.Core.List.{[], _∷_, map}
+use mathlib.Core.Path.{_≡_}
+use mathlib.Core.Bool.{true, false, _||_}
+use mathlib.Core.List.{map}
 use native.Mathlib.Omega.{arith}
 use lib.Dec.{leb, ltb}
 use lib.ListN.{length}
 use borrow.Author.Tests.{leb-true, ltb-true, ltb-false, lt-ltb, le-leb, le-ltb, not-false}
 use Rattle.arith.specs.Alls.{All, all-hold, hold-all, all-map, every-all}
 use Rattle.arith.specs.Among.{every-from}
-use Rattle.arith.specs.Lists.{every, from}
+use Rattle.arith.specs.Lists.{from}
 use Rattle.arith.specs.Tests.{and-left, and-right, or-left, or-right, passed, passes}
 use Rattle.rules.specs.declared.order.Order.{Order}
 use Rattle.rules.specs.Ranges.{contractCount, lastSecond, mostHolidays, mostMembers, mostLimit, mostOrders, mostPrice, mostLots, mostSubmitsInSecond, mostLotsRun, mostAcceptedSubmits}
-use Rattle.rules.specs.Days.{inSpan, businessDay}
+use Rattle.rules.specs.Days.{inSpan}
 use Rattle.rules.specs.Header.{calendarSound, daySound}
 use Rattle.rules.specs.Ledger.{Tables, members, holidayCount, day, time, acceptedSubmits, lotsRun, orderCount, limit, mark, submitsThisSecond, calendar, headLength, pricesLength, rowsLength, bookLength, linesLength, orders, ledgerShort, linesShort}
-use Rattle.rules.specs.Records.{contractSound, priceSound, lotsSound}
 use Rattle.rules.specs.Refusals.{memberSound, headSound, pricesSound, rowsSound, orderSound, sidesSound, distinct, bookSound, damaged, unsound}
 use Rattle.rules.proofs.SoundEvents.{InRange, price-in-range, lots-in-range, contract-below}
 
