@@ -24,10 +24,11 @@ use Rattle.rules.specs.Ledger.{Tables, Line, members, lotsRun, rowPlace, lineRu
 use Rattle.rules.specs.CloseOfDay.{cascaded, allCascaded, withClosed}
 use Rattle.rules.specs.Refusals.{everyRow, rowsSound}
 use Rattle.rules.specs.Accounts.{Column, lots, value, row, amount}
+use Rattle.rules.proofs.SoundHeaders.{SoundHeader}
 use Rattle.accounts.proofs.Lines.{rowTotal}
 use Rattle.accounts.proofs.Rows.{cascaded-month, cascaded-length, cascaded-row}
 use Rattle.accounts.proofs.Cascade.{year-no-child, quarter-child, month-child}
-use Rattle.accounts.proofs.Fresh.{Fine, fresh-zero, fresh-runs}
+use Rattle.accounts.proofs.Fresh.{fresh-zero, fresh-runs}
 
 -- ---- the bound
 -- a member's absolute rows of the year, the quarter and the month that hold month i, together
@@ -168,11 +169,11 @@ unfolding rowsSound
 rows-sound t a = rw (column-sound (members t) (lotsRun t) (t .lots) (rw (one-mul (lotsRun t)) at (a lots)), column-sound (members t) (1000000 * lotsRun t) (t .value) (a value))
 
 -- ---- the fresh ledger
-pub bounded-fresh : (h : Header) (t : Tables) → Fine h → 3264 ≤ length (t .lots) → 3264 ≤ length (t .value) → (x : Column) → Bounded (h .members) 0 (row x (fresh h t))
+pub bounded-fresh : (h : Header) (t : Tables) → SoundHeader h → 3264 ≤ length (t .lots) → 3264 ≤ length (t .value) → (x : Column) → Bounded (h .members) 0 (row x (fresh h t))
 bounded-fresh h t f s v x =
     bounded-same (λ c m k q. fresh-zero h t f s v x c m k q) (record { within = λ m i q k. omega arith })
 
-pub within-fresh : (h : Header) (t : Tables) → Fine h → 224 ≤ length (t .head) → 3264 ≤ length (t .lots) → 3264 ≤ length (t .value) → WithinRun (fresh h t)
+pub within-fresh : (h : Header) (t : Tables) → SoundHeader h → 224 ≤ length (t .head) → 3264 ≤ length (t .lots) → 3264 ≤ length (t .value) → WithinRun (fresh h t)
 within-fresh h t f k s v x =
     subst (λ n. Bounded n (weight x * lotsRun (fresh h t)) (row x (fresh h t))) (sym (fresh-runs h t f k .size))
     (record { within = λ m i q l. omega (arith, bounded-fresh h t f s v x .within m i q l) })

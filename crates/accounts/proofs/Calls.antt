@@ -53,4 +53,3 @@ booked-does h d ls t t′ r s a o e v f =
           (λ x c m l b. booked-row (h .members) ls t t′ s few (f .fits) e v x c m (omega arith))
           (holds-posted h (rowsOf t) log ls (hasCascaded (calendarOf h) d) f p));
     }
-

@@ -81,7 +81,9 @@ module _ (k : Calendar) (d : ℕ) where
   children-clear K c z o b e v = true-or (K e) (λ t. never (absurd (go (cascading c b) (z e t)))) (λ t. t)
     where
       go : Cascading c → (e % 17 < 5) × (stillToClose k (suc d) (termOf e) ≡ false) → ⊥
-      go (year y is) f = by-among (λ q. q ≡ true → ⊥) (c + 1) 4 e (λ l u _. never (sym (quarter-later-by-number k d c e y (omega arith) (omega arith) (closes-today k d (termOf c) o)) ∙ f .1)) (λ _ q. never (sym q)) (rw is at v)
+      go (year y is) f =
+          let today = closes-today k d (termOf c) o in
+          by-among (λ q. q ≡ true → ⊥) (c + 1) 4 e (λ l u _. never (sym (quarter-later-by-number k d c e y (omega arith) (omega arith) today) ∙ f .1)) (λ _ q. never (sym q)) (rw is at v)
       go (quarter p q is) f =
           by-among (λ w. w ≡ true → ⊥) (firstMonthOf c) 3 e (λ l u _. let same : e / 17 ≡ c / 17 = omega arith in omega (arith, f .0)) (λ _ w. never (sym w)) (rw is at v)
 
@@ -240,7 +242,8 @@ pub day-is : (x : ℕ) (v : Tables) → 224 ≤ length (v .head) → day (onDay 
 unfolding onDay withoutSubmits
 day-is x v b =
     let l = over 192 (replicate (members v) 0) (v .head) in
-    getD-set-other (set l 3 x) 4 3 0 0 (λ e. omega arith) ∙ getD-set-same l 3 x 0 (omega (arith, over-other 3 (v .head) (replicate (members v) 0) 192 (omega arith) (omega arith) (omega arith) .longer))
+    let longer = over-other 3 (v .head) (replicate (members v) 0) 192 (omega arith) (omega arith) (omega arith) .longer in
+    getD-set-other (set l 3 x) 4 3 0 0 (λ e. omega arith) ∙ getD-set-same l 3 x 0 (omega (arith, longer))
 
 day-orders : (x : ℕ) (v : Tables) → 224 ≤ length (v .head) → members v ≤ 32 → orders (onDay x v) ≡ orders v
 unfolding onDay withoutSubmits
@@ -327,6 +330,7 @@ module _ (h : Header) (d : ℕ) (t : Tables) (r : Runs h d t) (s : Sound t) (n :
               (orders-closed (InOpen h d) cs u (omega (arith, s .head-long)) (rw (orders-same t u refl refl) (r .resting)))));
           holds = λ log p. rw (append-nil log)
               (holds-fewer h (rowsOf (onDay (nextDay t) v)) log (closedBy cs (hasCascaded (calendarOf h) d)) (hasCascaded (calendarOf h) (x .0)) cascaded-next
-              (holds-same h (rowsOf (allRowsCascaded cs u)) (rowsOf (onDay (nextDay t) v)) log (closedBy cs (hasCascaded (calendarOf h) d)) (λ q c m _ _. day-rows (nextDay t) v q c m ∙ closed-rows cs u q c m)
+              (holds-same h (rowsOf (allRowsCascaded cs u)) (rowsOf (onDay (nextDay t) v)) log (closedBy cs (hasCascaded (calendarOf h) d))
+              (λ q c m _ _. day-rows (nextDay t) v q c m ∙ closed-rows cs u q c m)
               (evening-all h d t r s log cs u (hasCascaded (calendarOf h) d) closing-all (evening log p) .holds)));
         }

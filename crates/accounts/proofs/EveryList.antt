@@ -7,15 +7,16 @@ use native.Mathlib.Nat.{zero-add}
 use lib.Dec.{T}
 use lib.IntN.{ℤ}
 use Rattle.arith.specs.Lists.{from}
-use Rattle.arith.specs.Tests.{failed}
+use Rattle.arith.specs.Tests.{passed, failed}
 use Rattle.rules.specs.Header.{headerOf, beginsWithHeader}
 use Rattle.rules.specs.Ledger.{Tables, withLines, ggf, lotsRun, orders, lineRun, ledgerShort, fresh}
 use Rattle.rules.specs.Refusals.{applySpec, makeSpec}
 use Rattle.rules.specs.Accounts.{Call, callSpec, after, log}
 use Rattle.rules.proofs.SoundTables.{Long, long-enough}
-use Rattle.accounts.proofs.Fresh.{Fine, fine, counts-of}
+use Rattle.rules.proofs.SoundHeaders.{SoundHeader, header-gives, begun}
+use Rattle.accounts.proofs.Fresh.{counts-of}
 use Rattle.accounts.proofs.Runs.{orders-same}
-use Rattle.accounts.proofs.TwoBookkeepers.{made, begun, known}
+use Rattle.accounts.proofs.TwoBookkeepers.{made, known}
 use Rattle.accounts.specs.EveryList.{Uncrossed, NoneDefaulted, NeverCrossed, DefaultedNeverRest, RunIsLogged, DayIsTheLists, GgfNeverLost}
 use Rattle.accounts.proofs.Crossed.{apply-uncrossed}
 use Rattle.accounts.proofs.Marks.{apply-marks}
@@ -29,17 +30,17 @@ module _ (I : Tables → Type 0) (lent : (l : List ℤ) (t : Tables) → I t →
   kept-after (call ∷ calls) t a = kept-after calls (callSpec t call .after) (kept (withLines (call .lines) t) (call .bytes) (lent (call .lines) t a))
 
   pub kept-always : (header : List ℕ) (t : Tables) (calls : List Call) (b : T (beginsWithHeader header)) (long : T (not (ledgerShort t)))
-      → (Fine (headerOf header) → Long t → I (fresh (headerOf header) t)) → I (after (makeSpec t header .after) calls)
+      → (SoundHeader (headerOf header) → Long t → I (fresh (headerOf header) t)) → I (after (makeSpec t header .after) calls)
   kept-always header t calls b long f =
       kept-after calls (makeSpec t header .after)
-      (subst I (sym (made header t b long)) (f (fine (headerOf header) (begun header b)) (long-enough t (failed (ledgerShort t) long))))
+      (subst I (sym (made header t b long)) (f (header-gives (headerOf header) (begun header (passed _ b))) (long-enough t (failed (ledgerShort t) long))))
 
 -- no order rests in a fresh ledger
-fresh-empty : (header : List ℕ) (t : Tables) → Fine (headerOf header) → Long t → orders (fresh (headerOf header) t) ≡ []
+fresh-empty : (header : List ℕ) (t : Tables) → SoundHeader (headerOf header) → Long t → orders (fresh (headerOf header) t) ≡ []
 unfolding fresh orders from
 fresh-empty header t f l = rw (counts-of (headerOf header) f (t .head) (l .head) .3)
 
-fresh-run : (header : List ℕ) (t : Tables) → Fine (headerOf header) → Long t → lotsRun (fresh (headerOf header) t) ≡ 0
+fresh-run : (header : List ℕ) (t : Tables) → SoundHeader (headerOf header) → Long t → lotsRun (fresh (headerOf header) t) ≡ 0
 unfolding fresh
 fresh-run header t f l = counts-of (headerOf header) f (t .head) (l .head) .2
 
@@ -59,7 +60,7 @@ pub run-is-logged : RunIsLogged
 run-is-logged header t calls b long =
     let h = headerOf header in
     let start = makeSpec t header .after in
-    let zero = ap lotsRun (made header t b long) ∙ fresh-run header t (fine h (begun header b)) (long-enough t (failed (ledgerShort t) long)) in
+    let zero = ap lotsRun (made header t b long) ∙ fresh-run header t (header-gives h (begun header (passed _ b))) (long-enough t (failed (ledgerShort t) long)) in
     run-after calls start ∙ ap (λ n. n + lineRun (log start calls)) zero ∙ zero-add (lineRun (log start calls))
 
 pub ggf-never-lost : GgfNeverLost

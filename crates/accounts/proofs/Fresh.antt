@@ -1,48 +1,19 @@
 -- A ledger made from a sound header: its head says the header, its book is empty, its rows are zero.
 use mathlib.Core.Path.{_≡_, sym, ap, _∙_}
-use mathlib.Core.Bool.{true, _&&_}
 use mathlib.Core.List.{List, [], _∷_, _++_}
 use Prim.Native.Nat.{ℕ, zero, suc, _+_, _*_, _≤_, _<_}
 use native.Mathlib.Omega.{arith}
 use native.Mathlib.Nat.{suc-mul, zero-add}
-use lib.Dec.{eqb, leb}
 use lib.ListN.{length, getD, take, drop, replicate, length-take, length-drop, length-replicate, getD-replicate, List·getD-append}
 use lib.Seq.{getD-append-add, getD-take, getD-drop, ext-getD}
 use lib.IntN.{ℤ, pos}
-use borrow.Author.Tests.{leb-true, eqb-true}
-use Rattle.arith.specs.Lists.{over, inEachBlock, every, from}
+use Rattle.arith.specs.Lists.{over, inEachBlock, from}
 use Rattle.arith.specs.Overs.{over-length, over-inside, over-outside}
-use Rattle.arith.specs.Tests.{and-left, and-right}
-use Rattle.rules.specs.Header.{Header, calendarOf, calendarSound, daySound, membersSound, limitSound, rising, headerSound}
-use Rattle.rules.specs.Days.{inSpan}
+use Rattle.rules.specs.Header.{Header}
 use Rattle.rules.specs.Ledger.{Tables, members, holidays, orders, freshHead, freshRows, fresh}
 use Rattle.rules.specs.Accounts.{Column, lots, value, row}
+use Rattle.rules.proofs.SoundHeaders.{SoundHeader}
 use Rattle.accounts.proofs.Runs.{Runs}
-
--- what a sound header shows of itself
-pub record Fine (h : Header) : Type 0 where
-  pub few-members : h .members ≤ 32
-  pub few-holidays : length (h .holidays) ≤ 120
-  pub one-limit : length (h .limits) ≡ h .members
-
-pub fine : (h : Header) → headerSound h ≡ true → Fine h
-unfolding headerSound calendarSound
-fine h e =
-    let k = calendarOf h in
-    let days = calendarSound k in
-    let start = daySound k (h .startDay) in
-    let members = membersSound (h .members) in
-    let limits = eqb (length (h .limits)) (h .members) in
-    let four = and-left (days && start && members && limits) (every limitSound (h .limits)) e in
-    let three = and-left (days && start && members) limits four in
-    let years = leb 2020 (h .firstYear) && leb (h .firstYear) 2094 in
-    let few = leb (length (h .holidays)) 120 in
-    record {
-      few-members = leb-true (h .members) 32 (and-right (leb 1 (h .members)) (leb (h .members) 32) (and-right (days && start) members three));
-      few-holidays = leb-true (length (h .holidays)) 120 (and-right years few (and-left (years && few) (rising (h .holidays)) (and-left (years && few && rising (h .holidays)) (every (inSpan k) (h .holidays))
-          (and-left days start (and-left (days && start) members three)))));
-      one-limit = eqb-true (length (h .limits)) (h .members) (and-right (days && start && members) limits four);
-    }
 
 -- ---- rows
 module _ (n : ℕ) (l : List ℤ) (b : n ≤ 32) (s : 32 ≤ length l) where
@@ -66,13 +37,13 @@ fresh-row n (suc cs) l (suc c) m b s k q =
     ap (λ p. getD (first ++ rest) p (pos 0)) (omega (arith, zero-block n l b long, suc-mul c 32)) ∙ getD-append-add first rest (c * 32 + m) (pos 0)
     ∙ fresh-row n cs (drop 32 l) c m b (simp length-drop (omega (arith, suc-mul cs 32))) (omega arith) q
 
-pub fresh-zero : (h : Header) (t : Tables) → Fine h → 3264 ≤ length (t .lots) → 3264 ≤ length (t .value) → (x : Column) (c m : ℕ) → c < 102 → m < h .members → row x (fresh h t) c m ≡ pos 0
+pub fresh-zero : (h : Header) (t : Tables) → SoundHeader h → 3264 ≤ length (t .lots) → 3264 ≤ length (t .value) → (x : Column) (c m : ℕ) → c < 102 → m < h .members → row x (fresh h t) c m ≡ pos 0
 unfolding fresh freshRows
-fresh-zero h t f a v lots c m b q = fresh-row (h .members) 102 (t .lots) c m (f .few-members) a b q
-fresh-zero h t f a v value c m b q = fresh-row (h .members) 102 (t .value) c m (f .few-members) v b q
+fresh-zero h t f a v lots c m b q = fresh-row (h .members) 102 (t .lots) c m (f .members-range .to) a b q
+fresh-zero h t f a v value c m b q = fresh-row (h .members) 102 (t .value) c m (f .members-range .to) v b q
 
 -- ---- the head: fields, holidays, limits, marks and counts are written one part after the other
-module _ (h : Header) (f : Fine h) (l : List ℕ) (long : 224 ≤ length l) where
+module _ (h : Header) (f : SoundHeader h) (l : List ℕ) (long : 224 ≤ length l) where
   fields : List ℕ
   fields = h .firstYear ∷ h .members ∷ length (h .holidays) ∷ h .startDay ∷ 0 ∷ 0 ∷ 0 ∷ 0 ∷ []
 
@@ -101,32 +72,32 @@ module _ (h : Header) (f : Fine h) (l : List ℕ) (long : 224 ≤ length l) wher
 
   length₁ : length h₁ ≡ length l
   unfolding h₁
-  length₁ = over-length 8 (h .holidays) h₀ (omega (arith, f .few-holidays, length₀)) ∙ length₀
+  length₁ = over-length 8 (h .holidays) h₀ (omega (arith, f .holidays≤, length₀)) ∙ length₀
 
   length₂ : length h₂ ≡ length l
   unfolding h₂
-  length₂ = over-length 128 (h .limits) h₁ (omega (arith, f .few-members, f .one-limit, length₁)) ∙ length₁
+  length₂ = over-length 128 (h .limits) h₁ (omega (arith, f .members-range .to, f .one-limit, length₁)) ∙ length₁
 
   length₃ : length h₃ ≡ length l
   unfolding h₃
-  length₃ = over-length 160 zeros h₂ (omega (arith, f .few-members, zeros-length, length₂)) ∙ length₂
+  length₃ = over-length 160 zeros h₂ (omega (arith, f .members-range .to, zeros-length, length₂)) ∙ length₂
 
-  head-length : length (freshHead h l) ≡ length l
+  pub head-length : length (freshHead h l) ≡ length l
   unfolding freshHead h₃ h₂ h₁ h₀ zeros fields
-  head-length = over-length 192 zeros h₃ (omega (arith, f .few-members, zeros-length, length₃)) ∙ length₃
+  head-length = over-length 192 zeros h₃ (omega (arith, f .members-range .to, zeros-length, length₃)) ∙ length₃
 
   -- below the limits' places
   front-of : (i : ℕ) → i < 128 → getD (freshHead h l) i 0 ≡ getD h₁ i 0
   unfolding freshHead h₃ h₂ h₁ h₀ zeros fields
   front-of i b =
-      over-outside 192 zeros h₃ (omega (arith, f .few-members, zeros-length, length₃)) i 0 (λ q. absurd (omega arith))
-      ∙ over-outside 160 zeros h₂ (omega (arith, f .few-members, zeros-length, length₂)) i 0 (λ q. absurd (omega arith))
-      ∙ over-outside 128 (h .limits) h₁ (omega (arith, f .few-members, f .one-limit, length₁)) i 0 (λ q. absurd (omega arith))
+      over-outside 192 zeros h₃ (omega (arith, f .members-range .to, zeros-length, length₃)) i 0 (λ q. absurd (omega arith))
+      ∙ over-outside 160 zeros h₂ (omega (arith, f .members-range .to, zeros-length, length₂)) i 0 (λ q. absurd (omega arith))
+      ∙ over-outside 128 (h .limits) h₁ (omega (arith, f .members-range .to, f .one-limit, length₁)) i 0 (λ q. absurd (omega arith))
 
   field-of : (i : ℕ) → i < 8 → getD (freshHead h l) i 0 ≡ getD fields i 0
   unfolding h₁ h₀ fields
   field-of i b =
-      front-of i (omega arith) ∙ over-outside 8 (h .holidays) h₀ (omega (arith, f .few-holidays, length₀)) i 0 (λ q. absurd (omega arith))
+      front-of i (omega arith) ∙ over-outside 8 (h .holidays) h₀ (omega (arith, f .holidays≤, length₀)) i 0 (λ q. absurd (omega arith))
       ∙ ap (λ p. getD h₀ p 0) (sym (zero-add i)) ∙ over-inside 0 fields l (omega arith) i 0 (omega arith)
 
   holidays-of : take (length (h .holidays)) (drop 8 (freshHead h l)) ≡ h .holidays
@@ -134,11 +105,11 @@ module _ (h : Header) (f : Fine h) (l : List ℕ) (long : 224 ≤ length l) wher
   holidays-of =
       ext-getD 0 (take (length (h .holidays)) (drop 8 (freshHead h l))) (h .holidays) length-of
       (λ i b. let q : i < length (h .holidays) = omega (arith, length-of) in
-      getD-take (length (h .holidays)) (drop 8 (freshHead h l)) i 0 q ∙ getD-drop 8 (freshHead h l) i 0 ∙ front-of (8 + i) (omega (arith, f .few-holidays))
-      ∙ over-inside 8 (h .holidays) h₀ (omega (arith, f .few-holidays, length₀)) i 0 q)
+      getD-take (length (h .holidays)) (drop 8 (freshHead h l)) i 0 q ∙ getD-drop 8 (freshHead h l) i 0 ∙ front-of (8 + i) (omega (arith, f .holidays≤))
+      ∙ over-inside 8 (h .holidays) h₀ (omega (arith, f .holidays≤, length₀)) i 0 q)
     where
       length-of : length (take (length (h .holidays)) (drop 8 (freshHead h l))) ≡ length (h .holidays)
-      length-of = simp (length-take, length-drop) (omega (arith, f .few-holidays, head-length))
+      length-of = simp (length-take, length-drop) (omega (arith, f .holidays≤, head-length))
 
   -- time and counts are 0
   pub counts-of : (getD (freshHead h l) 4 0 ≡ 0) × (getD (freshHead h l) 5 0 ≡ 0) × (getD (freshHead h l) 6 0 ≡ 0) × (getD (freshHead h l) 7 0 ≡ 0)
@@ -154,22 +125,22 @@ module _ (h : Header) (f : Fine h) (l : List ℕ) (long : 224 ≤ length l) wher
     pub limit-of : getD (freshHead h l) (128 + m) 0 ≡ getD (h .limits) m 0
     unfolding freshHead h₃ h₂ h₁ h₀ zeros fields
     limit-of =
-        over-outside 192 zeros h₃ (omega (arith, f .few-members, zeros-length, length₃)) (128 + m) 0 (λ q. absurd (omega (arith, f .few-members)))
-        ∙ over-outside 160 zeros h₂ (omega (arith, f .few-members, zeros-length, length₂)) (128 + m) 0 (λ q. absurd (omega (arith, f .few-members)))
-        ∙ over-inside 128 (h .limits) h₁ (omega (arith, f .few-members, f .one-limit, length₁)) m 0 (omega (arith, f .one-limit))
+        over-outside 192 zeros h₃ (omega (arith, f .members-range .to, zeros-length, length₃)) (128 + m) 0 (λ q. absurd (omega (arith, f .members-range .to)))
+        ∙ over-outside 160 zeros h₂ (omega (arith, f .members-range .to, zeros-length, length₂)) (128 + m) 0 (λ q. absurd (omega (arith, f .members-range .to)))
+        ∙ over-inside 128 (h .limits) h₁ (omega (arith, f .members-range .to, f .one-limit, length₁)) m 0 (omega (arith, f .one-limit))
 
     pub mark-of : getD (freshHead h l) (160 + m) 0 ≡ 0
     unfolding freshHead h₃ h₂ h₁ h₀ zeros fields
     mark-of =
-        over-outside 192 zeros h₃ (omega (arith, f .few-members, zeros-length, length₃)) (160 + m) 0 (λ q. absurd (omega (arith, f .few-members)))
-        ∙ over-inside 160 zeros h₂ (omega (arith, f .few-members, zeros-length, length₂)) m 0 (omega (arith, zeros-length)) ∙ getD-replicate (h .members) m 0 0 m<
+        over-outside 192 zeros h₃ (omega (arith, f .members-range .to, zeros-length, length₃)) (160 + m) 0 (λ q. absurd (omega (arith, f .members-range .to)))
+        ∙ over-inside 160 zeros h₂ (omega (arith, f .members-range .to, zeros-length, length₂)) m 0 (omega (arith, zeros-length)) ∙ getD-replicate (h .members) m 0 0 m<
 
     pub submits-of : getD (freshHead h l) (192 + m) 0 ≡ 0
     unfolding freshHead h₃ h₂ h₁ h₀ zeros fields
-    submits-of = over-inside 192 zeros h₃ (omega (arith, f .few-members, zeros-length, length₃)) m 0 (omega (arith, zeros-length)) ∙ getD-replicate (h .members) m 0 0 m<
+    submits-of = over-inside 192 zeros h₃ (omega (arith, f .members-range .to, zeros-length, length₃)) m 0 (omega (arith, zeros-length)) ∙ getD-replicate (h .members) m 0 0 m<
 
 -- the fresh ledger, on its start day
-pub fresh-runs : (h : Header) (t : Tables) → Fine h → 224 ≤ length (t .head) → Runs h (h .startDay) (fresh h t)
+pub fresh-runs : (h : Header) (t : Tables) → SoundHeader h → 224 ≤ length (t .head) → Runs h (h .startDay) (fresh h t)
 unfolding fresh fields orders from
 fresh-runs h t f b =
     let field : (i : ℕ) → i < 8 → getD (freshHead h (t .head)) i 0 ≡ getD (fields h f (t .head) b) i 0 = field-of h f (t .head) b in

@@ -121,7 +121,8 @@ set-found l d j v c a b = getD-set-other l (d * 5 + j) (c * 5) v 0 (λ e. omega 
 kind-found : (e : Event) (t : Tables) (legs : List Leg) → Undamaged t → eventSound (members t) e legs ≡ true → NoCause t e legs → Found t (acceptedAs t e legs .after)
 unfolding submitBooked withDeals counted withOrders proposalBooked defaultBooked closeOutBooked booked
 kind-found (Submit e) t legs u s n c h g =
-    rw (set-found (set _ _ _) (e .contract) 4 _ c (omega arith) (omega arith), set-found _ (e .contract) 3 _ c (omega arith) (omega arith), timed-prices t (u .head-sound) (u .long .head) (u .prices-sound) (e .time)) g
+    let same = timed-prices t (u .head-sound) (u .long .head) (u .prices-sound) (e .time) in
+    rw (set-found (set _ _ _) (e .contract) 4 _ c (omega arith) (omega arith), set-found _ (e .contract) 3 _ c (omega arith) (omega arith), same) g
 kind-found (Cancel e) t legs u s n c h g = rw (timed-prices t (u .head-sound) (u .long .head) (u .prices-sound) (e .time)) g
 kind-found (DayLimits e) t legs u s n c h g = rw (set-found (set _ _ _) (e .contract) 2 _ c (omega arith) (omega arith), set-found _ (e .contract) 1 _ c (omega arith) (omega arith)) g
 kind-found (Proposal k) t legs u s n c h g = g

@@ -8,9 +8,9 @@ use lib.Dec.{eqb, leb, ltb}
 use lib.ListN.{length, getD, set, take, drop, replicate, length-append, length-replicate, getD-replicate}
 use lib.Seq.{getD-set-same, getD-set-other, set-out}
 use borrow.Author.Tests.{leb-true, leb-false, ltb-false, le-leb, lt-ltb, le-ltb, not-false}
-use Rattle.arith.specs.Alls.{All, all-hold, hold-all, all-map, every-all, all-place}
+use Rattle.arith.specs.Alls.{All, all-hold, hold-all, all-place}
 use Rattle.arith.specs.Among.{every-from, from-every}
-use Rattle.arith.specs.Lists.{every, kept, total, over}
+use Rattle.arith.specs.Lists.{kept, total, over}
 use Rattle.arith.specs.Overs.{over-inside, over-outside}
 use Rattle.arith.specs.Tests.{never, by-bool, le-or-lt, same-or, and-left, and-right, passed, passes, or-left, or-right}
 use Rattle.rules.specs.declared.event.CloseOutTerms.{CloseOutTerms}
@@ -21,19 +21,20 @@ use Rattle.rules.specs.declared.units.Day.{Day}
 use Rattle.rules.specs.declared.units.Day.the-variants.{On, NoDay}
 use Rattle.rules.specs.Days.{businessDay, spanStart, dayAfterSpan, inSpan, nextBusinessDay}
 use Rattle.rules.specs.CalendarLaws.{next-business}
-use Rattle.rules.specs.Header.{Header, calendarOf, calendarSound, membersSound, limitSound, daySound, headerSound}
+use Rattle.rules.specs.Header.{Header, calendarOf, calendarSound, membersSound, daySound}
 use Rattle.rules.specs.Ledger.{Tables, Line, withHead, withPrices, members, holidayCount, day, time, acceptedSubmits, lotsRun, orderCount, limit, mark, submitsThisSecond, calendar, orders, withOrders, lineRun, booked, withoutSubmits, timed, freshHead, fresh}
 use Rattle.rules.specs.Matching.{withLots, matched, incoming, submitLines, wouldRest, submitsAt, submitOrders, withDeals, submitMatched, counted, submitBooked}
 use Rattle.rules.specs.Synthetic.{proposalLines, usedByLegs, proposalBooked}
 use Rattle.rules.specs.Default.{defaultBooked, closeOutLines, closeOutBooked}
 use Rattle.rules.specs.CloseOfDay.{closingContracts, isOfAny, withClosed, priced, hasNextDay, nextDay, onDay, closeBooked}
 use Rattle.rules.specs.Refusals.{memberSound, headSound, submitCauses, proposalCauses, closeOutCauses, closeCauses}
+use Rattle.rules.proofs.SoundHeaders.{SoundHeader}
 use Rattle.accounts.proofs.Heads.{SameHeader, OtherPlace, field, changing, ofMember, same-header, then-same, set-other, over-other, same-holidays}
 use Rattle.accounts.proofs.Runs.{runs-calendar}
 use Rattle.accounts.proofs.Remains.{Remain, remain-length, kept-remain, legs-remain, matching-remain}
 use Rattle.accounts.proofs.Books.{orders-count}
 use Rattle.accounts.proofs.Closes.{day-is}
-use Rattle.accounts.proofs.Fresh.{Fine, fine, counts-of, holiday-count-of, limit-of, mark-of, submits-of, fresh-runs}
+use Rattle.accounts.proofs.Fresh.{counts-of, holiday-count-of, limit-of, mark-of, submits-of, fresh-runs}
 
 -- ---- the places that records change, and the most that may stand at each
 pub data Place (n i : ℕ) : Type 0 where
@@ -361,32 +362,24 @@ module _ (t : Tables) (sound : headSound t ≡ true) (long : 224 ≤ length (t .
       (ap (daySound (calendar t)) (day-is (nextDay t) v (omega (arith, stays-closed (closingContracts t) (priced n t) (unchanged 3) .header .longer))) ∙ next-sound (not-false _ (f .1 .0)))
 
 -- ---- the fresh ledger
-fresh-in-range : (h : Header) (l : List ℕ) → Fine h → All (λ x. x ≤ 100000) (h .limits) → 224 ≤ length l → InRange (h .members) (freshHead h l)
+fresh-in-range : (h : Header) (l : List ℕ) → SoundHeader h → 224 ≤ length l → InRange (h .members) (freshHead h l)
 unfolding most
-fresh-in-range h l f a long i (ofTime e) = rw (e, counts-of h f l long .0) (omega arith)
-fresh-in-range h l f a long i (ofAccepted e) = rw (e, counts-of h f l long .1) (omega arith)
-fresh-in-range h l f a long i (ofRun e) = rw (e, counts-of h f l long .2) (omega arith)
-fresh-in-range h l f a long i (ofOrders e) = rw (e, counts-of h f l long .3) (omega arith)
-fresh-in-range h l f a long i (ofLimit m b e) = rw (e, most-limit m (omega (arith, f .few-members)), limit-of h f l long m b) (all-place (λ x. x ≤ 100000) 0 (h .limits) a m (omega (arith, f .one-limit)))
-fresh-in-range h l f a long i (ofMark m b e) = rw (e, mark-of h f l long m b) (omega arith)
-fresh-in-range h l f a long i (ofSubmits m b e) = rw (e, submits-of h f l long m b) (omega arith)
+fresh-in-range h l f long i (ofTime e) = rw (e, counts-of h f l long .0) (omega arith)
+fresh-in-range h l f long i (ofAccepted e) = rw (e, counts-of h f l long .1) (omega arith)
+fresh-in-range h l f long i (ofRun e) = rw (e, counts-of h f l long .2) (omega arith)
+fresh-in-range h l f long i (ofOrders e) = rw (e, counts-of h f l long .3) (omega arith)
+fresh-in-range h l f long i (ofLimit m b e) =
+    rw (e, most-limit m (omega (arith, f .members-range .to)), limit-of h f l long m b) (all-place (λ x. x ≤ 100000) 0 (h .limits) (f .limits≤) m (omega (arith, f .one-limit)))
+fresh-in-range h l f long i (ofMark m b e) = rw (e, mark-of h f l long m b) (omega arith)
+fresh-in-range h l f long i (ofSubmits m b e) = rw (e, submits-of h f l long m b) (omega arith)
 
-pub fresh-head : (h : Header) (t : Tables) → headerSound h ≡ true → 224 ≤ length (t .head) → headSound (fresh h t) ≡ true
-unfolding headerSound fresh
-fresh-head h t e long =
+pub fresh-head : (h : Header) (t : Tables) → SoundHeader h → 224 ≤ length (t .head) → headSound (fresh h t) ≡ true
+unfolding fresh
+fresh-head h t f long =
     let k = calendarOf h in
-    let f = fine h e in
     let r = fresh-runs h t f long in
-    let days = calendarSound k in
-    let start = daySound k (h .startDay) in
-    let size = membersSound (h .members) in
-    let limits = eqb (length (h .limits)) (h .members) in
-    let four = and-left (days && start && size && limits) (every limitSound (h .limits)) e in
-    let three = and-left (days && start && size) limits four in
-    let two = and-left (days && start) size three in
-    let small = all-map (λ x. limitSound x ≡ true) (λ x. x ≤ 100000) (h .limits) (λ x q. leb-true x 100000 q)
-    (every-all limitSound (h .limits) (and-right (days && start && size && limits) (every limitSound (h .limits)) e)) in
-    head-shows (fresh h t) (le-leb (holidayCount (fresh h t)) 120 (omega (arith, holiday-count-of h f (t .head) long, f .few-holidays)))
-    (ap calendarSound (runs-calendar r) ∙ and-left days start two) (ap membersSound (r .size) ∙ and-right (days && start) size three)
-    (ap (λ x. daySound x (day (fresh h t))) (runs-calendar r) ∙ ap (daySound k) (r .today) ∙ and-right days start two)
-    (rw (r .size) (fresh-in-range h (t .head) f small long))
+    let m = h .members in
+    let size : membersSound m ≡ true = rw (le-leb 1 m (f .members-range .from)) (le-leb m 32 (f .members-range .to)) in
+    head-shows (fresh h t) (le-leb (holidayCount (fresh h t)) 120 (omega (arith, holiday-count-of h f (t .head) long, f .holidays≤)))
+    (ap calendarSound (runs-calendar r) ∙ f .calendar-sound) (ap membersSound (r .size) ∙ size)
+    (ap (λ x. daySound x (day (fresh h t))) (runs-calendar r) ∙ ap (daySound k) (r .today) ∙ f .start-sound) (rw (r .size) (fresh-in-range h (t .head) f long))

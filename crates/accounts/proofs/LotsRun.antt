@@ -49,7 +49,8 @@ close-runs t u n =
 kind-runs : (e : Event) (t : Tables) (legs : List Leg) → Undamaged t → eventSound (members t) e legs ≡ true → NoCause t e legs → Runs t (acceptedAs t e legs)
 unfolding submitBooked submitUnbooked withDeals counted withOrders proposalBooked defaultBooked closeOutBooked
 kind-runs (Submit e) t legs u s n =
-    booked-runs t (submitUnbooked t e) (submitLines t e) (simp length-set (omega (arith, timed-long t u (e .time)))) (submit-place t u e 6 (λ q. omega arith) (λ q. omega arith) (λ q. omega arith) (omega arith))
+    let same = submit-place t u e 6 (λ q. omega arith) (λ q. omega arith) (λ q. omega arith) (omega arith) in
+    booked-runs t (submitUnbooked t e) (submitLines t e) (simp length-set (omega (arith, timed-long t u (e .time)))) same
 kind-runs (Cancel e) t legs u s n =
     let os = kept (λ o. not (isCancelled e o)) (orders t) in
     booked-runs t (withOrders os (timed (e .time) t)) [] (simp length-set (omega (arith, timed-long t u (e .time))))
@@ -79,4 +80,5 @@ unfolding after log
 run-after [] t = omega (arith, no-run)
 run-after (call ∷ calls) t =
     let o = callSpec t call in
-    omega (arith, run-after calls (o .after), every-call Runs refused-runs kind-runs (withLines (call .lines) t) (call .bytes), run-append (linesOf (o .answer) (o .after .lines)) (log (o .after) calls))
+    let one = every-call Runs refused-runs kind-runs (withLines (call .lines) t) (call .bytes) in
+    omega (arith, run-after calls (o .after), one, run-append (linesOf (o .answer) (o .after .lines)) (log (o .after) calls))

@@ -92,7 +92,9 @@ unfolding proposalBooked closeOutBooked
 kind-marks (Submit e) t legs u s n a = submitted t u a e (submission (members t) e legs s .member<) (n .1 .0)
 kind-marks (Cancel e) t legs u s n a =
     let others : Order → Bool = λ o. not (isCancelled e o) in
-    remaining t u a (acceptedAs t (Cancel e) legs .after) (λ m h. booked-marks [] _ m h ∙ written-marks (kept others (orders t)) (timed (e .time) t) m h ∙ timed-place t u (e .time) (160 + m) (λ q. omega arith) (omega arith))
+    let v = timed (e .time) t in
+    let same : SameMarks t v = λ m h. timed-place t u (e .time) (160 + m) (λ q. omega arith) (omega arith) in
+    remaining t u a (acceptedAs t (Cancel e) legs .after) (λ m h. booked-marks [] _ m h ∙ written-marks (kept others (orders t)) v m h ∙ same m h)
     (rw (cancel-orders t u (e .time) others) (kept-remain others (orders t)))
 kind-marks (DayLimits e) t legs u s n a = remaining t u a (acceptedAs t (DayLimits e) legs .after) (booked-marks [] _) (rw (limits-orders t u _) (remain-same (orders t)))
 kind-marks (Proposal k) t legs u s n a =

@@ -8,7 +8,7 @@ use lib.ListN.{length}
 use lib.IntN.{ℤ}
 use borrow.Author.Tests.{not-false}
 use Rattle.arith.specs.Alls.{all-every, hold-all}
-use Rattle.arith.specs.Tests.{and-left, failed, or-false}
+use Rattle.arith.specs.Tests.{and-left, passed, failed, or-false}
 use Rattle.rules.specs.declared.event.Event.{Event}
 use Rattle.rules.specs.declared.event.Event.the-variants.{Submit, Cancel, DayLimits, Proposal, Default, CloseOut, CloseOfDay}
 use Rattle.rules.specs.declared.event.Leg.{Leg}
@@ -21,20 +21,21 @@ use Rattle.rules.specs.Refusals.{headSound, memberSound, pricesSound, orderSoun
 use Rattle.rules.specs.Accounts.{Call, callSpec, after}
 use Rattle.rules.proofs.SoundEvents.{submission, cancel-time, new-day-limits, proposal, default-member, close-out-contract}
 use Rattle.rules.proofs.SoundTables.{Long, long-enough, not-short, Undamaged}
+use Rattle.rules.proofs.SoundHeaders.{header-gives, begun}
 use Rattle.accounts.specs.EveryList.{NeverDamaged, OneForLinesAlone}
 use Rattle.accounts.proofs.Answered.{one-is-unsound}
 use Rattle.accounts.proofs.Runs as runs
 use Rattle.accounts.proofs.Runs.{Runs, sound-of}
 use Rattle.accounts.proofs.EachKind.{acceptedAs, NoCause, every-call}
 use Rattle.accounts.proofs.Events.{apply-shows}
-use Rattle.accounts.proofs.Fresh.{fine, fresh-runs, counts-of}
+use Rattle.accounts.proofs.Fresh.{fresh-runs, counts-of}
 use Rattle.accounts.proofs.SameLengths.{kind-fits, fresh-lengths, stays-long}
 use Rattle.accounts.proofs.Bounds.{WithinRun, rows-sound, within-fresh}
 use Rattle.accounts.proofs.RowsStay.{run-start, within-kept, submit-rows, cancel-rows, limits-rows, proposal-rows, default-rows, close-out-rows, close-rows}
 use Rattle.accounts.proofs.Books.{BookKept, empty-book, submit-book, cancel-book, limits-book, proposal-book, default-book, close-out-book, close-book}
 use Rattle.accounts.proofs.HeadStays.{fresh-head, submit-head, cancel-head, limits-head, proposal-head, default-head, close-out-head, close-head}
 use Rattle.accounts.proofs.PricesStay.{fresh-prices, orders-priced, submit-prices, cancel-prices, limits-prices, proposal-prices, default-prices, close-out-prices, close-prices}
-use Rattle.accounts.proofs.TwoBookkeepers.{lines-lent, made, begun}
+use Rattle.accounts.proofs.TwoBookkeepers.{lines-lent, made}
 
 -- ---- a ledger in order
 pub record InOrder (t : Tables) : Type 0 where
@@ -157,10 +158,10 @@ fresh-in-order : (header : List ℕ) (t : Tables) → T (beginsWithHeader header
 unfolding fresh
 fresh-in-order header t b l =
     let h = headerOf header in
-    let f = fine h (begun header b) in
+    let f = header-gives h (begun header (passed _ b)) in
     record {
       long = stays-long (fresh-lengths h t f l) l;
-      head = fresh-head h t (begun header b) (l .head);
+      head = fresh-head h t f (l .head);
       prices = fresh-prices h t (l .prices);
       rows = within-fresh h t f (l .head) (l .lots) (l .value);
       book = empty-book (fresh h t) (counts-of h f (t .head) (l .head) .3);
@@ -171,7 +172,7 @@ in-order : (header : List ℕ) (t : Tables) (calls : List Call) → T (beginsWit
 in-order header t calls b long =
     let h = headerOf header in
     let l = long-enough t (failed (ledgerShort t) long) in
-    rw (made header t b long) (in-order-after h calls (h .startDay) (fresh h t) (fresh-runs h t (fine h (begun header b)) (l .head)) (fresh-in-order header t b l))
+    rw (made header t b long) (in-order-after h calls (h .startDay) (fresh h t) (fresh-runs h t (header-gives h (begun header (passed _ b))) (l .head)) (fresh-in-order header t b l))
 
 pub never-damaged : NeverDamaged
 never-damaged header t calls b long = not-damaged _ (in-order header t calls b long)

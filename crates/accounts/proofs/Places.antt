@@ -1,5 +1,5 @@
 -- The places of the head that a record leaves as they were.
-use Prim.Native.Nat.{ℕ, _+_, _<_}
+use Prim.Native.Nat.{ℕ, _+_, _≤_, _<_}
 use mathlib.Core.Path.{_≡_, refl, _∙_}
 use mathlib.Core.Bool.{not, cond}
 use mathlib.Core.List.{List}
@@ -11,7 +11,7 @@ use Rattle.arith.specs.Lists.{kept}
 use Rattle.arith.specs.Tests.{by-bool}
 use Rattle.rules.specs.declared.event.Submission.{Submission}
 use Rattle.rules.specs.declared.order.Order.{Order}
-use Rattle.rules.specs.Ledger.{Tables, time, withHead, orders, withOrders, withoutSubmits, timed}
+use Rattle.rules.specs.Ledger.{Tables, members, time, withHead, orders, withOrders, withoutSubmits, timed}
 use Rattle.rules.specs.Matching.{submitOrders, withDeals, counted}
 use Rattle.rules.specs.CloseOfDay.{closingContracts, isOfAny, withClosed, priced, nextDay, closeBooked}
 use Rattle.rules.proofs.SoundTables.{Undamaged}
@@ -46,7 +46,8 @@ module _ (t : Tables) (u : Undamaged t) where
   unfolding closeBooked priced withClosed
   evening-place n i l h =
       let w : SameHeader 4 (t .head) _ = written-header (kept (λ o. not (isOfAny (closingContracts t) o)) (orders (priced n t))) (priced n t) in
-      day-place (nextDay t) (withClosed (closingContracts t) (priced n t)) i (omega (arith, w .longer, u .long .head)) (omega (arith, w .places 1 (field (omega arith)), u .head .members-range .to)) l h
+      let few : members (withClosed (closingContracts t) (priced n t)) ≤ 32 = omega (arith, w .places 1 (field (omega arith)), u .head .members-range .to) in
+      day-place (nextDay t) (withClosed (closingContracts t) (priced n t)) i (omega (arith, w .longer, u .long .head)) few l h
 
   -- and what closes, the count of orders
   pub close-place : (n i : ℕ) → 4 < i → (i ≡ 7 → ⊥) → i < 192 → place (closeBooked t n .after) i ≡ place t i

@@ -9,11 +9,13 @@ use native.Mathlib.Nat.{zero-mul, suc-mul}
 use lib.Dec.{eqb, ltb}
 use lib.ListN.{length, replicate, length-map, length-append, length-set, length-replicate}
 use lib.IntN.{ℤ, pos}
+use borrow.Author.Tests.{not-false}
 use Rattle.arith.specs.Alls.{All, all-map}
 use Rattle.arith.specs.EachBlock.{in-each-length}
 use Rattle.arith.specs.Lists.{kept, over}
 use Rattle.arith.specs.Overs.{over-length}
 use Rattle.arith.specs.Tests.{never, by-bool}
+use Rattle.rules.specs.declared.answer.Answer.the-variants.{Accepted, TableUnsound, HeaderUnsound}
 use Rattle.rules.specs.declared.event.Event.{Event}
 use Rattle.rules.specs.declared.event.Event.the-variants.{Submit, Cancel, DayLimits, Proposal, Default, CloseOut, CloseOfDay}
 use Rattle.rules.specs.declared.event.Leg.{Leg}
@@ -21,27 +23,28 @@ use Rattle.rules.specs.declared.event.Submission.{Submission}
 use Rattle.rules.specs.declared.order.Order.{Order}
 use Rattle.rules.specs.Answers.{Outcome, told}
 use Rattle.rules.specs.Contracts.{openContracts}
-use Rattle.rules.specs.Header.{Header}
-use Rattle.rules.specs.Ledger.{Tables, Line, withHead, withPrices, withDayLimits, members, day, calendar, time, withTime, withMark, orders, withOrders, orderPlaces, linePlaces, lineLots, lineValue, booked, withoutSubmits, timed, freshHead, freshPrices, freshRows, fresh}
+use Rattle.rules.specs.Header.{Header, headerOf, beginsWithHeader}
+use Rattle.rules.specs.Ledger.{Tables, Line, withHead, withPrices, withDayLimits, members, day, calendar, time, withTime, withMark, orders, withOrders, orderPlaces, linePlaces, lineLots, lineValue, booked, withoutSubmits, timed, freshPrices, freshRows, fresh, ledgerShort}
 use Rattle.rules.specs.Records.{eventSound}
 use Rattle.rules.specs.Matching.{Deal, dealLines, incoming, submitMatched, submitLines, submitOrders, withDeals, counted, submitBooked}
 use Rattle.rules.specs.Synthetic.{numbered, namedLegs, legLine, proposalLines, usedByLegs, proposalBooked}
 use Rattle.rules.specs.CloseOfDay.{withGgfs, withoutDeals, priced, cascaded, allCascaded, closingContracts, isOfAny, withClosed, onDay, closeBooked}
 use Rattle.rules.specs.Default.{defaultBooked, closeOutLines, closeOutBooked}
-use Rattle.rules.specs.Refusals.{isCancelled, applySpec}
+use Rattle.rules.specs.Refusals.{isCancelled, applySpec, makeSpec}
 use Rattle.rules.specs.Accounts.{isAccepted}
-use Rattle.rules.proofs.SoundTables.{Long, Undamaged}
+use Rattle.rules.proofs.SoundTables.{Long, long-enough, Undamaged}
 use Rattle.rules.proofs.SoundEvents.{submission, proposal}
-use Rattle.accounts.specs.Lengths.{SameLengths, LengthsStay, AtMost200Lines}
+use Rattle.accounts.specs.Lengths.{SameLengths, LengthsStay, MakingKeepsLengths, AtMost200Lines}
+use Rattle.rules.proofs.SoundHeaders.{SoundHeader, header-gives, begun}
 use Rattle.accounts.proofs.Runs.{orders-same}
 use Rattle.accounts.proofs.Rows.{posted-length, cascaded-length}
-use Rattle.accounts.proofs.Fresh.{Fine}
+use Rattle.accounts.proofs.Fresh.{head-length}
 use Rattle.accounts.proofs.Closes.{closing-today}
 use Rattle.accounts.proofs.CloseOutLines.{close-out-few}
 use Rattle.accounts.proofs.Remains.{Remain, remain-length, kept-remain, legs-remain}
 use Rattle.accounts.proofs.Books.{orders-count, submit-deals}
 use Rattle.accounts.proofs.HeadStays.{submit-few}
-use Rattle.accounts.proofs.EachKind.{acceptedAs, NoCause, every-call}
+use Rattle.accounts.proofs.EachKind.{decide-shows, acceptedAs, NoCause, every-call}
 use Rattle.accounts.proofs.GgfStays.{written-length}
 use Rattle.accounts.proofs.Places.{written-place}
 
@@ -186,26 +189,17 @@ module _ (t : Tables) (u : Undamaged t) where
 zeros-fit : (w n : ℕ) (b : List ℤ) → n ≤ w → length b ≡ w → length (over 0 (replicate n (pos 0)) b) ≡ w
 zeros-fit w n b h e = over-length 0 (replicate n (pos 0)) b (omega (arith, length-replicate {A = ℤ} n (pos 0))) ∙ e
 
-pub fresh-lengths : (h : Header) (t : Tables) → Fine h → Long t → SameLengths t (fresh h t)
-unfolding fresh freshHead freshPrices freshRows
+pub fresh-lengths : (h : Header) (t : Tables) → SoundHeader h → Long t → SameLengths t (fresh h t)
+unfolding fresh freshPrices freshRows
 fresh-lengths h t f l =
     let n = h .members in
-    let zeros : List ℕ = replicate n 0 in
-    let none = length-replicate {A = ℕ} n 0 in
-    let fields = h .firstYear ∷ n ∷ length (h .holidays) ∷ h .startDay ∷ 0 ∷ 0 ∷ 0 ∷ 0 ∷ [] in
-    let a = over 0 fields (t .head) in
-    let a-length = over-length 0 fields (t .head) (omega (arith, l .head)) in
-    let b = over 8 (h .holidays) a in
-    let b-length = over-length 8 (h .holidays) a (omega (arith, f .few-holidays, l .head)) in
-    let c = over 128 (h .limits) b in
-    let c-length = over-length 128 (h .limits) b (omega (arith, f .one-limit, f .few-members, l .head)) in
-    let d = over 160 zeros c in
-    let d-length = over-length 160 zeros c (omega (arith, f .few-members, l .head)) in
+    let rows : (k : List ℤ) → 3264 ≤ length k → length (freshRows n k) ≡ length k = λ k s.
+    in-each-length 32 (over 0 (replicate n (pos 0))) (λ b e. zeros-fit 32 n b (f .members-range .to) e) 102 k s in
     record {
-      head = over-length 192 zeros d (omega (arith, f .few-members, l .head)) ∙ d-length ∙ c-length ∙ b-length ∙ a-length;
+      head = head-length h f (t .head) (l .head);
       prices = in-each-length 5 (λ five. 0 ∷ 1 ∷ 1000000 ∷ 0 ∷ 0 ∷ []) (λ _ _. refl) 102 (t .prices) (l .prices);
-      lots = in-each-length 32 (over 0 (replicate n (pos 0))) (λ b e. zeros-fit 32 n b (f .few-members) e) 102 (t .lots) (l .lots);
-      value = in-each-length 32 (over 0 (replicate n (pos 0))) (λ b e. zeros-fit 32 n b (f .few-members) e) 102 (t .value) (l .value);
+      lots = rows (t .lots) (l .lots);
+      value = rows (t .value) (l .value);
       book = refl;
       lines = refl;
     }
@@ -265,3 +259,10 @@ lengths-stay t bytes = apply-fits t bytes .lengths
 
 pub at-most-200-lines : AtMost200Lines
 at-most-200-lines t bytes = apply-fits t bytes .few
+
+pub making-keeps-lengths : MakingKeepsLengths
+unfolding makeSpec
+making-keeps-lengths t bytes =
+    decide-shows (λ o. SameLengths t (o .after)) t (record { answer = Accepted 0; after = fresh (headerOf bytes) t }) ((ledgerShort t, TableUnsound) ∷ (not (beginsWithHeader bytes), HeaderUnsound) ∷ [])
+    (λ a q. same-lengths t) (refl, (refl, tt))
+    (λ none. fresh-lengths (headerOf bytes) t (header-gives (headerOf bytes) (begun bytes (not-false _ (none .1 .0)))) (long-enough t (none .0)))

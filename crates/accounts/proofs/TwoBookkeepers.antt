@@ -1,27 +1,27 @@
 -- Demand 3, proved: for every sound header and every list of calls, from the fresh ledger.
 use mathlib.Core.Path.{_≡_, refl, ap, _∙_}
-use mathlib.Core.Bool.{true, not, cond, _&&_}
+use mathlib.Core.Bool.{not, cond}
 use mathlib.Core.List.{List, [], _∷_, _++_, append-nil, append-assoc}
 use Prim.Native.Nat.{ℕ}
-use lib.Dec.{T, leb}
-use lib.ListN.{length, take}
+use lib.Dec.{T}
 use lib.IntN.{ℤ, pos}
 use Rattle.arith.specs.Ints.{when}
 use Rattle.arith.specs.Sums.{when-zero, sum-zero, sum-ext}
-use Rattle.arith.specs.Tests.{and-right, passed, failed}
+use Rattle.arith.specs.Tests.{passed, failed}
 use Rattle.rules.specs.Contracts.{holdsHour, hasCascaded}
-use Rattle.rules.specs.Header.{Header, calendarOf, sameBytes, lettersAndVersion, headerLength, headerOf, headerSound, beginsWithHeader}
+use Rattle.rules.specs.Header.{Header, calendarOf, headerOf, beginsWithHeader}
 use Rattle.rules.specs.Ledger.{Tables, Line, withLines, ledgerShort, fresh}
 use Rattle.rules.specs.Records.{readOf}
 use Rattle.rules.specs.Refusals.{makeSpec}
 use Rattle.rules.specs.Accounts.{Column, lots, value, row, Call, callSpec, after, isAccepted, linesOf, log, engineAccount, entered, otherAccount, dayAfterEvent, listsDay, Demand3}
 use Rattle.rules.proofs.SoundTables.{long-enough}
+use Rattle.rules.proofs.SoundHeaders.{header-gives, begun}
 use Rattle.accounts.specs.EveryList.{OrdersRestInOpen}
 use Rattle.accounts.proofs.Holds.{Holds, holds-same}
 use Rattle.accounts.proofs.Runs.{Runs, orders-same}
 use Rattle.accounts.proofs.Calls.{rowsOf}
 use Rattle.accounts.proofs.Events.{apply-shows}
-use Rattle.accounts.proofs.Fresh.{fine, fresh-zero, fresh-runs}
+use Rattle.accounts.proofs.Fresh.{fresh-zero, fresh-runs}
 
 -- ---- from one call to every list
 -- a call's own line table is no part of the ledger
@@ -52,10 +52,6 @@ known-after h (call ∷ calls) d t ls a =
     }))
 
 -- ---- the fresh ledger
-pub begun : (header : List ℕ) → T (beginsWithHeader header) → headerSound (headerOf header) ≡ true
-unfolding beginsWithHeader
-begun s b = and-right (leb 11 (length s) && sameBytes (take 5 s) lettersAndVersion && leb (headerLength s) (length s)) (headerSound (headerOf s)) (passed _ b)
-
 module _ (header : List ℕ) (t : Tables) (sound : T (beginsWithHeader header)) (long : T (not (ledgerShort t))) where
   abbrev h : Header
   h = headerOf header
@@ -67,7 +63,7 @@ module _ (header : List ℕ) (t : Tables) (sound : T (beginsWithHeader header)) 
   known-fresh : Known h (h .startDay) (fresh h t) []
   unfolding engineAccount otherAccount entered
   known-fresh =
-      let f = fine h (begun header sound) in
+      let f = header-gives h (begun header (passed _ sound)) in
       let l = long-enough t (failed (ledgerShort t) long) in
       let zero = fresh-zero h t f (l .lots) (l .value) in
       record {

@@ -6,7 +6,7 @@ use mathlib.Core.List.{List}
 use lib.ListN.{length}
 use Rattle.rules.specs.Answers.{told}
 use Rattle.rules.specs.Ledger.{Tables}
-use Rattle.rules.specs.Refusals.{applySpec}
+use Rattle.rules.specs.Refusals.{applySpec, makeSpec}
 use Rattle.rules.specs.Accounts.{isAccepted}
 
 pub record SameLengths (t u : Tables) : Type 0 where
@@ -19,6 +19,10 @@ pub record SameLengths (t u : Tables) : Type 0 where
 
 abbrev pub LengthsStay : Type 0
 LengthsStay = (t : Tables) (bytes : List ℕ) → SameLengths t (applySpec t bytes .after)
+
+-- Nor does making a ledger.
+abbrev pub MakingKeepsLengths : Type 0
+MakingKeepsLengths = (t : Tables) (bytes : List ℕ) → SameLengths t (makeSpec t bytes .after)
 
 abbrev pub AtMost200Lines : Type 0
 AtMost200Lines = (t : Tables) (bytes : List ℕ) → isAccepted (applySpec t bytes .answer) ≡ true → told (applySpec t bytes .answer) .value ≤ 200

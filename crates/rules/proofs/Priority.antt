@@ -79,9 +79,12 @@ best-none p (o ∷ os) e =
     by-bool (λ b. cond b (better o (best p os)) (best p os) ≡ none → (b ≡ false) × All (λ o. p o ≡ false) os) (p o)
     (λ _ f. absurd (some-better o (best p os) f)) (λ _ f. (refl, best-none p os f)) e
   where
+    not-none : (b : Order) → some b ≡ none → ⊥
+    not-none b e = let z : _≡_ {A = ℕ} 0 1 = cc in omega arith
+
     some-better : (o : Order) (x : Option Order) → better o x ≡ none → ⊥
-    some-better o none f = let z : _≡_ {A = ℕ} 0 1 = cc in omega arith
-    some-better o (some b) f = by-bool (λ c. cond c (some b) (some o) ≡ none → ⊥) (precedes b o) (λ _ g. let z : _≡_ {A = ℕ} 0 1 = cc in omega arith) (λ _ g. let z : _≡_ {A = ℕ} 0 1 = cc in omega arith) f
+    some-better o none f = not-none o f
+    some-better o (some b) f = by-bool (λ c. cond c (some b) (some o) ≡ none → ⊥) (precedes b o) (λ _ g. not-none b g) (λ _ g. not-none o g) f
 
 -- what the best of orders of side s shows: it passes, and each that passes is of the side and no better
 pub record IsBest (p : Order → Bool) (s : Side) (os : List Order) (r : Order) : Type 0 where
@@ -120,7 +123,8 @@ module _ (p : Order → Bool) (s : Side) where
   best-is [] h r e = absurd (let z : _≡_ {A = ℕ} 0 1 = cc in omega arith)
   best-is (o ∷ os) h r e =
       by-bool (λ b. p o ≡ b → cond b (better o (best p os)) (best p os) ≡ some r → IsBest p s (o ∷ os) r) (p o)
-      (λ _ q f. go (best p os) refl q f (best-is os (h .1))) (λ _ q f. let i = best-is os (h .1) r f in record { passes = i .passes; side = i .side; first = (λ t. never (sym t ∙ q), i .first) }) refl e
+      (λ _ q f. go (best p os) refl q f (best-is os (h .1)))
+      (λ _ q f. let i = best-is os (h .1) r f in record { passes = i .passes; side = i .side; first = (λ t. never (sym t ∙ q), i .first) }) refl e
     where
       go : (x : Option Order) → best p os ≡ x → p o ≡ true → better o x ≡ some r → ((b : Order) → x ≡ some b → IsBest p s os b) → IsBest p s (o ∷ os) r
       go none n q f ih = best-only o r os q (h .0 q) (best-none p os n) f

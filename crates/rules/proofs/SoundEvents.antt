@@ -24,7 +24,7 @@ pub record InRange (least n most : ℕ) : Type 0 where
   pub from : least ≤ n
   pub to : n ≤ most
 
-in-range : (least n most : ℕ) → leb least n && leb n most ≡ true → InRange least n most
+pub in-range : (least n most : ℕ) → leb least n && leb n most ≡ true → InRange least n most
 in-range least n most e = record { from = leb-true least n (and-left (leb least n) (leb n most) e); to = leb-true n most (and-right (leb least n) (leb n most) e) }
 
 pub price-in-range : (p : ℕ) → priceSound p ≡ true → InRange 1 p mostPrice

@@ -4,20 +4,20 @@ use mathlib.Core.Path.{_≡_}
 use mathlib.Core.Bool.{true, false, _||_}
 use mathlib.Core.List.{map}
 use native.Mathlib.Omega.{arith}
-use lib.Dec.{leb, ltb}
+use lib.Dec.{ltb}
 use lib.ListN.{length}
 use borrow.Author.Tests.{leb-true, ltb-true, ltb-false, lt-ltb, le-leb, le-ltb, not-false}
 use Rattle.arith.specs.Alls.{All, all-hold, hold-all, all-map, every-all}
 use Rattle.arith.specs.Among.{every-from}
 use Rattle.arith.specs.Lists.{from}
-use Rattle.arith.specs.Tests.{and-left, and-right, or-left, or-right, passed, passes}
+use Rattle.arith.specs.Tests.{or-left, or-right, passed, passes}
 use Rattle.rules.specs.declared.order.Order.{Order}
 use Rattle.rules.specs.Ranges.{contractCount, lastSecond, mostHolidays, mostMembers, mostLimit, mostOrders, mostPrice, mostLots, mostSubmitsInSecond, mostLotsRun, mostAcceptedSubmits}
 use Rattle.rules.specs.Days.{inSpan}
 use Rattle.rules.specs.Header.{calendarSound, daySound}
 use Rattle.rules.specs.Ledger.{Tables, members, holidayCount, day, time, acceptedSubmits, lotsRun, orderCount, limit, mark, submitsThisSecond, calendar, headLength, pricesLength, rowsLength, bookLength, linesLength, orders, ledgerShort, linesShort}
 use Rattle.rules.specs.Refusals.{memberSound, headSound, pricesSound, rowsSound, orderSound, sidesSound, distinct, bookSound, damaged, unsound}
-use Rattle.rules.proofs.SoundEvents.{InRange, price-in-range, lots-in-range, contract-below}
+use Rattle.rules.proofs.SoundEvents.{InRange, in-range, price-in-range, lots-in-range, contract-below}
 
 -- ---- lengths
 pub record Long (t : Tables) : Type 0 where
@@ -84,11 +84,10 @@ pub head-gives : (t : Tables) → headSound t ≡ true → SoundHead t
 unfolding headSound
 head-gives t e =
     let a = all-hold _ e in
-    let most = leb (members t) mostMembers in
     record {
       holidays≤ = leb-true (holidayCount t) mostHolidays (a .0);
       calendar-sound = a .1 .0;
-      members-range = record { from = leb-true 1 (members t) (and-left (leb 1 (members t)) most (a .1 .1 .0)); to = leb-true (members t) mostMembers (and-right (leb 1 (members t)) most (a .1 .1 .0)) };
+      members-range = in-range 1 (members t) mostMembers (a .1 .1 .0);
       day-sound = a .1 .1 .1 .0;
       time≤ = leb-true (time t) lastSecond (a .1 .1 .1 .1 .0);
       accepted≤ = leb-true (acceptedSubmits t) mostAcceptedSubmits (a .1 .1 .1 .1 .1 .0);
