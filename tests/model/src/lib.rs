@@ -6,10 +6,14 @@ pub mod calendar;
 pub mod close_of_day;
 pub mod close_out;
 pub mod contract;
+pub mod coverage;
 pub mod damage;
+#[cfg(feature = "c_engine")]
+pub mod engine_c;
 pub mod generate;
 pub mod header;
 pub mod journal;
+pub mod load;
 pub mod make;
 pub mod proposal;
 pub mod record;

@@ -1,7 +1,7 @@
 //! Headers: runs of holidays before the first days of years and quarters, start days near closing days.
 use super::random::Random;
 use crate::calendar::Calendar;
-use crate::contract::{Contract, CONTRACTS, YEARS};
+use crate::contract::{Contract, Kind, YEARS};
 use crate::header::Header;
 use crate::tables::*;
 use std::collections::BTreeSet;
@@ -48,20 +48,19 @@ fn holidays(random: &mut Random, first_year: u64) -> BTreeSet<u64> {
     days
 }
 
-/// A run of business days up to the first day of a year, quarter or month, with a few days left out.
+/// The business days of some months up to the first day of a year, quarter or month, a few of them left out: what would
+/// close in these months closes before them, on one evening or a few.
 fn run(random: &mut Random, calendar: &Calendar, days: &mut BTreeSet<u64>) {
-    let every = random.pick(&[1, 3, 3, 12, 12]);
-    let month = random.between(1, 12 * YEARS / every - 1) * every;
-    let first = calendar.delivery(Contract { kind: crate::contract::Kind::Month, index: month }).start;
-    let most = random.pick(&[30, 75, 75, MOST_HOLIDAYS]);
-    let length = random.between(3, most);
-    let omitted = random.pick(&[0, 3, 3, 5]);
-    let before = (calendar.span().start..first + random.between(0, 4) as i64).rev();
-    for day in before.filter(|&day| calendar.is_business_day(day)).take(length as usize) {
-        if !random.percent(omitted) {
-            days.insert(day as u64);
-        }
+    let every = random.pick(&[1, 3, 12, 12]);
+    let end = random.between(1, 12 * YEARS / every - 1) * every;
+    let months = random.pick(&[1, 1, 2, 3, 3, 5]);
+    let start = |month: u64| calendar.delivery(Contract { kind: Kind::Month, index: month }).start;
+    let covered = start(end.saturating_sub(months))..start(end) + random.below(4) as i64;
+    let mut run: Vec<i64> = covered.filter(|&day| calendar.is_business_day(day)).collect();
+    for _ in 0..random.pick(&[0, 0, 1, 2, 2, 3]) {
+        run.remove(random.below(run.len() as u64) as usize);
     }
+    days.extend(run.into_iter().map(|day| day as u64));
 }
 
 /// A business day of the span, often one on which contracts close or the last one.
@@ -71,7 +70,11 @@ pub fn business_day(random: &mut Random, calendar: &Calendar) -> u64 {
         0 => span.start,
         1 => span.end - 1,
         2 | 3 => random.between(span.start as u64, span.end as u64 - 1) as i64,
-        _ => calendar.closing_day(Contract::numbered(random.below(CONTRACTS))) - random.pick(&[0, 0, 0, 1, 4]),
+        _ => {
+            let kind = random.pick(&Kind::ALL);
+            let index = random.below(YEARS * kind.in_a_year());
+            calendar.closing_day(Contract { kind, index }) - random.pick(&[0, 0, 0, 1, 4])
+        }
     };
     let near = near.clamp(span.start, span.end - 1);
     let earlier = || (span.start..=near).rev().find(|&day| calendar.is_business_day(day));

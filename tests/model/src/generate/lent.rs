@@ -25,8 +25,9 @@ fn fill_head(random: &mut Random, tables: &mut Tables) {
     tables.head[DAY] = day;
     tables.head[TIME] = random.pick(&[0, second, second, LAST_SECOND - 1, LAST_SECOND]);
     tables.head[ACCEPTED] = random.pick(&[few, few, many.max(256), last]);
-    tables.head[RUN] = match random.below(6) {
+    tables.head[RUN] = match random.below(7) {
         0 => MOST_RUN - random.below(400),
+        6 => MOST_RUN - 2 * random.below(40),
         1 => random.below(300),
         2 => MOST_RUN / 3,
         _ => run,

@@ -228,7 +228,7 @@ impl Market {
         Record::Submit(submit)
     }
 
-    /// At times exactly the lots that cross, or that the limit leaves, or one more.
+    /// At times exactly the lots that cross, or that the limit or the lots run leaves, or one more.
     fn telling_lots(&self, random: &mut Random, tables: &Tables, submit: &Submit) -> u64 {
         match random.below(100) {
             0..=24 => {
@@ -247,6 +247,7 @@ impl Market {
                 (tables.limit(submit.member) as i64 - towards + random.pick(&[0, 1])).clamp(1, MOST_LOTS as i64) as u64
             }
             35 => MOST_LOTS,
+            36..=70 if MOST_RUN - tables.run() < 2 * MOST_LOTS => (MOST_RUN - tables.run()) / 2 + random.below(2),
             _ => submit.lots,
         }
     }

@@ -27,11 +27,12 @@ pub fn run<E>(seed: u64, records: u64, mut call: impl FnMut(&mut Tables, Call) -
         let header = headers::header(&mut random);
         make_calls(&mut random, &mut tables, &header, &mut call)?;
         let mut market = Market::draw(&mut random);
-        let is_lent = random.percent(55);
+        let is_lent = random.percent(75);
         if is_lent {
             lent::fill(&mut random, &mut tables, &mut market);
         }
-        let length = if is_lent { random.between(1, 60) } else { random.between(20, 700) };
+        let most = if is_lent { 60 } else { random.pick(&[100, 300, 700]) };
+        let length = random.between(1, most);
         for _ in 0..length {
             let bytes = market.record(&mut random, &tables);
             if random.percent(3) {

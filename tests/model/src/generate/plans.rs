@@ -48,7 +48,8 @@ pub fn plan(random: &mut Random, tables: &Tables, price: u64, usable: &impl Fn(C
     legs
 }
 
-/// A contract on one side and its parts, or the parts of some of these, on the other.
+/// A contract on one side and its parts, or the parts of some of these, on the other; at times the contract itself, whose
+/// orders then cross, as only a lent book's can.
 fn tree(
     random: &mut Random,
     tables: &Tables,
@@ -57,7 +58,9 @@ fn tree(
     usable: &impl Fn(Contract) -> bool,
 ) -> Vec<PlannedLeg> {
     let mut parts = whole.parts();
-    if whole.kind == Kind::Year {
+    if random.percent(10) {
+        parts = vec![whole];
+    } else if whole.kind == Kind::Year {
         for _ in 0..random.below(4) {
             let at = random.below(parts.len() as u64) as usize;
             let months = parts[at].parts();
