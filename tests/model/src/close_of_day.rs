@@ -58,8 +58,17 @@ fn quotes(tables: &Tables, contract: Contract, time: u64) -> Option<(u64, u64)> 
     let (number, day) = (contract.number(), tables.day());
     let is_old = |order: &Order| order.day < day || order.day == day && order.time + QUOTE_AGE <= time;
     let counts = |order: &Order| order.contract == number && order.lots >= contract.kind.threshold() && is_old(order);
-    let prices = |side| tables.orders().filter(counts).filter(move |order| order.side == side).map(|order| order.price);
-    Some((prices(Side::Buy).max()?, prices(Side::Sell).min()?))
+    let (mut buy, mut sell) = (None, None);
+    for order in tables.orders().filter(counts) {
+        let best = match order.side {
+            Side::Buy => &mut buy,
+            Side::Sell => &mut sell,
+        };
+        if best.is_none_or(|price| order.side.better(order.price, price)) {
+            *best = Some(order.price);
+        }
+    }
+    buy.zip(sell)
 }
 
 #[cfg(test)]

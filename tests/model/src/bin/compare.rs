@@ -3,10 +3,11 @@
 use model::answer::{told, Answer};
 use model::apply::apply;
 use model::coverage::{Coverage, EDGES};
+use model::damage::is_damaged;
 use model::generate::{run, Call};
 use model::make::make;
 use model::tables::Tables;
-use model::text::to_hex;
+use model::text::{ledger, to_hex};
 use std::process::ExitCode;
 
 fn modelled(tables: &mut Tables, call: &Call) -> Answer {
@@ -95,6 +96,9 @@ fn main() -> ExitCode {
         println!("{edge}: {}", sides.coverage.edges.get(edge).unwrap_or(&0));
     }
     if let Err(difference) = outcome {
+        if !is_damaged(&sides.before) {
+            print!("ledger before the call\n{}", ledger(&sides.before));
+        }
         println!("DIFFERENT after {} calls\n{difference}", answers.iter().sum::<u64>());
         return ExitCode::FAILURE;
     }

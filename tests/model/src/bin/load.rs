@@ -1,6 +1,7 @@
 //! load [SUBMITS]: the time of Change 14's load at 2, 8 and 32 members and of single records, in the model and, with the
 //! feature `c_engine`, in the proved library: both in this process, in turn, the least of many rounds.
 use model::apply::apply;
+use model::damage::is_damaged;
 use model::load::{calls, fresh, submits, Call};
 use model::tables::Tables;
 use std::hint::black_box;
@@ -14,22 +15,24 @@ const REPEATS: usize = 300;
 
 type Side = fn(&mut Tables, &[u8]);
 
-fn modelled(tables: &mut Tables, record: &[u8]) {
-    black_box(apply(tables, record)).ok();
-}
-
-#[cfg(feature = "c_engine")]
-const SIDES: &[Side] = &[modelled, |tables, record| drop(black_box(model::engine_c::apply(tables, record)))];
-#[cfg(not(feature = "c_engine"))]
-const SIDES: &[Side] = &[modelled];
+const APPLY: &[Side] = &[
+    |tables, record| _ = black_box(apply(tables, record)),
+    #[cfg(feature = "c_engine")]
+    |tables, record| _ = black_box(model::engine_c::apply(tables, record)),
+];
+const IS_DAMAGED: &[Side] = &[
+    |tables, _| _ = black_box(is_damaged(tables)),
+    #[cfg(feature = "c_engine")]
+    |tables, _| _ = black_box(model::engine_c::is_damaged(tables)),
+];
 
 /// The least time of each side.
 type Least = Vec<Duration>;
 
-fn least(rounds: usize, mut timed: impl FnMut(Side) -> Duration) -> Least {
-    let mut least = vec![Duration::MAX; SIDES.len()];
+fn least(sides: &[Side], rounds: usize, timed: impl Fn(Side) -> Duration) -> Least {
+    let mut least = vec![Duration::MAX; sides.len()];
     for _ in 0..rounds {
-        for (least, &side) in least.iter_mut().zip(SIDES) {
+        for (least, &side) in least.iter_mut().zip(sides) {
             *least = timed(side).min(*least);
         }
     }
@@ -54,34 +57,31 @@ fn print(name: &str, calls: u64, least: &Least) {
 
 fn print_load(members: u64, count: u64) {
     let start = fresh(members);
-    let mut sum = vec![Duration::ZERO; SIDES.len()];
+    let mut sum = vec![Duration::ZERO; APPLY.len()];
     for run in 1..=count.div_ceil(RUN) {
         let records = submits(members, RUN, run * 0x9e37_79b9);
-        let least = least(ROUNDS, |side| timed_run(&start, &records, side));
+        let least = least(APPLY, ROUNDS, |side| timed_run(&start, &records, side));
         sum.iter_mut().zip(least).for_each(|(sum, time)| *sum += time);
     }
     print(&format!("{members} members, a submit of the load"), count.div_ceil(RUN) * RUN, &sum);
 }
 
-fn print_call(members: u64, call: &Call) {
+fn print_call(sides: &[Side], name: String, call: &Call) {
     let records = [call.bytes.clone()];
-    let least = least(REPEATS, |side| timed_run(&call.tables, &records, side));
-    print(&format!("{members} members, {}", call.name), 1, &least);
-}
-
-fn print_damage(members: u64, call: &Call) {
-    let ours: Side = |tables, _| drop(black_box(model::damage::is_damaged(tables)));
-    let time = |side: Side| (0..REPEATS).map(|_| timed_run(&call.tables, &[Vec::new()], side)).min();
-    let least: Least = time(ours).into_iter().collect();
-    print(&format!("{members} members, the damage test alone"), 1, &least);
+    let least = least(sides, REPEATS, |side| timed_run(&call.tables, &records, side));
+    print(&name, 1, &least);
 }
 
 fn main() {
     let count = std::env::args().nth(1).and_then(|count| count.parse().ok()).unwrap_or(1_000_000);
     for members in [2, 8, 32] {
         print_load(members, count);
+        let empty = Call { name: String::new(), tables: fresh(members), bytes: Vec::new() };
+        print_call(IS_DAMAGED, format!("{members} members, empty book, damage test alone"), &empty);
         let calls = calls(members);
-        print_damage(members, &calls[0]);
-        calls.iter().for_each(|call| print_call(members, call));
+        print_call(IS_DAMAGED, format!("{members} members, full book, damage test alone"), &calls[0]);
+        for call in &calls {
+            print_call(APPLY, format!("{members} members, full book, {}", call.name), call);
+        }
     }
 }
