@@ -18,7 +18,7 @@ fn called(tables: &mut Tables, call: &Call) -> Answer {
 fn every_refusal_and_edge_is_reached() {
     let mut coverage = Coverage::default();
     let mut before = Tables::empty();
-    let outcome: Result<(), ()> = run(1, 1_000_000, |tables, call| {
+    let outcome: Result<(), ()> = run(1, 500_000, |tables, call| {
         before.clone_from(tables);
         let answer = called(tables, &call);
         assert!(answer.is_ok() || before == *tables, "a refused call changes nothing");
