@@ -17,3 +17,8 @@ pub mod Computed
 pub mod Cases
 pub mod Example
 pub mod Numbers
+pub mod ExampleRecords
+pub mod MatchingExamples
+pub mod CloseOfDayExamples
+pub mod CloseOutExamples
+pub mod ProposalExamples
