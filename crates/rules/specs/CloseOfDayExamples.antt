@@ -1,16 +1,16 @@
 -- Document 01, "Close of day": what is priced beside what is not, and what a close leaves, computed.
-use Prim.Native.Nat.{ℕ, suc, _+_, _*_}
+use Prim.Native.Nat.{ℕ, suc}
 use mathlib.Core.Path.{_≡_, refl}
 use mathlib.Core.List.{List, [], _∷_, _++_, map, flatMap}
-use lib.ListN.{length, getD, set}
 use lib.IntN.{ℤ, pos, negsuc}
+use Rattle.arith.specs.Lists.{from}
 use Rattle.rules.specs.declared.order.Order.{Order}
 use Rattle.rules.specs.declared.order.Side.{Side}
 use Rattle.rules.specs.declared.order.Side.the-variants.{Buy, Sell}
-use Rattle.rules.specs.Ledger.{Tables, withOrders, withRows, day, time, ggf, dayLots, dayValue, rowPlace, lotsAt, valueAt, submits}
+use Rattle.rules.specs.Ledger.{Tables, withAcceptedSubmits, withLotsRun, withGgf, withDealt, withOrders, day, time, submitsThisSecond, orderCount, ggf, dayLots, dayValue, lotsAt, valueAt, orderAt}
 use Rattle.rules.specs.Refusals.{applySpec}
 use Rattle.rules.specs.Computed.{tablesAfter, computed}
-use Rattle.rules.specs.ExampleRecords.{buy, sell, close, made, monday, withHeadAt, withPriceAt, order}
+use Rattle.rules.specs.ExampleRecords.{buy, sell, close, made, monday, inHead, inPrices, order}
 
 -- ---- the GGF
 -- An order of a contract: side, price, lots, day and time of entry.
@@ -28,13 +28,13 @@ resting n ((c, q) ∷ qs) = order n 0 c (q .0) (q .1) (q .2) (q .3) (q .4) ∷ r
 
 placed : List Priced → Tables → Tables
 placed [] t = t
-placed (x ∷ xs) t = withPriceAt (x .0 * 5) (x .1) (withPriceAt (x .0 * 5 + 3) (x .2) (withPriceAt (x .0 * 5 + 4) (x .3) (placed xs t)))
+placed ((c, former, m, v, quotes, price) ∷ xs) t = inPrices (withGgf c former) (inPrices (withDealt c m v) (placed xs t))
 
 -- Monday, 369, with a lots run of 1000 and the contracts as they are given; then the close at 36000 s.
 closed : List Priced → Tables
 closed xs =
     applySpec
-    (withOrders (resting 0 (flatMap (λ x. map (λ q. (x .0, q)) (x .4)) xs)) (withHeadAt 5 100 (withHeadAt 6 1000 (placed xs monday))))
+    (withOrders (resting 0 (flatMap (λ x. map (λ q. (x .0, q)) (x .4)) xs)) (inHead (withAcceptedSubmits 100) (inHead (withLotsRun 1000) (placed xs monday))))
     (close 36000)
     .after
 
@@ -86,7 +86,7 @@ which-orders-quote = refl
 
 -- M and V, each deal counted once: two deals of 5 lots in the year, then nothing on the next day.
 abbrev dayFigures : Tables → List ℕ
-dayFigures t = ggf t 17 ∷ dayLots t 17 ∷ dayValue t 17 ∷ day t ∷ time t ∷ submits t 1 ∷ []
+dayFigures t = ggf t 17 ∷ dayLots t 17 ∷ dayValue t 17 ∷ day t ∷ time t ∷ submitsThisSecond t 1 ∷ []
 
 abbrev deals : List (List ℕ)
 deals = sell 0 17 26000 5 ∷ sell 0 17 27000 5 ∷ buy 1 17 27000 10 ∷ []
@@ -96,3 +96,38 @@ days-figures : map (λ rs. dayFigures (tablesAfter (made 2021 369 (370 ∷ []) (
     ≡ (0 ∷ 10 ∷ 265000 ∷ 369 ∷ 36000 ∷ 1 ∷ []) ∷ (26500 ∷ 0 ∷ 0 ∷ 371 ∷ 0 ∷ 0 ∷ []) ∷ []
 unfolding computed
 days-figures = refl
+
+-- ---- closing contracts
+-- Day 453 is the last of the second quarter and of April. Orders 0 to 3 are in the quarter, in April and, two, in the next
+-- year: what stays moves up once, and places past it are untouched.
+abbrev bookAfter : Tables → List ℕ
+bookAfter t = let l = applySpec t (close 36000) .after in orderCount l ∷ map (λ i. orderAt (l .book) i .number) (0 ∷ 1 ∷ 2 ∷ 3 ∷ [])
+
+orders-that-close : bookAfter
+    (withOrders
+    (order 0 0 2 Buy 26000 1 453 0 ∷ order 1 0 8 Buy 26000 1 453 0 ∷ order 2 0 17 Buy 26000 1 453 0 ∷ order 3 0 17 Buy 26000 1 453 0 ∷ [])
+    (inHead (withAcceptedSubmits 4) (made 2021 453 [] (1000 ∷ []))))
+    ≡ 2 ∷ 2 ∷ 3 ∷ 2 ∷ 3 ∷ []
+unfolding computed
+orders-that-close = refl
+
+-- Lots that net to zero carry their value: member 0 bought 4 of the year 2021 at 30000 and sold 4 of its first quarter at 31000.
+abbrev bought : List (List ℕ)
+bought = sell 1 17 30000 4 ∷ buy 0 17 30000 4 ∷ buy 1 18 31000 4 ∷ sell 0 18 31000 4 ∷ []
+
+-- Member 0's lots and value in a contract, after the first close, of the year's closing day, 359, and the third, of the quarter's, 363.
+abbrev rowAfter : ℕ → ℕ → List ℤ
+rowAfter n c =
+    let t = tablesAfter (made 2020 359 [] (1000 ∷ 1000 ∷ [])) (bought ++ map (λ i. close 61200) (from 0 n)) in
+    lotsAt t c 0 ∷ valueAt t c 0 ∷ []
+
+rows-that-cascade : rowAfter 1 17 ∷ rowAfter 1 18 ∷ rowAfter 1 19 ∷ rowAfter 3 18 ∷ rowAfter 3 22 ∷ rowAfter 3 24 ∷ []
+    ≡ (pos 0 ∷ pos 0 ∷ [])
+    ∷ (pos 0 ∷ negsuc 3999 ∷ [])
+    ∷ (pos 4 ∷ pos 120000 ∷ [])
+    ∷ (pos 0 ∷ pos 0 ∷ [])
+    ∷ (pos 0 ∷ negsuc 3999 ∷ [])
+    ∷ (pos 0 ∷ negsuc 3999 ∷ [])
+    ∷ []
+unfolding computed
+rows-that-cascade = refl

@@ -1,30 +1,20 @@
 -- Document 01, "Default": close-outs of contract 17, a year of 365 days with the GGF 26000, computed.
-use Prim.Native.Nat.{ℕ, _+_, _*_}
+use Prim.Native.Nat.{ℕ}
 use mathlib.Core.Path.{_≡_, refl}
-use mathlib.Core.List.{List, [], _∷_, _++_}
-use lib.ListN.{set}
+use mathlib.Core.List.{List, [], _∷_}
 use lib.IntN.{ℤ, pos, negsuc}
-use Rattle.rules.specs.Ledger.{Tables, withRows, rowPlace}
+use Rattle.rules.specs.Ledger.{withLotsRun, withGgf}
 use Rattle.rules.specs.Refusals.{applySpec}
 use Rattle.rules.specs.Computed.{Printed, printed, computed}
-use Rattle.rules.specs.ExampleRecords.{buy, sell, default, closeOut, close, made, monday, withHeadAt, withPriceAt, line, bought, accepted, refused, Prints}
+use Rattle.rules.specs.ExampleRecords.{buy, sell, default, closeOut, close, made, monday, inHead, inPrices, marked, held, line, bought, accepted, refused, Prints}
 
 -- ---- close-outs of lent tables
-marked : List ℕ → Tables → Tables
-marked [] t = t
-marked (m ∷ ms) t = withHeadAt (160 + m) 1 (marked ms t)
-
--- Lots of a member in a contract.
-held : List (ℕ × ℕ × ℤ) → Tables → Tables
-held [] t = t
-held ((m, c, q) ∷ xs) t = let u = held xs t in withRows (set (u .lots) (rowPlace c m) q) (u .value) u
-
 -- Monday, 369, five members: these have defaulted, these lots are held; contract 17 is closed out with that ratio.
 closedOut : List ℕ → List (ℕ × ℕ × ℤ) → ℕ → Printed
 closedOut ms xs ratio =
     printed
     (applySpec
-    (held xs (marked ms (withPriceAt 85 26000 (withHeadAt 6 1000 (made 2021 369 [] (0 ∷ 0 ∷ 0 ∷ 0 ∷ 0 ∷ []))))))
+    (held xs (marked ms (inPrices (withGgf 17 26000) (inHead (withLotsRun 1000) (made 2021 369 [] (0 ∷ 0 ∷ 0 ∷ 0 ∷ 0 ∷ []))))))
     (closeOut 17 ratio))
 
 -- L = 1 and t = 2. At a ratio of 500 members 1 and 2 weigh 365 and 3465, since member 2 has January 2022, of 31 days, too;

@@ -1,18 +1,17 @@
 -- What the examples are written in: records by their fields, ledgers that a header made or that are lent, what a call prints.
-use Prim.Native.Nat.{ℕ, _+_, _*_}
+use Prim.Native.Nat.{ℕ}
 use mathlib.Core.Path.{_≡_}
-use mathlib.Core.List.{List, [], _∷_, _++_, map}
+use mathlib.Core.List.{List, [], _∷_, map}
 use lib.ListN.{length, set}
 use lib.IntN.{ℤ, pos, negℤ}
 use Rattle.rules.specs.declared.event.Event.the-variants.{Submit, Cancel, DayLimits, Proposal, Default, CloseOut, CloseOfDay}
 use Rattle.rules.specs.declared.event.OrderKind.{OrderKind}
-use Rattle.rules.specs.declared.event.OrderKind.the-variants.{Resting, Oeye, Teye}
+use Rattle.rules.specs.declared.event.OrderKind.the-variants.{Resting}
 use Rattle.rules.specs.declared.order.Order.{Order}
 use Rattle.rules.specs.declared.order.Side.{Side}
 use Rattle.rules.specs.declared.order.Side.the-variants.{Buy, Sell}
-use Rattle.rules.specs.Answers.{Told, told}
 use Rattle.rules.specs.Header.{headerBytes}
-use Rattle.rules.specs.Ledger.{Tables, Line, withHead, withPrices, withRows, withOrders, rowPlace}
+use Rattle.rules.specs.Ledger.{Tables, Line, withHead, withPrices, withRows, withMark, rowPlace}
 use Rattle.rules.specs.Records.{bytesOf}
 use Rattle.rules.specs.Refusals.{applySpec, makeSpec}
 use Rattle.rules.specs.Computed.{Printed, zeroTables, printed, allPrinted}
@@ -63,12 +62,22 @@ made year start days limits =
 abbrev pub monday : Tables
 monday = made 2021 369 [] (1000 ∷ 1000 ∷ 1000 ∷ [])
 
--- A place of the head, or of the prices, that holds this number.
-abbrev pub withHeadAt : ℕ → ℕ → Tables → Tables
-withHeadAt i n t = withHead (set (t .head) i n) t
+-- The tables with a change in their head, or in their prices.
+abbrev pub inHead : (List ℕ → List ℕ) → Tables → Tables
+inHead f t = withHead (f (t .head)) t
 
-abbrev pub withPriceAt : ℕ → ℕ → Tables → Tables
-withPriceAt i n t = withPrices (set (t .prices) i n) t
+abbrev pub inPrices : (List ℕ → List ℕ) → Tables → Tables
+inPrices f t = withPrices (f (t .prices)) t
+
+-- These members have defaulted.
+unfoldable pub marked : List ℕ → Tables → Tables
+marked [] t = t
+marked (m ∷ ms) t = inHead (withMark m) (marked ms t)
+
+-- Lots of a member in a contract.
+unfoldable pub held : List (ℕ × ℕ × ℤ) → Tables → Tables
+held [] t = t
+held ((m, c, q) ∷ xs) t = let u = held xs t in withRows (set (u .lots) (rowPlace c m) q) (u .value) u
 
 -- An order with this number: member, contract, side, price, lots, day and time of entry.
 abbrev pub order : ℕ → ℕ → ℕ → Side → ℕ → ℕ → ℕ → ℕ → Order
@@ -86,7 +95,7 @@ bought m r c q p = line m c (pos q) p ∷ line r c (negℤ (pos q)) p ∷ []
 abbrev pub sold : ℕ → ℕ → ℕ → ℕ → ℕ → List Line
 sold m r c q p = line m c (negℤ (pos q)) p ∷ line r c (pos q) p ∷ []
 
--- Accepted, with these lines; refused, with this number; 5 with the member, 6 with the contract.
+-- Accepted, with these lines; refused, with this number, 5 with the member and 6 with the contract.
 abbrev pub accepted : List Line → Printed
 accepted ls = record { answer = record { number = 0; value = length ls }; lines = ls }
 

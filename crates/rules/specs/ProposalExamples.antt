@@ -1,13 +1,13 @@
 -- Document 01, "Synthetic matching": proposals that are accepted beside those that are not, computed.
 use Prim.Native.Nat.{ℕ, _+_, _*_}
 use mathlib.Core.Path.{_≡_, refl}
-use mathlib.Core.List.{List, [], _∷_, _++_, map}
-use lib.IntN.{ℤ, pos, negsuc}
+use mathlib.Core.List.{List, [], _∷_, map}
+use lib.IntN.{pos, negsuc}
 use Rattle.rules.specs.declared.order.Side.the-variants.{Buy, Sell}
-use Rattle.rules.specs.Ledger.{Tables, withOrders, orders, dayLots}
+use Rattle.rules.specs.Ledger.{Tables, withAcceptedSubmits, withOrders, orders, dayLots}
 use Rattle.rules.specs.Refusals.{applySpec}
 use Rattle.rules.specs.Computed.{Printed, printed, tablesAfter, computed}
-use Rattle.rules.specs.ExampleRecords.{limits, proposal, monday, withHeadAt, order, line, accepted, refused, EachPrints}
+use Rattle.rules.specs.ExampleRecords.{limits, proposal, monday, inHead, order, line, accepted, refused, EachPrints}
 
 -- A proposal of one lot of each of orders 0 to 3, at these prices.
 abbrev ones : ℕ → ℕ → ℕ → ℕ → List ℕ
@@ -23,7 +23,7 @@ quarterBy b s =
     ∷ order 3 s 24 Sell 30000 2 369 0
     ∷ order 4 s 24 Sell 30000 2 369 0
     ∷ [])
-    (withHeadAt 5 5 monday)
+    (inHead (withAcceptedSubmits 5) monday)
 
 abbrev fourLines : ℕ → Printed
 fourLines p = accepted (line 0 18 (pos 1) p ∷ line 1 22 (negsuc 0) p ∷ line 1 23 (negsuc 0) p ∷ line 1 24 (negsuc 0) p ∷ [])
@@ -53,8 +53,10 @@ limits-of-legs = refl
 priority-of-legs : EachPrints (quarterBy 0 1)
     ((proposal ((0, 1, 31300) ∷ (1, 1, 31300) ∷ (2, 1, 31300) ∷ (4, 1, 31300) ∷ []), refused 13)
     ∷ (proposal ((0, 2, 31300) ∷ (1, 2, 31300) ∷ (2, 2, 31300) ∷ (3, 1, 31300) ∷ (4, 1, 31300) ∷ []), refused 13)
-    ∷ (proposal ((0, 3, 31300) ∷ (1, 3, 31300) ∷ (2, 3, 31300) ∷ (3, 2, 31300) ∷ (4, 1, 31300) ∷ [])
-      , accepted (line 0 18 (pos 3) 31300 ∷ line 1 22 (negsuc 2) 31300 ∷ line 1 23 (negsuc 2) 31300 ∷ line 1 24 (negsuc 1) 31300 ∷ line 1 24 (negsuc 0) 31300 ∷ []))
+    ∷ (
+      proposal ((0, 3, 31300) ∷ (1, 3, 31300) ∷ (2, 3, 31300) ∷ (3, 2, 31300) ∷ (4, 1, 31300) ∷ []),
+      accepted (line 0 18 (pos 3) 31300 ∷ line 1 22 (negsuc 2) 31300 ∷ line 1 23 (negsuc 2) 31300 ∷ line 1 24 (negsuc 1) 31300 ∷ line 1 24 (negsuc 0) 31300 ∷ []),
+    )
     ∷ [])
 unfolding computed
 priority-of-legs = refl
@@ -75,7 +77,7 @@ two-members : map (λ m. printed (applySpec (quarterBy m 1) (ones 31300 31300 31
 unfolding computed
 two-members = refl
 
-two-contracts : EachPrints (withOrders (order 0 0 17 Buy 30000 1 369 0 ∷ order 1 1 17 Sell 30000 1 369 0 ∷ []) (withHeadAt 5 2 monday))
+two-contracts : EachPrints (withOrders (order 0 0 17 Buy 30000 1 369 0 ∷ order 1 1 17 Sell 30000 1 369 0 ∷ []) (inHead (withAcceptedSubmits 2) monday))
     ((proposal ((0, 1, 30000) ∷ (1, 1, 30000) ∷ []), refused 13) ∷ [])
 unfolding computed
 two-contracts = refl
@@ -84,7 +86,7 @@ two-contracts = refl
 lots-of-legs : EachPrints
     (withOrders
     (order 0 0 18 Buy 60000 2 369 0 ∷ order 1 1 22 Sell 30000 2 369 0 ∷ order 2 1 23 Sell 30000 2 369 0 ∷ order 3 1 24 Sell 30000 2 369 0 ∷ [])
-    (withHeadAt 5 4 monday))
+    (inHead (withAcceptedSubmits 4) monday))
     ((proposal ((0, 1, 60000) ∷ (1, 2, 30000) ∷ (2, 2, 30000) ∷ (3, 2, 30000) ∷ []), refused 13)
     ∷ (ones 30000 30000 30000 30000, fourLines 30000)
     ∷ [])
