@@ -7,7 +7,9 @@ use Rattle.arith.specs.Lists.{from}
 use Rattle.rules.specs.declared.order.Order.{Order}
 use Rattle.rules.specs.declared.order.Side.{Side}
 use Rattle.rules.specs.declared.order.Side.the-variants.{Buy, Sell}
-use Rattle.rules.specs.Ledger.{Tables, withAcceptedSubmits, withLotsRun, withGgf, withDealt, withOrders, day, time, submitsThisSecond, orderCount, ggf, dayLots, dayValue, lotsAt, valueAt, orderAt}
+use Rattle.rules.specs.declared.units.Day.the-variants.{On}
+use Rattle.rules.specs.Contracts.{termOf, termClosingDay}
+use Rattle.rules.specs.Ledger.{Tables, calendar, withAcceptedSubmits, withLotsRun, withGgf, withDealt, withOrders, day, time, submitsThisSecond, orderCount, ggf, dayLots, dayValue, lotsAt, valueAt, orderAt}
 use Rattle.rules.specs.Refusals.{applySpec}
 use Rattle.rules.specs.Computed.{tablesAfter, computed}
 use Rattle.rules.specs.ExampleRecords.{buy, sell, close, made, monday, inHead, inPrices, order}
@@ -98,6 +100,11 @@ unfolding computed
 days-figures = refl
 
 -- ---- closing contracts
+-- Outside the span only weekends are no business days: in a ledger from 2021 on the year 2021 closed on Friday 25 December 2020.
+closed-before-the-span : termClosingDay (calendar monday) (termOf 0) ≡ On (record { 0 = 359 })
+unfolding computed
+closed-before-the-span = refl
+
 -- Day 453 is the last of the second quarter and of April. Orders 0 to 3 are in the quarter, in April and, two, in the next
 -- year: what stays moves up once, and places past it are untouched.
 abbrev bookAfter : Tables → List ℕ

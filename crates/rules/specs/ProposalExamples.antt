@@ -4,7 +4,7 @@ use mathlib.Core.Path.{_≡_, refl}
 use mathlib.Core.List.{List, [], _∷_, map}
 use lib.IntN.{pos, negsuc}
 use Rattle.rules.specs.declared.order.Side.the-variants.{Buy, Sell}
-use Rattle.rules.specs.Ledger.{Tables, withAcceptedSubmits, withOrders, orders, dayLots}
+use Rattle.rules.specs.Ledger.{Tables, withAcceptedSubmits, withLotsRun, withOrders, orders, dayLots}
 use Rattle.rules.specs.Refusals.{applySpec}
 use Rattle.rules.specs.Computed.{Printed, printed, tablesAfter, computed}
 use Rattle.rules.specs.ExampleRecords.{limits, proposal, monday, inHead, order, line, accepted, refused, EachPrints}
@@ -92,6 +92,12 @@ lots-of-legs : EachPrints
     ∷ [])
 unfolding computed
 lots-of-legs = refl
+
+-- Its four lines count in the lots run.
+run-of-legs : map (λ run. printed (applySpec (inHead (withLotsRun run) (quarterBy 0 1)) (ones 31300 31300 31300 31300))) (4999996 ∷ 4999997 ∷ [])
+    ≡ fourLines 31300 ∷ refused 17 ∷ []
+unfolding computed
+run-of-legs = refl
 
 -- What is left rests with its number, and no lots count in M.
 after-a-proposal :
