@@ -12,7 +12,7 @@ use Rattle.rules.specs.Contracts.{termOf, termClosingDay}
 use Rattle.rules.specs.Ledger.{Tables, calendar, withAcceptedSubmits, withLotsRun, withGgf, withDealt, withOrders, day, time, submitsThisSecond, orderCount, ggf, dayLots, dayValue, lotsAt, valueAt, orderAt}
 use Rattle.rules.specs.Refusals.{applySpec}
 use Rattle.rules.specs.Computed.{tablesAfter, computed}
-use Rattle.rules.specs.ExampleRecords.{buy, sell, close, made, monday, inHead, inPrices, order}
+use Rattle.rules.specs.ExampleRecords.{buy, sell, close, made, monday, inHead, inPrices, held, order}
 
 -- ---- the GGF
 -- An order of a contract: side, price, lots, day and time of entry.
@@ -86,6 +86,15 @@ which-orders-quote : Prices
 unfolding computed closed placed resting
 which-orders-quote = refl
 
+-- Orders enter with the ledger's day and their own time: at 36000 s of Monday, 300 s and 299 s before the close, and the day before.
+entered-at :
+    map
+    (λ rs. ggf (tablesAfter monday (buy 0 22 27500 50 ∷ sell 1 22 27601 50 ∷ rs)) 22)
+    ((close 36300 ∷ []) ∷ (close 36299 ∷ []) ∷ (close 36299 ∷ close 0 ∷ []) ∷ [])
+    ≡ 27551 ∷ 0 ∷ 27551 ∷ []
+unfolding computed
+entered-at = refl
+
 -- M and V, each deal counted once: two deals of 5 lots in the year, then nothing on the next day.
 abbrev dayFigures : Tables → List ℕ
 dayFigures t = ggf t 17 ∷ dayLots t 17 ∷ dayValue t 17 ∷ day t ∷ time t ∷ submitsThisSecond t 1 ∷ []
@@ -98,6 +107,11 @@ days-figures : map (λ rs. dayFigures (tablesAfter (made 2021 369 (370 ∷ []) (
     ≡ (0 ∷ 10 ∷ 265000 ∷ 369 ∷ 36000 ∷ 1 ∷ []) ∷ (26500 ∷ 0 ∷ 0 ∷ 371 ∷ 0 ∷ 0 ∷ []) ∷ []
 unfolding computed
 days-figures = refl
+
+-- M and V become 0 in every contract, also in one that is not open.
+closed-figures : dayLots (closed ((0, 0, 10, 260000, [], 0) ∷ [])) 0 ∷ dayValue (closed ((0, 0, 10, 260000, [], 0) ∷ [])) 0 ∷ [] ≡ 0 ∷ 0 ∷ []
+unfolding computed closed placed resting
+closed-figures = refl
 
 -- ---- closing contracts
 -- Outside the span only weekends are no business days: in a ledger from 2021 on the year 2021 closed on Friday 25 December 2020.
@@ -117,6 +131,18 @@ orders-that-close : bookAfter
     ≡ 2 ∷ 2 ∷ 3 ∷ 2 ∷ 3 ∷ []
 unfolding computed
 orders-that-close = refl
+
+-- A closing contract is open that day: its orders quote before they go.
+closing-is-priced :
+    ggf
+    (applySpec
+    (withOrders (order 0 0 2 Buy 26000 20 452 0 ∷ order 1 0 2 Sell 26100 20 452 0 ∷ []) (inHead (withAcceptedSubmits 2) (made 2021 453 [] (1000 ∷ []))))
+    (close 36000)
+    .after)
+    2
+    ≡ 26050
+unfolding computed
+closing-is-priced = refl
 
 -- Lots that net to zero carry their value: member 0 bought 4 of the year 2021 at 30000 and sold 4 of its first quarter at 31000.
 abbrev bought : List (List ℕ)
@@ -138,3 +164,8 @@ rows-that-cascade : rowAfter 1 17 ∷ rowAfter 1 18 ∷ rowAfter 1 19 ∷ rowAft
     ∷ []
 unfolding computed
 rows-that-cascade = refl
+
+-- Rows of members past the count are surplus: of two members, the third's stay.
+surplus-rows : map (λ c. lotsAt (applySpec (held ((2, 17, pos 7) ∷ []) (made 2020 359 [] (1000 ∷ 1000 ∷ []))) (close 0) .after) c 2) (17 ∷ 18 ∷ []) ≡ pos 7 ∷ pos 0 ∷ []
+unfolding computed held
+surplus-rows = refl

@@ -61,6 +61,13 @@ netting : closedOut (0 ∷ 1 ∷ 2 ∷ 3 ∷ []) ((0, 17, negsuc 2) ∷ (1, 17, 
 unfolding computed closedOut lent held marked
 netting = refl
 
+-- The same with a short left over.
+netting-of-shorts : closedOut (0 ∷ 1 ∷ 2 ∷ []) ((0, 17, negsuc 2) ∷ (1, 17, negsuc 2) ∷ (2, 17, pos 4) ∷ (4, 17, negsuc 6) ∷ []) 1000
+    ≡ accepted
+    (line 0 17 (pos 3) 26000 ∷ line 1 17 (pos 1) 26000 ∷ line 2 17 (negsuc 3) 26000 ∷ line 1 17 (pos 2) 26000 ∷ line 4 17 (negsuc 1) 26000 ∷ [])
+unfolding computed closedOut lent held marked
+netting-of-shorts = refl
+
 -- Defaulted lots that net to zero are no 15: step 1 alone, though there is no taker. Lots elsewhere are 15.
 netting-to-zero : closedOut (0 ∷ 1 ∷ []) ((0, 17, pos 5) ∷ (1, 17, negsuc 4) ∷ []) 1000
     ≡ accepted (line 0 17 (negsuc 4) 26000 ∷ line 1 17 (pos 5) 26000 ∷ [])

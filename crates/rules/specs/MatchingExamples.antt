@@ -1,11 +1,14 @@
 -- Document 01, "Matching" and the causes of a submit: what is accepted beside what is refused, computed.
-use Prim.Native.Nat.{ℕ}
 use mathlib.Core.Path.{_≡_, refl}
 use mathlib.Core.List.{List, [], _∷_, _++_, map}
+use lib.ListN.{getD, replicate}
+use lib.IntN.{pos}
 use Rattle.arith.specs.Lists.{from}
 use Rattle.rules.specs.declared.event.OrderKind.the-variants.{Resting, Oeye, Teye}
 use Rattle.rules.specs.declared.order.Side.the-variants.{Buy, Sell}
-use Rattle.rules.specs.Computed.{computed}
+use Rattle.rules.specs.Ledger.{linesLength, withLines}
+use Rattle.rules.specs.Refusals.{applySpec}
+use Rattle.rules.specs.Computed.{tablesAfter, computed}
 use Rattle.rules.specs.ExampleRecords.{submit, buy, sell, cancel, limits, default, close, made, monday, bought, sold, accepted, refused, refusedOf, Prints}
 
 -- The highest buy first, then the lower number; a remainder keeps its number.
@@ -142,3 +145,11 @@ day-limits : Prints monday
     ∷ [])
 unfolding computed
 day-limits = refl
+
+-- A deal prints two lines of four numbers; what is past them stays.
+lines-past-the-count :
+    (let l = applySpec (withLines (replicate linesLength (pos 9)) (tablesAfter monday (sell 0 17 26000 1 ∷ []))) (buy 1 17 26000 1) .after .lines in
+    map (λ i. getD l i (pos 0)) (0 ∷ 4 ∷ 7 ∷ 8 ∷ []))
+    ≡ pos 1 ∷ pos 0 ∷ pos 26000 ∷ pos 9 ∷ []
+unfolding computed
+lines-past-the-count = refl

@@ -61,11 +61,15 @@ answers =
     ∷ (marked (2 ∷ []) monday, buy 2 17 26000 1, noOf 5 2)
     ∷ (marked (2 ∷ []) monday, default 2, noOf 5 2)
     ∷ (marked (2 ∷ []) monday, default 1, lines 0)
-    -- 6, with the contract: January 2021 has closed, the year 2026 is not open yet; submit, limits, close-out
+    -- 6, with the contract: January 2021 has closed; four years, eight quarters and fifteen months are open
     ∷ (monday, buy 0 5 26000 1, noOf 6 5)
     ∷ (monday, buy 0 6 26000 1, lines 0)
-    ∷ (monday, limits 85 1 26000, noOf 6 85)
     ∷ (monday, limits 68 1 26000, lines 0)
+    ∷ (monday, limits 85 1 26000, noOf 6 85)
+    ∷ (monday, limits 35 1 26000, lines 0)
+    ∷ (monday, limits 36 1 26000, noOf 6 36)
+    ∷ (monday, limits 25 1 26000, lines 0)
+    ∷ (monday, limits 26 1 26000, noOf 6 26)
     ∷ (monday, closeOut 85 1000, noOf 6 85)
     -- 7
     ∷ (inPrices (withDayLimits 17 25000 25999) monday, buy 0 17 26000 1, no 7)
