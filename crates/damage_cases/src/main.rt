@@ -102,16 +102,17 @@ fn put_order(book: &mut [u64], i: usize, number: u64, member: u64) {
     }
 }
 
-// Five accepted submits, a lots run of 100, orders 2 and 4; contract 17 has a GGF, 10 lots and their value.
+// Five accepted submits, a lots run of 100, orders 1, 4 and 2; contract 17 has a GGF, 10 lots and their value.
 fn prepare(head: &mut [u64], prices: &mut [u64], book: &mut [u64]) {
     put(&mut *head, 5, 5);
     put(&mut *head, 6, 100);
-    put(&mut *head, 7, 2);
+    put(&mut *head, 7, 3);
     put(&mut *prices, 85, 26000);
     put(&mut *prices, 88, 10);
     put(&mut *prices, 89, 260000);
-    put_order(&mut *book, 0, 2, 0);
+    put_order(&mut *book, 0, 1, 0);
     put_order(&mut *book, 1, 4, 1);
+    put_order(&mut *book, 2, 2, 0);
 }
 
 fn change(
@@ -297,7 +298,7 @@ fn rows() {
 
 // Member, contract, side, price, lots, day and time of an order; i is its first place.
 fn order(i: usize) {
-    if i <= 8 {
+    if i <= 16 {
         last(Table::Book, i + 1, 2);
         last(Table::Book, i + 2, 101);
         last(Table::Book, i + 3, 1);
@@ -311,15 +312,16 @@ fn order(i: usize) {
     }
 }
 
-// Both orders; numbers below the count, and not the same; a third order is surplus.
+// The first order and the last. Numbers are below the count, in any order, and no two alike; a fourth order is surplus.
 fn orders() {
     order(0);
-    order(8);
-    last(Table::Book, 0, 3);
+    order(16);
     last(Table::Book, 8, 4);
-    one(Table::Book, 8, 2);
-    one(Table::Book, 16, 4);
-    one(Table::Book, 19, 2);
+    one(Table::Book, 0, 3);
+    one(Table::Book, 0, 2);
+    one(Table::Book, 8, 1);
+    one(Table::Book, 24, 4);
+    one(Table::Book, 27, 2);
 }
 
 // A table that lacks one place.
