@@ -13,7 +13,7 @@ use Rattle.arith.specs.Lists.{every, any, from}
 use Rattle.arith.specs.Tests.{true-or, le-or-lt, and-left, and-right, and-false, and-true, or-false}
 use Rattle.rules.specs.Header.{rising}
 use Rattle.rules.specs.Refusals.{distinct}
-use Rattle.damage.proofs.Scans.{from-next, from-end}
+use Rattle.arith.proofs.Scans.{from-next, from-end}
 
 -- What is above a larger number is above a smaller one.
 above : (x y : ℕ) (l : List ℕ) → x < y → every (ltb y) l ≡ true → every (ltb x) l ≡ true

@@ -8,7 +8,7 @@ use lib.IntN.{ℤ}
 use Rattle.arith.specs.Lists.{every, from}
 use Rattle.rules.specs.Ledger.{lent}
 use Rattle.damage.specs.Orders.{placeSound, placesSound}
-use Rattle.damage.proofs.Scans.{each-start, each-next, each-end}
+use Rattle.arith.proofs.Scans.{each-start, each-next, each-end}
 use Rattle.damage.proofs.book.are_orders_sound.Statement.{statement}
 use Rattle.damage.proofs.book.are_orders_sound.Tie as tie
 

@@ -7,7 +7,7 @@ use Prim.Native.Nat.{ℕ, _-_, _≤_}
 use lib.ListN.{length, drop}
 use Rattle.arith.specs.Lists.{every}
 use Rattle.rules.specs.Days.{inSpan}
-use Rattle.damage.proofs.Scans.{every-next, every-end}
+use Rattle.arith.proofs.Scans.{every-next, every-end}
 use Rattle.damage.proofs.days.are_in_span.Statement.{statement}
 use Rattle.damage.proofs.days.are_in_span.Tie as tie
 

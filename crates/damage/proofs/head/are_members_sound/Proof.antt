@@ -10,7 +10,7 @@ use lib.ListN.{getD}
 use Rattle.arith.specs.Lists.{every, from}
 use Rattle.rules.specs.Refusals.{memberSound}
 use Rattle.rules.specs.Ledger.{lent}
-use Rattle.damage.proofs.Scans.{each-start, each-next, each-end}
+use Rattle.arith.proofs.Scans.{each-start, each-next, each-end}
 use Rattle.damage.proofs.Tests.{all-three}
 use Rattle.damage.proofs.head.are_members_sound.Statement.{statement}
 use Rattle.damage.proofs.head.are_members_sound.Tie as tie

@@ -6,7 +6,7 @@ use Prim.Native.Nat.{_+_, _*_, _-_, _≤_}
 use lib.ListN.{drop, length-take, length-drop}
 use Rattle.arith.specs.Lists.{everyBlock}
 use Rattle.rules.specs.Refusals.{contractPricesSound}
-use Rattle.damage.proofs.Scans.{block-next, block-end}
+use Rattle.arith.proofs.Scans.{block-next, block-end}
 use Rattle.damage.proofs.prices.are_prices_sound.Statement.{statement}
 use Rattle.damage.proofs.prices.are_prices_sound.Tie as tie
 

@@ -1,6 +1,6 @@
 -- Tests of many things, one after the other: `ok` says whether those passed so far pass. Assumes nothing.
 use mathlib.Core.Path.{_≡_, refl, sym, _∙_}
-use mathlib.Core.Bool.{Bool, _&&_, _||_, and-assoc}
+use mathlib.Core.Bool.{Bool, true, false, _&&_, _||_, and-assoc}
 use mathlib.Core.List.{List, [], _∷_}
 use Prim.Native.Nat.{ℕ, zero, suc, _+_, _*_, _-_, _<_, _≤_}
 use native.Mathlib.Omega.{arith}
@@ -54,6 +54,21 @@ module _ (p : ℕ → Bool) (n i : ℕ) (ok all : Bool) (known : ok && every p (
   unfolding every
   each-end h = sym (and-true ok) ∙ rw (from-end i n h) at known
 
+-- the same where each that was passed passes: no flag is kept
+module _ (p : ℕ → Bool) (n i : ℕ) (all : Bool) (known : every p (from i (n - i)) ≡ all) where
+  more : i < n → p i && every p (from (i + 1) (n - (i + 1))) ≡ all
+  more h = rw (← every-cons p i (from (i + 1) (n - (i + 1))), ← from-next i n h) known
+
+  pub pass-next : i < n → p i ≡ true → every p (from (i + 1) (n - (i + 1))) ≡ all
+  pass-next h e = rw e at (more h)
+
+  pub pass-stop : i < n → p i ≡ false → false ≡ all
+  pass-stop h e = rw e at (more h)
+
+  pub pass-end : n ≤ i → true ≡ all
+  unfolding every
+  pass-end h = rw (from-end i n h) at known
+
 -- ---- blocks of w places
 module _ {A : Type 0} (w : ℕ) (p : List A → Bool) (m : ℕ) (l : List A) (i : ℕ) (ok all : Bool) (known : ok && everyBlock w p (m - i) (drop (i * w) l) ≡ all) where
   pub block-next : i < m → (ok && p (take w (drop (i * w) l))) && everyBlock w p (m - (i + 1)) (drop ((i + 1) * w) l) ≡ all
@@ -65,3 +80,13 @@ module _ {A : Type 0} (w : ℕ) (p : List A → Bool) (m : ℕ) (l : List A) (i 
   pub block-end : m ≤ i → ok ≡ all
   unfolding everyBlock
   block-end h = sym (and-true ok) ∙ rw (done m i h) at known
+
+module _ {A : Type 0} (w : ℕ) (p : List A → Bool) (m : ℕ) (l : List A) (i : ℕ) (all : Bool) (known : everyBlock w p (m - i) (drop (i * w) l) ≡ all) where
+  more-blocks : i < m → p (take w (drop (i * w) l)) && everyBlock w p (m - (i + 1)) (drop ((i + 1) * w) l) ≡ all
+  more-blocks h = block-next w p m l i true all known h
+
+  pub pass-block : i < m → p (take w (drop (i * w) l)) ≡ true → everyBlock w p (m - (i + 1)) (drop ((i + 1) * w) l) ≡ all
+  pass-block h e = rw e at (more-blocks h)
+
+  pub stop-block : i < m → p (take w (drop (i * w) l)) ≡ false → false ≡ all
+  stop-block h e = rw e at (more-blocks h)
