@@ -48,6 +48,10 @@ unfolding bitsOf
 below-bits (pos n) h t = absurd (omega (arith, leb-false 0 n t))
 below-bits (negsuc n) h t = omega arith
 
+pub below-abs : (x : ℤ) → leZ (pos 0) x ≡ false → suc (mag x) ≡ natAbs x
+below-abs (pos n) t = absurd (omega (arith, leb-false 0 n t))
+below-abs (negsuc n) t = refl
+
 -- ---- an or is below a power of two exactly if both its parts are
 both : (o a b h : ℕ) → a ≤ o → b ≤ o → (a < h → b < h → o < h) → ltb o h ≡ ltb a h && ltb b h
 both o a b h p q k =

@@ -12,16 +12,17 @@ ghost use Rattle.rules.specs.Refusals.{everyRow};
 ghost use Rattle.damage.specs.Windows.{everyColumn, IsHalf, IsWidth};
 use rules::layout;
 
+// In absolute size; -1 - x is one less than that of a negative x, and is in range for every x.
 fn is_within(x: i64, bound: u64) -> bool
-    requires { ⌜ bound ≤ mostPrice * mostLotsRun ⌝ }
     ensures { λ r. ⌜ r ≡ leb (natAbs x) bound ⌝ }
 {
-    let b = bound as i64;
-    (-b <= x) & (x <= b)
+    if x >= 0 {
+        return (x as u64) <= bound;
+    }
+    ((-1 - x) as u64) < bound
 }
 
 fn are_within(rows: &[i64], bound: u64) -> bool
-    requires { ⌜ bound ≤ mostPrice * mostLotsRun ⌝ }
     ensures { λ r. ⌜ r ≡ every (λ z. leb (natAbs z) bound) (now (rows .entry)) ⌝ }
 {
     let mut ok = true;
@@ -36,7 +37,7 @@ fn are_within(rows: &[i64], bound: u64) -> bool
 
 // Each row compared with the bound itself.
 fn is_each_within(rows: &[i64], n: usize, bound: u64) -> bool
-    requires { ⌜ (rowsLength ≤ length (now rows)) × (n ≤ mostMembers) × (bound ≤ mostPrice * mostLotsRun) ⌝ }
+    requires { ⌜ (rowsLength ≤ length (now rows)) × (n ≤ mostMembers) ⌝ }
     ensures { λ r. ⌜ r ≡ everyRow (λ z. leb (natAbs z) bound) n (now (rows .entry)) ⌝ }
 {
     let mut ok = true;
