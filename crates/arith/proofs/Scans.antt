@@ -9,7 +9,7 @@ use native.Mathlib.Numerals.{add-one}
 use lib.ListN.{length, getD, take, drop, drop-of-length-le}
 use lib.Seq.{drop-cons, drop-drop}
 use Rattle.arith.specs.Lists.{every, any, from, everyBlock}
-use Rattle.arith.specs.Tests.{and-true, and-false, or-false}
+use Rattle.arith.specs.Tests.{and-true, or-false}
 
 pub less-one : (n i : ℕ) → i < n → n - i ≡ suc (n - (i + 1))
 less-one n i h = omega arith
@@ -54,6 +54,21 @@ module _ (p : ℕ → Bool) (n i : ℕ) (ok all : Bool) (known : ok && every p (
   unfolding every
   each-end h = sym (and-true ok) ∙ rw (from-end i n h) at known
 
+-- the same where each that was passed passes: no flag is kept
+module _ (p : ℕ → Bool) (n i : ℕ) (all : Bool) (known : every p (from i (n - i)) ≡ all) where
+  more : i < n → p i && every p (from (i + 1) (n - (i + 1))) ≡ all
+  more h = rw (← every-cons p i (from (i + 1) (n - (i + 1))), ← from-next i n h) known
+
+  pub pass-next : i < n → p i ≡ true → every p (from (i + 1) (n - (i + 1))) ≡ all
+  pass-next h e = rw e at (more h)
+
+  pub pass-stop : i < n → p i ≡ false → false ≡ all
+  pass-stop h e = rw e at (more h)
+
+  pub pass-end : n ≤ i → true ≡ all
+  unfolding every
+  pass-end h = rw (from-end i n h) at known
+
 -- ---- blocks of w places
 module _ {A : Type 0} (w : ℕ) (p : List A → Bool) (m : ℕ) (l : List A) (i : ℕ) (ok all : Bool) (known : ok && everyBlock w p (m - i) (drop (i * w) l) ≡ all) where
   pub block-next : i < m → (ok && p (take w (drop (i * w) l))) && everyBlock w p (m - (i + 1)) (drop ((i + 1) * w) l) ≡ all
@@ -66,6 +81,16 @@ module _ {A : Type 0} (w : ℕ) (p : List A → Bool) (m : ℕ) (l : List A) (i 
   unfolding everyBlock
   block-end h = sym (and-true ok) ∙ rw (done m i h) at known
 
+module _ {A : Type 0} (w : ℕ) (p : List A → Bool) (m : ℕ) (l : List A) (i : ℕ) (all : Bool) (known : everyBlock w p (m - i) (drop (i * w) l) ≡ all) where
+  more-blocks : i < m → p (take w (drop (i * w) l)) && everyBlock w p (m - (i + 1)) (drop ((i + 1) * w) l) ≡ all
+  more-blocks h = block-next w p m l i true all known h
+
+  pub pass-block : i < m → p (take w (drop (i * w) l)) ≡ true → everyBlock w p (m - (i + 1)) (drop ((i + 1) * w) l) ≡ all
+  pass-block h e = rw e at (more-blocks h)
+
+  pub stop-block : i < m → p (take w (drop (i * w) l)) ≡ false → false ≡ all
+  stop-block h e = rw e at (more-blocks h)
+
 -- ---- whether any of them passes
 module _ {A : Type 0} (f : ℕ → A) (p : A → Bool) (n i : ℕ) (found one : Bool) where
   pub some-next : found || any p (map f (from i (n - i))) ≡ one → i < n → (found || p (f i)) || any p (map f (from (i + 1) (n - (i + 1)))) ≡ one
@@ -75,24 +100,3 @@ module _ {A : Type 0} (f : ℕ → A) (p : A → Bool) (n i : ℕ) (found one : 
   pub some-end : found || any p (map f (from i (n - i))) ≡ one → n ≤ i → found ≡ one
   unfolding any
   some-end known h = sym (or-false found) ∙ rw (from-end i n h) at known
-
--- ---- a test of what a list is mapped to, and two tests at once
-module _ {A B : Type 0} where
-  pub every-map : (p : B → Bool) (f : A → B) (l : List A) → every p (map f l) ≡ every (λ a. p (f a)) l
-  unfolding every
-  every-map p f [] = refl
-  every-map p f (x ∷ l) = rw (every-map p f l)
-
-pub map-map : {A B D : Type 0} (g : B → D) (f : A → B) (l : List A) → map g (map f l) ≡ map (λ a. g (f a)) l
-map-map g f [] = refl
-map-map g f (x ∷ l) = rw (map-map g f l)
-
-swap : (a b c d : Bool) → (a && b) && (c && d) ≡ (a && c) && (b && d)
-swap true b true d = refl
-swap true b false d = and-false b
-swap false b c d = refl
-
-pub every-both : {A : Type 0} (p q : A → Bool) (l : List A) → every (λ a. p a && q a) l ≡ every p l && every q l
-unfolding every
-every-both p q [] = refl
-every-both p q (x ∷ l) = rw (every-both p q l) (swap (p x) (q x) (every p l) (every q l))

@@ -5,12 +5,12 @@ use mathlib.Core.List.{List, [], _∷_, map}
 use Prim.Native.Nat.{ℕ, suc, _+_, _-_, _<_, _≤_}
 use native.Mathlib.Omega.{arith}
 use native.Mathlib.Numerals.{add-one}
-use lib.Dec.{eqb, ltb}
+use lib.Dec.{eqb, leb, ltb}
 use lib.ListN.{length, getD, drop, length-drop}
 use lib.Seq.{drop-cons}
-use borrow.Author.Tests.{ltb-true, lt-ltb, ne-eqb}
+use borrow.Author.Tests.{leb-true, ltb-true, lt-ltb, ne-eqb}
 use Rattle.arith.specs.Lists.{every, any, from}
-use Rattle.arith.specs.Tests.{true-or, le-or-lt, and-left, and-right, and-false, and-true, or-false}
+use Rattle.arith.specs.Tests.{true-or, and-left, and-right, and-false, and-true, or-false}
 use Rattle.rules.specs.Header.{rising}
 use Rattle.rules.specs.Refusals.{distinct}
 use Rattle.arith.proofs.Scans.{from-next, from-end}
@@ -53,18 +53,6 @@ rising-end l i ok known h = sym (and-true ok) ∙ rw (short-rising (drop i l) (r
 
 -- ---- f of the numbers from i up to n
 module _ (f : ℕ → ℕ) (n i : ℕ) (ok all : Bool) where
-  pub rise-next : ok && rising (map f (from i (n - i))) ≡ all → i + 1 < n → (ok && ltb (f i) (f (i + 1))) && rising (map f (from (i + 1) (n - (i + 1)))) ≡ all
-  rise-next known h =
-      let rest = from (i + 1 + 1) (n - (i + 1 + 1)) in
-      and-assoc ok (ltb (f i) (f (i + 1))) (rising (map f (from (i + 1) (n - (i + 1)))))
-      ∙ rw (from-next (i + 1) n h, ← rising-cons (f i) (f (i + 1)) (map f rest)) (rw (from-next i n (omega arith), from-next (i + 1) n h) at known)
-
-  pub rise-end : ok && rising (map f (from i (n - i))) ≡ all → n ≤ i + 1 → ok ≡ all
-  unfolding rising every
-  rise-end known h =
-      sym (and-true ok)
-      ∙ le-or-lt n i (λ l. rw (from-end i n l) at known) (λ l. rw (from-next i n l, from-end (i + 1) n h) at known)
-
   pub distinct-next : ok && distinct (map f (from i (n - i))) ≡ all → i < n
       → (ok && not (any (eqb (f i)) (map f (from (suc i) (n - suc i))))) && distinct (map f (from (i + 1) (n - (i + 1)))) ≡ all
   unfolding distinct
@@ -76,16 +64,39 @@ module _ (f : ℕ → ℕ) (n i : ℕ) (ok all : Bool) where
   unfolding distinct
   distinct-end known h = sym (and-true ok) ∙ rw (from-end i n h) at known
 
--- ---- numbers that rise are distinct
-none-same : (x : ℕ) (l : List ℕ) → every (ltb x) l ≡ true → any (eqb x) l ≡ false
-unfolding every any
-none-same x [] e = refl
-none-same x (y ∷ l) e =
-    let g = ltb-true x y (and-left (ltb x y) (every (ltb x) l) e) in
-    rw (ne-eqb x y (λ z. omega arith)) (none-same x l (and-right (ltb x y) (every (ltb x) l) e))
+module _ {A : Type 0} (f : ℕ → A) (p : A → Bool) (n i : ℕ) (found one : Bool) where
+  pub some-next : found || any p (map f (from i (n - i))) ≡ one → i < n → (found || p (f i)) || any p (map f (from (i + 1) (n - (i + 1)))) ≡ one
+  unfolding any
+  some-next known h = or-assoc found (p (f i)) (any p (map f (from (i + 1) (n - (i + 1))))) ∙ rw (from-next i n h) at known
 
-pub rising-distinct : (l : List ℕ) → rising l ≡ true → distinct l ≡ true
-unfolding rising distinct
-rising-distinct [] e = refl
-rising-distinct (x ∷ l) e =
-    rw (none-same x l (and-left (every (ltb x) l) (rising l) e)) (rising-distinct l (and-right (every (ltb x) l) (rising l) e))
+  pub some-end : found || any p (map f (from i (n - i))) ≡ one → n ≤ i → found ≡ one
+  unfolding any
+  some-end known h = sym (or-false found) ∙ rw (from-end i n h) at known
+
+-- ---- numbers that rise, the first from k on
+unfoldable pub risesFrom : ℕ → List ℕ → Bool
+risesFrom k [] = true
+risesFrom k (x ∷ l) = leb k x && risesFrom (suc x) l
+
+module _ (f : ℕ → ℕ) (n i k : ℕ) (ok all : Bool) (known : ok && risesFrom k (map f (from i (n - i))) ≡ all) where
+  pub rises-next : i < n → (ok && leb k (f i)) && risesFrom (f i + 1) (map f (from (i + 1) (n - (i + 1)))) ≡ all
+  unfolding risesFrom
+  rises-next h = and-assoc ok (leb k (f i)) (risesFrom (f i + 1) (map f (from (i + 1) (n - (i + 1))))) ∙ rw (add-one (f i)) (rw (from-next i n h) at known)
+
+  pub rises-end : n ≤ i → ok ≡ all
+  unfolding risesFrom
+  rises-end h = sym (and-true ok) ∙ rw (from-end i n h) at known
+
+none-same : (x k : ℕ) (l : List ℕ) → x < k → risesFrom k l ≡ true → any (eqb x) l ≡ false
+unfolding risesFrom any
+none-same x k [] h e = refl
+none-same x k (y ∷ l) h e =
+    let above = leb-true k y (and-left (leb k y) (risesFrom (suc y) l) e) in
+    rw (ne-eqb x y (λ z. omega arith)) (none-same x (suc y) l (omega arith) (and-right (leb k y) (risesFrom (suc y) l) e))
+
+pub rises-distinct : (k : ℕ) (l : List ℕ) → risesFrom k l ≡ true → distinct l ≡ true
+unfolding risesFrom distinct
+rises-distinct k [] e = refl
+rises-distinct k (x ∷ l) e =
+    let rest = and-right (leb k x) (risesFrom (suc x) l) e in
+    rw (none-same x (suc x) l (omega arith) rest) (rises-distinct (suc x) l rest)

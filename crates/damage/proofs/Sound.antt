@@ -1,54 +1,124 @@
--- What tables say that pass their tests. Assumes nothing.
-use mathlib.Core.Path.{_≡_, refl, sym}
-use mathlib.Core.Bool.{Bool, true, false, _&&_, _||_}
+-- One test that fails makes the tables unsound, whatever the others say; what those that pass give to the later ones.
+-- Assumes nothing.
+use mathlib.Core.Path.{_≡_, refl, sym, _∙_}
+use mathlib.Core.Bool.{Bool, true, false, not, _&&_, _||_}
 use mathlib.Core.List.{[], _∷_}
-use Prim.Native.Nat.{_≤_}
+use Prim.Native.Nat.{ℕ, _≤_, _*_}
 use lib.Dec.{leb, ltb}
-use borrow.Author.Tests.{leb-true, ltb-false, not-false}
-use Rattle.arith.specs.Lists.{every, allOf}
-use Rattle.arith.specs.Tests.{never, and-left, and-right}
-use Rattle.arith.specs.Alls.{all-hold}
+use lib.IntN.{natAbs}
 use lib.ListN.{length}
+use borrow.Author.Tests.{leb-true, ltb-false}
+use Rattle.arith.specs.Lists.{every, allOf}
+use Rattle.arith.specs.Tests.{never, and-left, and-right, and-false, and-true}
+use Rattle.arith.specs.Alls.{all-hold}
 use Rattle.rules.specs.Days.{Calendar, inSpan}
 use Rattle.rules.specs.Header.{rising, calendarSound}
-use Rattle.rules.specs.Ledger.{Tables, firstYear, members, holidayCount, acceptedSubmits, lotsRun, orderCount, calendar, ledgerShort, linesShort}
-use Rattle.rules.specs.Refusals.{headSound, pricesSound, rowsSound, bookSound, damaged}
+use Rattle.rules.specs.Ranges.{mostHolidays, mostMembers, mostOrders, mostLotsRun, mostAcceptedSubmits, mostPrice, leastFirstYear, mostFirstYear}
+use Rattle.rules.specs.Ledger.{Tables, firstYear, holidayCount, members, acceptedSubmits, lotsRun, orderCount, calendar, headLength, pricesLength, rowsLength, bookLength, ledgerShort, linesShort}
+use Rattle.rules.specs.Refusals.{everyRow, headSound, pricesSound, rowsSound, bookSound, damaged, unsound}
 use Rattle.calendar.specs.Bounds.{FirstYear}
 
-first-two : (a b c d e : Bool) → a && b && c && d && e ≡ true → (a ≡ true) × (b ≡ true)
-first-two true true c d e h = (refl, refl)
-first-two true false c d e h = never (sym h)
-first-two false b c d e h = never (sym h)
+-- ---- one test fails
+or-last : (a b : Bool) → true ≡ a || b || true
+or-last true b = refl
+or-last false true = refl
+or-last false false = refl
 
-pub years : (k : Calendar) → calendarSound k ≡ true → FirstYear (k .firstYear)
-unfolding calendarSound
-years k h = let two = first-two (leb 2020 (k .firstYear)) (leb (k .firstYear) 2094) (leb (length (k .holidays)) 120) (rising (k .holidays)) (every (inSpan k) (k .holidays)) h in (leb-true 2020 (k .firstYear) (two .0), leb-true (k .firstYear) 2094 (two .1))
+or-second : (a c : Bool) → true ≡ a || true || c
+or-second true c = refl
+or-second false c = refl
 
--- The numbers of a sound head that places and counts go by.
+second-fails : (h r b : Bool) → not (allOf (h ∷ false ∷ r ∷ b ∷ [])) ≡ true
+unfolding allOf
+second-fails true r b = refl
+second-fails false r b = refl
+
+third-fails : (h p b : Bool) → not (allOf (h ∷ p ∷ false ∷ b ∷ [])) ≡ true
+unfolding allOf
+third-fails true p b = second-fails p b b
+third-fails false p b = refl
+
+module _ (t : Tables) where
+  pub ledger-short : ledgerShort t ≡ true → true ≡ unsound t
+  unfolding unsound
+  ledger-short e = rw e
+
+  pub lines-short : linesShort t ≡ true → true ≡ unsound t
+  unfolding unsound
+  lines-short e = rw e (or-second (ledgerShort t) (damaged t))
+
+  is-damaged : damaged t ≡ true → true ≡ unsound t
+  unfolding unsound
+  is-damaged e = rw e (or-last (ledgerShort t) (linesShort t))
+
+  pub head-fails : headSound t ≡ false → true ≡ unsound t
+  unfolding damaged allOf
+  head-fails e = is-damaged (rw e)
+
+  pub prices-fail : pricesSound t ≡ false → true ≡ unsound t
+  unfolding damaged
+  prices-fail e = is-damaged (rw e (second-fails (headSound t) (rowsSound t) (bookSound t)))
+
+  rows-fail : rowsSound t ≡ false → true ≡ unsound t
+  unfolding damaged
+  rows-fail e = is-damaged (rw e (third-fails (headSound t) (pricesSound t) (bookSound t)))
+
+  pub lots-fail : everyRow (λ z. leb (natAbs z) (lotsRun t)) (members t) (t .lots) ≡ false → true ≡ unsound t
+  unfolding rowsSound
+  lots-fail e = rows-fail (rw e)
+
+  pub value-fails : everyRow (λ z. leb (natAbs z) (mostPrice * lotsRun t)) (members t) (t .value) ≡ false → true ≡ unsound t
+  unfolding rowsSound
+  value-fails e = rows-fail (rw e (and-false (everyRow (λ z. leb (natAbs z) (lotsRun t)) (members t) (t .lots))))
+
+  -- The others pass: the book decides.
+  pub book-decides : ledgerShort t ≡ false → linesShort t ≡ false → headSound t ≡ true → pricesSound t ≡ true
+      → everyRow (λ z. leb (natAbs z) (lotsRun t)) (members t) (t .lots) ≡ true → everyRow (λ z. leb (natAbs z) (mostPrice * lotsRun t)) (members t) (t .value) ≡ true → not (bookSound t) ≡ unsound t
+  unfolding unsound damaged rowsSound allOf
+  book-decides long lines head prices lots value = rw (long, lines, head, prices, lots, value, and-true (bookSound t))
+
+-- ---- the first year, tested before the rest of the head
+first-of : (a b c d e : Bool) → a && b ≡ false → a && b && c && d && e ≡ false
+first-of true true c d e h = never h
+first-of true false c d e h = refl
+first-of false b c d e h = refl
+
+pub year-fails : (t : Tables) → leb leastFirstYear (firstYear t) && leb (firstYear t) mostFirstYear ≡ false → headSound t ≡ false
+unfolding headSound calendarSound allOf
+year-fails t e =
+    let k = calendar t in
+    rw (first-of (leb leastFirstYear (firstYear t)) (leb (firstYear t) mostFirstYear) (leb (length (k .holidays)) 120) (rising (k .holidays)) (every (inSpan k) (k .holidays)) e)
+    (and-false (leb (holidayCount t) mostHolidays))
+
+pub years : (y : ℕ) → leb leastFirstYear y && leb y mostFirstYear ≡ true → FirstYear y
+years y e = (leb-true leastFirstYear y (and-left (leb leastFirstYear y) (leb y mostFirstYear) e), leb-true y mostFirstYear (and-right (leb leastFirstYear y) (leb y mostFirstYear) e))
+
+-- ---- what a sound head gives
 pub record HeadHolds (t : Tables) : Type 0 where
-  pub years : FirstYear (firstYear t)
-  pub most-holidays : holidayCount t ≤ 120
-  pub least-members : 1 ≤ members t
-  pub most-members : members t ≤ 32
-  pub most-accepted : acceptedSubmits t ≤ 4000000000
-  pub most-run : lotsRun t ≤ 5000000
-  pub most-orders : orderCount t ≤ 256
+  pub most-members : members t ≤ mostMembers
+  pub most-accepted : acceptedSubmits t ≤ mostAcceptedSubmits
+  pub most-run : lotsRun t ≤ mostLotsRun
+  pub most-orders : orderCount t ≤ mostOrders
 
 pub head-holds : (t : Tables) → headSound t ≡ true → HeadHolds t
 unfolding headSound
 head-holds t e =
     let all = all-hold _ e in
     record {
-      years = years (calendar t) (all .1 .0);
-      most-holidays = leb-true (holidayCount t) 120 (all .0);
-      least-members = leb-true 1 (members t) (and-left (leb 1 (members t)) (leb (members t) 32) (all .1 .1 .0));
-      most-members = leb-true (members t) 32 (and-right (leb 1 (members t)) (leb (members t) 32) (all .1 .1 .0));
-      most-accepted = leb-true (acceptedSubmits t) 4000000000 (all .1 .1 .1 .1 .1 .0);
-      most-run = leb-true (lotsRun t) 5000000 (all .1 .1 .1 .1 .1 .1 .0);
-      most-orders = leb-true (orderCount t) 256 (all .1 .1 .1 .1 .1 .1 .1 .0);
+      most-members = leb-true (members t) mostMembers (and-right (leb 1 (members t)) (leb (members t) mostMembers) (all .1 .1 .0));
+      most-accepted = leb-true (acceptedSubmits t) mostAcceptedSubmits (all .1 .1 .1 .1 .1 .0);
+      most-run = leb-true (lotsRun t) mostLotsRun (all .1 .1 .1 .1 .1 .1 .0);
+      most-orders = leb-true (orderCount t) mostOrders (all .1 .1 .1 .1 .1 .1 .1 .0);
     }
 
--- ---- lengths
+-- ---- what lengths give
+pub record Lengths (t : Tables) : Type 0 where
+  pub head-length : headLength ≤ length (t .head)
+  pub prices-length : pricesLength ≤ length (t .prices)
+  pub lots-length : rowsLength ≤ length (t .lots)
+  pub value-length : rowsLength ≤ length (t .value)
+  pub book-length : bookLength ≤ length (t .book)
+
 none-of-five : (a b c d e : Bool) → a || b || c || d || e ≡ false → (a ≡ false) × (b ≡ false) × (c ≡ false) × (d ≡ false) × (e ≡ false)
 none-of-five false false false false false h = (refl, refl, refl, refl, refl)
 none-of-five false false false false true h = never h
@@ -57,24 +127,14 @@ none-of-five false false true d e h = never h
 none-of-five false true c d e h = never h
 none-of-five true b c d e h = never h
 
-pub record Lengths (t : Tables) : Type 0 where
-  pub head-length : 224 ≤ length (t .head)
-  pub prices-length : 510 ≤ length (t .prices)
-  pub lots-length : 3264 ≤ length (t .lots)
-  pub value-length : 3264 ≤ length (t .value)
-  pub book-length : 2048 ≤ length (t .book)
-
 pub lengths : (t : Tables) → ledgerShort t ≡ false → Lengths t
 unfolding ledgerShort
 lengths t e =
-    let none =
-    none-of-five (ltb (length (t .head)) 224) (ltb (length (t .prices)) 510) (ltb (length (t .lots)) 3264) (ltb (length (t .value)) 3264)
-    (ltb (length (t .book)) 2048) e
-    in
+    let none = none-of-five (ltb (length (t .head)) headLength) (ltb (length (t .prices)) pricesLength) (ltb (length (t .lots)) rowsLength) (ltb (length (t .value)) rowsLength) (ltb (length (t .book)) bookLength) e in
     record {
-      head-length = ltb-false (length (t .head)) 224 (none .0);
-      prices-length = ltb-false (length (t .prices)) 510 (none .1);
-      lots-length = ltb-false (length (t .lots)) 3264 (none .2);
-      value-length = ltb-false (length (t .value)) 3264 (none .3);
-      book-length = ltb-false (length (t .book)) 2048 (none .4);
+      head-length = ltb-false (length (t .head)) headLength (none .0);
+      prices-length = ltb-false (length (t .prices)) pricesLength (none .1);
+      lots-length = ltb-false (length (t .lots)) rowsLength (none .2);
+      value-length = ltb-false (length (t .value)) rowsLength (none .3);
+      book-length = ltb-false (length (t .book)) bookLength (none .4);
     }

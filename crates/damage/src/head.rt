@@ -5,9 +5,12 @@ ghost use Prim.Native.Nat.{ℕ, _+_, _≤_};
 ghost use lib.ListN.{length, getD};
 ghost use lib.IntN.{ℤ};
 ghost use Rattle.arith.specs.Lists.{every, from};
+ghost use Rattle.rules.specs.Ranges.{mostMembers};
+ghost use Rattle.rules.specs.Ledger.{lent, headLength, firstYearPlace};
 ghost use Rattle.rules.specs.Refusals.{memberSound, headSound};
 ghost use Rattle.calendar.specs.Bounds.{FirstYear};
-ghost use Rattle.rules.specs.Ledger.{lent};
+ghost use Rattle.damage.specs.Spans.{IsSpanOf};
+use crate::days::Span;
 use crate::days::is_calendar_sound;
 use crate::days::is_day_sound;
 use rules::DayNo;
@@ -16,7 +19,7 @@ use rules::ranges;
 
 // Each member's limit, mark and count in the present second.
 fn are_members_sound(head: &[u64], members: u64) -> bool
-    requires { ⌜ (224 ≤ length (now head)) × (members ≤ 32) ⌝ }
+    requires { ⌜ (headLength ≤ length (now head)) × (members ≤ mostMembers) ⌝ }
     ensures { λ r. ⌜ ((p : List ℕ) (l v : List ℤ) (b : List ℕ) (n : List ℤ) → r ≡ every (memberSound (lent (now (head .entry)) p l v b n)) (from 0 members)) ⌝ }
 {
     let count = members as usize;
@@ -32,12 +35,11 @@ fn are_members_sound(head: &[u64], members: u64) -> bool
     ok
 }
 
-// Every count is tested before it is used.
-pub fn is_head_sound(head: &[u64]) -> bool
-    requires { ⌜ 224 ≤ length (now head) ⌝ }
+// Of a sound first year and its span. Every count is tested before it is used.
+pub fn is_head_sound(head: &[u64], span: Span) -> bool
+    requires { ⌜ (headLength ≤ length (now head)) × FirstYear (getD (now head) firstYearPlace 0) × IsSpanOf span (getD (now head) firstYearPlace 0) ⌝ }
     ensures { λ r. ⌜ ((p : List ℕ) (l v : List ℤ) (b : List ℕ) (n : List ℤ) → r ≡ headSound (lent (now (head .entry)) p l v b n)) ⌝ }
 {
-    let first_year = head[layout::FIRST_YEAR];
     let members = head[layout::MEMBERS];
     let count = head[layout::HOLIDAY_COUNT];
     if ranges::MOST_HOLIDAYS < count {
@@ -45,7 +47,7 @@ pub fn is_head_sound(head: &[u64]) -> bool
     }
     let end = layout::HOLIDAYS + count as usize;
     let holidays = &head[layout::HOLIDAYS..end];
-    if !is_calendar_sound(first_year, holidays) {
+    if !is_calendar_sound(head[layout::FIRST_YEAR], span, holidays) {
         return false;
     }
     if members < 1 {
@@ -54,7 +56,7 @@ pub fn is_head_sound(head: &[u64]) -> bool
     if ranges::MOST_MEMBERS < members {
         return false;
     }
-    let day = is_day_sound(first_year, holidays, DayNo(head[layout::DAY]));
+    let day = is_day_sound(span, holidays, DayNo(head[layout::DAY]));
     let counts = (head[layout::TIME] <= ranges::LAST_SECOND)
         & (head[layout::ACCEPTED_SUBMITS] <= ranges::MOST_ACCEPTED_SUBMITS)
         & (head[layout::LOTS_RUN] <= ranges::MOST_LOTS_RUN)

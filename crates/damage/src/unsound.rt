@@ -3,6 +3,8 @@ ghost use mathlib.Core.Path.{_≡_};
 ghost use Rattle.rules.specs.Ledger.{lent};
 ghost use Rattle.rules.specs.Refusals.{unsound};
 use crate::book::is_book_sound;
+use crate::days::is_first_year_sound;
+use crate::days::span_of;
 use crate::head::is_head_sound;
 use crate::lengths::is_ledger_short;
 use crate::lengths::is_lines_short;
@@ -28,7 +30,12 @@ pub fn is_unsound(
     if is_lines_short(lines) {
         return true;
     }
-    if !is_head_sound(head) {
+    let first_year = head[layout::FIRST_YEAR];
+    if !is_first_year_sound(first_year) {
+        return true;
+    }
+    let span = span_of(first_year);
+    if !is_head_sound(head, span) {
         return true;
     }
     let members = head[layout::MEMBERS];
@@ -42,5 +49,5 @@ pub fn is_unsound(
     if !are_rows_within(value, members, ranges::MOST_PRICE * run) {
         return true;
     }
-    !is_book_sound(head, book)
+    !is_book_sound(head, book, span)
 }

@@ -1,80 +1,38 @@
+use mathlib.Core.Path.{sym, _∙_}
+use Rattle.damage.proofs.Columns.{row-within}
 use borrow.Author.Needs.{needs}
-use native.Mathlib.Omega.{arith}
-use mathlib.Core.Path.{_≡_, refl}
-use mathlib.Core.Bool.{_&&_}
-use Prim.Native.Nat.{_+_, _*_, _-_, _≤_}
-use lib.Dec.{leb}
-use lib.ListN.{take, drop}
-use lib.Seq.{take-take}
-use lib.IntN.{natAbs}
-use Rattle.arith.specs.Lists.{every, everyBlock}
-use Rattle.rules.specs.Refusals.{everyRow}
-use Rattle.arith.proofs.Scans.{block-next, block-end}
 use Rattle.damage.proofs.rows.are_rows_within.Statement.{statement}
 use Rattle.damage.proofs.rows.are_rows_within.Tie as tie
+use Rattle.damage.proofs.rows.are_rows_within.Reads as reads
+use Rattle.damage.proofs.rows.are_rows_within.Lts as lts
+use Rattle.damage.proofs.rows.are_near.Reads as are-near-reads
+use Rattle.damage.proofs.rows.is_each_within.Reads as is-each-within-reads
+use Rattle.damage.proofs.rows.width_within.Reads as width-within-reads
 
-abbrev Inv-loop : tie.InvT-loop
-Inv-loop rows members bound n ok₀ contract₀ ok contract = (contract ≤ 102) × (ok && everyBlock 32 (λ block. every (λ z. leb (natAbs z) bound) (take members block)) (102 - contract) (drop (contract * 32) rows) ≡ everyRow (λ z. leb (natAbs z) bound) members rows)
+-- src/rows.rt:141:9
+width-within-requires : tie.Need-width-within-requires
+width-within-requires c κs = search needs
 
-abbrev μ-loop : tie.MeasureT-loop
-μ-loop rows members bound n ok₀ contract₀ ok contract = 102 - contract
+-- src/rows.rt:142:8
+are-near-requires : tie.Need-are-near-requires
+are-near-requires c κs = search needs
 
-loop-holds : tie.Need-loop-holds Inv-loop μ-loop
-unfolding everyRow
-loop-holds c = (omega arith, refl)
+-- src/rows.rt:143:9
+returns : tie.Need-returns
+returns c =
+    let a = c .before .before .before .args in
+    let w = c .before .before .width-within .ensures in
+    row-within (c .before .before .width-within .result) (a .bound) (a .members) (a .rows .now) (w .2) (sym (c .before .are-near .ensures (w .0) (w .1)) ∙ c .if1 .taken)
 
-mul-at : tie.Need-mul-at Inv-loop μ-loop
-mul-at c = search needs
+-- src/rows.rt:145:5
+is-each-within-requires : tie.Need-is-each-within-requires
+is-each-within-requires c κs = search needs
 
-add-end : tie.Need-add-end Inv-loop μ-loop
-add-end c = search needs
-
-mul-are-within : tie.Need-mul-are-within Inv-loop μ-loop
-mul-are-within c = search needs
-
-sub-are-within : tie.Need-sub-are-within Inv-loop μ-loop
-sub-are-within c = search needs
-
-part-are-within-start : tie.Need-part-are-within-start Inv-loop μ-loop
-part-are-within-start c = search needs
-
-part-are-within-end : tie.Need-part-are-within-end Inv-loop μ-loop
-part-are-within-end c = search needs
-
-are-within-requires : tie.Need-are-within-requires Inv-loop μ-loop
-are-within-requires c κs = search needs
-
-add-contract : tie.Need-add-contract Inv-loop μ-loop
-add-contract c = search needs
-
-loop-less : tie.Need-loop-less Inv-loop μ-loop
-loop-less c = search needs
-
-loop-again : tie.Need-loop-again Inv-loop μ-loop
-loop-again c =
-    let a = c .before .before .before .before .args in
-    let l = c .before .before .before .loop in
-    let cut : l .contract * 32 + a .members - l .contract * 32 ≡ a .members = omega arith in
-    (omega arith, rw (c .are-within .ensures, cut, ← take-take (a .members) 32 (drop (l .contract * 32) (a .rows .now)) (omega arith)) (block-next 32 (λ block. every (λ z. leb (natAbs z) (a .bound)) (take (a .members) block)) 102 (a .rows .now) (l .contract) (l .ok) (everyRow (λ z. leb (natAbs z) (a .bound)) (a .members) (a .rows .now)) (l .inv .1) (c .before .before .loop-test .taken)))
-
-returns : tie.Need-returns Inv-loop μ-loop
-returns c = let a = c .before .before .args in let l = c .before .loop in block-end 32 (λ block. every (λ z. leb (natAbs z) (a .bound)) (take (a .members) block)) 102 (a .rows .now) (l .contract) (l .ok) (everyRow (λ z. leb (natAbs z) (a .bound)) (a .members) (a .rows .now)) (l .inv .1) (c .loop-test .left)
+-- src/rows.rt:136:1
+returns-2 : tie.Need-returns-2
+returns-2 c = c .is-each-within .ensures
 
 pub are-rows-within-spec : {M : Type 1} → statement M
 are-rows-within-spec =
     tie.close
-    (tie.spec
-    Inv-loop
-    μ-loop
-    loop-holds
-    mul-at
-    add-end
-    mul-are-within
-    sub-are-within
-    part-are-within-start
-    part-are-within-end
-    are-within-requires
-    add-contract
-    loop-less
-    loop-again
-    returns)
+    (tie.spec width-within-requires are-near-requires returns is-each-within-requires returns-2)

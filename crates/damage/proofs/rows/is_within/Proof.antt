@@ -1,17 +1,39 @@
 use native.Mathlib.Omega.{arith}
-use Rattle.arith.proofs.Signed.{rd-pos, neg-ok, neg-is, within-is, back-mag}
+use mir.Facts.{fits-of-lt}
+use Rattle.arith.proofs.Bits.{back, up-cast, below-sub, below-is, below-abs}
 use borrow.Author.Needs.{needs}
 use Rattle.damage.proofs.rows.is_within.Statement.{statement}
 use Rattle.damage.proofs.rows.is_within.Tie as tie
+use Rattle.damage.proofs.rows.is_within.Reads as reads
+use Rattle.damage.proofs.rows.is_within.Lts as lts
 
-cast-b : tie.Need-cast-b
-cast-b c = search needs
+-- src/rows.rt:20:17
+cast-result : tie.Need-cast-result
+cast-result c = let x = c .before .args .x in let s = c .before .fits .x in rw (back s) (up-cast x (s .sfits) (rw (back s) at (c .if1 .taken)))
 
-sub-result : tie.Need-sub-result
-sub-result c = neg-ok (c .args .bound) (omega arith)
-
+-- src/rows.rt:20:9
 returns : tie.Need-returns
-returns c = let a = c .args in rw (neg-is (a .bound) (omega arith), rd-pos (a .bound) (omega arith), back-mag (a .x) (c .fits .x .sfits)) (within-is (a .bound) (a .x))
+returns c = rw (back (c .before .fits .x))
+
+-- src/rows.rt:22:7
+sub-result : tie.Need-sub-result
+sub-result c = let x = c .before .args .x in let s = c .before .fits .x in rw (back s) (below-sub x (s .sfits) (rw (back s) at (c .if1 .left)))
+
+-- src/rows.rt:22:6
+cast-result-2 : tie.Need-cast-result-2
+cast-result-2 c =
+    let x = c .before .args .x in
+    let s = c .before .fits .x in
+    let below = rw (back s) at (c .if1 .left) in
+    rw (back s, below-is x (s .sfits) below) (tt, fits-of-lt (omega (arith, s .sfits)))
+
+-- src/rows.rt:16:1
+returns-2 : tie.Need-returns-2
+returns-2 c =
+    let x = c .before .args .x in
+    let s = c .before .fits .x in
+    let below = rw (back s) at (c .if1 .left) in
+    rw (back s, below-is x (s .sfits) below, ← below-abs x below)
 
 pub is-within-spec : {M : Type 1} → statement M
-is-within-spec = tie.close (tie.spec cast-b sub-result returns)
+is-within-spec = tie.close (tie.spec cast-result returns sub-result cast-result-2 returns-2)

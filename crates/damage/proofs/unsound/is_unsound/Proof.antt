@@ -1,106 +1,154 @@
--- Each test that is passed says what the next one asks of the tables.
+use native.Mathlib.Omega.{arith}
 use mathlib.Core.Path.{_≡_, sym, _∙_}
 use mathlib.Core.Bool.{true, false}
-use Prim.Native.Nat.{_*_}
-use native.Mathlib.Omega.{arith}
-use lib.Dec.{leb}
-use lib.IntN.{natAbs}
-use borrow.Author.Needs.{needs}
 use borrow.Author.Tests.{not-true, not-false}
-use Rattle.arith.specs.Lists.{allOf}
-use Rattle.arith.specs.Tests.{and-true}
-use Rattle.rules.specs.Ledger.{Tables, members, lotsRun, ledgerShort, linesShort}
-use Rattle.rules.specs.Refusals.{everyRow, damaged, unsound, headSound, pricesSound, rowsSound}
-use Rattle.rules.specs.Ledger.{lent}
-use Rattle.damage.proofs.Sound.{HeadHolds, head-holds, Lengths, lengths}
+use Rattle.calendar.specs.Bounds.{FirstYear}
+use Rattle.rules.specs.Ledger.{Tables, lent, firstYear, ledgerShort, linesShort}
+use Rattle.rules.specs.Refusals.{headSound, pricesSound}
+use Rattle.damage.proofs.Sound.{HeadHolds, head-holds, Lengths, lengths, years, year-fails, ledger-short, lines-short, head-fails, prices-fail, lots-fail, value-fails, book-decides}
+use borrow.Author.Needs.{needs}
 use Rattle.damage.proofs.unsound.is_unsound.Statement.{statement}
 use Rattle.damage.proofs.unsound.is_unsound.Tie as tie
+use Rattle.damage.proofs.unsound.is_unsound.Reads as reads
+use Rattle.damage.proofs.unsound.is_unsound.Lts as lts
+use Rattle.damage.proofs.book.is_book_sound.Reads as is-book-sound-reads
+use Rattle.damage.proofs.days.is_first_year_sound.Reads as is-first-year-sound-reads
+use Rattle.damage.proofs.days.span_of.Reads as span-of-reads
+use Rattle.damage.proofs.head.is_head_sound.Reads as is-head-sound-reads
+use Rattle.damage.proofs.lengths.is_ledger_short.Reads as is-ledger-short-reads
+use Rattle.damage.proofs.lengths.is_lines_short.Reads as is-lines-short-reads
+use Rattle.damage.proofs.prices.are_prices_sound.Reads as are-prices-sound-reads
+use Rattle.damage.proofs.rows.are_rows_within.Reads as are-rows-within-reads
 
+-- src/unsound.rt:27:8
+-- The lists of a call as tables.
 abbrev of : tie.Start → Tables
 of s = lent (s .args .head .now) (s .args .prices .now) (s .args .lots .now) (s .args .value .now) (s .args .book .now) (s .args .lines .now)
 
-long : (c : tie.Else1) → ledgerShort (of (c .before .before .before .before .before)) ≡ false
-long c = let a = c .before .before .before .before .before .args in sym (c .before .is-ledger-short .ensures (a .lines .now)) ∙ c .if1 .left
+abbrev short-left : tie.Else1 → Tables
+short-left c = of (c .before .before .before .before .before)
+
+abbrev head-left : tie.Else4 → Tables
+head-left c = of (c .before .before .before .before .before .before .before .before .before .before .before .before .before)
+
+long : (c : tie.Else1) → ledgerShort (short-left c) ≡ false
+long c = sym (c .before .is-ledger-short .ensures (short-left c .lines)) ∙ c .if1 .left
 
 lines-long : (c : tie.Else2) → linesShort (of (c .before .before .before .before .before .before .before)) ≡ false
-lines-long c = let a = c .before .before .before .before .before .before .before .args in sym (c .before .is-lines-short .ensures (a .head .now) (a .prices .now) (a .lots .now) (a .value .now) (a .book .now)) ∙ c .if2 .left
+lines-long c =
+    let t = of (c .before .before .before .before .before .before .before) in
+    sym (c .before .is-lines-short .ensures (t .head) (t .prices) (t .lots) (t .value) (t .book)) ∙ c .if2 .left
 
-head-good : (c : tie.Else3) → headSound (of (c .before .before .before .before .before .before .before .before .before)) ≡ true
-head-good c = let a = c .before .before .before .before .before .before .before .before .before .args in sym (c .before .is-head-sound .ensures (a .prices .now) (a .lots .now) (a .value .now) (a .book .now) (a .lines .now)) ∙ not-false (c .before .is-head-sound .result) (c .if3 .left)
+year-good : (c : tie.Else3) → FirstYear (firstYear (of (c .before .before .before .before .before .before .before .before .before .before)))
+year-good c = years _ (sym (c .before .is-first-year-sound .ensures) ∙ not-false (c .before .is-first-year-sound .result) (c .if3 .left))
 
-prices-good : (c : tie.Else4) → pricesSound (of (c .before .before .before .before .before .before .before .before .before .before .before .before .before)) ≡ true
-unfolding pricesSound
-prices-good c = sym (c .before .are-prices-sound .ensures) ∙ not-false (c .before .are-prices-sound .result) (c .if4 .left)
+head-good : (c : tie.Else4) → headSound (head-left c) ≡ true
+head-good c =
+    let t = head-left c in
+    sym (c .before .is-head-sound .ensures (t .prices) (t .lots) (t .value) (t .book) (t .lines)) ∙ not-false (c .before .is-head-sound .result) (c .if4 .left)
 
-lots-good : (c : tie.Else5) → everyRow (λ z. leb (natAbs z) (lotsRun (of (c .before .before .before .before .before .before .before .before .before .before .before .before .before .before .before)))) (members (of (c .before .before .before .before .before .before .before .before .before .before .before .before .before .before .before))) ((of (c .before .before .before .before .before .before .before .before .before .before .before .before .before .before .before)) .lots) ≡ true
-lots-good c = sym (c .before .are-rows-within .ensures) ∙ not-false (c .before .are-rows-within .result) (c .if5 .left)
+long-at : (c : tie.Else1) → Lengths (short-left c)
+long-at c = lengths (short-left c) (long c)
 
-value-good : (c : tie.Else6) → everyRow (λ z. leb (natAbs z) (1000000 * lotsRun (of (c .before .before .before .before .before .before .before .before .before .before .before .before .before .before .before .before .before)))) (members (of (c .before .before .before .before .before .before .before .before .before .before .before .before .before .before .before .before .before))) ((of (c .before .before .before .before .before .before .before .before .before .before .before .before .before .before .before .before .before)) .value) ≡ true
-value-good c = sym (c .before .are-rows-within2 .ensures) ∙ not-false (c .before .are-rows-within2 .result) (c .if6 .left)
-
-lengths-at : (c : tie.Else1) → Lengths (of (c .before .before .before .before .before))
-lengths-at c = lengths (of (c .before .before .before .before .before)) (long c)
-
-numbers-at : (c : tie.Else3) → HeadHolds (of (c .before .before .before .before .before .before .before .before .before))
-numbers-at c = head-holds (of (c .before .before .before .before .before .before .before .before .before)) (head-good c)
+holds-at : (c : tie.Else4) → HeadHolds (head-left c)
+holds-at c = head-holds (head-left c) (head-good c)
 
 is-ledger-short-requires : tie.Need-is-ledger-short-requires
 is-ledger-short-requires c κs = search needs
 
+-- src/unsound.rt:28:9
 returns : tie.Need-returns
-unfolding unsound damaged allOf pricesSound rowsSound
-returns c = let a = c .before .before .before .before .before .args in rw (sym (c .before .is-ledger-short .ensures (a .lines .now)) ∙ c .if1 .taken)
+returns c = ledger-short (of (c .before .before .before .before .before)) (sym (c .before .is-ledger-short .ensures (c .before .before .before .before .before .args .lines .now)) ∙ c .if1 .taken)
 
+-- src/unsound.rt:30:8
 is-lines-short-requires : tie.Need-is-lines-short-requires
 is-lines-short-requires c κs = search needs
 
+-- src/unsound.rt:31:9
 returns-2 : tie.Need-returns-2
-unfolding unsound damaged allOf pricesSound rowsSound
-returns-2 c = let a = c .before .before .before .before .before .before .before .args in rw (long (c .before .before), sym (c .before .is-lines-short .ensures (a .head .now) (a .prices .now) (a .lots .now) (a .value .now) (a .book .now)) ∙ c .if2 .taken)
+returns-2 c =
+    let t = of (c .before .before .before .before .before .before .before) in
+    lines-short t (sym (c .before .is-lines-short .ensures (t .head) (t .prices) (t .lots) (t .value) (t .book)) ∙ c .if2 .taken)
 
-is-head-sound-requires : tie.Need-is-head-sound-requires
-is-head-sound-requires c κs = lengths-at (c .before .before) .head-length
+-- src/unsound.rt:33:22
+shared-slice-read-first-year : tie.Need-shared-slice-read-first-year
+shared-slice-read-first-year c = omega (arith, long-at (c .before .before .before) .head-length)
 
+-- src/unsound.rt:34:9
+is-first-year-sound-requires : tie.Need-is-first-year-sound-requires
+is-first-year-sound-requires c κs = search needs
+
+-- src/unsound.rt:35:9
 returns-3 : tie.Need-returns-3
-unfolding unsound damaged allOf pricesSound rowsSound
-returns-3 c = let a = c .before .before .before .before .before .before .before .before .before .args in rw (long (c .before .before .before .before), lines-long (c .before .before), sym (c .before .is-head-sound .ensures (a .prices .now) (a .lots .now) (a .value .now) (a .book .now) (a .lines .now)) ∙ not-true (c .before .is-head-sound .result) (c .if3 .taken))
+returns-3 c = head-fails (of (c .before .before .before .before .before .before .before .before .before .before)) (year-fails (of (c .before .before .before .before .before .before .before .before .before .before)) (sym (c .before .is-first-year-sound .ensures) ∙ not-true (c .before .is-first-year-sound .result) (c .if3 .taken)))
 
-shared-slice-read-members : tie.Need-shared-slice-read-members
-shared-slice-read-members c = omega (arith, lengths-at (c .before .before .before .before .before) .head-length)
+-- src/unsound.rt:37:9
+span-of-requires : tie.Need-span-of-requires
+span-of-requires c κs = year-good (c)
 
-shared-slice-read-run : tie.Need-shared-slice-read-run
-shared-slice-read-run c = omega (arith, lengths-at (c .before .before .before .before .before .before) .head-length)
+-- src/unsound.rt:38:9
+is-head-sound-requires : tie.Need-is-head-sound-requires
+is-head-sound-requires c κs = (long-at (c .before .before .before .before .before .before) .head-length, year-good (c .before), c .span-of .ensures)
 
-are-prices-sound-requires : tie.Need-are-prices-sound-requires
-are-prices-sound-requires c κs = (lengths-at (c .before .before .before .before .before .before) .prices-length, numbers-at (c .before .before) .most-run)
-
+-- src/unsound.rt:39:9
 returns-4 : tie.Need-returns-4
-unfolding unsound damaged allOf pricesSound rowsSound
-returns-4 c = rw (long (c .before .before .before .before .before .before .before .before), lines-long (c .before .before .before .before .before .before), head-good (c .before .before .before .before), sym (c .before .are-prices-sound .ensures) ∙ not-true (c .before .are-prices-sound .result) (c .if4 .taken))
+returns-4 c =
+    let t = of (c .before .before .before .before .before .before .before .before .before .before .before .before .before) in
+    head-fails t (sym (c .before .is-head-sound .ensures (t .prices) (t .lots) (t .value) (t .book) (t .lines)) ∙ not-true (c .before .is-head-sound .result) (c .if4 .taken))
 
-are-rows-within-requires : tie.Need-are-rows-within-requires
-are-rows-within-requires c κs = let h = numbers-at (c .before .before .before .before) in (lengths-at (c .before .before .before .before .before .before .before .before) .lots-length, h .most-members, omega arith)
+-- src/unsound.rt:41:19
+shared-slice-read-members : tie.Need-shared-slice-read-members
+shared-slice-read-members c = omega (arith, long-at (c .before .before .before .before .before .before .before .before .before) .head-length)
 
+-- src/unsound.rt:42:15
+shared-slice-read-run : tie.Need-shared-slice-read-run
+shared-slice-read-run c = omega (arith, long-at (c .before .before .before .before .before .before .before .before .before .before) .head-length)
+
+-- src/unsound.rt:43:9
+are-prices-sound-requires : tie.Need-are-prices-sound-requires
+are-prices-sound-requires c κs = (long-at (c .before .before .before .before .before .before .before .before .before .before) .prices-length, holds-at (c .before .before) .most-run)
+
+-- src/unsound.rt:44:9
 returns-5 : tie.Need-returns-5
-unfolding unsound damaged allOf pricesSound rowsSound
-returns-5 c = rw (long (c .before .before .before .before .before .before .before .before .before .before), lines-long (c .before .before .before .before .before .before .before .before), head-good (c .before .before .before .before .before .before), prices-good (c .before .before), sym (c .before .are-rows-within .ensures) ∙ not-true (c .before .are-rows-within .result) (c .if5 .taken))
+unfolding pricesSound
+returns-5 c = prices-fail (of (c .before .before .before .before .before .before .before .before .before .before .before .before .before .before .before .before .before)) (sym (c .before .are-prices-sound .ensures) ∙ not-true (c .before .are-prices-sound .result) (c .if5 .taken))
 
-mul-are-rows-within : tie.Need-mul-are-rows-within
-mul-are-rows-within c = omega (arith, numbers-at (c .before .before .before .before .before .before) .most-run)
+-- src/unsound.rt:46:9
+are-rows-within-requires : tie.Need-are-rows-within-requires
+are-rows-within-requires c κs = let h = holds-at (c .before .before .before .before) in (long-at (c .before .before .before .before .before .before .before .before .before .before .before .before) .lots-length, h .most-members, omega arith)
 
-are-rows-within-requires-2 : tie.Need-are-rows-within-requires-2
-are-rows-within-requires-2 c κs = let h = numbers-at (c .before .before .before .before .before .before) in (lengths-at (c .before .before .before .before .before .before .before .before .before .before) .value-length, h .most-members, omega arith)
-
+-- src/unsound.rt:47:9
 returns-6 : tie.Need-returns-6
-unfolding unsound damaged allOf pricesSound rowsSound
-returns-6 c = rw (long (c .before .before .before .before .before .before .before .before .before .before .before .before), lines-long (c .before .before .before .before .before .before .before .before .before .before), head-good (c .before .before .before .before .before .before .before .before), prices-good (c .before .before .before .before), lots-good (c .before .before), sym (c .before .are-rows-within2 .ensures) ∙ not-true (c .before .are-rows-within2 .result) (c .if6 .taken))
+returns-6 c = lots-fail (of (c .before .before .before .before .before .before .before .before .before .before .before .before .before .before .before .before .before .before .before)) (sym (c .before .are-rows-within .ensures) ∙ not-true (c .before .are-rows-within .result) (c .if6 .taken))
 
-is-book-sound-requires : tie.Need-is-book-sound-requires
-is-book-sound-requires c κs = let h = numbers-at (c .before .before .before .before .before .before .before .before) in let w = lengths-at (c .before .before .before .before .before .before .before .before .before .before .before .before) in ((w .head-length, h .years), (h .most-orders, w .book-length))
+-- src/unsound.rt:49:41
+mul-are-rows-within : tie.Need-mul-are-rows-within
+mul-are-rows-within c = omega (arith, holds-at (c .before .before .before .before .before .before) .most-run)
 
+-- src/unsound.rt:49:9
+are-rows-within-requires-2 : tie.Need-are-rows-within-requires-2
+are-rows-within-requires-2 c κs = let h = holds-at (c .before .before .before .before .before .before) in (long-at (c .before .before .before .before .before .before .before .before .before .before .before .before .before .before) .value-length, h .most-members, omega arith)
+
+-- src/unsound.rt:50:9
 returns-7 : tie.Need-returns-7
-unfolding unsound damaged allOf pricesSound rowsSound
-returns-7 c = let a = c .before .before .before .before .before .before .before .before .before .before .before .before .before .before .before .before .before .before .args in rw (c .is-book-sound .ensures (a .prices .now) (a .lots .now) (a .value .now) (a .lines .now), long (c .before .before .before .before .before .before .before .before .before .before .before .before .before), lines-long (c .before .before .before .before .before .before .before .before .before .before .before), head-good (c .before .before .before .before .before .before .before .before .before), prices-good (c .before .before .before .before .before), lots-good (c .before .before .before), value-good (c .before)) (simp and-true)
+returns-7 c = value-fails (of (c .before .before .before .before .before .before .before .before .before .before .before .before .before .before .before .before .before .before .before .before .before)) (sym (c .before .are-rows-within2 .ensures) ∙ not-true (c .before .are-rows-within2 .result) (c .if7 .taken))
+
+-- src/unsound.rt:52:6
+is-book-sound-requires : tie.Need-is-book-sound-requires
+is-book-sound-requires c κs =
+    let h = holds-at (c .before .before .before .before .before .before .before .before) in
+    let long = long-at (c .before .before .before .before .before .before .before .before .before .before .before .before .before .before .before .before) in
+    ((long .head-length, c .before .before .before .before .before .before .before .before .before .before .span-of .ensures, long .book-length), (h .most-accepted, h .most-orders))
+
+-- src/unsound.rt:17:1
+returns-8 : tie.Need-returns-8
+unfolding pricesSound
+returns-8 c =
+    let t = of (c .before .before .before .before .before .before .before .before .before .before .before .before .before .before .before .before .before .before .before .before .before .before) in
+    let prices = sym (c .before .before .before .before .before .before .are-prices-sound .ensures) ∙ not-false (c .before .before .before .before .before .before .are-prices-sound .result) (c .before .before .before .before .before .if5 .left) in
+    let lots = sym (c .before .before .before .before .are-rows-within .ensures) ∙ not-false (c .before .before .before .before .are-rows-within .result) (c .before .before .before .if6 .left) in
+    let value = sym (c .before .before .are-rows-within2 .ensures) ∙ not-false (c .before .before .are-rows-within2 .result) (c .before .if7 .left) in
+    rw (c .is-book-sound .ensures (t .prices) (t .lots) (t .value) (t .lines)) (book-decides t (long (c .before .before .before .before .before .before .before .before .before .before .before .before .before .before .before .before .before)) (lines-long (c .before .before .before .before .before .before .before .before .before .before .before .before .before .before .before)) (head-good (c .before .before .before .before .before .before .before .before .before)) prices lots value)
 
 pub is-unsound-spec : {M : Type 1} → statement M
 is-unsound-spec =
@@ -110,16 +158,20 @@ is-unsound-spec =
     returns
     is-lines-short-requires
     returns-2
-    is-head-sound-requires
+    shared-slice-read-first-year
+    is-first-year-sound-requires
     returns-3
+    span-of-requires
+    is-head-sound-requires
+    returns-4
     shared-slice-read-members
     shared-slice-read-run
     are-prices-sound-requires
-    returns-4
-    are-rows-within-requires
     returns-5
+    are-rows-within-requires
+    returns-6
     mul-are-rows-within
     are-rows-within-requires-2
-    returns-6
+    returns-7
     is-book-sound-requires
-    returns-7)
+    returns-8)
