@@ -72,10 +72,13 @@ unfoldable pub rising : List ℕ → Bool
 rising [] = true
 rising (x ∷ xs) = every (ltb x) xs && rising xs
 
--- First year 2020 to 2094, members 1 to 32, 0 to 120 holidays, strictly rising in the span.
+abbrev pub firstYearSound : ℕ → Bool
+firstYearSound y = leb 2020 y && leb y 2094
+
+-- First year 2020 to 2094; 0 to 120 holidays, strictly rising in the span.
 unfoldable pub calendarSound : Calendar → Bool
 calendarSound k =
-    leb 2020 (k .firstYear) && leb (k .firstYear) 2094 && leb (length (k .holidays)) 120 && rising (k .holidays) && every (inSpan k) (k .holidays)
+    firstYearSound (k .firstYear) && leb (length (k .holidays)) 120 && rising (k .holidays) && every (inSpan k) (k .holidays)
 
 abbrev pub membersSound : ℕ → Bool
 membersSound n = leb 1 n && leb n 32

@@ -2,6 +2,7 @@
 mod answer;
 mod contract;
 mod event;
+pub mod kinds;
 mod order;
 mod units;
 
@@ -11,6 +12,7 @@ pub use contract::Term;
 pub use event::Cancellation;
 pub use event::CloseOutTerms;
 pub use event::Event;
+pub use event::Front;
 pub use event::Leg;
 pub use event::NewLimits;
 pub use event::OrderKind;
