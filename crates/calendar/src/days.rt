@@ -4,6 +4,7 @@ ghost use mathlib.Core.List.{List};
 ghost use Prim.Native.Nat.{ℕ, _*_, _-_};
 ghost use lib.Dec.{eqb};
 ghost use Rattle.arith.specs.Lists.{any};
+ghost use Rattle.rules.specs.Ranges.{leastFirstYear};
 ghost use Rattle.rules.specs.Days.{Calendar, businessDay, inSpan, firstBusinessDay, nextBusinessDay, businessDayBefore};
 ghost use Rattle.calendar.specs.Bounds.{FirstYear};
 ghost use Rattle.calendar.specs.Spans.{IsSpan};
@@ -11,8 +12,7 @@ use crate::months::Span;
 use crate::months::months_span;
 use rules::Day;
 use rules::DayNo;
-
-const BASE_YEAR: u64 = 2020;
+use rules::ranges::LEAST_FIRST_YEAR;
 
 // The months of the span.
 const SPAN: u64 = 72;
@@ -84,9 +84,9 @@ pub fn business_day_before(holidays: &[u64], n: u64, day: DayNo) -> Day
 // The span's first month.
 pub fn first_month(first_year: u64) -> u64
     requires { ⌜ FirstYear «first_year» ⌝ }
-    ensures { λ r. ⌜ r ≡ 12 * («first_year» - 2020) ⌝ }
+    ensures { λ r. ⌜ r ≡ 12 * («first_year» - leastFirstYear) ⌝ }
 {
-    12 * (first_year - BASE_YEAR)
+    12 * (first_year - LEAST_FIRST_YEAR)
 }
 
 // The ledger's span, whatever the holidays.

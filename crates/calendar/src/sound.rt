@@ -10,17 +10,14 @@ use crate::days::is_business_day;
 use crate::days::is_in;
 use crate::months::Span;
 use rules::DayNo;
-
-const EARLIEST_YEAR: u64 = 2020;
-
-const LATEST_YEAR: u64 = 2094;
-
-const MOST_HOLIDAYS: usize = 120;
+use rules::ranges::LEAST_FIRST_YEAR;
+use rules::ranges::MOST_FIRST_YEAR;
+use rules::ranges::MOST_HOLIDAYS;
 
 pub fn is_first_year_sound(first_year: u64) -> bool
     ensures { λ r. ⌜ r ≡ firstYearSound «first_year» ⌝ }
 {
-    (EARLIEST_YEAR <= first_year) & (first_year <= LATEST_YEAR)
+    (LEAST_FIRST_YEAR <= first_year) & (first_year <= MOST_FIRST_YEAR)
 }
 
 // Each day is compared with the next one only: that is enough.
@@ -53,7 +50,7 @@ pub fn is_calendar_sound(first_year: u64, span: Span, holidays: &[u64]) -> bool
     requires { ⌜ FirstYear «first_year» × IsSpan span (record { firstYear = «first_year»; holidays = now holidays }) ⌝ }
     ensures { λ r. ⌜ r ≡ calendarSound (record { firstYear = «first_year»; holidays = now (holidays .entry) }) ⌝ }
 {
-    if MOST_HOLIDAYS < holidays.len() {
+    if MOST_HOLIDAYS < holidays.len() as u64 {
         return false;
     }
     are_rising(holidays) & are_in(span, holidays)

@@ -1,5 +1,5 @@
 -- Document 01, "Records": what the bytes of a record say, which are sound, and what is written for an event.
-use Prim.Native.Nat.{ℕ, _+_, _*_}
+use Prim.Native.Nat.{ℕ, _+_, _*_, _-_}
 use mathlib.Core.Bool.{Bool, cond, not, _&&_}
 use mathlib.Core.List.{List, [], _∷_, _++_, map, flatMap}
 use lib.Dec.{eqb, leb, ltb}
@@ -13,7 +13,7 @@ use Rattle.rules.specs.declared.event.Event.the-variants.{Submit, Cancel
 use Rattle.rules.specs.declared.event.Front.{Front}
 use Rattle.rules.specs.declared.event.Front.the-variants.{Whole, Cut, UnknownKind}
 use Rattle.rules.specs.declared.event.Leg.{Leg}
-use Rattle.rules.specs.declared.event.NewLimits.{NewLimits}
+use Rattle.rules.specs.declared.event.NewDayLimits.{NewDayLimits}
 use Rattle.rules.specs.declared.event.OrderKind.{OrderKind}
 use Rattle.rules.specs.declared.event.OrderKind.the-variants.{Resting, Oeye, Teye}
 use Rattle.rules.specs.declared.event.Reading.{Reading}
@@ -21,6 +21,7 @@ use Rattle.rules.specs.declared.event.Reading.the-variants.{Sound, Unsou
 use Rattle.rules.specs.declared.event.Submission.{Submission}
 use Rattle.rules.specs.declared.order.Side.{Side}
 use Rattle.rules.specs.declared.order.Side.the-variants.{Buy, Sell}
+use Rattle.rules.specs.Ranges.{contractCount, lastSecond, mostPrice, mostLots, leastLegs, mostLegs, mostRatio}
 use Rattle.rules.specs.Answers.{Outcome, decide, Told, told}
 use Rattle.rules.specs.Header.{u16At, u32At, u16Bytes, u32Bytes, membersSound}
 
@@ -92,22 +93,22 @@ orderKindSound b = leb b (orderKindNumber Teye)
 
 -- ---- ranges
 abbrev pub timeSound : ℕ → Bool
-timeSound s = leb s 86399
+timeSound s = leb s lastSecond
 
 abbrev pub contractSound : ℕ → Bool
-contractSound c = leb c 101
+contractSound c = leb c (contractCount - 1)
 
 -- 1 to 1,000,000 kuruş.
 abbrev pub priceSound : ℕ → Bool
-priceSound p = leb 1 p && leb p 1000000
+priceSound p = leb 1 p && leb p mostPrice
 
 -- 1 to 100 lots.
 abbrev pub lotsSound : ℕ → Bool
-lotsSound q = leb 1 q && leb q 100
+lotsSound q = leb 1 q && leb q mostLots
 
 -- 1 ≤ low ≤ high ≤ 1,000,000.
-abbrev pub limitsSound : ℕ → ℕ → Bool
-limitsSound l h = leb 1 l && leb l h && leb h 1000000
+abbrev pub dayLimitsSound : ℕ → ℕ → Bool
+dayLimitsSound l h = leb 1 l && leb l h && leb h mostPrice
 
 -- An order number has no range of its own: it is any u32.
 abbrev pub numberSound : ℕ → Bool
@@ -121,10 +122,10 @@ unfoldable pub eventSound : ℕ → Event → List Leg → Bool
 eventSound n (Submit e) legs =
     timeSound (e .time) && ltb (e .member) n && contractSound (e .contract) && priceSound (e .price .0) && lotsSound (e .lots .0) && eqb (length legs) 0
 eventSound n (Cancel e) legs = timeSound (e .time) && ltb (e .member) n && numberSound (e .order) && eqb (length legs) 0
-eventSound n (DayLimits e) legs = contractSound (e .contract) && limitsSound (e .low .0) (e .high .0) && eqb (length legs) 0
-eventSound n (Proposal k) legs = leb 2 k && leb k 12 && eqb (length legs) k && every legSound legs
+eventSound n (DayLimits e) legs = contractSound (e .contract) && dayLimitsSound (e .low .0) (e .high .0) && eqb (length legs) 0
+eventSound n (Proposal k) legs = leb leastLegs k && leb k mostLegs && eqb (length legs) k && every legSound legs
 eventSound n (Default m) legs = ltb m n && eqb (length legs) 0
-eventSound n (CloseOut e) legs = contractSound (e .contract) && leb 1 (e .ratio) && leb (e .ratio) 1000 && eqb (length legs) 0
+eventSound n (CloseOut e) legs = contractSound (e .contract) && leb 1 (e .ratio) && leb (e .ratio) mostRatio && eqb (length legs) 0
 eventSound n (CloseOfDay s) legs = timeSound s && eqb (length legs) 0
 
 -- ---- writing
@@ -168,8 +169,8 @@ submissionOf s =
 abbrev pub cancellationOf : List ℕ → Cancellation
 cancellationOf s = record { time = u32At s 1; member = getD s 5 0; order = u32At s 6 }
 
-abbrev pub newLimitsOf : List ℕ → NewLimits
-newLimitsOf s = record { contract = getD s 1 0; low = record { 0 = u32At s 2 }; high = record { 0 = u32At s 6 } }
+abbrev pub newDayLimitsOf : List ℕ → NewDayLimits
+newDayLimitsOf s = record { contract = getD s 1 0; low = record { 0 = u32At s 2 }; high = record { 0 = u32At s 6 } }
 
 abbrev pub closeOutOf : List ℕ → CloseOutTerms
 closeOutOf s = record { contract = getD s 1 0; ratio = u16At s 2 }
@@ -180,7 +181,7 @@ fieldsByKind s =
     let kind = getD s 0 0 in
     cond (eqb kind submitKind) (cond (sideSound (getD s 7 0) && orderKindSound (getD s 8 0)) (Sound (Submit (submissionOf s))) Unsound)
     (cond (eqb kind cancelKind) (Sound (Cancel (cancellationOf s)))
-    (cond (eqb kind dayLimitsKind) (Sound (DayLimits (newLimitsOf s)))
+    (cond (eqb kind dayLimitsKind) (Sound (DayLimits (newDayLimitsOf s)))
     (cond (eqb kind proposalKind) (Sound (Proposal (getD s 1 0)))
     (cond (eqb kind defaultKind) (Sound (Default (getD s 1 0)))
     (cond (eqb kind closeOutKind) (Sound (CloseOut (closeOutOf s)))

@@ -3,7 +3,9 @@ mod answer;
 mod contract;
 mod event;
 pub mod kinds;
+pub mod layout;
 mod order;
+pub mod ranges;
 mod units;
 
 pub use answer::Answer;
@@ -14,7 +16,7 @@ pub use event::CloseOutTerms;
 pub use event::Event;
 pub use event::Front;
 pub use event::Leg;
-pub use event::NewLimits;
+pub use event::NewDayLimits;
 pub use event::OrderKind;
 pub use event::Reading;
 pub use event::Submission;

@@ -1,7 +1,7 @@
 use mathlib.Core.List.{[]}
 use native.Mathlib.Omega.{arith}
 use Rattle.rules.specs.CalendarLaws.{month-le}
-use Rattle.rules.specs.Contracts.{firstDay, endDay, daysOf}
+use Rattle.rules.specs.Contracts.{termFirstDay, termDayAfter, daysOf}
 use Rattle.calendar.specs.Bounds.{numbered}
 use borrow.Author.Needs.{needs}
 use Rattle.calendar.proofs.contracts.days_of.Statement.{statement}
@@ -14,7 +14,7 @@ term-period-requires : tie.Need-term-period-requires
 term-period-requires c κs = (c .before .pre .0, rw (c .term-of .ensures) (numbered _ (c .before .pre .1)))
 
 sub-result : tie.Need-sub-result
-unfolding firstDay endDay
+unfolding termFirstDay termDayAfter
 sub-result c = rw (c .before .term-period .ensures [] .starts, c .before .term-period .ensures [] .ends) (month-le _ _ (omega arith))
 
 returns : tie.Need-returns

@@ -2,7 +2,7 @@ use native.Mathlib.Omega.{arith}
 use native.Mathlib.Nat.{add-assoc}
 use mathlib.Core.Path.{ap, _∙_}
 use Rattle.rules.specs.Days.{monthStart}
-use Rattle.rules.specs.Contracts.{firstDay, endDay}
+use Rattle.rules.specs.Contracts.{termFirstDay, termDayAfter}
 use borrow.Author.Needs.{needs}
 use Rattle.calendar.proofs.contracts.term_period.Statement.{statement}
 use Rattle.calendar.proofs.contracts.term_period.Tie as tie
@@ -26,7 +26,7 @@ months-span-requires : tie.Need-months-span-requires
 months-span-requires c κs = rw (c .before .before .months-in .ensures) (omega arith, omega arith)
 
 returns : tie.Need-returns
-unfolding firstDay endDay
+unfolding termFirstDay termDayAfter
 returns c =
     let days = rw (c .before .before .before .months-in .ensures, c .before .before .first-month .ensures) at (c .months-span .ensures) in
     λ h. record { starts = days .0; ends = days .1 ∙ ap monthStart (add-assoc _ _ _) }

@@ -1,5 +1,5 @@
 use native.Mathlib.Omega.{arith}
-use Rattle.rules.specs.Days.{spanStart, spanEnd}
+use Rattle.rules.specs.Days.{spanStart, dayAfterSpan}
 use borrow.Author.Needs.{needs}
 use Rattle.calendar.proofs.days.span_of.Statement.{statement}
 use Rattle.calendar.proofs.days.span_of.Tie as tie
@@ -14,7 +14,7 @@ months-span-requires : tie.Need-months-span-requires
 months-span-requires c κs = rw (c .first-month .ensures) (omega arith, omega arith)
 
 returns : tie.Need-returns
-unfolding spanStart spanEnd
+unfolding spanStart dayAfterSpan
 returns c =
     let m = rw (c .before .first-month .ensures) at (c .months-span .ensures) in
     λ h. record { starts = m .0; ends = m .1 }
