@@ -11,3 +11,5 @@ pub mod Among
 pub mod Terms
 pub mod Sizes
 pub mod EachBlock
+pub mod Runs
+pub mod Columns

@@ -8,7 +8,7 @@ use native.Mathlib.Numerals.{add-one}
 use lib.Dec.{T, eqb, eqb→eq, eqb-refl, leb, leb→le, nleb→lt, ltb}
 use lib.ListN.{length, getD, drop, drop-of-length-le}
 use lib.Seq.{drop-cons}
-use borrow.Author.Tests.{ltb-true, lt-ltb}
+use borrow.Author.Tests.{lt-ltb, le-ltb, le-leb, lt-leb, eq-eqb, ne-eqb, ltb-true, not-true, not-false}
 use Rattle.arith.specs.Lists.{every, any}
 
 -- no test has both values
@@ -120,3 +120,14 @@ module _ {A : Type 0} (p : A → Bool) (l : List A) (z : A) (i : ℕ) (ok : Bool
   pub every-end : length l ≤ i → ok ≡ every p l
   unfolding every
   every-end h = sym (and-true ok) ∙ rw (drop-of-length-le l h) at known
+
+-- ---- what a return goes by
+-- each test that led there, as the Bool that the rules test
+pub ruleset tests = (lt-ltb, le-ltb, le-leb, lt-leb, eq-eqb, ne-eqb)
+
+-- a call's answer b to a test, where the code asks for its negation
+pub asked-true : {b test : Bool} → b ≡ test → not b ≡ false → test ≡ true
+asked-true {b} e n = sym e ∙ not-false b n
+
+pub asked-false : {b test : Bool} → b ≡ test → not b ≡ true → test ≡ false
+asked-false {b} e n = sym e ∙ not-true b n

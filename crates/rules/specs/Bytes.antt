@@ -14,7 +14,7 @@ use Rattle.rules.specs.declared.event.Reading.the-variants.{Sound}
 use Rattle.rules.specs.declared.order.Side.the-variants.{Buy, Sell}
 use Rattle.rules.specs.Header.{u16At, u32At, u16Bytes, u32Bytes, u16sAt, u32sAt, Header, headerOf, headerBytes, beginsWithHeader}
 use Rattle.rules.specs.Computed.{computed}
-use Rattle.rules.specs.Records.{recordLength, eventSound, bytesOf, fieldsByKind, fieldsOf, legsOf, readOf}
+use Rattle.rules.specs.Records.{recordLength, eventSound, fieldBytes, bytesOf, fieldsByKind, fieldsOf, legsOf, readOf}
 
 -- 256 is 01 00.
 two-bytes : u16At (1 ∷ 0 ∷ []) 0 ≡ 256
@@ -86,7 +86,7 @@ unfolding legsOf u16At u32At from
 examples-legs = refl
 
 pub examples-written : map (λ x. bytesOf (x .event) (x .legs)) examples ≡ map (λ x. x .bytes) examples
-unfolding bytesOf u16Bytes u32Bytes flatMap
+unfolding bytesOf fieldBytes u16Bytes u32Bytes flatMap
 examples-written = refl
 
 -- VJR, version 1, first year 2021, start day 369, three members, holidays 370 and 512, limits 1,000, 66,051 and 100,000.

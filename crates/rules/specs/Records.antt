@@ -48,20 +48,39 @@ closeOutKind = 6
 abbrev pub closeOfDayKind : ℕ
 closeOfDayKind = 7
 
+-- How many bytes a record of each kind takes.
+abbrev pub submitLength : ℕ
+submitLength = 15
+
+abbrev pub cancelLength : ℕ
+cancelLength = 10
+
+abbrev pub dayLimitsLength : ℕ
+dayLimitsLength = 10
+
+abbrev pub defaultLength : ℕ
+defaultLength = 2
+
+abbrev pub closeOutLength : ℕ
+closeOutLength = 4
+
+abbrev pub closeOfDayLength : ℕ
+closeOfDayLength = 5
+
 -- Where leg j of a proposal begins, and so where a proposal of j legs ends: after kind and count, 10 bytes for each.
 abbrev pub legPlace : ℕ → ℕ
 legPlace j = 2 + 10 * j
 
--- How many bytes a record takes, by its kind and, of a proposal, its number of legs; 0 where no kind has that number.
+-- The length by a record's kind and, of a proposal, its number of legs; 0 where no kind has that number.
 unfoldable pub recordLength : ℕ → ℕ → ℕ
 recordLength kind legs =
-    cond (eqb kind submitKind) 15
-    (cond (eqb kind cancelKind) 10
-    (cond (eqb kind dayLimitsKind) 10
+    cond (eqb kind submitKind) submitLength
+    (cond (eqb kind cancelKind) cancelLength
+    (cond (eqb kind dayLimitsKind) dayLimitsLength
     (cond (eqb kind proposalKind) (legPlace legs)
-    (cond (eqb kind defaultKind) 2
-    (cond (eqb kind closeOutKind) 4
-    (cond (eqb kind closeOfDayKind) 5 0))))))
+    (cond (eqb kind defaultKind) defaultLength
+    (cond (eqb kind closeOutKind) closeOutLength
+    (cond (eqb kind closeOfDayKind) closeOfDayLength 0))))))
 
 -- The same of the record that bytes begin with: its second byte is a proposal's number of legs.
 abbrev pub frontLength : List ℕ → ℕ
@@ -132,17 +151,29 @@ eventSound n (CloseOfDay s) legs = timeSound s && eqb (length legs) 0
 abbrev pub legBytes : Leg → List ℕ
 legBytes g = u32Bytes (g .order) ++ (u16Bytes (g .lots .0) ++ u32Bytes (g .price .0))
 
+abbrev pub kindNumber : Event → ℕ
+kindNumber (Submit e) = submitKind
+kindNumber (Cancel e) = cancelKind
+kindNumber (DayLimits e) = dayLimitsKind
+kindNumber (Proposal k) = proposalKind
+kindNumber (Default m) = defaultKind
+kindNumber (CloseOut e) = closeOutKind
+kindNumber (CloseOfDay s) = closeOfDayKind
+
+unfoldable pub fieldBytes : Event → List Leg → List ℕ
+fieldBytes (Submit e) legs =
+    u32Bytes (e .time)
+    ++ (e .member ∷ e .contract ∷ sideNumber (e .side) ∷ orderKindNumber (e .kind) ∷ u32Bytes (e .price .0) ++ u16Bytes (e .lots .0))
+fieldBytes (Cancel e) legs = u32Bytes (e .time) ++ (e .member ∷ u32Bytes (e .order))
+fieldBytes (DayLimits e) legs = e .contract ∷ u32Bytes (e .low .0) ++ u32Bytes (e .high .0)
+fieldBytes (Proposal k) legs = k ∷ flatMap legBytes legs
+fieldBytes (Default m) legs = m ∷ []
+fieldBytes (CloseOut e) legs = e .contract ∷ u16Bytes (e .ratio)
+fieldBytes (CloseOfDay s) legs = u32Bytes s
+
 -- The record of an event: its kind, then its fields.
 unfoldable pub bytesOf : Event → List Leg → List ℕ
-bytesOf (Submit e) legs =
-    submitKind ∷ u32Bytes (e .time)
-    ++ (e .member ∷ e .contract ∷ sideNumber (e .side) ∷ orderKindNumber (e .kind) ∷ u32Bytes (e .price .0) ++ u16Bytes (e .lots .0))
-bytesOf (Cancel e) legs = cancelKind ∷ u32Bytes (e .time) ++ (e .member ∷ u32Bytes (e .order))
-bytesOf (DayLimits e) legs = dayLimitsKind ∷ e .contract ∷ u32Bytes (e .low .0) ++ u32Bytes (e .high .0)
-bytesOf (Proposal k) legs = proposalKind ∷ k ∷ flatMap legBytes legs
-bytesOf (Default m) legs = defaultKind ∷ m ∷ []
-bytesOf (CloseOut e) legs = closeOutKind ∷ e .contract ∷ u16Bytes (e .ratio)
-bytesOf (CloseOfDay s) legs = closeOfDayKind ∷ u32Bytes s
+bytesOf e legs = kindNumber e ∷ fieldBytes e legs
 
 -- The writer tests 3 before a short output (1) and writes nothing on either; bytes past the record stay untouched.
 -- The answer gives the number of bytes written.
@@ -175,11 +206,14 @@ newDayLimitsOf s = record { contract = getD s 1 0; low = record { 0 = u32At s 2 
 abbrev pub closeOutOf : List ℕ → CloseOutTerms
 closeOutOf s = record { contract = getD s 1 0; ratio = u16At s 2 }
 
--- The fields by the kind u8; a side or an order kind that no byte stands for is out of range.
-unfoldable pub fieldsByKind : List ℕ → Reading
-fieldsByKind s =
-    let kind = getD s 0 0 in
-    cond (eqb kind submitKind) (cond (sideSound (getD s 7 0) && orderKindSound (getD s 8 0)) (Sound (Submit (submissionOf s))) Unsound)
+-- A side or an order kind that no byte stands for is out of range.
+abbrev pub submitOf : List ℕ → Reading
+submitOf s = cond (sideSound (getD s 7 0) && orderKindSound (getD s 8 0)) (Sound (Submit (submissionOf s))) Unsound
+
+-- The fields of a record of a kind.
+unfoldable pub fieldsByKind : ℕ → List ℕ → Reading
+fieldsByKind kind s =
+    cond (eqb kind submitKind) (submitOf s)
     (cond (eqb kind cancelKind) (Sound (Cancel (cancellationOf s)))
     (cond (eqb kind dayLimitsKind) (Sound (DayLimits (newDayLimitsOf s)))
     (cond (eqb kind proposalKind) (Sound (Proposal (getD s 1 0)))
@@ -190,7 +224,7 @@ fieldsByKind s =
 
 -- A record cut or with surplus bytes is unsound; the ranges of its fields are tested after.
 unfoldable pub fieldsOf : List ℕ → Reading
-fieldsOf s = cond (eqb (length s) (frontLength s)) (fieldsByKind s) Unsound
+fieldsOf s = cond (eqb (length s) (frontLength s)) (fieldsByKind (getD s 0 0) s) Unsound
 
 abbrev pub legAt : List ℕ → ℕ → Leg
 legAt s i = record { order = u32At s i; lots = record { 0 = u16At s (i + 4) }; price = record { 0 = u32At s (i + 6) } }
