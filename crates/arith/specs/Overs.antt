@@ -5,7 +5,7 @@ use mathlib.Core.List.{List, [], _∷_, _++_, zipWith, append-assoc}
 use native.Mathlib.Nat.{zero-add, add-assoc}
 use native.Mathlib.Omega.{arith}
 use lib.ListN.{length, take, drop, getD, length-append, length-take, length-drop, List·getD-append}
-use lib.Seq.{length-take-le, take-at, drop-append-add, drop-drop, getD-append-add, getD-take, getD-drop}
+use lib.Seq.{length-take-le, take-append-seam, take-at, drop-append-add, drop-drop, getD-append-add, getD-take, getD-drop}
 use Rattle.arith.specs.Lists.{over}
 use Rattle.arith.specs.Tests.{le-or-lt}
 
@@ -65,3 +65,12 @@ module _ {A : Type 0} where
   -- from the front on
   pub over-then : (b : ℕ) (xs ys l m k : List A) → m ≡ over 0 xs l → k ≡ over b ys m → b ≡ length xs → b ≤ length l → k ≡ over 0 (xs ++ ys) l
   over-then b xs ys l m k e f g h = over-next 0 b xs ys l m k e f (g ∙ sym (zero-add (length xs))) (rw (zero-add, ← g) h)
+
+-- What was written at the front, and what stands past it.
+pub take-over : {A : Type 0} (xs l : List A) → take (length xs) (over 0 xs l) ≡ xs
+unfolding over
+take-over xs l = take-append-seam xs _
+
+pub over-front : {A : Type 0} (xs l : List A) → over 0 xs l ≡ xs ++ drop (length xs) l
+unfolding over
+over-front xs l = rw zero-add refl

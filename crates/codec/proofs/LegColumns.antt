@@ -1,6 +1,6 @@
 -- The legs that are read are the record's, in columns. Assumes nothing.
-use Prim.Native.Nat.{ℕ, _*_, _≤_, _<_}
-use mathlib.Core.Bool.{true, false, _&&_}
+use Prim.Native.Nat.{ℕ, zero, suc, _*_, _≤_, _<_}
+use mathlib.Core.Bool.{Bool, true, false, _&&_}
 use mathlib.Core.List.{List, [], map}
 use mathlib.Core.Path.{_≡_, refl, sym, ap, _∙_}
 use native.Mathlib.Omega.{arith}
@@ -11,12 +11,12 @@ use Rattle.arith.specs.Columns.{column-at}
 use Rattle.arith.specs.Lists.{from, every}
 use Rattle.arith.specs.Runs.{length-run, run-of}
 use Rattle.arith.specs.Tests.{never, le-or-lt, and-false}
-use Rattle.rules.specs.declared.event.Event.the-variants.{Proposal}
+use Rattle.rules.specs.declared.event.Event.the-variants.{Submit, Cancel, DayLimits, Proposal, Default, CloseOut, CloseOfDay}
 use Rattle.rules.specs.declared.event.Event.{Event}
 use Rattle.rules.specs.declared.event.Leg.{Leg}
 use Rattle.rules.specs.declared.event.Reading.the-variants.{Sound}
 use Rattle.rules.specs.Ranges.{leastLegs, mostLegs}
-use Rattle.rules.specs.Records.{legPlace, legAt, legsOf, legSound, eventSound, fieldsOf}
+use Rattle.rules.specs.Records.{legPlace, legAt, legsOf, legSound, eventSound, kindNumber, fieldsOf}
 use Rattle.codec.specs.Columns.{legRow, legRows, legCount, legColumns, heldLegs, legsTo, Held}
 use Rattle.codec.specs.declared.legs.Legs.{Legs}
 use Rattle.codec.proofs.Fields.{Says, submits, cancels, limits, proposes, defaults, closes-out, closes, says}
@@ -93,12 +93,43 @@ pub few-legs : (n k : ℕ) (a : List Leg) → k < leastLegs → eventSound n (Pr
 unfolding eventSound
 few-legs n k a h = rw (lt-leb leastLegs k h) refl
 
+pub proposal-legless : (n k : ℕ) → false ≡ eventSound n (Proposal k) []
+unfolding eventSound
+proposal-legless n zero = refl
+proposal-legless n (suc k) = rw (ne-eqb 0 (suc k) (λ e. omega arith), and-false (leb leastLegs (suc k) && leb (suc k) mostLegs)) refl
+
 pub proposal-judged : (n k : ℕ) (l : Legs) → leastLegs ≤ k → k ≤ mostLegs → eventSound n (Proposal k) (legRows k l) ≡ every legSound (legRows k l)
 unfolding eventSound
 proposal-judged n k l a b = rw (le-leb leastLegs k a, le-leb k mostLegs b, eq-eqb (length (legRows k l)) k (length-rows k l)) refl
 
 pub proposal-many : (n k : ℕ) (l : Legs) → mostLegs < k → eventSound n (Proposal k) (legRows k l) ≡ false
 proposal-many n k l h = many-legs n k (legRows k l) h
+
+-- which events have legs beside them
+pub is-proposal : (e : Event) → kindNumber e ≡ 4 → e ≡ Proposal (legCount e)
+is-proposal (Submit e) h = absurd (omega arith)
+is-proposal (Cancel e) h = absurd (omega arith)
+is-proposal (DayLimits e) h = absurd (omega arith)
+is-proposal (Proposal k) h = refl
+is-proposal (Default m) h = absurd (omega arith)
+is-proposal (CloseOut e) h = absurd (omega arith)
+is-proposal (CloseOfDay s) h = absurd (omega arith)
+
+pub is-legless : (e : Event) (l : Legs) → (kindNumber e ≡ 4 → ⊥) → [] ≡ legRows (legCount e) l
+is-legless (Submit e) l h = sym (no-rows l)
+is-legless (Cancel e) l h = sym (no-rows l)
+is-legless (DayLimits e) l h = sym (no-rows l)
+is-legless (Proposal k) l h = absurd (h refl)
+is-legless (Default m) l h = sym (no-rows l)
+is-legless (CloseOut e) l h = sym (no-rows l)
+is-legless (CloseOfDay s) l h = sym (no-rows l)
+
+module _ (n : ℕ) (e : Event) (l : Legs) {r : Bool} where
+  pub judged-proposal : {count : ℕ} → kindNumber e ≡ 4 → count ≡ legCount e → r ≡ eventSound n (Proposal count) (legRows count l) → r ≡ eventSound n e (legRows (legCount e) l)
+  judged-proposal k c j = j ∙ rw c (ap (λ x. eventSound n x (legRows (legCount e) l)) (sym (is-proposal e k)))
+
+  pub judged-legless : (kindNumber e ≡ 4 → ⊥) → r ≡ eventSound n e [] → r ≡ eventSound n e (legRows (legCount e) l)
+  judged-legless k j = j ∙ ap (eventSound n e) (is-legless e l k)
 
 module _ (n : ℕ) (s : List ℕ) where
   abbrev columns : Legs

@@ -1,8 +1,10 @@
-// How many bytes a record takes, said once for reader, writer and splitter.
+// Kinds of record and how many bytes each takes, said once for reader, writer and splitter.
 ghost use mathlib.Core.Path.{_≡_};
 ghost use Prim.Native.Nat.{_<_, _≤_};
 ghost use Rattle.rules.specs.Ranges.{mostLegs};
-ghost use Rattle.rules.specs.Records.{legPlace, recordLength};
+ghost use Rattle.rules.specs.Records.{kindNumber, legPlace, recordLength};
+ghost use Rattle.codec.specs.Columns.{legCount};
+use rules::Event;
 use rules::kinds::CANCEL;
 use rules::kinds::CLOSE_OF_DAY;
 use rules::kinds::CLOSE_OUT;
@@ -10,6 +12,35 @@ use rules::kinds::DAY_LIMITS;
 use rules::kinds::DEFAULT;
 use rules::kinds::PROPOSAL;
 use rules::kinds::SUBMIT;
+
+pub fn kind_number(event: Event) -> u64
+    ensures { λ r. ⌜ (r ≡ kindNumber event) × (r < 256) ⌝ }
+{
+    match event {
+        Event::Submit(_) => SUBMIT,
+        Event::Cancel(_) => CANCEL,
+        Event::DayLimits(_) => DAY_LIMITS,
+        Event::Proposal(_) => PROPOSAL,
+        Event::Default(_) => DEFAULT,
+        Event::CloseOut(_) => CLOSE_OUT,
+        Event::CloseOfDay(_) => CLOSE_OF_DAY,
+    }
+}
+
+// How many legs stand beside an event.
+pub fn leg_count(event: Event) -> u64
+    ensures { λ r. ⌜ r ≡ legCount event ⌝ }
+{
+    match event {
+        Event::Submit(_) => 0,
+        Event::Cancel(_) => 0,
+        Event::DayLimits(_) => 0,
+        Event::Proposal(count) => count,
+        Event::Default(_) => 0,
+        Event::CloseOut(_) => 0,
+        Event::CloseOfDay(_) => 0,
+    }
+}
 
 const FIRST_LEG: u64 = 2;
 

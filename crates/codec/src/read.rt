@@ -5,6 +5,8 @@ ghost use lib.ListN.{length};
 ghost use Rattle.rules.specs.declared.event.Reading.the-variants.{Sound};
 ghost use Rattle.rules.specs.Records.{submitLength, cancelLength, dayLimitsLength, closeOutLength, sideOf, orderKindOf, submitOf, cancellationOf, newDayLimitsOf, closeOutOf, fieldsOf, legsOf, eventSound, readOf};
 use crate::legs::read_legs;
+use crate::lengths::kind_number;
+use crate::lengths::leg_count;
 use crate::lengths::record_length;
 use crate::sound::is_legless_sound;
 use crate::sound::is_proposal_sound;
@@ -130,8 +132,8 @@ fn is_sound_as_read(members: u64, event: Event, bytes: &[u8]) -> bool
     requires { ⌜ fieldsOf (now bytes) ≡ Sound event ⌝ }
     ensures { λ r. ⌜ r ≡ eventSound members event (legsOf (now (bytes .entry))) ⌝ }
 {
-    if let Event::Proposal(count) = event {
-        return is_proposal_sound(count, read_legs(bytes));
+    if kind_number(event) == PROPOSAL {
+        return is_proposal_sound(leg_count(event), read_legs(bytes));
     }
     is_legless_sound(members, event)
 }

@@ -9,6 +9,8 @@ ghost use Rattle.rules.specs.declared.event.Event.the-variants.{Submit, Cancel,
 ghost use Rattle.codec.specs.Columns.{legRows, legCount};
 use crate::legs::Legs;
 use crate::legs::leg_of;
+use crate::lengths::kind_number;
+use crate::lengths::leg_count;
 use rules::Cancellation;
 use rules::CloseOutTerms;
 use rules::Event;
@@ -17,6 +19,7 @@ use rules::Leg;
 use rules::Lots;
 use rules::NewDayLimits;
 use rules::Submission;
+use rules::kinds::PROPOSAL;
 use rules::ranges::LAST_CONTRACT;
 use rules::ranges::LAST_SECOND;
 use rules::ranges::LEAST_LEGS;
@@ -121,8 +124,8 @@ pub fn is_legless_sound(members: u64, event: Event) -> bool
 pub fn is_event_sound(members: u64, event: Event, legs: Legs) -> bool
     ensures { λ r. ⌜ r ≡ eventSound members event (legRows (legCount event) legs) ⌝ }
 {
-    if let Event::Proposal(count) = event {
-        return is_proposal_sound(count, legs);
+    if kind_number(event) == PROPOSAL {
+        return is_proposal_sound(leg_count(event), legs);
     }
     is_legless_sound(members, event)
 }

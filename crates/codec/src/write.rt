@@ -10,6 +10,8 @@ ghost use Rattle.rules.specs.Records.{submitLength, cancelLength, dayLimitsLeng
 ghost use Rattle.codec.specs.Columns.{legRows, legCount, OneByteFields};
 use crate::legs::Legs;
 use crate::legs::leg_of;
+use crate::lengths::kind_number;
+use crate::lengths::leg_count;
 use crate::lengths::leg_place;
 use crate::lengths::record_length;
 use crate::sound::is_event_sound;
@@ -26,13 +28,6 @@ use rules::NewDayLimits;
 use rules::OrderKind;
 use rules::Side;
 use rules::Submission;
-use rules::kinds::CANCEL;
-use rules::kinds::CLOSE_OF_DAY;
-use rules::kinds::CLOSE_OUT;
-use rules::kinds::DAY_LIMITS;
-use rules::kinds::DEFAULT;
-use rules::kinds::PROPOSAL;
-use rules::kinds::SUBMIT;
 
 fn side_number(side: Side) -> u64
     ensures { λ r. ⌜ (r ≡ sideNumber side) × (r < 256) ⌝ }
@@ -148,34 +143,6 @@ fn put_fields(out: &mut [u8], event: Event, legs: Legs)
         Event::Default(member) => put_default(out, member),
         Event::CloseOut(e) => put_close_out(out, e),
         Event::CloseOfDay(time) => put_close_of_day(out, time),
-    }
-}
-
-fn kind_number(event: Event) -> u64
-    ensures { λ r. ⌜ (r ≡ kindNumber event) × (r < 256) ⌝ }
-{
-    match event {
-        Event::Submit(_) => SUBMIT,
-        Event::Cancel(_) => CANCEL,
-        Event::DayLimits(_) => DAY_LIMITS,
-        Event::Proposal(_) => PROPOSAL,
-        Event::Default(_) => DEFAULT,
-        Event::CloseOut(_) => CLOSE_OUT,
-        Event::CloseOfDay(_) => CLOSE_OF_DAY,
-    }
-}
-
-fn leg_count(event: Event) -> u64
-    ensures { λ r. ⌜ r ≡ legCount event ⌝ }
-{
-    match event {
-        Event::Submit(_) => 0,
-        Event::Cancel(_) => 0,
-        Event::DayLimits(_) => 0,
-        Event::Proposal(count) => count,
-        Event::Default(_) => 0,
-        Event::CloseOut(_) => 0,
-        Event::CloseOfDay(_) => 0,
     }
 }
 

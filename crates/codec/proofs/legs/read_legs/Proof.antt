@@ -62,8 +62,7 @@ loop-again c =
     let l = c .before .before .before .loop in
     let s = c .before .before .before .before .before .before .args .bytes .now in
     let leg = c .leg-at .ensures ∙ ap (legAt s) (c .before .leg-place .ensures) in
-    let room = c .before .before .before .before .legs-held .ensures .most in
-    (
+    let room = c .before .before .before .before .legs-held .ensures .most in (
       omega arith,
       column-next (λ g. g .order) (λ j. legAt s (legPlace j)) mostLegs (l .i) (omega arith) leg (l .inv .1),
       column-next (λ g. g .lots .0) (λ j. legAt s (legPlace j)) mostLegs (l .i) (omega arith) leg (l .inv .2),
