@@ -4,15 +4,16 @@ use native.Mathlib.Omega.{arith}
 use native.Mathlib.Nat.{mul-le-mul-left}
 use Rattle.arith.specs.Tests.{le-or-lt, same-or}
 use Rattle.rules.specs.declared.contract.Term.{Term}
+use Rattle.rules.specs.Ranges.{leastFirstYear, mostFirstYear, monthsInSpan}
 use Rattle.rules.specs.Contracts.{monthsIn, termOf}
 use Rattle.rules.specs.CalendarLaws.{nth, term-year, term-quarter, term-month}
 
 abbrev pub FirstYear : ℕ → Type 0
-FirstYear y = (2020 ≤ y) × (y ≤ 2094)
+FirstYear y = (leastFirstYear ≤ y) × (y ≤ mostFirstYear)
 
 -- A contract whose months lie in the ledger's six years.
 abbrev pub InLedger : Term → Type 0
-InLedger t = monthsIn (t .kind) * t .index + monthsIn (t .kind) ≤ 72
+InLedger t = monthsIn (t .kind) * t .index + monthsIn (t .kind) ≤ monthsInSpan
 
 -- Every contract that has a number is one,
 pub numbered : (c : ℕ) → c ≤ 101 → InLedger (termOf c)

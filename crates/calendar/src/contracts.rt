@@ -2,12 +2,14 @@
 ghost use mathlib.Core.Path.{_≡_};
 ghost use mathlib.Core.List.{List};
 ghost use Prim.Native.Nat.{ℕ, _≤_};
-ghost use Rattle.rules.specs.Contracts.{monthsIn, termOf, kindOf, termFirstDay, termDayAfter, daysOf, termClosingDay, isOn, stillToClose, openOn};
+ghost use Rattle.rules.specs.Contracts.{monthsIn, termOf, kindOf, firstDay, daysOf, termClosingDay, closingDay, closesOn, stillToClose, openOn};
 ghost use Rattle.rules.specs.CalendarLaws.{openByCount};
 ghost use Rattle.calendar.specs.Bounds.{FirstYear, InLedger};
+ghost use Rattle.calendar.specs.Spans.{IsPeriod};
 use crate::days::business_day_before;
 use crate::days::first_month;
-use crate::months::month_start;
+use crate::months::Span;
+use crate::months::months_span;
 use rules::ContractKind;
 use rules::Day;
 use rules::DayNo;
@@ -56,29 +58,24 @@ fn months_in(kind: ContractKind) -> u64
     }
 }
 
-fn term_first_day(first_year: u64, t: Term) -> DayNo
+// The days on which a contract delivers, whatever the holidays.
+fn term_period(first_year: u64, t: Term) -> Span
     requires { ⌜ FirstYear «first_year» × InLedger t ⌝ }
-    ensures { λ r. ⌜ ((h : List ℕ) → r .0 ≡ termFirstDay (record { firstYear = «first_year»; holidays = h }) t) ⌝ }
-{
-    let kind = t.kind;
-    month_start(first_month(first_year) + months_in(kind) * t.index)
-}
-
-fn term_end_day(first_year: u64, t: Term) -> DayNo
-    requires { ⌜ FirstYear «first_year» × InLedger t ⌝ }
-    ensures { λ r. ⌜ ((h : List ℕ) → r .0 ≡ termDayAfter (record { firstYear = «first_year»; holidays = h }) t) ⌝ }
+    ensures { λ r. ⌜ ((h : List ℕ) → IsPeriod r (record { firstYear = «first_year»; holidays = h }) t) ⌝ }
 {
     let kind = t.kind;
     let n = months_in(kind);
-    month_start(first_month(first_year) + (n * t.index + n))
+    let month = first_month(first_year) + n * t.index;
+    months_span(month, month + n)
 }
 
 // The first delivery day, whatever the holidays.
 pub fn first_day(first_year: u64, contract: u64) -> DayNo
     requires { ⌜ FirstYear «first_year» × (contract ≤ 101) ⌝ }
-    ensures { λ r. ⌜ ((h : List ℕ) → r .0 ≡ termFirstDay (record { firstYear = «first_year»; holidays = h }) (termOf contract)) ⌝ }
+    ensures { λ r. ⌜ ((h : List ℕ) → r .0 ≡ firstDay (record { firstYear = «first_year»; holidays = h }) contract) ⌝ }
 {
-    term_first_day(first_year, term_of(contract))
+    let period = term_period(first_year, term_of(contract));
+    period.start
 }
 
 // The number of delivery days, whatever the holidays.
@@ -86,10 +83,8 @@ pub fn days_of(first_year: u64, contract: u64) -> u64
     requires { ⌜ FirstYear «first_year» × (contract ≤ 101) ⌝ }
     ensures { λ r. ⌜ ((h : List ℕ) → r ≡ daysOf (record { firstYear = «first_year»; holidays = h }) contract) ⌝ }
 {
-    let t = term_of(contract);
-    let end = term_end_day(first_year, t);
-    let first = term_first_day(first_year, t);
-    end.0 - first.0
+    let period = term_period(first_year, term_of(contract));
+    period.end.0 - period.start.0
 }
 
 fn term_closing_day(first_year: u64, holidays: &[u64], t: Term) -> Day
@@ -97,16 +92,13 @@ fn term_closing_day(first_year: u64, holidays: &[u64], t: Term) -> Day
     ensures { λ r. ⌜ r ≡ termClosingDay (record { firstYear = «first_year»; holidays = now (holidays .entry) }) t ⌝ }
 {
     let kind = t.kind;
-    business_day_before(
-        holidays,
-        kind.closing_distance(),
-        term_first_day(first_year, t),
-    )
+    let period = term_period(first_year, t);
+    business_day_before(holidays, kind.closing_distance(), period.start)
 }
 
 pub fn closing_day(first_year: u64, holidays: &[u64], contract: u64) -> Day
     requires { ⌜ FirstYear «first_year» × (contract ≤ 101) ⌝ }
-    ensures { λ r. ⌜ r ≡ termClosingDay (record { firstYear = «first_year»; holidays = now (holidays .entry) }) (termOf contract) ⌝ }
+    ensures { λ r. ⌜ r ≡ closingDay (record { firstYear = «first_year»; holidays = now (holidays .entry) }) contract ⌝ }
 {
     term_closing_day(first_year, holidays, term_of(contract))
 }
@@ -114,7 +106,7 @@ pub fn closing_day(first_year: u64, holidays: &[u64], contract: u64) -> Day
 // Whether a contract's closing day is this day.
 pub fn closes_on(first_year: u64, holidays: &[u64], day: DayNo, contract: u64) -> bool
     requires { ⌜ FirstYear «first_year» × (contract ≤ 101) ⌝ }
-    ensures { λ r. ⌜ r ≡ isOn (termClosingDay (record { firstYear = «first_year»; holidays = now (holidays .entry) }) (termOf contract)) (day .0) ⌝ }
+    ensures { λ r. ⌜ r ≡ closesOn (record { firstYear = «first_year»; holidays = now (holidays .entry) }) contract (day .0) ⌝ }
 {
     match closing_day(first_year, holidays, contract) {
         Day::On(x) => x.0 == day.0,

@@ -4,13 +4,15 @@ ghost use mathlib.Core.List.{List};
 ghost use Prim.Native.Nat.{ℕ, _*_, _-_};
 ghost use lib.Dec.{eqb};
 ghost use Rattle.arith.specs.Lists.{any};
-ghost use Rattle.rules.specs.Days.{businessDay, spanStart, dayAfterSpan, inSpan, firstBusinessDay, nextBusinessDay, businessDayBefore};
+ghost use Rattle.rules.specs.Ranges.{leastFirstYear};
+ghost use Rattle.rules.specs.Days.{Calendar, businessDay, inSpan, firstBusinessDay, nextBusinessDay, businessDayBefore};
 ghost use Rattle.calendar.specs.Bounds.{FirstYear};
-use crate::months::month_start;
+ghost use Rattle.calendar.specs.Spans.{IsSpan};
+use crate::months::Span;
+use crate::months::months_span;
 use rules::Day;
 use rules::DayNo;
-
-const BASE_YEAR: u64 = 2020;
+use rules::ranges::LEAST_FIRST_YEAR;
 
 // The months of the span.
 const SPAN: u64 = 72;
@@ -82,44 +84,34 @@ pub fn business_day_before(holidays: &[u64], n: u64, day: DayNo) -> Day
 // The span's first month.
 pub fn first_month(first_year: u64) -> u64
     requires { ⌜ FirstYear «first_year» ⌝ }
-    ensures { λ r. ⌜ r ≡ 12 * («first_year» - 2020) ⌝ }
+    ensures { λ r. ⌜ r ≡ 12 * («first_year» - leastFirstYear) ⌝ }
 {
-    12 * (first_year - BASE_YEAR)
+    12 * (first_year - LEAST_FIRST_YEAR)
 }
 
-// The span's first day, whatever the holidays.
-pub fn span_start(first_year: u64) -> DayNo
+// The ledger's span, whatever the holidays.
+pub fn span_of(first_year: u64) -> Span
     requires { ⌜ FirstYear «first_year» ⌝ }
-    ensures { λ r. ⌜ ((h : List ℕ) → r .0 ≡ spanStart (record { firstYear = «first_year»; holidays = h })) ⌝ }
+    ensures { λ r. ⌜ ((h : List ℕ) → IsSpan r (record { firstYear = «first_year»; holidays = h })) ⌝ }
 {
-    month_start(first_month(first_year))
+    let month = first_month(first_year);
+    months_span(month, month + SPAN)
 }
 
-// The first day after the span, whatever the holidays.
-pub fn span_end(first_year: u64) -> DayNo
-    requires { ⌜ FirstYear «first_year» ⌝ }
-    ensures { λ r. ⌜ ((h : List ℕ) → r .0 ≡ dayAfterSpan (record { firstYear = «first_year»; holidays = h })) ⌝ }
+// Whether a day is in a ledger's span.
+pub fn is_in(span: Span, day: DayNo) -> bool
+    ensures { λ r. ⌜ ((k : Calendar) → IsSpan span k → r ≡ inSpan k (day .0)) ⌝ }
 {
-    month_start(first_month(first_year) + SPAN)
-}
-
-// Whatever the holidays.
-pub fn in_span(first_year: u64, day: DayNo) -> bool
-    requires { ⌜ FirstYear «first_year» ⌝ }
-    ensures { λ r. ⌜ ((h : List ℕ) → r ≡ inSpan (record { firstYear = «first_year»; holidays = h }) (day .0)) ⌝ }
-{
-    let start = span_start(first_year);
-    let end = span_end(first_year);
-    (start.0 <= day.0) & (day.0 < end.0)
+    (span.start.0 <= day.0) & (day.0 < span.end.0)
 }
 
 pub fn next_business_day(first_year: u64, holidays: &[u64], day: DayNo) -> Day
     requires { ⌜ FirstYear «first_year» ⌝ }
     ensures { λ r. ⌜ r ≡ nextBusinessDay (record { firstYear = «first_year»; holidays = now (holidays .entry) }) (day .0) ⌝ }
 {
-    let end = span_end(first_year);
-    if end.0 <= day.0 {
+    let span = span_of(first_year);
+    if span.end.0 <= day.0 {
         return Day::NoDay;
     }
-    first_business_day(holidays, DayNo(day.0 + 1), end)
+    first_business_day(holidays, DayNo(day.0 + 1), span.end)
 }

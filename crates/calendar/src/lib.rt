@@ -4,6 +4,7 @@
 mod contracts;
 mod days;
 mod months;
+mod sound;
 
 pub use contracts::closes_on;
 pub use contracts::closing_day;
@@ -12,8 +13,11 @@ pub use contracts::first_day;
 pub use contracts::is_open;
 pub use contracts::kind_of;
 pub use contracts::term_of;
-pub use days::in_span;
 pub use days::is_business_day;
+pub use days::is_in;
 pub use days::next_business_day;
-pub use days::span_end;
-pub use days::span_start;
+pub use days::span_of;
+pub use months::Span;
+pub use sound::is_calendar_sound;
+pub use sound::is_day_sound;
+pub use sound::is_first_year_sound;

@@ -974,10 +974,21 @@ fn wide(x: u16) -> u64
     x as u64
 }
 
-// Months are counted from January 2020. Callers hold months to the table by the first year.
-pub fn month_start(month: u64) -> DayNo
-    requires { ⌜ month ≤ 960 ⌝ }
-    ensures { λ r. ⌜ r .0 ≡ monthStart month ⌝ }
+// The first day of a run of months, and the first day after it.
+pub struct Span {
+    pub start: DayNo,
+    pub end: DayNo,
+}
+
+// From the first day of one month to that of another; months are counted from January 2020. A constant array is copied
+// whole to be read, so both days are read from one copy.
+pub fn months_span(first: u64, end: u64) -> Span
+    requires { ⌜ (first ≤ 960) × (end ≤ 960) ⌝ }
+    ensures { λ r. ⌜ (r .start .0 ≡ monthStart first) × (r .end .0 ≡ monthStart end) ⌝ }
 {
-    DayNo(wide(STARTS[month as usize]))
+    let starts = STARTS;
+    Span {
+        start: DayNo(wide(starts[first as usize])),
+        end: DayNo(wide(starts[end as usize])),
+    }
 }

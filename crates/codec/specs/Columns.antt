@@ -1,19 +1,17 @@
 -- A proposal's legs as columns, and what a record's columns hold.
-use Prim.Native.Nat.{ℕ, _+_, _*_, _-_, _≤_, _<_}
+use Prim.Native.Nat.{ℕ, _*_, _-_, _≤_, _<_}
 use mathlib.Core.Bool.{cond, _&&_}
-use mathlib.Core.List.{List, [], _++_, map}
+use mathlib.Core.List.{List, [], map}
 use mathlib.Core.Path.{_≡_}
 use lib.Dec.{eqb, leb}
-use lib.ListN.{length, getD, replicate}
+use lib.ListN.{length, getD}
+use Rattle.arith.specs.Columns.{padded}
 use Rattle.arith.specs.Lists.{from}
 use Rattle.rules.specs.declared.event.Event.the-variants.{Submit, Cancel, DayLimits, Proposal, Default, CloseOut, CloseOfDay}
 use Rattle.rules.specs.declared.event.Event.{Event}
 use Rattle.rules.specs.declared.event.Leg.{Leg}
-use Rattle.rules.specs.declared.event.OrderKind.the-variants.{Resting, Oeye, Teye}
-use Rattle.rules.specs.declared.event.OrderKind.{OrderKind}
-use Rattle.rules.specs.declared.order.Side.the-variants.{Buy, Sell}
-use Rattle.rules.specs.declared.order.Side.{Side}
-use Rattle.rules.specs.Records.{legsOf, legAt}
+use Rattle.rules.specs.Ranges.{mostLegs}
+use Rattle.rules.specs.Records.{proposalKind, legPlace, legsOf, legAt}
 use Rattle.codec.specs.declared.legs.Legs.{Legs}
 
 -- Leg i of the columns.
@@ -34,52 +32,35 @@ legCount (Default m) = 0
 legCount (CloseOut e) = 0
 legCount (CloseOfDay s) = 0
 
--- How many bytes an event's record takes.
-abbrev pub recordLength : Event → ℕ
-recordLength (Submit e) = 15
-recordLength (Cancel e) = 10
-recordLength (DayLimits e) = 10
-recordLength (Proposal k) = 2 + 10 * k
-recordLength (Default m) = 2
-recordLength (CloseOut e) = 4
-recordLength (CloseOfDay s) = 5
-
 -- The fields of one byte fit it.
 abbrev pub OneByteFields : Event → Type 0
 OneByteFields (Submit e) = (e .member < 256) × (e .contract < 256)
 OneByteFields (Cancel e) = e .member < 256
 OneByteFields (DayLimits e) = e .contract < 256
-OneByteFields (Proposal k) = k ≤ 12
+OneByteFields (Proposal k) = k ≤ mostLegs
 OneByteFields (Default m) = m < 256
 OneByteFields (CloseOut e) = e .contract < 256
 OneByteFields (CloseOfDay s) = Unit {0}
 
--- The numbers, then 0 up to n places.
-unfoldable pub padded : ℕ → List ℕ → List ℕ
-padded n l = l ++ replicate (n - length l) 0
-
 -- Legs as columns of 12 places.
 unfoldable pub legColumns : List Leg → Legs
 legColumns legs =
-    record { orders = padded 12 (map (λ g. g .order) legs); lots = padded 12 (map (λ g. g .lots .0) legs); prices = padded 12 (map (λ g. g .price .0) legs) }
+    record {
+      orders = padded mostLegs (map (λ g. g .order) legs);
+      lots = padded mostLegs (map (λ g. g .lots .0) legs);
+      prices = padded mostLegs (map (λ g. g .price .0) legs);
+    }
 
 -- The legs that a record holds whole: those of a proposal of at most 12, with none cut and nothing past them.
 unfoldable pub heldLegs : List ℕ → List Leg
-heldLegs s = cond (eqb (getD s 0 0) 4 && leb (getD s 1 0) 12 && eqb (length s) (2 + 10 * getD s 1 0)) (legsOf s) []
+heldLegs s = cond (eqb (getD s 0 0) proposalKind && leb (getD s 1 0) mostLegs && eqb (length s) (legPlace (getD s 1 0))) (legsOf s) []
 
 -- The first n legs in a proposal's bytes.
 abbrev pub legsTo : List ℕ → ℕ → List Leg
-legsTo s n = map (λ j. legAt s (2 + 10 * j)) (from 0 n)
+legsTo s n = map (λ j. legAt s (legPlace j)) (from 0 n)
 
 -- A record s holds n legs whole, at most 12, in its bytes.
 pub record Held (s : List ℕ) (n : ℕ) : Type 0 where
   pub legs : heldLegs s ≡ legsTo s n
-  pub most : n ≤ 12
+  pub most : n ≤ mostLegs
   pub inside : 10 * n ≤ length s - 2
-
--- The side and the order kind of a byte in its range.
-abbrev pub sideOf : ℕ → Side
-sideOf b = cond (eqb b 0) Buy Sell
-
-abbrev pub orderKindOf : ℕ → OrderKind
-orderKindOf b = cond (eqb b 0) Resting (cond (eqb b 1) Oeye Teye)

@@ -2,14 +2,19 @@
 ghost use mathlib.Core.Path.{_≡_};
 ghost use Prim.Native.Nat.{_+_, _<_, _≤_};
 ghost use lib.ListN.{length};
+ghost use Rattle.rules.specs.Ranges.{mostLegs};
 ghost use Rattle.rules.specs.Records.{legAt};
-ghost use Rattle.codec.specs.Columns.{Held, heldLegs, legColumns};
-use crate::bytes::u8_at;
-use crate::bytes::u16_at;
-use crate::bytes::u32_at;
+ghost use Rattle.codec.specs.Columns.{legRow, Held, heldLegs, legColumns};
+use crate::lengths::leg_place;
+use crate::lengths::record_length;
+use big_endian::u8_or_zero;
+use big_endian::u16_at;
+use big_endian::u32_at;
 use rules::Kurus;
 use rules::Leg;
 use rules::Lots;
+use rules::kinds::PROPOSAL;
+use rules::ranges::MOST_LEGS;
 
 // Leg i is the order orders[i], with lots[i] at prices[i]. Places past a proposal's legs are surplus.
 pub struct Legs {
@@ -18,10 +23,22 @@ pub struct Legs {
     pub prices: [u64; 12],
 }
 
+// Leg i, out of the columns.
+pub fn leg_of(legs: Legs, i: usize) -> Leg
+    requires { ⌜ i < mostLegs ⌝ }
+    ensures { λ r. ⌜ r ≡ legRow legs i ⌝ }
+{
+    Leg {
+        order: legs.orders[i],
+        lots: Lots(legs.lots[i]),
+        price: Kurus(legs.prices[i]),
+    }
+}
+
 // The leg whose bytes start at a place.
 fn leg_at(bytes: &[u8], at: usize) -> Leg
     requires { ⌜ at + 10 ≤ length (now bytes) ⌝ }
-    ensures { λ r. ⌜ (r ≡ legAt (now (bytes .entry)) at) × (r .order < 4294967296) ⌝ }
+    ensures { λ r. ⌜ r ≡ legAt (now (bytes .entry)) at ⌝ }
 {
     let order = u32_at(bytes, at);
     let lots = u16_at(bytes, at + 4);
@@ -37,21 +54,17 @@ fn leg_at(bytes: &[u8], at: usize) -> Leg
 fn legs_held(bytes: &[u8]) -> usize
     ensures { λ r. ⌜ Held (now (bytes .entry)) r ⌝ }
 {
-    if bytes.len() < 2 {
+    if u8_or_zero(bytes, 0) != PROPOSAL {
         return 0;
     }
-    let kind = u8_at(bytes, 0);
-    if kind != 4 {
+    let count = u8_or_zero(bytes, 1);
+    if MOST_LEGS < count {
         return 0;
     }
-    let count = u8_at(bytes, 1) as usize;
-    if 12 < count {
+    if bytes.len() as u64 != record_length(PROPOSAL, count) {
         return 0;
     }
-    if bytes.len() != 2 + 10 * count {
-        return 0;
-    }
-    count
+    count as usize
 }
 
 // The legs that a record holds whole, and 0 in the places past them.
@@ -64,7 +77,7 @@ pub fn read_legs(bytes: &[u8]) -> Legs
     let mut prices = [0u64; 12];
     let mut i: usize = 0;
     while i < count {
-        let leg = leg_at(bytes, 2 + 10 * i);
+        let leg = leg_at(bytes, leg_place(i));
         orders[i] = leg.order;
         lots[i] = leg.lots.0;
         prices[i] = leg.price.0;

@@ -1,15 +1,20 @@
 // Reading a record.
 ghost use mathlib.Core.Path.{_≡_};
-ghost use Prim.Native.Nat.{_<_, _≤_};
-ghost use lib.ListN.{length, getD};
-ghost use Rattle.rules.specs.Records.{fieldsOf, readOf};
-ghost use Rattle.codec.specs.Columns.{sideOf, orderKindOf};
-use crate::bytes::u8_at;
-use crate::bytes::u16_at;
-use crate::bytes::u32_at;
+ghost use Prim.Native.Nat.{_≤_};
+ghost use lib.ListN.{length};
+ghost use Rattle.rules.specs.declared.event.Reading.the-variants.{Sound};
+ghost use Rattle.rules.specs.Records.{submitLength, cancelLength, dayLimitsLength, closeOutLength, sideOf, orderKindOf, submitOf, cancellationOf, newDayLimitsOf, closeOutOf, fieldsOf, legsOf, eventSound, readOf};
 use crate::legs::read_legs;
-use crate::sound::event_sound;
-use crate::sound::members_sound;
+use crate::lengths::kind_number;
+use crate::lengths::leg_count;
+use crate::lengths::record_length;
+use crate::sound::is_legless_sound;
+use crate::sound::is_proposal_sound;
+use big_endian::u8_at;
+use big_endian::u8_or_zero;
+use big_endian::u16_at;
+use big_endian::u32_at;
+use header::is_member_count_sound;
 use rules::Cancellation;
 use rules::CloseOutTerms;
 use rules::Event;
@@ -20,6 +25,13 @@ use rules::OrderKind;
 use rules::Reading;
 use rules::Side;
 use rules::Submission;
+use rules::kinds::CANCEL;
+use rules::kinds::CLOSE_OF_DAY;
+use rules::kinds::CLOSE_OUT;
+use rules::kinds::DAY_LIMITS;
+use rules::kinds::DEFAULT;
+use rules::kinds::PROPOSAL;
+use rules::kinds::SUBMIT;
 
 fn side_of(b: u64) -> Side
     ensures { λ r. ⌜ r ≡ sideOf b ⌝ }
@@ -40,17 +52,14 @@ fn order_kind_of(b: u64) -> OrderKind
 }
 
 fn submit_of(bytes: &[u8]) -> Reading
-    requires { ⌜ getD (now bytes) 0 0 ≡ 1 ⌝ }
-    ensures { λ r. ⌜ r ≡ fieldsOf (now (bytes .entry)) ⌝ }
+    requires { ⌜ submitLength ≤ length (now bytes) ⌝ }
+    ensures { λ r. ⌜ r ≡ submitOf (now (bytes .entry)) ⌝ }
 {
-    if bytes.len() != 15 {
-        return Reading::Unsound;
-    }
     let side = u8_at(bytes, 7);
+    let kind = u8_at(bytes, 8);
     if 1 < side {
         return Reading::Unsound;
     }
-    let kind = u8_at(bytes, 8);
     if 2 < kind {
         return Reading::Unsound;
     }
@@ -65,111 +74,80 @@ fn submit_of(bytes: &[u8]) -> Reading
     }))
 }
 
-fn cancel_of(bytes: &[u8]) -> Reading
-    requires { ⌜ getD (now bytes) 0 0 ≡ 2 ⌝ }
-    ensures { λ r. ⌜ r ≡ fieldsOf (now (bytes .entry)) ⌝ }
+fn cancellation_of(bytes: &[u8]) -> Cancellation
+    requires { ⌜ cancelLength ≤ length (now bytes) ⌝ }
+    ensures { λ r. ⌜ r ≡ cancellationOf (now (bytes .entry)) ⌝ }
 {
-    if bytes.len() != 10 {
-        return Reading::Unsound;
-    }
-    Reading::Sound(Event::Cancel(Cancellation {
+    Cancellation {
         time: u32_at(bytes, 1),
         member: u8_at(bytes, 5),
         order: u32_at(bytes, 6),
-    }))
+    }
 }
 
-fn limits_of(bytes: &[u8]) -> Reading
-    requires { ⌜ getD (now bytes) 0 0 ≡ 3 ⌝ }
-    ensures { λ r. ⌜ r ≡ fieldsOf (now (bytes .entry)) ⌝ }
+fn new_day_limits_of(bytes: &[u8]) -> NewDayLimits
+    requires { ⌜ dayLimitsLength ≤ length (now bytes) ⌝ }
+    ensures { λ r. ⌜ r ≡ newDayLimitsOf (now (bytes .entry)) ⌝ }
 {
-    if bytes.len() != 10 {
-        return Reading::Unsound;
-    }
-    Reading::Sound(Event::DayLimits(NewDayLimits {
+    NewDayLimits {
         contract: u8_at(bytes, 1),
         low: Kurus(u32_at(bytes, 2)),
         high: Kurus(u32_at(bytes, 6)),
-    }))
+    }
 }
 
-fn proposal_of(bytes: &[u8]) -> Reading
-    requires { ⌜ getD (now bytes) 0 0 ≡ 4 ⌝ }
-    ensures { λ r. ⌜ r ≡ fieldsOf (now (bytes .entry)) ⌝ }
+fn close_out_of(bytes: &[u8]) -> CloseOutTerms
+    requires { ⌜ closeOutLength ≤ length (now bytes) ⌝ }
+    ensures { λ r. ⌜ r ≡ closeOutOf (now (bytes .entry)) ⌝ }
 {
-    if bytes.len() < 2 {
-        return Reading::Unsound;
-    }
-    let count = u8_at(bytes, 1);
-    if bytes.len() as u64 != 2 + 10 * count {
-        return Reading::Unsound;
-    }
-    Reading::Sound(Event::Proposal(count))
-}
-
-fn default_of(bytes: &[u8]) -> Reading
-    requires { ⌜ getD (now bytes) 0 0 ≡ 5 ⌝ }
-    ensures { λ r. ⌜ r ≡ fieldsOf (now (bytes .entry)) ⌝ }
-{
-    if bytes.len() != 2 {
-        return Reading::Unsound;
-    }
-    Reading::Sound(Event::Default(u8_at(bytes, 1)))
-}
-
-fn close_out_of(bytes: &[u8]) -> Reading
-    requires { ⌜ getD (now bytes) 0 0 ≡ 6 ⌝ }
-    ensures { λ r. ⌜ r ≡ fieldsOf (now (bytes .entry)) ⌝ }
-{
-    if bytes.len() != 4 {
-        return Reading::Unsound;
-    }
-    Reading::Sound(Event::CloseOut(CloseOutTerms {
+    CloseOutTerms {
         contract: u8_at(bytes, 1),
         ratio: u16_at(bytes, 2),
-    }))
-}
-
-fn close_of_day_of(bytes: &[u8]) -> Reading
-    requires { ⌜ getD (now bytes) 0 0 ≡ 7 ⌝ }
-    ensures { λ r. ⌜ r ≡ fieldsOf (now (bytes .entry)) ⌝ }
-{
-    if bytes.len() != 5 {
-        return Reading::Unsound;
     }
-    Reading::Sound(Event::CloseOfDay(u32_at(bytes, 1)))
 }
 
 // The fields by the kind of record, in whatever ranges.
 fn fields_of(bytes: &[u8]) -> Reading
     ensures { λ r. ⌜ r ≡ fieldsOf (now (bytes .entry)) ⌝ }
 {
-    if bytes.len() == 0 {
+    let kind = u8_or_zero(bytes, 0);
+    let second = u8_or_zero(bytes, 1);
+    if bytes.len() as u64 != record_length(kind, second) {
         return Reading::Unsound;
     }
-    let kind = u8_at(bytes, 0);
     match kind {
-        1 => submit_of(bytes),
-        2 => cancel_of(bytes),
-        3 => limits_of(bytes),
-        4 => proposal_of(bytes),
-        5 => default_of(bytes),
-        6 => close_out_of(bytes),
-        7 => close_of_day_of(bytes),
+        SUBMIT => submit_of(bytes),
+        CANCEL => Reading::Sound(Event::Cancel(cancellation_of(bytes))),
+        DAY_LIMITS => Reading::Sound(Event::DayLimits(new_day_limits_of(bytes))),
+        PROPOSAL => Reading::Sound(Event::Proposal(second)),
+        DEFAULT => Reading::Sound(Event::Default(second)),
+        CLOSE_OUT => Reading::Sound(Event::CloseOut(close_out_of(bytes))),
+        CLOSE_OF_DAY => Reading::Sound(Event::CloseOfDay(u32_at(bytes, 1))),
         _ => Reading::Unsound,
     }
+}
+
+// The ranges of what was read; only a proposal has legs to read.
+fn is_sound_as_read(members: u64, event: Event, bytes: &[u8]) -> bool
+    requires { ⌜ fieldsOf (now bytes) ≡ Sound event ⌝ }
+    ensures { λ r. ⌜ r ≡ eventSound members event (legsOf (now (bytes .entry))) ⌝ }
+{
+    if kind_number(event) == PROPOSAL {
+        return is_proposal_sound(leg_count(event), read_legs(bytes));
+    }
+    is_legless_sound(members, event)
 }
 
 // What a record says in a ledger of that many members. A proposal's legs are read by read_legs.
 pub fn read_record(members: u64, bytes: &[u8]) -> Reading
     ensures { λ r. ⌜ r ≡ readOf members (now (bytes .entry)) ⌝ }
 {
-    if !members_sound(members) {
+    if !is_member_count_sound(members) {
         return Reading::Unsound;
     }
     match fields_of(bytes) {
         Reading::Sound(event) => {
-            if event_sound(members, event, read_legs(bytes)) {
+            if is_sound_as_read(members, event, bytes) {
                 Reading::Sound(event)
             } else {
                 Reading::Unsound

@@ -2,7 +2,9 @@
 -- their bytes are turned round: so a slip that reader and writer share cannot hide.
 use Prim.Native.Nat.{ℕ}
 use mathlib.Core.Path.{_≡_, refl}
-use mathlib.Core.List.{List, [], _∷_, map, flatMap}
+use mathlib.Core.Bool.{true, false}
+use mathlib.Core.List.{List, [], _∷_, _++_, map, flatMap}
+use lib.ListN.{take}
 use Rattle.arith.specs.Lists.{from, every}
 use Rattle.rules.specs.declared.event.Event.{Event}
 use Rattle.rules.specs.declared.event.Event.the-variants.{Submit, Cancel, DayLimits, Proposal, Default, CloseOut, CloseOfDay}
@@ -10,8 +12,9 @@ use Rattle.rules.specs.declared.event.Leg.{Leg}
 use Rattle.rules.specs.declared.event.OrderKind.the-variants.{Oeye, Teye}
 use Rattle.rules.specs.declared.event.Reading.the-variants.{Sound}
 use Rattle.rules.specs.declared.order.Side.the-variants.{Buy, Sell}
-use Rattle.rules.specs.Header.{u16At, u32At, u16Bytes, u32Bytes, u16sAt, u32sAt, Header, headerOf, headerBytes}
-use Rattle.rules.specs.Records.{eventSound, bytesOf, fieldsOf, legsOf, readOf}
+use Rattle.rules.specs.Header.{u16At, u32At, u16Bytes, u32Bytes, u16sAt, u32sAt, Header, headerOf, headerBytes, beginsWithHeader}
+use Rattle.rules.specs.Computed.{computed}
+use Rattle.rules.specs.Records.{recordLength, eventSound, fieldBytes, bytesOf, fieldsByKind, fieldsOf, legsOf, readOf}
 
 -- 256 is 01 00.
 two-bytes : u16At (1 ∷ 0 ∷ []) 0 ≡ 256
@@ -75,7 +78,7 @@ examples =
 
 -- Reading the bytes gives the event and its legs, and writing them gives the bytes.
 pub examples-read : map (λ x. readOf 3 (x .bytes)) examples ≡ map (λ x. Sound (x .event)) examples
-unfolding readOf fieldsOf legsOf eventSound u16At u32At from every
+unfolding readOf fieldsOf fieldsByKind recordLength legsOf eventSound u16At u32At from every
 examples-read = refl
 
 pub examples-legs : map (λ x. legsOf (x .bytes)) examples ≡ map (λ x. x .legs) examples
@@ -83,16 +86,17 @@ unfolding legsOf u16At u32At from
 examples-legs = refl
 
 pub examples-written : map (λ x. bytesOf (x .event) (x .legs)) examples ≡ map (λ x. x .bytes) examples
-unfolding bytesOf u16Bytes u32Bytes flatMap
+unfolding bytesOf fieldBytes u16Bytes u32Bytes flatMap
 examples-written = refl
 
--- VJR, version 1, first year 2021, start day 369, two members, holidays 370 and 512, limits 1,000 and 66,051.
+-- VJR, version 1, first year 2021, start day 369, three members, holidays 370 and 512, limits 1,000, 66,051 and 100,000.
 abbrev pub headerExample : List ℕ
 headerExample =
-    86 ∷ 74 ∷ 82 ∷ 0 ∷ 1 ∷ 7 ∷ 229 ∷ 1 ∷ 113 ∷ 2 ∷ 2 ∷ 1 ∷ 114 ∷ 2 ∷ 0 ∷ 0 ∷ 0 ∷ 3 ∷ 232 ∷ 0 ∷ 1 ∷ 2 ∷ 3 ∷ []
+    86 ∷ 74 ∷ 82 ∷ 0 ∷ 1 ∷ 7 ∷ 229 ∷ 1 ∷ 113 ∷ 3 ∷ 2 ∷ 1 ∷ 114 ∷ 2 ∷ 0 ∷ 0 ∷ 0 ∷ 3 ∷ 232 ∷ 0 ∷ 1 ∷ 2 ∷ 3 ∷ 0 ∷ 1 ∷ 134 ∷ 160 ∷ []
 
 abbrev pub headerFields : Header
-headerFields = record { firstYear = 2021; startDay = 369; members = 2; holidays = 370 ∷ 512 ∷ []; limits = 1000 ∷ 66051 ∷ [] }
+headerFields =
+    record { firstYear = 2021; startDay = 369; members = 3; holidays = 370 ∷ 512 ∷ []; limits = 1000 ∷ 66051 ∷ 100000 ∷ [] }
 
 pub header-read : headerOf headerExample ≡ headerFields
 unfolding headerOf u16At u32At u16sAt u32sAt from
@@ -101,3 +105,8 @@ header-read = refl
 pub header-written : headerBytes headerFields ≡ headerExample
 unfolding headerBytes u16Bytes u32Bytes flatMap
 header-written = refl
+
+-- It is sound, also before records; cut by a byte it is not.
+pub header-begins : map beginsWithHeader (headerExample ∷ (headerExample ++ (5 ∷ 2 ∷ [])) ∷ take 26 headerExample ∷ []) ≡ true ∷ true ∷ false ∷ []
+unfolding computed
+header-begins = refl

@@ -6,6 +6,7 @@ use lib.Dec.{eqb, leb, ltb}
 use lib.ListN.{length, take, getD}
 use Rattle.arith.specs.Lists.{from, every, over}
 use Rattle.rules.specs.declared.answer.Answer.the-variants.{Accepted, TableUnsound, HeaderUnsound}
+use Rattle.rules.specs.Ranges.{leastFirstYear, mostFirstYear, mostMembers, mostHolidays, mostLimit}
 use Rattle.rules.specs.Answers.{Outcome, decide}
 use Rattle.rules.specs.Days.{Calendar, businessDay, inSpan}
 
@@ -72,17 +73,20 @@ unfoldable pub rising : List ℕ → Bool
 rising [] = true
 rising (x ∷ xs) = every (ltb x) xs && rising xs
 
--- First year 2020 to 2094, members 1 to 32, 0 to 120 holidays, strictly rising in the span.
+abbrev pub firstYearSound : ℕ → Bool
+firstYearSound y = leb leastFirstYear y && leb y mostFirstYear
+
+-- First year 2020 to 2094; 0 to 120 holidays, strictly rising in the span.
 unfoldable pub calendarSound : Calendar → Bool
 calendarSound k =
-    leb 2020 (k .firstYear) && leb (k .firstYear) 2094 && leb (length (k .holidays)) 120 && rising (k .holidays) && every (inSpan k) (k .holidays)
+    firstYearSound (k .firstYear) && leb (length (k .holidays)) mostHolidays && rising (k .holidays) && every (inSpan k) (k .holidays)
 
 abbrev pub membersSound : ℕ → Bool
-membersSound n = leb 1 n && leb n 32
+membersSound n = leb 1 n && leb n mostMembers
 
 -- A position limit: 0 to 100,000 lots.
 abbrev pub limitSound : ℕ → Bool
-limitSound l = leb l 100000
+limitSound l = leb l mostLimit
 
 -- A business day in the span.
 unfoldable pub daySound : Calendar → ℕ → Bool

@@ -1,42 +1,133 @@
 -- Document 01, "Records": what the bytes of a record say, which are sound, and what is written for an event.
-use Prim.Native.Nat.{ℕ, _+_, _*_}
+use Prim.Native.Nat.{ℕ, _+_, _*_, _-_}
 use mathlib.Core.Bool.{Bool, cond, not, _&&_}
 use mathlib.Core.List.{List, [], _∷_, _++_, map, flatMap}
 use lib.Dec.{eqb, leb, ltb}
 use lib.ListN.{length, getD}
 use Rattle.arith.specs.Lists.{from, every, over}
 use Rattle.rules.specs.declared.answer.Answer.the-variants.{Accepted, TableUnsound, RecordUnsound}
+use Rattle.rules.specs.declared.event.Cancellation.{Cancellation}
+use Rattle.rules.specs.declared.event.CloseOutTerms.{CloseOutTerms}
 use Rattle.rules.specs.declared.event.Event.{Event}
 use Rattle.rules.specs.declared.event.Event.the-variants.{Submit, Cancel, DayLimits, Proposal, Default, CloseOut, CloseOfDay}
+use Rattle.rules.specs.declared.event.Front.{Front}
+use Rattle.rules.specs.declared.event.Front.the-variants.{Whole, Cut, UnknownKind}
 use Rattle.rules.specs.declared.event.Leg.{Leg}
+use Rattle.rules.specs.declared.event.NewDayLimits.{NewDayLimits}
 use Rattle.rules.specs.declared.event.OrderKind.{OrderKind}
 use Rattle.rules.specs.declared.event.OrderKind.the-variants.{Resting, Oeye, Teye}
 use Rattle.rules.specs.declared.event.Reading.{Reading}
 use Rattle.rules.specs.declared.event.Reading.the-variants.{Sound, Unsound}
+use Rattle.rules.specs.declared.event.Submission.{Submission}
 use Rattle.rules.specs.declared.order.Side.{Side}
 use Rattle.rules.specs.declared.order.Side.the-variants.{Buy, Sell}
+use Rattle.rules.specs.Ranges.{contractCount, lastSecond, mostPrice, mostLots, leastLegs, mostLegs, mostRatio}
 use Rattle.rules.specs.Answers.{Outcome, decide, Told, told}
 use Rattle.rules.specs.Header.{u16At, u32At, u16Bytes, u32Bytes, membersSound}
-use Rattle.rules.specs.Ledger.{sideNumber}
+
+-- ---- kinds and lengths
+-- A record's first byte is the number of its kind.
+abbrev pub submitKind : ℕ
+submitKind = 1
+
+abbrev pub cancelKind : ℕ
+cancelKind = 2
+
+abbrev pub dayLimitsKind : ℕ
+dayLimitsKind = 3
+
+abbrev pub proposalKind : ℕ
+proposalKind = 4
+
+abbrev pub defaultKind : ℕ
+defaultKind = 5
+
+abbrev pub closeOutKind : ℕ
+closeOutKind = 6
+
+abbrev pub closeOfDayKind : ℕ
+closeOfDayKind = 7
+
+-- How many bytes a record of each kind takes.
+abbrev pub submitLength : ℕ
+submitLength = 15
+
+abbrev pub cancelLength : ℕ
+cancelLength = 10
+
+abbrev pub dayLimitsLength : ℕ
+dayLimitsLength = 10
+
+abbrev pub defaultLength : ℕ
+defaultLength = 2
+
+abbrev pub closeOutLength : ℕ
+closeOutLength = 4
+
+abbrev pub closeOfDayLength : ℕ
+closeOfDayLength = 5
+
+-- Where leg j of a proposal begins, and so where a proposal of j legs ends: after kind and count, 10 bytes for each.
+abbrev pub legPlace : ℕ → ℕ
+legPlace j = 2 + 10 * j
+
+-- The length by a record's kind and, of a proposal, its number of legs; 0 where no kind has that number.
+unfoldable pub recordLength : ℕ → ℕ → ℕ
+recordLength kind legs =
+    cond (eqb kind submitKind) submitLength
+    (cond (eqb kind cancelKind) cancelLength
+    (cond (eqb kind dayLimitsKind) dayLimitsLength
+    (cond (eqb kind proposalKind) (legPlace legs)
+    (cond (eqb kind defaultKind) defaultLength
+    (cond (eqb kind closeOutKind) closeOutLength
+    (cond (eqb kind closeOfDayKind) closeOfDayLength 0))))))
+
+-- The same of the record that bytes begin with: its second byte is a proposal's number of legs.
+abbrev pub frontLength : List ℕ → ℕ
+frontLength s = recordLength (getD s 0 0) (getD s 1 0)
+
+-- ---- side and order kind
+-- Side u8 (0 buy, 1 sell).
+abbrev pub sideNumber : Side → ℕ
+sideNumber Buy = 0
+sideNumber Sell = 1
+
+abbrev pub sideOf : ℕ → Side
+sideOf b = cond (eqb b (sideNumber Buy)) Buy Sell
+
+abbrev pub sideSound : ℕ → Bool
+sideSound b = leb b (sideNumber Sell)
+
+-- Order kind u8 (0 resting, 1 OEYE, 2 TEYE).
+abbrev pub orderKindNumber : OrderKind → ℕ
+orderKindNumber Resting = 0
+orderKindNumber Oeye = 1
+orderKindNumber Teye = 2
+
+abbrev pub orderKindOf : ℕ → OrderKind
+orderKindOf b = cond (eqb b (orderKindNumber Resting)) Resting (cond (eqb b (orderKindNumber Oeye)) Oeye Teye)
+
+abbrev pub orderKindSound : ℕ → Bool
+orderKindSound b = leb b (orderKindNumber Teye)
 
 -- ---- ranges
 abbrev pub timeSound : ℕ → Bool
-timeSound s = leb s 86399
+timeSound s = leb s lastSecond
 
 abbrev pub contractSound : ℕ → Bool
-contractSound c = leb c 101
+contractSound c = leb c (contractCount - 1)
 
 -- 1 to 1,000,000 kuruş.
 abbrev pub priceSound : ℕ → Bool
-priceSound p = leb 1 p && leb p 1000000
+priceSound p = leb 1 p && leb p mostPrice
 
 -- 1 to 100 lots.
 abbrev pub lotsSound : ℕ → Bool
-lotsSound q = leb 1 q && leb q 100
+lotsSound q = leb 1 q && leb q mostLots
 
 -- 1 ≤ low ≤ high ≤ 1,000,000.
 abbrev pub dayLimitsSound : ℕ → ℕ → Bool
-dayLimitsSound l h = leb 1 l && leb l h && leb h 1000000
+dayLimitsSound l h = leb 1 l && leb l h && leb h mostPrice
 
 -- An order number has no range of its own: it is any u32.
 abbrev pub numberSound : ℕ → Bool
@@ -51,31 +142,38 @@ eventSound n (Submit e) legs =
     timeSound (e .time) && ltb (e .member) n && contractSound (e .contract) && priceSound (e .price .0) && lotsSound (e .lots .0) && eqb (length legs) 0
 eventSound n (Cancel e) legs = timeSound (e .time) && ltb (e .member) n && numberSound (e .order) && eqb (length legs) 0
 eventSound n (DayLimits e) legs = contractSound (e .contract) && dayLimitsSound (e .low .0) (e .high .0) && eqb (length legs) 0
-eventSound n (Proposal k) legs = leb 2 k && leb k 12 && eqb (length legs) k && every legSound legs
+eventSound n (Proposal k) legs = leb leastLegs k && leb k mostLegs && eqb (length legs) k && every legSound legs
 eventSound n (Default m) legs = ltb m n && eqb (length legs) 0
-eventSound n (CloseOut e) legs = contractSound (e .contract) && leb 1 (e .ratio) && leb (e .ratio) 1000 && eqb (length legs) 0
+eventSound n (CloseOut e) legs = contractSound (e .contract) && leb 1 (e .ratio) && leb (e .ratio) mostRatio && eqb (length legs) 0
 eventSound n (CloseOfDay s) legs = timeSound s && eqb (length legs) 0
 
 -- ---- writing
-abbrev pub orderKindNumber : OrderKind → ℕ
-orderKindNumber Resting = 0
-orderKindNumber Oeye = 1
-orderKindNumber Teye = 2
-
 abbrev pub legBytes : Leg → List ℕ
 legBytes g = u32Bytes (g .order) ++ (u16Bytes (g .lots .0) ++ u32Bytes (g .price .0))
 
+abbrev pub kindNumber : Event → ℕ
+kindNumber (Submit e) = submitKind
+kindNumber (Cancel e) = cancelKind
+kindNumber (DayLimits e) = dayLimitsKind
+kindNumber (Proposal k) = proposalKind
+kindNumber (Default m) = defaultKind
+kindNumber (CloseOut e) = closeOutKind
+kindNumber (CloseOfDay s) = closeOfDayKind
+
+unfoldable pub fieldBytes : Event → List Leg → List ℕ
+fieldBytes (Submit e) legs =
+    u32Bytes (e .time)
+    ++ (e .member ∷ e .contract ∷ sideNumber (e .side) ∷ orderKindNumber (e .kind) ∷ u32Bytes (e .price .0) ++ u16Bytes (e .lots .0))
+fieldBytes (Cancel e) legs = u32Bytes (e .time) ++ (e .member ∷ u32Bytes (e .order))
+fieldBytes (DayLimits e) legs = e .contract ∷ u32Bytes (e .low .0) ++ u32Bytes (e .high .0)
+fieldBytes (Proposal k) legs = k ∷ flatMap legBytes legs
+fieldBytes (Default m) legs = m ∷ []
+fieldBytes (CloseOut e) legs = e .contract ∷ u16Bytes (e .ratio)
+fieldBytes (CloseOfDay s) legs = u32Bytes s
+
 -- The record of an event: its kind, then its fields.
 unfoldable pub bytesOf : Event → List Leg → List ℕ
-bytesOf (Submit e) legs =
-    1 ∷ u32Bytes (e .time)
-    ++ (e .member ∷ e .contract ∷ sideNumber (e .side) ∷ orderKindNumber (e .kind) ∷ u32Bytes (e .price .0) ++ u16Bytes (e .lots .0))
-bytesOf (Cancel e) legs = 2 ∷ u32Bytes (e .time) ++ (e .member ∷ u32Bytes (e .order))
-bytesOf (DayLimits e) legs = 3 ∷ e .contract ∷ u32Bytes (e .low .0) ++ u32Bytes (e .high .0)
-bytesOf (Proposal k) legs = 4 ∷ k ∷ flatMap legBytes legs
-bytesOf (Default m) legs = 5 ∷ m ∷ []
-bytesOf (CloseOut e) legs = 6 ∷ e .contract ∷ u16Bytes (e .ratio)
-bytesOf (CloseOfDay s) legs = 7 ∷ u32Bytes s
+bytesOf e legs = kindNumber e ∷ fieldBytes e legs
 
 -- The writer tests 3 before a short output (1) and writes nothing on either; bytes past the record stay untouched.
 -- The answer gives the number of bytes written.
@@ -87,51 +185,53 @@ writeSpec n e legs out =
     (record { answer = Accepted (length bytes); after = over 0 bytes out })
 
 -- ---- reading
--- A record of a kind has a fixed length; with surplus bytes or cut it is unsound.
-abbrev pub ofLength : ℕ → List ℕ → Reading → Reading
-ofLength n s r = cond (eqb (length s) n) r Unsound
-
--- Side u8 (0 buy, 1 sell); order kind u8 (0 resting, 1 OEYE, 2 TEYE).
-abbrev pub withSide : ℕ → (Side → Reading) → Reading
-withSide b f = cond (eqb b 0) (f Buy) (cond (eqb b 1) (f Sell) Unsound)
-
-abbrev pub withOrderKind : ℕ → (OrderKind → Reading) → Reading
-withOrderKind b f = cond (eqb b 0) (f Resting) (cond (eqb b 1) (f Oeye) (cond (eqb b 2) (f Teye) Unsound))
-
-abbrev pub submitOf : List ℕ → Reading
-submitOf s =
-    withSide (getD s 7 0) (λ side. withOrderKind (getD s 8 0) (λ kind.
-    Sound
-    (Submit
-    (record {
+abbrev pub submissionOf : List ℕ → Submission
+submissionOf s =
+    record {
       time = u32At s 1;
       member = getD s 5 0;
       contract = getD s 6 0;
-      side = side;
-      kind = kind;
+      side = sideOf (getD s 7 0);
+      kind = orderKindOf (getD s 8 0);
       price = record { 0 = u32At s 9 };
       lots = record { 0 = u16At s 13 };
-    }))))
+    }
 
--- The fields of a record by its kind u8, if it has the kind's length; ranges are tested after.
-unfoldable pub fieldsOf : List ℕ → Reading
-fieldsOf s =
-    let kind = getD s 0 0 in
-    cond (eqb kind 1) (ofLength 15 s (submitOf s))
-    (cond (eqb kind 2) (ofLength 10 s (Sound (Cancel (record { time = u32At s 1; member = getD s 5 0; order = u32At s 6 }))))
-    (cond (eqb kind 3) (ofLength 10 s (Sound (DayLimits (record { contract = getD s 1 0; low = record { 0 = u32At s 2 }; high = record { 0 = u32At s 6 } }))))
-    (cond (eqb kind 4) (ofLength (2 + 10 * getD s 1 0) s (Sound (Proposal (getD s 1 0))))
-    (cond (eqb kind 5) (ofLength 2 s (Sound (Default (getD s 1 0))))
-    (cond (eqb kind 6) (ofLength 4 s (Sound (CloseOut (record { contract = getD s 1 0; ratio = u16At s 2 }))))
-    (cond (eqb kind 7) (ofLength 5 s (Sound (CloseOfDay (u32At s 1))))
+abbrev pub cancellationOf : List ℕ → Cancellation
+cancellationOf s = record { time = u32At s 1; member = getD s 5 0; order = u32At s 6 }
+
+abbrev pub newDayLimitsOf : List ℕ → NewDayLimits
+newDayLimitsOf s = record { contract = getD s 1 0; low = record { 0 = u32At s 2 }; high = record { 0 = u32At s 6 } }
+
+abbrev pub closeOutOf : List ℕ → CloseOutTerms
+closeOutOf s = record { contract = getD s 1 0; ratio = u16At s 2 }
+
+-- A side or an order kind that no byte stands for is out of range.
+abbrev pub submitOf : List ℕ → Reading
+submitOf s = cond (sideSound (getD s 7 0) && orderKindSound (getD s 8 0)) (Sound (Submit (submissionOf s))) Unsound
+
+-- The fields of a record of a kind.
+unfoldable pub fieldsByKind : ℕ → List ℕ → Reading
+fieldsByKind kind s =
+    cond (eqb kind submitKind) (submitOf s)
+    (cond (eqb kind cancelKind) (Sound (Cancel (cancellationOf s)))
+    (cond (eqb kind dayLimitsKind) (Sound (DayLimits (newDayLimitsOf s)))
+    (cond (eqb kind proposalKind) (Sound (Proposal (getD s 1 0)))
+    (cond (eqb kind defaultKind) (Sound (Default (getD s 1 0)))
+    (cond (eqb kind closeOutKind) (Sound (CloseOut (closeOutOf s)))
+    (cond (eqb kind closeOfDayKind) (Sound (CloseOfDay (u32At s 1)))
     Unsound))))))
+
+-- A record cut or with surplus bytes is unsound; the ranges of its fields are tested after.
+unfoldable pub fieldsOf : List ℕ → Reading
+fieldsOf s = cond (eqb (length s) (frontLength s)) (fieldsByKind (getD s 0 0) s) Unsound
 
 abbrev pub legAt : List ℕ → ℕ → Leg
 legAt s i = record { order = u32At s i; lots = record { 0 = u16At s (i + 4) }; price = record { 0 = u32At s (i + 6) } }
 
 -- The legs of a record, if it is a proposal.
 unfoldable pub legsOf : List ℕ → List Leg
-legsOf s = cond (eqb (getD s 0 0) 4) (map (λ j. legAt s (2 + 10 * j)) (from 0 (getD s 1 0))) []
+legsOf s = cond (eqb (getD s 0 0) proposalKind) (map (λ j. legAt s (legPlace j)) (from 0 (getD s 1 0))) []
 
 -- An event whose fields are in their ranges.
 abbrev pub ifSound : ℕ → List Leg → Reading → Reading
@@ -146,3 +246,17 @@ readOf n s = cond (membersSound n) (ifSound n (legsOf s) (fieldsOf s)) Unsound
 abbrev pub toldReading : Reading → Told
 toldReading (Sound e) = record { number = 0; value = 0 }
 toldReading Unsound = told RecordUnsound
+
+-- ---- records one after the other
+-- The record at the front: its length follows from its kind and, of a proposal, its number of legs.
+unfoldable pub frontOf : List ℕ → Front
+frontOf s =
+    cond (eqb (length s) 0) Cut
+    (cond (eqb (frontLength s) 0) UnknownKind
+    (cond (leb (frontLength s) (length s)) (Whole (frontLength s)) Cut))
+
+-- The paper's number for it, with a whole record's length: cut and of unknown kind are both 3.
+abbrev pub toldFront : Front → Told
+toldFront (Whole n) = record { number = 0; value = n }
+toldFront Cut = told RecordUnsound
+toldFront UnknownKind = told RecordUnsound

@@ -67,3 +67,13 @@ pub enum Reading {
     Sound(Event),
     Unsound,
 }
+
+// What stands at the front of a stream of records.
+pub enum Front {
+    // A whole record, with its length in bytes.
+    Whole(u64),
+    // Less than a record.
+    Cut,
+    // No kind of record has that number.
+    UnknownKind,
+}

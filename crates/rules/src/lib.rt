@@ -2,6 +2,7 @@
 mod answer;
 mod contract;
 mod event;
+pub mod kinds;
 pub mod layout;
 mod order;
 pub mod ranges;
@@ -13,6 +14,7 @@ pub use contract::Term;
 pub use event::Cancellation;
 pub use event::CloseOutTerms;
 pub use event::Event;
+pub use event::Front;
 pub use event::Leg;
 pub use event::NewDayLimits;
 pub use event::OrderKind;

@@ -19,7 +19,7 @@ u32-at-requires-2 : tie.Need-u32-at-requires-2
 u32-at-requires-2 c κs = search needs
 
 returns : tie.Need-returns
-returns c = (rw (c .before .before .u32-at .ensures .0, c .before .u16-at .ensures .0, c .u32-at2 .ensures .0) refl, c .before .before .u32-at .ensures .1)
+returns c = rw (c .before .before .u32-at .ensures .0, c .before .u16-at .ensures .0, c .u32-at2 .ensures .0) refl
 
 pub leg-at-spec : {M : Type 1} → statement M
 leg-at-spec =

@@ -1,47 +1,43 @@
-use mathlib.Core.Path.{_∙_}
-use native.Mathlib.Omega.{arith}
+use mathlib.Core.Path.{sym, _∙_}
+use Rattle.rules.specs.Records.{recordLength}
+use Rattle.codec.proofs.LegColumns.{held-other, held-many, held-uneven, held-whole}
 use borrow.Author.Needs.{needs}
-use Rattle.codec.specs.Fields.{held-short, held-other, held-many, held-uneven, held-whole}
 use Rattle.codec.proofs.legs.legs_held.Statement.{statement}
 use Rattle.codec.proofs.legs.legs_held.Tie as tie
 
-returns : tie.Need-returns
-returns c = held-short _ (c .if1 .taken)
+u8-or-zero-requires : tie.Need-u8-or-zero-requires
+u8-or-zero-requires c κs = search needs
 
-u8-at-requires : tie.Need-u8-at-requires
-u8-at-requires c κs = search needs
+returns : tie.Need-returns
+returns c = held-other _ (λ e. c .if1 .taken (c .before .u8-or-zero .ensures .0 ∙ e))
+
+u8-or-zero-requires-2 : tie.Need-u8-or-zero-requires-2
+u8-or-zero-requires-2 c κs = search needs
 
 returns-2 : tie.Need-returns-2
-returns-2 c = held-other _ (λ e. c .if2 .taken (c .before .u8-at .ensures .0 ∙ e))
+returns-2 c = held-many _ (rw (c .before .u8-or-zero2 .ensures .0) at (c .if2 .taken))
 
-u8-at-requires-2 : tie.Need-u8-at-requires-2
-u8-at-requires-2 c κs = search needs
+record-length-requires : tie.Need-record-length-requires
+record-length-requires c κs = search needs
 
 returns-3 : tie.Need-returns-3
-returns-3 c = held-many (c .before .before .before .before .before .before .args .bytes .now) (omega arith)
-
-mul-if4 : tie.Need-mul-if4
-mul-if4 c = search needs
-
-add-if4 : tie.Need-add-if4
-add-if4 c = search needs
+unfolding recordLength
+returns-3 c = held-uneven _ (λ e. c .if3 .taken (e ∙ sym (rw (c .before .before .before .u8-or-zero2 .ensures .0) at (c .before .record-length .ensures))))
 
 returns-4 : tie.Need-returns-4
-returns-4 c = held-uneven (c .before .before .before .before .before .before .before .args .bytes .now) (λ e. omega arith)
-
-returns-5 : tie.Need-returns-5
-returns-5 c = rw (c .before .before .u8-at2 .ensures .0) (held-whole (c .before .before .before .before .before .before .before .args .bytes .now) (omega arith) (omega arith) (omega arith))
+unfolding recordLength
+returns-4 c =
+    let count = c .before .before .before .u8-or-zero2 .ensures .0 in
+    rw count (held-whole _ (sym (c .before .before .before .before .before .u8-or-zero .ensures .0) ∙ c .before .before .before .before .if1 .left) (rw count at (c .before .before .if2 .left)) (c .if3 .left ∙ rw count at (c .before .record-length .ensures)))
 
 pub legs-held-spec : {M : Type 1} → statement M
 legs-held-spec =
     tie.close
     (tie.spec
+    u8-or-zero-requires
     returns
-    u8-at-requires
+    u8-or-zero-requires-2
     returns-2
-    u8-at-requires-2
+    record-length-requires
     returns-3
-    mul-if4
-    add-if4
-    returns-4
-    returns-5)
+    returns-4)

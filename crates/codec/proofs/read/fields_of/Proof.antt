@@ -1,75 +1,107 @@
-use mathlib.Core.Path.{sym, _∙_}
+use mathlib.Core.Path.{refl, sym, ap, _∙_}
+use Rattle.rules.specs.declared.event.Event.the-variants.{Proposal, Default}
+use Rattle.rules.specs.declared.event.Reading.the-variants.{Sound}
+use native.Mathlib.Omega.{arith}
+use Rattle.rules.specs.Records.{recordLength, fieldsByKind}
+use Rattle.codec.proofs.Fields.{fields-cut, length-of-kind, fields-of-kind, unknown-kind}
 use borrow.Author.Needs.{needs}
-use Rattle.codec.specs.Fields.{nothing-said, unknown-kind}
 use Rattle.codec.proofs.read.fields_of.Statement.{statement}
 use Rattle.codec.proofs.read.fields_of.Tie as tie
 
-returns : tie.Need-returns
-returns c = nothing-said _ (c .if1 .taken)
+u8-or-zero-requires : tie.Need-u8-or-zero-requires
+u8-or-zero-requires c κs = search needs
 
-u8-at-requires : tie.Need-u8-at-requires
-u8-at-requires c κs = search needs
+u8-or-zero-requires-2 : tie.Need-u8-or-zero-requires-2
+u8-or-zero-requires-2 c κs = search needs
+
+record-length-requires : tie.Need-record-length-requires
+record-length-requires c κs = search needs
+
+returns : tie.Need-returns
+returns c = fields-cut _ (c .before .before .before .u8-or-zero .ensures .0) (c .before .before .u8-or-zero2 .ensures .0) (c .before .record-length .ensures) (c .if1 .taken)
 
 submit-of-requires : tie.Need-submit-of-requires
-submit-of-requires c κs = search needs
+unfolding recordLength
+submit-of-requires c κs =
+    let s = c .before .before .before .before .before .before .args .bytes .now in
+    omega (arith, length-of-kind s (c .before .before .before .before .u8-or-zero .ensures .0) (c .before .before .before .u8-or-zero2 .ensures .0) (c .before .before .record-length .ensures) (c .before .if1 .left) 1 (c .match .keys1))
 
-cancel-of-requires : tie.Need-cancel-of-requires
-cancel-of-requires c κs = search needs
+cancellation-of-requires : tie.Need-cancellation-of-requires
+unfolding recordLength
+cancellation-of-requires c κs =
+    let s = c .before .before .before .before .before .before .args .bytes .now in
+    omega (arith, length-of-kind s (c .before .before .before .before .u8-or-zero .ensures .0) (c .before .before .before .u8-or-zero2 .ensures .0) (c .before .before .record-length .ensures) (c .before .if1 .left) 2 (c .match .keys2))
 
-limits-of-requires : tie.Need-limits-of-requires
-limits-of-requires c κs = search needs
-
-proposal-of-requires : tie.Need-proposal-of-requires
-proposal-of-requires c κs = search needs
-
-default-of-requires : tie.Need-default-of-requires
-default-of-requires c κs = search needs
+new-day-limits-of-requires : tie.Need-new-day-limits-of-requires
+unfolding recordLength
+new-day-limits-of-requires c κs =
+    let s = c .before .before .before .before .before .before .args .bytes .now in
+    omega (arith, length-of-kind s (c .before .before .before .before .u8-or-zero .ensures .0) (c .before .before .before .u8-or-zero2 .ensures .0) (c .before .before .record-length .ensures) (c .before .if1 .left) 3 (c .match .keys3))
 
 close-out-of-requires : tie.Need-close-out-of-requires
-close-out-of-requires c κs = search needs
+unfolding recordLength
+close-out-of-requires c κs =
+    let s = c .before .before .before .before .before .before .args .bytes .now in
+    omega (arith, length-of-kind s (c .before .before .before .before .u8-or-zero .ensures .0) (c .before .before .before .u8-or-zero2 .ensures .0) (c .before .before .record-length .ensures) (c .before .if1 .left) 6 (c .match .keys6))
 
-close-of-day-of-requires : tie.Need-close-of-day-of-requires
-close-of-day-of-requires c κs = search needs
+u32-at-requires : tie.Need-u32-at-requires
+unfolding recordLength
+u32-at-requires c κs =
+    let s = c .before .before .before .before .before .before .args .bytes .now in
+    omega (arith, length-of-kind s (c .before .before .before .before .u8-or-zero .ensures .0) (c .before .before .before .u8-or-zero2 .ensures .0) (c .before .before .record-length .ensures) (c .before .if1 .left) 7 (c .match .keys7))
 
 returns-2 : tie.Need-returns-2
-returns-2 c = search needs
+unfolding fieldsByKind
+returns-2 c = c .submit-of .ensures ∙ fields-of-kind _ (c .before .before .before .before .before .u8-or-zero .ensures .0) (c .before .before .before .before .u8-or-zero2 .ensures .0) (c .before .before .before .record-length .ensures) (c .before .before .if1 .left) 1 (c .before .match .keys1)
 
 returns-3 : tie.Need-returns-3
-returns-3 c = search needs
+unfolding fieldsByKind
+returns-3 c = rw (c .cancellation-of .ensures) (fields-of-kind _ (c .before .before .before .before .before .u8-or-zero .ensures .0) (c .before .before .before .before .u8-or-zero2 .ensures .0) (c .before .before .before .record-length .ensures) (c .before .before .if1 .left) 2 (c .before .match .keys2))
 
 returns-4 : tie.Need-returns-4
-returns-4 c = search needs
+unfolding fieldsByKind
+returns-4 c = rw (c .new-day-limits-of .ensures) (fields-of-kind _ (c .before .before .before .before .before .u8-or-zero .ensures .0) (c .before .before .before .before .u8-or-zero2 .ensures .0) (c .before .before .before .record-length .ensures) (c .before .before .if1 .left) 3 (c .before .match .keys3))
 
 returns-5 : tie.Need-returns-5
-returns-5 c = search needs
+unfolding fieldsByKind
+returns-5 c =
+    let s = c .before .before .before .before .before .before .args .bytes .now in
+    ap (λ x. Sound (Proposal x)) (c .before .before .before .u8-or-zero2 .ensures .0) ∙ fields-of-kind s (c .before .before .before .before .u8-or-zero .ensures .0) (c .before .before .before .u8-or-zero2 .ensures .0) (c .before .before .record-length .ensures) (c .before .if1 .left) 4 (c .match .keys4)
 
 returns-6 : tie.Need-returns-6
-returns-6 c = search needs
+unfolding fieldsByKind
+returns-6 c =
+    let s = c .before .before .before .before .before .before .args .bytes .now in
+    ap (λ x. Sound (Default x)) (c .before .before .before .u8-or-zero2 .ensures .0) ∙ fields-of-kind s (c .before .before .before .before .u8-or-zero .ensures .0) (c .before .before .before .u8-or-zero2 .ensures .0) (c .before .before .record-length .ensures) (c .before .if1 .left) 5 (c .match .keys5)
 
 returns-7 : tie.Need-returns-7
-returns-7 c = search needs
+unfolding fieldsByKind
+returns-7 c = rw (c .close-out-of .ensures) (fields-of-kind _ (c .before .before .before .before .before .u8-or-zero .ensures .0) (c .before .before .before .before .u8-or-zero2 .ensures .0) (c .before .before .before .record-length .ensures) (c .before .before .if1 .left) 6 (c .before .match .keys6))
 
 returns-8 : tie.Need-returns-8
-returns-8 c = search needs
+unfolding fieldsByKind
+returns-8 c = rw (c .u32-at .ensures .0) (fields-of-kind _ (c .before .before .before .before .before .u8-or-zero .ensures .0) (c .before .before .before .before .u8-or-zero2 .ensures .0) (c .before .before .before .record-length .ensures) (c .before .before .if1 .left) 7 (c .before .match .keys7))
 
 returns-9 : tie.Need-returns-9
-returns-9 c = let kind = c .before .u8-at .ensures .0 in
-    let rest = c .match .rest in
-    sym (unknown-kind _ (λ e. rest .0 .0 .0 .0 .0 .0 .1 (kind ∙ e)) (λ e. rest .0 .0 .0 .0 .0 .1 (kind ∙ e)) (λ e. rest .0 .0 .0 .0 .1 (kind ∙ e)) (λ e. rest .0 .0 .0 .1 (kind ∙ e)) (λ e. rest .0 .0 .1 (kind ∙ e)) (λ e. rest .0 .1 (kind ∙ e)) (λ e. rest .1 (kind ∙ e)))
+returns-9 c =
+    let s = c .before .before .before .before .before .before .args .bytes .now in
+    let r = c .match .rest in
+    let unknown = unknown-kind _ (r .0 .0 .0 .0 .0 .0 .1) (r .0 .0 .0 .0 .0 .1) (r .0 .0 .0 .0 .1) (r .0 .0 .0 .1) (r .0 .0 .1) (r .0 .1) (r .1) s in
+    sym unknown ∙ fields-of-kind s (c .before .before .before .before .u8-or-zero .ensures .0) (c .before .before .before .u8-or-zero2 .ensures .0) (c .before .before .record-length .ensures) (c .before .if1 .left) _ refl
 
 pub fields-of-spec : {M : Type 1} → statement M
 fields-of-spec =
     tie.close
     (tie.spec
+    u8-or-zero-requires
+    u8-or-zero-requires-2
+    record-length-requires
     returns
-    u8-at-requires
     submit-of-requires
-    cancel-of-requires
-    limits-of-requires
-    proposal-of-requires
-    default-of-requires
+    cancellation-of-requires
+    new-day-limits-of-requires
     close-out-of-requires
-    close-of-day-of-requires
+    u32-at-requires
     returns-2
     returns-3
     returns-4

@@ -1,4 +1,5 @@
-use Rattle.codec.proofs.Tests.{tests}
+use borrow.Author.Needs.{needs}
+use Rattle.arith.specs.Tests.{tests}
 use Rattle.codec.proofs.read.order_kind_of.Statement.{statement}
 use Rattle.codec.proofs.read.order_kind_of.Tie as tie
 

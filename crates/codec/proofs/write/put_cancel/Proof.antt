@@ -1,20 +1,17 @@
 use mathlib.Core.Path.{refl}
 use native.Mathlib.Omega.{arith}
-use borrow.Author.Needs.{needs}
+use Rattle.arith.specs.Overs.{over-next}
 use Rattle.rules.specs.Header.{u16Bytes, u32Bytes}
-use Rattle.rules.specs.Records.{bytesOf}
-use Rattle.codec.specs.Runs.{then}
+use Rattle.rules.specs.Records.{fieldBytes}
+use borrow.Author.Needs.{needs}
 use Rattle.codec.proofs.write.put_cancel.Statement.{statement}
 use Rattle.codec.proofs.write.put_cancel.Tie as tie
-
-put-u8-requires : tie.Need-put-u8-requires
-put-u8-requires c κs = search needs
 
 put-u32-requires : tie.Need-put-u32-requires
 put-u32-requires c κs = search needs
 
-put-u8-requires-2 : tie.Need-put-u8-requires-2
-put-u8-requires-2 c κs = search needs
+put-u8-requires : tie.Need-put-u8-requires
+put-u8-requires c κs = search needs
 
 put-u32-requires-2 : tie.Need-put-u32-requires-2
 put-u32-requires-2 c κs = search needs
@@ -23,16 +20,12 @@ same-length : tie.Need-same-length
 same-length c = search needs
 
 returns : tie.Need-returns
-unfolding bytesOf u16Bytes u32Bytes
-returns c = then _ _ _ _ _ _ (then _ _ _ _ _ _ (then _ _ _ _ _ _ (c .before .before .before .before .before .before .before .before .before .before .before .before .before .before .put-u8 .ensures) (c .before .before .before .before .before .before .before .before .before .before .put-u32 .ensures) refl (omega arith)) (c .before .before .before .before .before .before .put-u82 .ensures) refl (omega arith)) (c .before .before .put-u322 .ensures) refl (omega arith)
+unfolding fieldBytes u16Bytes u32Bytes
+returns c =
+    let room = c .before .before .before .before .before .before .before .before .before .before .before .before .before .pre .0 in
+    over-next 1 _ _ _ _ _ _ (over-next 1 _ _ _ _ _ _ (c .before .before .before .before .before .before .before .before .before .before .put-u32 .ensures) (c .before .before .before .before .before .before .put-u8 .ensures) refl (omega arith))
+    (c .before .before .put-u322 .ensures) refl (omega arith)
 
 pub put-cancel-spec : {M : Type 1} → statement M
 put-cancel-spec =
-    tie.close
-    (tie.spec
-    put-u8-requires
-    put-u32-requires
-    put-u8-requires-2
-    put-u32-requires-2
-    same-length
-    returns)
+    tie.close (tie.spec put-u32-requires put-u8-requires put-u32-requires-2 same-length returns)

@@ -1,14 +1,7 @@
-use mathlib.Core.Path.{refl}
-use native.Mathlib.Omega.{arith}
+use Rattle.rules.specs.Records.{fieldBytes}
 use borrow.Author.Needs.{needs}
-use Rattle.rules.specs.Header.{u16Bytes, u32Bytes}
-use Rattle.rules.specs.Records.{bytesOf}
-use Rattle.codec.specs.Runs.{then}
 use Rattle.codec.proofs.write.put_close_of_day.Statement.{statement}
 use Rattle.codec.proofs.write.put_close_of_day.Tie as tie
-
-put-u8-requires : tie.Need-put-u8-requires
-put-u8-requires c κs = search needs
 
 put-u32-requires : tie.Need-put-u32-requires
 put-u32-requires c κs = search needs
@@ -17,8 +10,8 @@ same-length : tie.Need-same-length
 same-length c = search needs
 
 returns : tie.Need-returns
-unfolding bytesOf u16Bytes u32Bytes
-returns c = then _ _ _ _ _ _ (c .before .before .before .before .before .before .put-u8 .ensures) (c .before .before .put-u32 .ensures) refl (omega arith)
+unfolding fieldBytes
+returns c = c .before .before .put-u32 .ensures
 
 pub put-close-of-day-spec : {M : Type 1} → statement M
-put-close-of-day-spec = tie.close (tie.spec put-u8-requires put-u32-requires same-length returns)
+put-close-of-day-spec = tie.close (tie.spec put-u32-requires same-length returns)

@@ -1,17 +1,14 @@
 use mathlib.Core.Path.{refl}
 use native.Mathlib.Omega.{arith}
+use Rattle.arith.specs.Overs.{over-next}
+use Rattle.rules.specs.Header.{u16Bytes}
+use Rattle.rules.specs.Records.{fieldBytes}
 use borrow.Author.Needs.{needs}
-use Rattle.rules.specs.Header.{u16Bytes, u32Bytes}
-use Rattle.rules.specs.Records.{bytesOf}
-use Rattle.codec.specs.Runs.{then}
 use Rattle.codec.proofs.write.put_close_out.Statement.{statement}
 use Rattle.codec.proofs.write.put_close_out.Tie as tie
 
 put-u8-requires : tie.Need-put-u8-requires
 put-u8-requires c κs = search needs
-
-put-u8-requires-2 : tie.Need-put-u8-requires-2
-put-u8-requires-2 c κs = search needs
 
 put-u16-requires : tie.Need-put-u16-requires
 put-u16-requires c κs = search needs
@@ -20,9 +17,10 @@ same-length : tie.Need-same-length
 same-length c = search needs
 
 returns : tie.Need-returns
-unfolding bytesOf u16Bytes u32Bytes
-returns c = then _ _ _ _ _ _ (then _ _ _ _ _ _ (c .before .before .before .before .before .before .before .before .before .before .put-u8 .ensures) (c .before .before .before .before .before .before .put-u82 .ensures) refl (omega arith)) (c .before .before .put-u16 .ensures) refl (omega arith)
+unfolding fieldBytes u16Bytes
+returns c =
+    let room = c .before .before .before .before .before .before .before .before .before .pre .0 in
+    over-next 1 _ _ _ _ _ _ (c .before .before .before .before .before .before .put-u8 .ensures) (c .before .before .put-u16 .ensures) refl (omega arith)
 
 pub put-close-out-spec : {M : Type 1} → statement M
-put-close-out-spec =
-    tie.close (tie.spec put-u8-requires put-u8-requires-2 put-u16-requires same-length returns)
+put-close-out-spec = tie.close (tie.spec put-u8-requires put-u16-requires same-length returns)

@@ -1,8 +1,8 @@
 use mathlib.Core.Path.{refl}
 use native.Mathlib.Omega.{arith}
-use borrow.Author.Needs.{needs}
+use Rattle.arith.specs.Overs.{over-next}
 use Rattle.rules.specs.Header.{u16Bytes, u32Bytes}
-use Rattle.codec.specs.Runs.{over-next}
+use borrow.Author.Needs.{needs}
 use Rattle.codec.proofs.write.put_leg.Statement.{statement}
 use Rattle.codec.proofs.write.put_leg.Tie as tie
 
@@ -26,7 +26,9 @@ same-length c = search needs
 
 returns : tie.Need-returns
 unfolding u16Bytes u32Bytes
-returns c = over-next _ _ _ _ _ _ _ (over-next _ _ _ _ _ _ _ (c .before .before .before .before .before .before .before .before .before .before .put-u32 .ensures) (c .before .before .before .before .before .before .put-u16 .ensures) refl (omega arith)) (c .before .before .put-u322 .ensures) refl (omega arith)
+returns c =
+    over-next _ _ _ _ _ _ _ (over-next _ _ _ _ _ _ _ (c .before .before .before .before .before .before .before .before .before .before .put-u32 .ensures) (c .before .before .before .before .before .before .put-u16 .ensures) refl (omega arith))
+    (c .before .before .put-u322 .ensures) refl (omega arith)
 
 pub put-leg-spec : {M : Type 1} → statement M
 put-leg-spec =

@@ -1,14 +1,14 @@
-use Prim.Native.Nat.{_-_, _≤_}
+use borrow.Author.Needs.{needs}
+use native.Mathlib.Omega.{arith}
 use mathlib.Core.List.{flatMap, map}
 use mathlib.Core.Path.{_≡_, refl}
-use native.Mathlib.Omega.{arith}
-use borrow.Author.Needs.{needs}
+use Prim.Native.Nat.{_-_, _≤_}
 use lib.ListN.{length}
+use Rattle.arith.specs.Blocks.{blocks-none, blocks-next}
 use Rattle.arith.specs.Lists.{from, over}
 use Rattle.rules.specs.Records.{legBytes}
 use Rattle.codec.specs.Columns.{legRow, legRows}
-use Rattle.codec.specs.Runs.{fields-none, fields-next}
-use Rattle.codec.specs.Written.{leg-wide}
+use Rattle.codec.proofs.Written.{leg-wide}
 use Rattle.codec.proofs.write.put_legs.Statement.{statement}
 use Rattle.codec.proofs.write.put_legs.Tie as tie
 
@@ -19,19 +19,16 @@ abbrev μ-loop : tie.MeasureT-loop
 μ-loop out₀ count legs i₀ out i = count - i
 
 loop-holds : tie.Need-loop-holds Inv-loop μ-loop
-loop-holds c = (omega arith, refl, fields-none legBytes 10 leg-wide (legRow (c .before .args .legs)) 2 _)
+loop-holds c = (omega arith, refl, blocks-none legBytes 10 leg-wide (legRow (c .before .args .legs)) 2 _)
 
-mul-put-leg : tie.Need-mul-put-leg Inv-loop μ-loop
-mul-put-leg c = search needs
-
-add-put-leg : tie.Need-add-put-leg Inv-loop μ-loop
-add-put-leg c = search needs
+leg-place-requires : tie.Need-leg-place-requires Inv-loop μ-loop
+leg-place-requires c κs = search needs
 
 leg-of-requires : tie.Need-leg-of-requires Inv-loop μ-loop
 leg-of-requires c κs = search needs
 
 put-leg-requires : tie.Need-put-leg-requires Inv-loop μ-loop
-put-leg-requires c κs = search needs
+put-leg-requires c κs = rw (c .before .leg-place .ensures) (omega arith)
 
 add-i : tie.Need-add-i Inv-loop μ-loop
 add-i c = search needs
@@ -40,14 +37,21 @@ loop-less : tie.Need-loop-less Inv-loop μ-loop
 loop-less c = search needs
 
 loop-again : tie.Need-loop-again Inv-loop μ-loop
-loop-again c = (omega arith, omega arith, fields-next legBytes 10 leg-wide (legRow (c .before .before .before .before .before .before .before .before .args .legs)) 2 (c .before .before .before .before .before .before .loop .i) _ _ _ _ (c .before .before .before .leg-of .ensures) (c .before .before .before .before .before .before .loop .inv .2) (c .before .before .put-leg .ensures) (omega arith))
+loop-again c =
+    let l = c .before .before .before .before .before .before .before .loop in
+    let put = rw (c .before .before .before .before .leg-place .ensures) at (c .before .before .put-leg .ensures) in
+    let leg = c .before .before .before .leg-of .ensures in
+    (omega arith, omega arith, blocks-next legBytes 10 leg-wide (legRow (c .before .before .before .before .before .before .before .before .before .args .legs)) 2 (l .i) _ _ _ _ leg (l .inv .2) put (omega arith))
 
 same-length : tie.Need-same-length Inv-loop μ-loop
 same-length c = search needs
 
 returns : tie.Need-returns Inv-loop μ-loop
 unfolding legRows
-returns c = let all : c .before .loop .i ≡ c .before .before .before .args .count = omega arith in rw (← all) (c .before .loop .inv .2)
+returns c =
+    let l = c .before .loop in
+    let all : l .i ≡ c .before .before .before .args .count = omega arith in
+    rw (← all) (l .inv .2)
 
 pub put-legs-spec : {M : Type 1} → statement M
 put-legs-spec =
@@ -56,8 +60,7 @@ put-legs-spec =
     Inv-loop
     μ-loop
     loop-holds
-    mul-put-leg
-    add-put-leg
+    leg-place-requires
     leg-of-requires
     put-leg-requires
     add-i

@@ -1,48 +1,85 @@
 use mathlib.Core.Path.{sym, _∙_}
 use native.Mathlib.Omega.{arith}
+use Rattle.arith.specs.Tests.{asked-true, asked-false}
+use Rattle.codec.specs.Columns.{legRows, legCount}
+use Rattle.codec.proofs.LegColumns.{length-rows}
+use Rattle.codec.proofs.Written.{length-record, one-byte, few-legs-beside, some-bytes, record-put, write-few, write-unsound, write-short, write-whole}
 use borrow.Author.Needs.{needs}
-use Rattle.codec.specs.Written.{length-record, one-byte, few-legs, write-few, write-unsound, write-short, write-whole}
-use Rattle.codec.proofs.Tests.{passes, fails}
 use Rattle.codec.proofs.write.write_record.Statement.{statement}
 use Rattle.codec.proofs.write.write_record.Tie as tie
 
-members-sound-requires : tie.Need-members-sound-requires
-members-sound-requires c κs = search needs
+is-member-count-sound-requires : tie.Need-is-member-count-sound-requires
+is-member-count-sound-requires c κs = search needs
 
 returns : tie.Need-returns
-returns c = write-few _ _ _ _ (fails (c .before .members-sound .ensures) (c .if1 .taken))
+returns c = write-few _ _ _ _ (asked-false (c .before .is-member-count-sound .ensures) (c .if1 .taken))
 
-event-sound-requires : tie.Need-event-sound-requires
-event-sound-requires c κs = search needs
+is-event-sound-requires : tie.Need-is-event-sound-requires
+is-event-sound-requires c κs = search needs
 
 returns-2 : tie.Need-returns-2
-returns-2 c = write-unsound _ _ _ _ (passes (c .before .before .before .members-sound .ensures) (c .before .before .if1 .left)) (fails (c .before .event-sound .ensures) (c .if2 .taken))
+returns-2 c =
+    let few = asked-true (c .before .before .before .is-member-count-sound .ensures) (c .before .before .if1 .left) in
+    write-unsound _ _ _ _ few (asked-false (c .before .is-event-sound .ensures) (c .if2 .taken))
+
+kind-number-requires : tie.Need-kind-number-requires
+kind-number-requires c κs = search needs
+
+leg-count-requires : tie.Need-leg-count-requires
+leg-count-requires c κs = search needs
 
 record-length-requires : tie.Need-record-length-requires
-record-length-requires c κs = few-legs (c .before .before .before .before .before .args .event) (one-byte _ (passes (c .before .before .before .members-sound .ensures) (c .before .before .if1 .left)) _ _ (passes (c .before .event-sound .ensures) (c .if2 .left)))
+record-length-requires c κs =
+    let few = asked-true (c .before .before .before .before .before .is-member-count-sound .ensures) (c .before .before .before .before .if1 .left) in
+    let fits = one-byte _ few _ _ (asked-true (c .before .before .before .is-event-sound .ensures) (c .before .before .if2 .left)) in
+    rw (c .leg-count .ensures) (omega (arith, few-legs-beside (c .before .before .before .before .before .before .before .args .event) fits))
 
 returns-3 : tie.Need-returns-3
-returns-3 c = write-short _ _ _ _ (passes (c .before .before .before .before .before .members-sound .ensures) (c .before .before .before .before .if1 .left)) (passes (c .before .before .before .event-sound .ensures) (c .before .before .if2 .left)) (omega (arith, length-record (c .before .before .before .before .before .before .before .args .event) (c .before .before .before .before .before .before .before .args .legs)))
+returns-3 c =
+    let e = c .before .before .before .before .before .before .before .before .before .args .event in
+    let few = asked-true (c .before .before .before .before .before .before .before .is-member-count-sound .ensures) (c .before .before .before .before .before .before .if1 .left) in
+    let sized = rw (c .before .before .before .kind-number .ensures .0, c .before .before .leg-count .ensures) at (c .before .record-length .ensures) in
+    let whole = length-record e (legRows (legCount e) (c .before .before .before .before .before .before .before .before .before .args .legs)) (length-rows (legCount e) (c .before .before .before .before .before .before .before .before .before .args .legs)) in
+    write-short _ _ _ _ few (asked-true (c .before .before .before .before .before .is-event-sound .ensures) (c .before .before .before .before .if2 .left)) (omega (arith, sized, whole))
 
-put-event-requires : tie.Need-put-event-requires
-put-event-requires c κs = (omega arith, one-byte _ (passes (c .before .before .before .before .before .before .members-sound .ensures) (c .before .before .before .before .before .if1 .left)) _ _ (passes (c .before .before .before .before .event-sound .ensures) (c .before .before .before .if2 .left)))
+put-u8-requires : tie.Need-put-u8-requires
+put-u8-requires c κs =
+    let sized = rw (c .before .before .before .before .kind-number .ensures .0, c .before .before .before .leg-count .ensures) at (c .before .before .record-length .ensures) in
+    (omega (arith, sized, some-bytes (c .before .before .before .before .before .before .before .before .before .before .args .event)), c .before .before .before .before .kind-number .ensures .1)
+
+put-fields-requires : tie.Need-put-fields-requires
+put-fields-requires c κs =
+    let few = asked-true (c .before .before .before .before .before .before .before .before .before .before .before .before .is-member-count-sound .ensures) (c .before .before .before .before .before .before .before .before .before .before .before .if1 .left) in
+    let sized = rw (c .before .before .before .before .before .before .before .before .kind-number .ensures .0, c .before .before .before .before .before .before .before .leg-count .ensures) at (c .before .before .before .before .before .before .record-length .ensures) in
+    (omega (arith, sized), one-byte _ few _ _ (asked-true (c .before .before .before .before .before .before .before .before .before .before .is-event-sound .ensures) (c .before .before .before .before .before .before .before .before .before .if2 .left)))
 
 same-length : tie.Need-same-length
 same-length c = search needs
 
 returns-4 : tie.Need-returns-4
-returns-4 c = write-whole _ _ _ _ (passes (c .before .before .before .before .before .before .before .before .before .members-sound .ensures) (c .before .before .before .before .before .before .before .before .if1 .left)) (passes (c .before .before .before .before .before .before .before .event-sound .ensures) (c .before .before .before .before .before .before .if2 .left)) _ _ (c .before .before .before .before .before .record-length .ensures ∙ sym (length-record (c .before .before .before .before .before .before .before .before .before .before .before .args .event) (c .before .before .before .before .before .before .before .before .before .before .before .args .legs))) (omega (arith, length-record (c .before .before .before .before .before .before .before .before .before .before .before .args .event) (c .before .before .before .before .before .before .before .before .before .before .before .args .legs))) (c .before .before .put-event .ensures)
+returns-4 c =
+    let a = c .before .before .before .before .before .before .before .before .before .before .before .before .before .before .before .before .before .args in
+    let e = a .event in
+    let few = asked-true (c .before .before .before .before .before .before .before .before .before .before .before .before .before .before .before .is-member-count-sound .ensures) (c .before .before .before .before .before .before .before .before .before .before .before .before .before .before .if1 .left) in
+    let sized = rw (c .before .before .before .before .before .before .before .before .before .before .before .kind-number .ensures .0, c .before .before .before .before .before .before .before .before .before .before .leg-count .ensures) at (c .before .before .before .before .before .before .before .before .before .record-length .ensures) in
+    let whole = length-record e (legRows (legCount e) (a .legs)) (length-rows (legCount e) (a .legs)) in
+    let some = some-bytes e in
+    let put = record-put e _ _ _ _ (c .before .before .before .before .before .before .before .before .before .before .before .kind-number .ensures .0) (c .before .before .before .before .before .before .put-u8 .ensures) (c .before .before .put-fields .ensures) (omega (arith, sized)) in
+    write-whole _ _ _ _ few (asked-true (c .before .before .before .before .before .before .before .before .before .before .before .before .before .is-event-sound .ensures) (c .before .before .before .before .before .before .before .before .before .before .before .before .if2 .left)) _ _ (sized ∙ sym whole) (omega (arith, sized, whole)) put
 
 pub write-record-spec : {M : Type 1} → statement M
 write-record-spec =
     tie.close
     (tie.spec
-    members-sound-requires
+    is-member-count-sound-requires
     returns
-    event-sound-requires
+    is-event-sound-requires
     returns-2
+    kind-number-requires
+    leg-count-requires
     record-length-requires
     returns-3
-    put-event-requires
+    put-u8-requires
+    put-fields-requires
     same-length
     returns-4)

@@ -1,0 +1,64 @@
+// Which first years, holidays and days are sound. The span is found once and handed on.
+ghost use mathlib.Core.Path.{_≡_};
+ghost use Prim.Native.Nat.{ℕ};
+ghost use Rattle.arith.specs.Lists.{every};
+ghost use Rattle.rules.specs.Days.{Calendar, inSpan};
+ghost use Rattle.rules.specs.Header.{rising, firstYearSound, calendarSound, daySound};
+ghost use Rattle.calendar.specs.Bounds.{FirstYear};
+ghost use Rattle.calendar.specs.Spans.{IsSpan};
+use crate::days::is_business_day;
+use crate::days::is_in;
+use crate::months::Span;
+use rules::DayNo;
+use rules::ranges::LEAST_FIRST_YEAR;
+use rules::ranges::MOST_FIRST_YEAR;
+use rules::ranges::MOST_HOLIDAYS;
+
+pub fn is_first_year_sound(first_year: u64) -> bool
+    ensures { λ r. ⌜ r ≡ firstYearSound «first_year» ⌝ }
+{
+    (LEAST_FIRST_YEAR <= first_year) & (first_year <= MOST_FIRST_YEAR)
+}
+
+// Each day is compared with the next one only: that is enough.
+fn are_rising(days: &[u64]) -> bool
+    ensures { λ r. ⌜ r ≡ rising (now (days .entry)) ⌝ }
+{
+    let mut ok = true;
+    let mut i: usize = 0;
+    while i + 1 < days.len() {
+        ok = ok & (days[i] < days[i + 1]);
+        i += 1;
+    }
+    ok
+}
+
+fn are_in(span: Span, days: &[u64]) -> bool
+    ensures { λ r. ⌜ ((k : Calendar) → IsSpan span k → r ≡ every (inSpan k) (now (days .entry))) ⌝ }
+{
+    let mut ok = true;
+    let mut i: usize = 0;
+    while i < days.len() {
+        ok = ok & is_in(span, DayNo(days[i]));
+        i += 1;
+    }
+    ok
+}
+
+// Of a sound first year and its span.
+pub fn is_calendar_sound(first_year: u64, span: Span, holidays: &[u64]) -> bool
+    requires { ⌜ FirstYear «first_year» × IsSpan span (record { firstYear = «first_year»; holidays = now holidays }) ⌝ }
+    ensures { λ r. ⌜ r ≡ calendarSound (record { firstYear = «first_year»; holidays = now (holidays .entry) }) ⌝ }
+{
+    if MOST_HOLIDAYS < holidays.len() as u64 {
+        return false;
+    }
+    are_rising(holidays) & are_in(span, holidays)
+}
+
+// A business day in the span.
+pub fn is_day_sound(span: Span, holidays: &[u64], day: DayNo) -> bool
+    ensures { λ r. ⌜ ((y : ℕ) → IsSpan span (record { firstYear = y; holidays = now (holidays .entry) }) → r ≡ daySound (record { firstYear = y; holidays = now (holidays .entry) }) (day .0)) ⌝ }
+{
+    is_in(span, day) & is_business_day(holidays, day)
+}

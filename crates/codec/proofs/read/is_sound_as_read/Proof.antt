@@ -1,0 +1,51 @@
+use mathlib.Core.Path.{sym, ap, _∙_}
+use Rattle.rules.specs.Records.{eventSound}
+use Rattle.codec.specs.Columns.{legRows, legCount, legColumns, heldLegs}
+use Rattle.codec.proofs.LegColumns.{judged-proposal, judged-legless, rows-judged}
+use borrow.Author.Needs.{needs}
+use Rattle.codec.proofs.read.is_sound_as_read.Statement.{statement}
+use Rattle.codec.proofs.read.is_sound_as_read.Tie as tie
+
+kind-number-requires : tie.Need-kind-number-requires
+kind-number-requires c κs = search needs
+
+leg-count-requires : tie.Need-leg-count-requires
+leg-count-requires c κs = search needs
+
+read-legs-requires : tie.Need-read-legs-requires
+read-legs-requires c κs = search needs
+
+is-proposal-sound-requires : tie.Need-is-proposal-sound-requires
+is-proposal-sound-requires c κs = search needs
+
+returns : tie.Need-returns
+returns c =
+    let start = c .before .before .before .before .before .before in
+    let a = start .args in
+    let n = a .members in
+    let legs = c .before .read-legs in
+    judged-proposal n (a .event) (legs .result) (sym (c .before .before .before .before .kind-number .ensures .0) ∙ c .before .before .before .if1 .taken) (c .before .before .leg-count .ensures) (c .is-proposal-sound .ensures n)
+    ∙ (ap (λ l. eventSound n (a .event) (legRows (legCount (a .event)) l)) (legs .ensures) ∙ rows-judged n (a .bytes .now) (a .event) (start .pre))
+
+is-legless-sound-requires : tie.Need-is-legless-sound-requires
+is-legless-sound-requires c κs = search needs
+
+returns-2 : tie.Need-returns-2
+returns-2 c =
+    let start = c .before .before .before .before in
+    let a = start .args in
+    let s = a .bytes .now in
+    judged-legless _ (a .event) (legColumns (heldLegs s)) (λ e. c .before .if1 .left (c .before .before .kind-number .ensures .0 ∙ e)) (c .is-legless-sound .ensures)
+    ∙ rows-judged _ s (a .event) (start .pre)
+
+pub is-sound-as-read-spec : {M : Type 1} → statement M
+is-sound-as-read-spec =
+    tie.close
+    (tie.spec
+    kind-number-requires
+    leg-count-requires
+    read-legs-requires
+    is-proposal-sound-requires
+    returns
+    is-legless-sound-requires
+    returns-2)

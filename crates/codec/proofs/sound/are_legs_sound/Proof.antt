@@ -1,0 +1,57 @@
+use borrow.Author.Needs.{needs}
+use native.Mathlib.Omega.{arith}
+use mathlib.Core.List.{map}
+use mathlib.Core.Path.{_≡_, ap, _∙_}
+use mathlib.Core.Bool.{_&&_}
+use Prim.Native.Nat.{_-_, _≤_}
+use Rattle.arith.specs.Lists.{every, from}
+use Rattle.arith.specs.Runs.{each-start, each-next, each-end}
+use Rattle.rules.specs.Records.{legSound}
+use Rattle.codec.specs.Columns.{legRow, legRows}
+use Rattle.codec.proofs.sound.are_legs_sound.Statement.{statement}
+use Rattle.codec.proofs.sound.are_legs_sound.Tie as tie
+
+abbrev Inv-loop : tie.InvT-loop
+Inv-loop count legs n ok₀ i₀ ok i = (i ≤ count) × (ok && every legSound (map (legRow legs) (from i (count - i))) ≡ every legSound (legRows count legs))
+
+abbrev μ-loop : tie.MeasureT-loop
+μ-loop count legs n ok₀ i₀ ok i = count - i
+
+loop-holds : tie.Need-loop-holds Inv-loop μ-loop
+unfolding legRows
+loop-holds c = (omega arith, each-start legSound _ _)
+
+leg-of-requires : tie.Need-leg-of-requires Inv-loop μ-loop
+leg-of-requires c κs = search needs
+
+is-leg-sound-requires : tie.Need-is-leg-sound-requires Inv-loop μ-loop
+is-leg-sound-requires c κs = search needs
+
+add-i : tie.Need-add-i Inv-loop μ-loop
+add-i c = search needs
+
+loop-less : tie.Need-loop-less Inv-loop μ-loop
+loop-less c = search needs
+
+loop-again : tie.Need-loop-again Inv-loop μ-loop
+loop-again c =
+    let l = c .before .before .before .loop in
+    let judged = c .is-leg-sound .ensures ∙ ap legSound (c .before .leg-of .ensures) in
+    (omega arith, rw judged (each-next legSound (legRow (c .before .before .before .before .args .legs)) _ (l .i) (l .ok) (l .inv .1) (c .before .before .loop-test .taken)))
+
+returns : tie.Need-returns Inv-loop μ-loop
+returns c = let l = c .before .loop in each-end legSound (legRow (c .before .before .args .legs)) _ (l .i) (l .ok) (l .inv .1) (c .loop-test .left)
+
+pub are-legs-sound-spec : {M : Type 1} → statement M
+are-legs-sound-spec =
+    tie.close
+    (tie.spec
+    Inv-loop
+    μ-loop
+    loop-holds
+    leg-of-requires
+    is-leg-sound-requires
+    add-i
+    loop-less
+    loop-again
+    returns)

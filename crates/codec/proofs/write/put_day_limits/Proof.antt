@@ -1,0 +1,31 @@
+use mathlib.Core.Path.{refl}
+use native.Mathlib.Omega.{arith}
+use Rattle.arith.specs.Overs.{over-next}
+use Rattle.rules.specs.Header.{u16Bytes, u32Bytes}
+use Rattle.rules.specs.Records.{fieldBytes}
+use borrow.Author.Needs.{needs}
+use Rattle.codec.proofs.write.put_day_limits.Statement.{statement}
+use Rattle.codec.proofs.write.put_day_limits.Tie as tie
+
+put-u8-requires : tie.Need-put-u8-requires
+put-u8-requires c κs = search needs
+
+put-u32-requires : tie.Need-put-u32-requires
+put-u32-requires c κs = search needs
+
+put-u32-requires-2 : tie.Need-put-u32-requires-2
+put-u32-requires-2 c κs = search needs
+
+same-length : tie.Need-same-length
+same-length c = search needs
+
+returns : tie.Need-returns
+unfolding fieldBytes u16Bytes u32Bytes
+returns c =
+    let room = c .before .before .before .before .before .before .before .before .before .before .before .before .before .pre .0 in
+    over-next 1 _ _ _ _ _ _ (over-next 1 _ _ _ _ _ _ (c .before .before .before .before .before .before .before .before .before .before .put-u8 .ensures) (c .before .before .before .before .before .before .put-u32 .ensures) refl (omega arith))
+    (c .before .before .put-u322 .ensures) refl (omega arith)
+
+pub put-day-limits-spec : {M : Type 1} → statement M
+put-day-limits-spec =
+    tie.close (tie.spec put-u8-requires put-u32-requires put-u32-requires-2 same-length returns)

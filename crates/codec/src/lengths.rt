@@ -1,0 +1,71 @@
+// Kinds of record and how many bytes each takes, said once for reader, writer and splitter.
+ghost use mathlib.Core.Path.{_≡_};
+ghost use Prim.Native.Nat.{_<_, _≤_};
+ghost use Rattle.rules.specs.Ranges.{mostLegs};
+ghost use Rattle.rules.specs.Records.{kindNumber, legPlace, recordLength};
+ghost use Rattle.codec.specs.Columns.{legCount};
+use rules::Event;
+use rules::kinds::CANCEL;
+use rules::kinds::CLOSE_OF_DAY;
+use rules::kinds::CLOSE_OUT;
+use rules::kinds::DAY_LIMITS;
+use rules::kinds::DEFAULT;
+use rules::kinds::PROPOSAL;
+use rules::kinds::SUBMIT;
+
+pub fn kind_number(event: Event) -> u64
+    ensures { λ r. ⌜ (r ≡ kindNumber event) × (r < 256) ⌝ }
+{
+    match event {
+        Event::Submit(_) => SUBMIT,
+        Event::Cancel(_) => CANCEL,
+        Event::DayLimits(_) => DAY_LIMITS,
+        Event::Proposal(_) => PROPOSAL,
+        Event::Default(_) => DEFAULT,
+        Event::CloseOut(_) => CLOSE_OUT,
+        Event::CloseOfDay(_) => CLOSE_OF_DAY,
+    }
+}
+
+// How many legs stand beside an event.
+pub fn leg_count(event: Event) -> u64
+    ensures { λ r. ⌜ r ≡ legCount event ⌝ }
+{
+    match event {
+        Event::Submit(_) => 0,
+        Event::Cancel(_) => 0,
+        Event::DayLimits(_) => 0,
+        Event::Proposal(count) => count,
+        Event::Default(_) => 0,
+        Event::CloseOut(_) => 0,
+        Event::CloseOfDay(_) => 0,
+    }
+}
+
+const FIRST_LEG: u64 = 2;
+
+const LEG_LENGTH: u64 = 10;
+
+// Where a leg of a proposal begins.
+pub fn leg_place(leg: usize) -> usize
+    requires { ⌜ leg ≤ mostLegs ⌝ }
+    ensures { λ r. ⌜ r ≡ legPlace leg ⌝ }
+{
+    (FIRST_LEG + LEG_LENGTH * (leg as u64)) as usize
+}
+
+pub fn record_length(kind: u64, legs: u64) -> u64
+    requires { ⌜ legs < 256 ⌝ }
+    ensures { λ r. ⌜ r ≡ recordLength kind legs ⌝ }
+{
+    match kind {
+        SUBMIT => 15,
+        CANCEL => 10,
+        DAY_LIMITS => 10,
+        PROPOSAL => FIRST_LEG + LEG_LENGTH * legs,
+        DEFAULT => 2,
+        CLOSE_OUT => 4,
+        CLOSE_OF_DAY => 5,
+        _ => 0,
+    }
+}

@@ -1,0 +1,110 @@
+use mathlib.Core.Path.{_∙_}
+use native.Mathlib.Omega.{arith}
+use borrow.Author.Needs.{needs}
+use borrow.Author.Tests.{not-true, not-false}
+use Rattle.rules.specs.Header.{headerLength}
+use Rattle.header.proofs.Headers.{begins-short, begins-other, begins-cut, begins-members, begins-holidays, begins-by, reading-unsound, reading-sound}
+use Rattle.arith.specs.Tests.{asked-true, asked-false}
+use Rattle.header.proofs.reader.read_header.Statement.{statement}
+use Rattle.header.proofs.reader.read_header.Tie as tie
+
+unsound-requires : tie.Need-unsound-requires
+unsound-requires c κs = search needs
+
+returns : tie.Need-returns
+returns c = c .unsound .ensures ∙ reading-unsound _ (begins-short _ (c .before .if1 .taken))
+
+begins-with-letters-requires : tie.Need-begins-with-letters-requires
+begins-with-letters-requires c κs = search needs
+
+unsound-requires-2 : tie.Need-unsound-requires-2
+unsound-requires-2 c κs = search needs
+
+returns-2 : tie.Need-returns-2
+returns-2 c = c .unsound2 .ensures ∙ reading-unsound _ (begins-other _ (asked-false (c .before .before .begins-with-letters .ensures) (c .before .if2 .taken)))
+
+u8-at-requires : tie.Need-u8-at-requires
+u8-at-requires c κs = search needs
+
+u8-at-requires-2 : tie.Need-u8-at-requires-2
+u8-at-requires-2 c κs = search needs
+
+unsound-requires-3 : tie.Need-unsound-requires-3
+unsound-requires-3 c κs = search needs
+
+returns-3 : tie.Need-returns-3
+returns-3 c = c .unsound3 .ensures ∙ reading-unsound _ (begins-members (c .before .before .before .before .before .before .before .before .args .bytes .now) (omega arith))
+
+unsound-requires-4 : tie.Need-unsound-requires-4
+unsound-requires-4 c κs = search needs
+
+returns-4 : tie.Need-returns-4
+returns-4 c = c .unsound4 .ensures ∙ reading-unsound _ (begins-holidays (c .before .before .before .before .before .before .before .before .before .args .bytes .now) (omega arith))
+
+mul-n : tie.Need-mul-n
+mul-n c = search needs
+
+add-n : tie.Need-add-n
+add-n c = search needs
+
+mul-n-2 : tie.Need-mul-n-2
+mul-n-2 c = search needs
+
+add-n-2 : tie.Need-add-n-2
+add-n-2 c = search needs
+
+unsound-requires-5 : tie.Need-unsound-requires-5
+unsound-requires-5 c κs = search needs
+
+returns-5 : tie.Need-returns-5
+unfolding headerLength
+returns-5 c = c .unsound5 .ensures ∙ reading-unsound _ (begins-cut (c .before .before .before .before .before .before .before .before .before .before .args .bytes .now) (omega arith))
+
+fields-at-requires : tie.Need-fields-at-requires
+unfolding headerLength
+fields-at-requires c κs = omega arith
+
+is-header-sound-requires : tie.Need-is-header-sound-requires
+is-header-sound-requires c κs = search needs
+
+unsound-requires-6 : tie.Need-unsound-requires-6
+unsound-requires-6 c κs = search needs
+
+returns-6 : tie.Need-returns-6
+unfolding headerLength
+returns-6 c = c .unsound6 .ensures ∙ reading-unsound _
+    (begins-by (c .before .before .before .before .before .before .before .before .before .before .before .before .before .args .bytes .now) (omega arith) (asked-true (c .before .before .before .before .before .before .before .before .before .before .begins-with-letters .ensures) (c .before .before .before .before .before .before .before .before .before .if2 .left)) (omega arith) (c .before .before .before .fields-at .ensures) (c .before .before .is-header-sound .ensures) (not-true (c .before .before .is-header-sound .result) (c .before .if6 .taken)))
+
+returns-7 : tie.Need-returns-7
+unfolding headerLength
+returns-7 c = rw (c .before .before .fields-at .ensures)
+    (reading-sound (c .before .before .before .before .before .before .before .before .before .before .before .before .args .bytes .now) _
+    (begins-by (c .before .before .before .before .before .before .before .before .before .before .before .before .args .bytes .now) (omega arith) (asked-true (c .before .before .before .before .before .before .before .before .before .begins-with-letters .ensures) (c .before .before .before .before .before .before .before .before .if2 .left)) (omega arith) (c .before .before .fields-at .ensures) (c .before .is-header-sound .ensures) (not-false (c .before .is-header-sound .result) (c .if6 .left)))
+    (omega arith))
+
+pub read-header-spec : {M : Type 1} → statement M
+read-header-spec =
+    tie.close
+    (tie.spec
+    unsound-requires
+    returns
+    begins-with-letters-requires
+    unsound-requires-2
+    returns-2
+    u8-at-requires
+    u8-at-requires-2
+    unsound-requires-3
+    returns-3
+    unsound-requires-4
+    returns-4
+    mul-n
+    add-n
+    mul-n-2
+    add-n-2
+    unsound-requires-5
+    returns-5
+    fields-at-requires
+    is-header-sound-requires
+    unsound-requires-6
+    returns-6
+    returns-7)

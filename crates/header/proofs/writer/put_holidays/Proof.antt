@@ -1,0 +1,71 @@
+use Prim.Native.Nat.{_-_, _≤_}
+use mathlib.Core.List.{flatMap, map}
+use mathlib.Core.Path.{_≡_, refl}
+use native.Mathlib.Omega.{arith}
+use borrow.Author.Needs.{needs}
+use lib.ListN.{length, getD}
+use Rattle.arith.specs.Lists.{from, over}
+use Rattle.rules.specs.Header.{u16Bytes}
+use Rattle.header.specs.Journal.{firsts}
+use Rattle.big_endian.proofs.Numbers.{u16-wide}
+use Rattle.arith.specs.Blocks.{blocks-none, blocks-next}
+use Rattle.header.proofs.writer.put_holidays.Statement.{statement}
+use Rattle.header.proofs.writer.put_holidays.Tie as tie
+
+abbrev Inv-loop : tie.InvT-loop
+Inv-loop out₀ count list i₀ out i = (i ≤ count) × (length out ≡ length out₀) × (out ≡ over 11 (flatMap u16Bytes (map (λ j. getD list j 0) (from 0 i))) out₀)
+
+abbrev μ-loop : tie.MeasureT-loop
+μ-loop out₀ count list i₀ out i = count - i
+
+loop-holds : tie.Need-loop-holds Inv-loop μ-loop
+loop-holds c = (omega arith, refl, blocks-none u16Bytes 2 u16-wide (λ j. getD (c .before .args .t2) j 0) 11 _)
+
+mul-put-u16 : tie.Need-mul-put-u16 Inv-loop μ-loop
+mul-put-u16 c = search needs
+
+add-put-u16 : tie.Need-add-put-u16 Inv-loop μ-loop
+add-put-u16 c = search needs
+
+mul-put-u16-2 : tie.Need-mul-put-u16-2 Inv-loop μ-loop
+mul-put-u16-2 c = search needs
+
+array-read-put-u16 : tie.Need-array-read-put-u16 Inv-loop μ-loop
+array-read-put-u16 c = search needs
+
+put-u16-requires : tie.Need-put-u16-requires Inv-loop μ-loop
+put-u16-requires c κs = search needs
+
+add-i : tie.Need-add-i Inv-loop μ-loop
+add-i c = search needs
+
+loop-less : tie.Need-loop-less Inv-loop μ-loop
+loop-less c = search needs
+
+loop-again : tie.Need-loop-again Inv-loop μ-loop
+loop-again c = (omega arith, omega arith, blocks-next u16Bytes 2 u16-wide (λ j. getD (c .before .before .before .before .before .before .before .args .t2) j 0) 11 (c .before .before .before .before .before .loop .i) _ _ _ _ refl (c .before .before .before .before .before .loop .inv .2) (c .before .before .put-u16 .ensures) (omega arith))
+
+same-length : tie.Need-same-length Inv-loop μ-loop
+same-length c = search needs
+
+returns : tie.Need-returns Inv-loop μ-loop
+unfolding firsts
+returns c = let all : c .before .loop .i ≡ c .before .before .before .args .count = omega arith in rw (← all) (c .before .loop .inv .2)
+
+pub put-holidays-spec : {M : Type 1} → statement M
+put-holidays-spec =
+    tie.close
+    (tie.spec
+    Inv-loop
+    μ-loop
+    loop-holds
+    mul-put-u16
+    add-put-u16
+    mul-put-u16-2
+    array-read-put-u16
+    put-u16-requires
+    add-i
+    loop-less
+    loop-again
+    same-length
+    returns)

@@ -1,0 +1,71 @@
+use Prim.Native.Nat.{_-_, _≤_}
+use mathlib.Core.List.{flatMap, map}
+use mathlib.Core.Path.{_≡_, refl}
+use native.Mathlib.Omega.{arith}
+use borrow.Author.Needs.{needs}
+use lib.ListN.{length, getD}
+use Rattle.arith.specs.Lists.{from, over}
+use Rattle.rules.specs.Header.{u32Bytes}
+use Rattle.header.specs.Journal.{firsts}
+use Rattle.big_endian.proofs.Numbers.{u32-wide}
+use Rattle.arith.specs.Blocks.{blocks-none, blocks-next}
+use Rattle.header.proofs.writer.put_limits.Statement.{statement}
+use Rattle.header.proofs.writer.put_limits.Tie as tie
+
+abbrev Inv-loop : tie.InvT-loop
+Inv-loop out₀ at count list i₀ out i = (i ≤ count) × (length out ≡ length out₀) × (out ≡ over at (flatMap u32Bytes (map (λ j. getD list j 0) (from 0 i))) out₀)
+
+abbrev μ-loop : tie.MeasureT-loop
+μ-loop out₀ at count list i₀ out i = count - i
+
+loop-holds : tie.Need-loop-holds Inv-loop μ-loop
+loop-holds c = (omega arith, refl, blocks-none u32Bytes 4 u32-wide (λ j. getD (c .before .args .t3) j 0) (c .before .args .at) _)
+
+mul-put-u32 : tie.Need-mul-put-u32 Inv-loop μ-loop
+mul-put-u32 c = search needs
+
+add-put-u32 : tie.Need-add-put-u32 Inv-loop μ-loop
+add-put-u32 c = search needs
+
+mul-put-u32-2 : tie.Need-mul-put-u32-2 Inv-loop μ-loop
+mul-put-u32-2 c = search needs
+
+array-read-put-u32 : tie.Need-array-read-put-u32 Inv-loop μ-loop
+array-read-put-u32 c = search needs
+
+put-u32-requires : tie.Need-put-u32-requires Inv-loop μ-loop
+put-u32-requires c κs = search needs
+
+add-i : tie.Need-add-i Inv-loop μ-loop
+add-i c = search needs
+
+loop-less : tie.Need-loop-less Inv-loop μ-loop
+loop-less c = search needs
+
+loop-again : tie.Need-loop-again Inv-loop μ-loop
+loop-again c = (omega arith, omega arith, blocks-next u32Bytes 4 u32-wide (λ j. getD (c .before .before .before .before .before .before .before .args .t3) j 0) (c .before .before .before .before .before .before .before .args .at) (c .before .before .before .before .before .loop .i) _ _ _ _ refl (c .before .before .before .before .before .loop .inv .2) (c .before .before .put-u32 .ensures) (omega arith))
+
+same-length : tie.Need-same-length Inv-loop μ-loop
+same-length c = search needs
+
+returns : tie.Need-returns Inv-loop μ-loop
+unfolding firsts
+returns c = let all : c .before .loop .i ≡ c .before .before .before .args .count = omega arith in rw (← all) (c .before .loop .inv .2)
+
+pub put-limits-spec : {M : Type 1} → statement M
+put-limits-spec =
+    tie.close
+    (tie.spec
+    Inv-loop
+    μ-loop
+    loop-holds
+    mul-put-u32
+    add-put-u32
+    mul-put-u32-2
+    array-read-put-u32
+    put-u32-requires
+    add-i
+    loop-less
+    loop-again
+    same-length
+    returns)

@@ -1,0 +1,52 @@
+use mathlib.Core.Path.{sym}
+use native.Mathlib.Omega.{arith}
+use borrow.Author.Needs.{needs}
+use Rattle.header.proofs.Headers.{length-header, members-fit, holidays-fit, write-header-unsound, write-header-short, write-header-whole}
+use Rattle.arith.specs.Tests.{asked-true, asked-false}
+use Rattle.header.proofs.writer.write_header.Statement.{statement}
+use Rattle.header.proofs.writer.write_header.Tie as tie
+
+is-header-sound-requires : tie.Need-is-header-sound-requires
+is-header-sound-requires c κs = search needs
+
+returns : tie.Need-returns
+returns c = write-header-unsound _ _ (asked-false (c .before .is-header-sound .ensures) (c .if1 .taken))
+
+mul-n : tie.Need-mul-n
+mul-n c = omega (arith, holidays-fit (c .before .before .before .before .args .h) (asked-true (c .before .before .is-header-sound .ensures) (c .before .if1 .left)))
+
+add-n : tie.Need-add-n
+add-n c = omega (arith, holidays-fit (c .before .before .before .before .args .h) (asked-true (c .before .before .is-header-sound .ensures) (c .before .if1 .left)))
+
+mul-n-2 : tie.Need-mul-n-2
+mul-n-2 c = omega (arith, members-fit (c .before .before .before .before .before .args .h) (asked-true (c .before .before .before .is-header-sound .ensures) (c .before .before .if1 .left)))
+
+add-n-2 : tie.Need-add-n-2
+add-n-2 c = omega (arith, holidays-fit (c .before .before .before .before .before .args .h) (asked-true (c .before .before .before .is-header-sound .ensures) (c .before .before .if1 .left)), members-fit (c .before .before .before .before .before .args .h) (asked-true (c .before .before .before .is-header-sound .ensures) (c .before .before .if1 .left)))
+
+returns-2 : tie.Need-returns-2
+returns-2 c = write-header-short _ _ (asked-true (c .before .before .before .before .is-header-sound .ensures) (c .before .before .before .if1 .left)) (omega (arith, length-header (c .before .before .before .before .before .before .args .h)))
+
+put-header-requires : tie.Need-put-header-requires
+put-header-requires c κs = omega (arith, holidays-fit (c .before .before .before .before .before .before .before .args .h) (asked-true (c .before .before .before .before .before .is-header-sound .ensures) (c .before .before .before .before .if1 .left)), members-fit (c .before .before .before .before .before .before .before .args .h) (asked-true (c .before .before .before .before .before .is-header-sound .ensures) (c .before .before .before .before .if1 .left)))
+
+same-length : tie.Need-same-length
+same-length c = search needs
+
+returns-3 : tie.Need-returns-3
+returns-3 c = write-header-whole _ _ (asked-true (c .before .before .before .before .before .before .before .before .is-header-sound .ensures) (c .before .before .before .before .before .before .before .if1 .left)) _ _ (sym (length-header (c .before .before .before .before .before .before .before .before .before .before .args .h))) (omega (arith, length-header (c .before .before .before .before .before .before .before .before .before .before .args .h))) (c .before .before .put-header .ensures)
+
+pub write-header-spec : {M : Type 1} → statement M
+write-header-spec =
+    tie.close
+    (tie.spec
+    is-header-sound-requires
+    returns
+    mul-n
+    add-n
+    mul-n-2
+    add-n-2
+    returns-2
+    put-header-requires
+    same-length
+    returns-3)

@@ -1,0 +1,76 @@
+// The header of a journal, and which are sound.
+ghost use mathlib.Core.Path.{_≡_};
+ghost use Prim.Native.Nat.{_≤_};
+ghost use Rattle.arith.specs.Lists.{every};
+ghost use Rattle.rules.specs.Ranges.{mostMembers, mostHolidays};
+ghost use Rattle.rules.specs.Header.{membersSound, limitSound, headerSound};
+ghost use Rattle.header.specs.Journal.{firsts, daysSound, headerFrom};
+use rules::DayNo;
+use rules::ranges::MOST_HOLIDAYS;
+use rules::ranges::MOST_LIMIT;
+use rules::ranges::MOST_MEMBERS;
+
+// The three letters VJR and the 16-bit version, 1.
+pub const LETTERS_AND_VERSION: [u8; 5] = *b"VJR\x00\x01";
+
+// The first of the holidays and of the limits count, as many as there are holidays and members; the places past them are surplus.
+pub struct JournalHeader {
+    pub first_year: u64,
+    pub start_day: DayNo,
+    pub members: u64,
+    pub holiday_count: u64,
+    pub holidays: [u64; 120],
+    pub limits: [u64; 32],
+}
+
+pub fn is_member_count_sound(members: u64) -> bool
+    ensures { λ r. ⌜ r ≡ membersSound members ⌝ }
+{
+    (1 <= members) & (members <= MOST_MEMBERS)
+}
+
+fn are_limits_sound(list: [u64; 32], count: usize) -> bool
+    requires { ⌜ count ≤ mostMembers ⌝ }
+    ensures { λ r. ⌜ r ≡ every limitSound (firsts count list) ⌝ }
+{
+    let mut ok = true;
+    let mut i: usize = 0;
+    while i < count {
+        ok = ok & (list[i] <= MOST_LIMIT);
+        i += 1;
+    }
+    ok
+}
+
+// The calendar and the start day.
+fn are_days_sound(first_year: u64, list: [u64; 120], count: usize, start_day: DayNo) -> bool
+    requires { ⌜ count ≤ mostHolidays ⌝ }
+    ensures { λ r. ⌜ r ≡ daysSound (record { firstYear = «first_year»; holidays = firsts count list }) («start_day» .0) ⌝ }
+{
+    if !calendar::is_first_year_sound(first_year) {
+        return false;
+    }
+    let span = calendar::span_of(first_year);
+    let calendar_sound = calendar::is_calendar_sound(first_year, span, &list[..count]);
+    calendar_sound & calendar::is_day_sound(span, &list[..count], start_day)
+}
+
+pub fn is_header_sound(h: JournalHeader) -> bool
+    ensures { λ r. ⌜ r ≡ headerSound (headerFrom h) ⌝ }
+{
+    if MOST_HOLIDAYS < h.holiday_count {
+        return false;
+    }
+    if !is_member_count_sound(h.members) {
+        return false;
+    }
+    let holidays = h.holidays;
+    let limits = h.limits;
+    let days_sound = are_days_sound(
+        h.first_year,
+        holidays,
+        h.holiday_count as usize,
+        h.start_day,
+    );
+    days_sound & are_limits_sound(limits, h.members as usize)
+}

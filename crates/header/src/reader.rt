@@ -1,0 +1,127 @@
+// Reading the header of a journal.
+ghost use mathlib.Core.Path.{_≡_};
+ghost use Prim.Native.Nat.{_+_, _*_, _<_, _≤_};
+ghost use lib.ListN.{length, getD, take};
+ghost use Rattle.rules.specs.Header.{u16sAt, u32sAt, sameBytes, lettersAndVersion, headerOf, headerLength};
+ghost use Rattle.rules.specs.declared.answer.Answer.the-variants.{HeaderUnsound};
+ghost use Rattle.arith.specs.Columns.{padded};
+ghost use Rattle.header.specs.Journal.{headerColumns, blankHeader, headerReading};
+use crate::journal::JournalHeader;
+use crate::journal::LETTERS_AND_VERSION;
+use crate::journal::is_header_sound;
+use big_endian::u8_at;
+use big_endian::u16_at;
+use big_endian::u32_at;
+use rules::Answer;
+use rules::DayNo;
+use rules::ranges::MOST_HOLIDAYS;
+use rules::ranges::MOST_MEMBERS;
+
+// Accepted with the header's length in bytes, or HeaderUnsound with a header of zeros.
+pub struct HeaderReading {
+    pub answer: Answer,
+    pub header: JournalHeader,
+}
+
+fn holidays_at(bytes: &[u8], count: usize) -> [u64; 120]
+    requires { ⌜ (count ≤ 120) × (11 + 2 * count ≤ length (now bytes)) ⌝ }
+    ensures { λ r. ⌜ r ≡ padded 120 (u16sAt (now (bytes .entry)) 11 count) ⌝ }
+{
+    let mut column = [0u64; 120];
+    let mut i: usize = 0;
+    while i < count {
+        column[i] = u16_at(bytes, 11 + 2 * i);
+        i += 1;
+    }
+    column
+}
+
+fn limits_at(bytes: &[u8], at: usize, count: usize) -> [u64; 32]
+    requires { ⌜ (count ≤ 32) × (at + 4 * count ≤ length (now bytes)) ⌝ }
+    ensures { λ r. ⌜ r ≡ padded 32 (u32sAt (now (bytes .entry)) at count) ⌝ }
+{
+    let mut column = [0u64; 32];
+    let mut i: usize = 0;
+    while i < count {
+        column[i] = u32_at(bytes, at + 4 * i);
+        i += 1;
+    }
+    column
+}
+
+// The fields, in whatever ranges.
+fn fields_at(bytes: &[u8], members: u64, holiday_count: u64) -> JournalHeader
+    requires { ⌜ (11 ≤ length (now bytes)) × (members ≡ getD (now bytes) 9 0) × («holiday_count» ≡ getD (now bytes) 10 0) ⌝ }
+    requires { ⌜ (members ≤ 32) × («holiday_count» ≤ 120) × (headerLength (now bytes) ≤ length (now bytes)) ⌝ }
+    ensures { λ r. ⌜ r ≡ headerColumns (headerOf (now (bytes .entry))) ⌝ }
+{
+    let year = u16_at(bytes, 5);
+    let start = u16_at(bytes, 7);
+    let n = holiday_count as usize;
+    let holidays = holidays_at(bytes, n);
+    let limits = limits_at(bytes, 11 + 2 * n, members as usize);
+    JournalHeader {
+        first_year: year,
+        start_day: DayNo(start),
+        members: members,
+        holiday_count: holiday_count,
+        holidays: holidays,
+        limits: limits,
+    }
+}
+
+fn begins_with_letters(bytes: &[u8]) -> bool
+    requires { ⌜ 11 ≤ length (now bytes) ⌝ }
+    ensures { λ r. ⌜ r ≡ sameBytes (take 5 (now (bytes .entry))) lettersAndVersion ⌝ }
+{
+    let letters = LETTERS_AND_VERSION;
+    check::same(&bytes[..5], &letters)
+}
+
+fn unsound() -> HeaderReading
+    ensures { λ r. ⌜ r ≡ record { answer = HeaderUnsound; header = blankHeader } ⌝ }
+{
+    HeaderReading {
+        answer: Answer::HeaderUnsound,
+        header: JournalHeader {
+            first_year: 0,
+            start_day: DayNo(0),
+            members: 0,
+            holiday_count: 0,
+            holidays: [0; 120],
+            limits: [0; 32],
+        },
+    }
+}
+
+// Whether the bytes begin with a sound header, with its fields and its length; bytes past it are records.
+pub fn read_header(bytes: &[u8]) -> HeaderReading
+    ensures { λ r. ⌜ r ≡ headerReading (now (bytes .entry)) ⌝ }
+{
+    if bytes.len() < 11 {
+        return unsound();
+    }
+    if !begins_with_letters(bytes) {
+        return unsound();
+    }
+    let members = u8_at(bytes, 9);
+    let holiday_count = u8_at(bytes, 10);
+    if MOST_MEMBERS < members {
+        return unsound();
+    }
+    if MOST_HOLIDAYS < holiday_count {
+        return unsound();
+    }
+    let n = 11 + 2 * holiday_count + 4 * members;
+    if (bytes.len() as u64) < n {
+        return unsound();
+    }
+    let header = fields_at(bytes, members, holiday_count);
+    if !is_header_sound(header) {
+        return unsound();
+    }
+    HeaderReading {
+        answer: Answer::Accepted(n),
+        header: header,
+    }
+}

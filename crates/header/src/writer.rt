@@ -1,0 +1,81 @@
+// Writing the header of a journal.
+ghost use mathlib.Core.Path.{_≡_};
+ghost use mathlib.Core.List.{[], _∷_, _++_, flatMap};
+ghost use Prim.Native.Nat.{_+_, _*_, _<_, _≤_};
+ghost use lib.ListN.{length};
+ghost use Rattle.arith.specs.Lists.{over};
+ghost use Rattle.rules.specs.Header.{u16Bytes, u32Bytes, lettersAndVersion, headerBytes, writeHeaderSpec};
+ghost use Rattle.header.specs.Journal.{firsts, headerFrom};
+use crate::journal::JournalHeader;
+use crate::journal::LETTERS_AND_VERSION;
+use crate::journal::is_header_sound;
+use big_endian::put_u8;
+use big_endian::put_u16;
+use big_endian::put_u32;
+use big_endian::wide;
+use rules::Answer;
+
+fn put_letters(out: &mut [u8])
+    requires { ⌜ 5 ≤ length (now out) ⌝ }
+    ensures { λ r. ⌜ now (out .exit) ≡ over 0 lettersAndVersion (now (out .entry)) ⌝ }
+{
+    let letters = LETTERS_AND_VERSION;
+    put_u8(out, 0, wide(letters[0]));
+    put_u8(out, 1, wide(letters[1]));
+    put_u8(out, 2, wide(letters[2]));
+    put_u8(out, 3, wide(letters[3]));
+    put_u8(out, 4, wide(letters[4]));
+}
+
+fn put_holidays(out: &mut [u8], list: [u64; 120], count: usize)
+    requires { ⌜ (count ≤ 120) × (11 + 2 * count ≤ length (now out)) ⌝ }
+    ensures { λ r. ⌜ now (out .exit) ≡ over 11 (flatMap u16Bytes (firsts count list)) (now (out .entry)) ⌝ }
+{
+    let mut i: usize = 0;
+    while i < count {
+        put_u16(out, 11 + 2 * i, list[i]);
+        i += 1;
+    }
+}
+
+fn put_limits(out: &mut [u8], at: usize, list: [u64; 32], count: usize)
+    requires { ⌜ (count ≤ 32) × (at + 4 * count ≤ length (now out)) ⌝ }
+    ensures { λ r. ⌜ now (out .exit) ≡ over at (flatMap u32Bytes (firsts count list)) (now (out .entry)) ⌝ }
+{
+    let mut i: usize = 0;
+    while i < count {
+        put_u32(out, at + 4 * i, list[i]);
+        i += 1;
+    }
+}
+
+fn put_header(out: &mut [u8], h: JournalHeader)
+    requires { ⌜ (h .members ≤ 32) × (h .«holiday_count» ≤ 120) × (11 + 2 * h .«holiday_count» + 4 * h .members ≤ length (now out)) ⌝ }
+    ensures { λ r. ⌜ now (out .exit) ≡ over 0 (headerBytes (headerFrom h)) (now (out .entry)) ⌝ }
+{
+    let holidays = h.holidays;
+    let limits = h.limits;
+    let n = h.holiday_count as usize;
+    put_letters(out);
+    put_u16(out, 5, h.first_year);
+    put_u16(out, 7, h.start_day.0);
+    put_u8(out, 9, h.members);
+    put_u8(out, 10, h.holiday_count);
+    put_holidays(out, holidays, n);
+    put_limits(out, 11 + 2 * n, limits, h.members as usize);
+}
+
+// A header: HeaderUnsound before TableUnsound, and nothing written on either; Accepted with the bytes written.
+pub fn write_header(h: JournalHeader, out: &mut [u8]) -> Answer
+    ensures { λ r. ⌜ record { answer = r; after = now (out .exit) } ≡ writeHeaderSpec (headerFrom h) (now (out .entry)) ⌝ }
+{
+    if !is_header_sound(h) {
+        return Answer::HeaderUnsound;
+    }
+    let n = 11 + 2 * h.holiday_count + 4 * h.members;
+    if (out.len() as u64) < n {
+        return Answer::TableUnsound;
+    }
+    put_header(out, h);
+    Answer::Accepted(n)
+}
