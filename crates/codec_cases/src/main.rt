@@ -1,11 +1,13 @@
 // Records and headers from literal bytes, every field at its ends and one past them. What it prints is held to the file stdout:
 // 3 for an unsound record, 2 for an unsound header, else the fields, and whether writing them gives the bytes again.
-use codec::Front;
-use codec::JournalHeader;
+ghost use mathlib.Core.Path.{_≡_};
+ghost use Rattle.rules.specs.Records.{toldReading, toldFront};
 use codec::Legs;
+use header::JournalHeader;
 use libc::STDOUT_FILENO;
 use rules::Answer;
 use rules::Event;
+use rules::Front;
 use rules::OrderKind;
 use rules::Reading;
 use rules::Side;
@@ -34,6 +36,27 @@ fn show_answer(answer: Answer) {
         Answer::HeaderUnsound => number(2),
         Answer::RecordUnsound => number(3),
         _ => text(b" other"),
+    }
+}
+
+// The paper's number for what a reader answers.
+fn reading_number(reading: Reading) -> u64
+    ensures { λ r. ⌜ r ≡ toldReading reading .number ⌝ }
+{
+    match reading {
+        Reading::Sound(_) => 0,
+        Reading::Unsound => 3,
+    }
+}
+
+// The same for what stands at the front of a stream.
+fn front_number(front: Front) -> u64
+    ensures { λ r. ⌜ r ≡ toldFront front .number ⌝ }
+{
+    match front {
+        Front::Whole(_) => 0,
+        Front::Cut => 3,
+        Front::UnknownKind => 3,
     }
 }
 
@@ -112,7 +135,8 @@ fn show_again(out: &[u8], bytes: &[u8]) {
 }
 
 fn record(members: u64, bytes: &[u8]) {
-    match codec::read_record(members, bytes) {
+    let reading = codec::read_record(members, bytes);
+    match reading {
         Reading::Sound(event) => {
             let legs = codec::read_legs(bytes);
             show_event(event);
@@ -121,7 +145,7 @@ fn record(members: u64, bytes: &[u8]) {
             show_answer(codec::write_record(members, event, legs, &mut out));
             show_again(&out, bytes);
         }
-        Reading::Unsound => text(b"3"),
+        Reading::Unsound => number(reading_number(reading)),
     }
     text(b"\n");
 }
@@ -287,7 +311,7 @@ fn show_header(h: JournalHeader) {
 }
 
 fn header(bytes: &[u8]) {
-    let r = codec::read_header(bytes);
+    let r = header::read_header(bytes);
     let answer = r.answer;
     let h = r.header;
     match answer {
@@ -295,7 +319,7 @@ fn header(bytes: &[u8]) {
             show_header(h);
             number(n);
             let mut out = [0u8; 64];
-            show_answer(codec::write_header(h, &mut out));
+            show_answer(header::write_header(h, &mut out));
             show_again(&out, bytes);
         }
         _ => text(b"2"),
@@ -329,7 +353,8 @@ fn years() {
 }
 
 fn front(bytes: &[u8]) {
-    match codec::front_record(bytes) {
+    let front = codec::front_record(bytes);
+    match front {
         Front::Whole(n) => {
             text(b"whole");
             number(n);
@@ -337,6 +362,7 @@ fn front(bytes: &[u8]) {
         Front::Cut => text(b"cut"),
         Front::UnknownKind => text(b"unknown"),
     }
+    number(front_number(front));
     text(b"\n");
 }
 

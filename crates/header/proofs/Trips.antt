@@ -5,14 +5,23 @@ use mathlib.Core.List.{List, [], _∷_, _++_, flatMap, append-assoc}
 use mathlib.Core.Path.{_≡_, refl, sym, ap, _∙_}
 use native.Mathlib.Omega.{arith}
 use borrow.Author.Tests.{le-leb, leb-true, ltb-true, eqb-true}
-use lib.Dec.{T, eqb, leb, ltb}
+use lib.Dec.{eqb, leb, ltb}
+use lib.Seq.{take-at}
 use lib.ListN.{length, getD, take, drop, length-append, take-append-drop}
 use Rattle.arith.specs.Alls.{All, every-all, all-map}
-use Rattle.arith.specs.Lists.{from, every, total}
-use Rattle.arith.specs.Tests.{by-bool, and-right, and-false, passed, passes}
+use Rattle.arith.specs.Lists.{from, every, total, over}
+use Rattle.arith.specs.Overs.{over-front}
+use Rattle.arith.specs.Tests.{by-bool, and-right, and-false}
+use Rattle.rules.specs.Ranges.{mostFirstYear, mostLimit}
 use Rattle.rules.specs.Days.{Calendar, leapYear, yearStart, monthStart, spanStart, dayAfterSpan, inSpan}
-use Rattle.rules.specs.Header.{Header, u16At, u32At, u16Bytes, u32Bytes, u16sAt, u32sAt, lettersAndVersion, sameBytes, headerLength, headerOf, headerBytes, calendarOf, calendarSound, limitSound, daySound, headerSound, beginsWithHeader}
-use Rattle.header.proofs.Headers.{same-true, length-u16s}
+use Rattle.rules.specs.Header.{Header, u16At, u32At, u16Bytes, u32Bytes, u16sAt, u32sAt, lettersAndVersion, sameBytes, headerLength, headerOf, headerBytes, calendarOf, calendarSound, limitSound, daySound, headerSound, beginsWithHeader, writeHeaderSpec}
+use Rattle.rules.proofs.Writing.{written, not-header-refused}
+use Rattle.rules.specs.declared.answer.Answer.the-variants.{Accepted, HeaderUnsound}
+use Rattle.header.proofs.Headers.{same-true, length-u16s, columns-read, reading-sound, write-header-whole}
+use Rattle.header.specs.Journal.{headerFrom, headerColumns, blankHeader, headerReading}
+use Rattle.header.specs.Trips.{WrittenIsRead, ReadIsWritten}
+use Rattle.header.specs.declared.journal.JournalHeader.{JournalHeader}
+use Rattle.header.specs.declared.reader.HeaderReading.{HeaderReading}
 use Rattle.big_endian.proofs.Numbers.{bytes-small, u16-wide, u32-wide, u16-back, u32-back, all-back, u8-again, u16-again, u32-again, all-again}
 use Rattle.arith.specs.Blocks.{length-flat}
 
@@ -28,33 +37,33 @@ whole-years : (i m : ℕ) → i / 12 ≡ m → i % 12 ≡ 0 → monthStart i ≤
 unfolding monthStart total from
 whole-years i m e f = rw (e, f) (omega (arith, years-most m))
 
-span-most : (k : Calendar) → k .firstYear ≤ 2094 → dayAfterSpan k ≤ 29280
+span-most : (k : Calendar) → k .firstYear ≤ mostFirstYear → dayAfterSpan k ≤ 29280
 unfolding dayAfterSpan
 span-most k h =
     let years : (12 * (k .firstYear - 2020) + 72) / 12 ≡ k .firstYear - 2020 + 6 = omega arith in
     let most = whole-years (12 * (k .firstYear - 2020) + 72) (k .firstYear - 2020 + 6) years (omega arith) in
     omega arith
 
-in-span-small : (k : Calendar) (d : ℕ) → k .firstYear ≤ 2094 → inSpan k d ≡ true → d < 65536
+in-span-small : (k : Calendar) (d : ℕ) → k .firstYear ≤ mostFirstYear → inSpan k d ≡ true → d < 65536
 unfolding inSpan
 in-span-small k d y t = omega (arith, span-most k y, ltb-true d (dayAfterSpan k) (and-right (leb (spanStart k) d) (ltb d (dayAfterSpan k)) t))
 
 -- ---- what a sound header holds
 record Holds (h : Header) : Type 0 where
-  year : h .firstYear ≤ 2094
+  year : h .firstYear ≤ mostFirstYear
   start : h .startDay < 65536
   sized : length (h .limits) ≡ h .members
   days : All (λ d. d < 65536) (h .holidays)
   limits : All (λ l. l < 4294967296) (h .limits)
 
-fits : (h : Header) → h .firstYear ≤ 2094 → inSpan (calendarOf h) (h .startDay) ≡ true → length (h .limits) ≡ h .members → every (inSpan (calendarOf h)) (h .holidays) ≡ true → every limitSound (h .limits) ≡ true → Holds h
+fits : (h : Header) → h .firstYear ≤ mostFirstYear → inSpan (calendarOf h) (h .startDay) ≡ true → length (h .limits) ≡ h .members → every (inSpan (calendarOf h)) (h .holidays) ≡ true → every limitSound (h .limits) ≡ true → Holds h
 fits h year start sized days limits =
     record {
       year = year;
       start = in-span-small (calendarOf h) (h .startDay) year start;
       sized = sized;
       days = all-map (λ d. inSpan (calendarOf h) d ≡ true) (λ d. d < 65536) (h .holidays) (λ d. in-span-small (calendarOf h) d year) (every-all (inSpan (calendarOf h)) (h .holidays) days);
-      limits = all-map (λ l. limitSound l ≡ true) (λ l. l < 4294967296) (h .limits) (λ l e. omega (arith, leb-true l 100000 e)) (every-all limitSound (h .limits) limits);
+      limits = all-map (λ l. limitSound l ≡ true) (λ l. l < 4294967296) (h .limits) (λ l e. omega (arith, leb-true l mostLimit e)) (every-all limitSound (h .limits) limits);
     }
 
 must : (b : Bool) → (b ≡ false → true ≡ false) → b ≡ true
@@ -65,12 +74,12 @@ holds : (h : Header) → headerSound h ≡ true → Holds h
 unfolding headerSound calendarSound daySound
 holds h t =
     let k = calendarOf h in
-    let year : leb (h .firstYear) 2094 ≡ true = must (leb (h .firstYear) 2094) (λ f. sym (simp (f, and-false) at t)) in
+    let year : leb (h .firstYear) mostFirstYear ≡ true = must (leb (h .firstYear) mostFirstYear) (λ f. sym (simp (f, and-false) at t)) in
     let days : every (inSpan k) (h .holidays) ≡ true = must (every (inSpan k) (h .holidays)) (λ f. sym (simp (f, and-false) at t)) in
     let start : inSpan k (h .startDay) ≡ true = must (inSpan k (h .startDay)) (λ f. sym (simp (f, and-false) at t)) in
     let sized : eqb (length (h .limits)) (h .members) ≡ true = must (eqb (length (h .limits)) (h .members)) (λ f. sym (simp (f, and-false) at t)) in
     let limits : every limitSound (h .limits) ≡ true = must (every limitSound (h .limits)) (λ f. sym (simp (f, and-false) at t)) in
-    fits h (leb-true (h .firstYear) 2094 year) start (eqb-true (length (h .limits)) (h .members) sized) days limits
+    fits h (leb-true (h .firstYear) mostFirstYear year) start (eqb-true (length (h .limits)) (h .members) sized) days limits
 
 -- ---- written, then read
 module _ (h : Header) (x : Holds h) (rest : List ℕ) where
@@ -126,17 +135,6 @@ module _ (h : Header) (x : Holds h) (rest : List ℕ) where
       let least = length-back in
       rw (le-leb 11 (length (headerBytes h ++ rest)) (omega arith), letters-back, le-leb (headerLength (headerBytes h ++ rest)) (length (headerBytes h ++ rest)) (rw length-read (omega arith)), fields-back) t
 
--- A sound header's bytes, whatever stands past them, begin with a sound header,
-pub header-written : (h : Header) (rest : List ℕ) → T (headerSound h) → T (beginsWithHeader (headerBytes h ++ rest))
-header-written h rest t = passes _ (begins-back h (holds h (passed _ t)) rest (passed _ t))
-
--- which is that header, and as long.
-pub header-read-back : (h : Header) (rest : List ℕ) → T (headerSound h) → headerOf (headerBytes h ++ rest) ≡ h
-header-read-back h rest t = fields-back h (holds h (passed _ t)) rest
-
-pub header-length-back : (h : Header) (rest : List ℕ) → T (headerSound h) → headerLength (headerBytes h ++ rest) ≡ length (headerBytes h)
-header-length-back h rest t = length-read h (holds h (passed _ t)) rest
-
 -- ---- read, then written
 module _ (s : List ℕ) (small : (i : ℕ) → getD s i 0 < 256) (begins : sameBytes (take 5 s) lettersAndVersion ≡ true) (long : headerLength s ≤ length s) where
   letters-again : lettersAndVersion ++ drop 5 s ≡ s
@@ -158,22 +156,52 @@ module _ (s : List ℕ) (small : (i : ℕ) → getD s i 0 < 256) (begins : sameB
       rw (length-u16s s 11 (getD s 10 0))
       (ap (λ l. lettersAndVersion ++ l) (rest-again (getD s 10 0) (getD s 9 0) long) ∙ letters-again)
 
-begun : (s : List ℕ) → T (beginsWithHeader s) → (sameBytes (take 5 s) lettersAndVersion ≡ true) × (headerLength s ≤ length s) × (headerSound (headerOf s) ≡ true)
+begun : (s : List ℕ) → beginsWithHeader s ≡ true → (sameBytes (take 5 s) lettersAndVersion ≡ true) × (headerLength s ≤ length s) × (headerSound (headerOf s) ≡ true)
 unfolding beginsWithHeader
-begun s t =
-    let e : leb 11 (length s) && sameBytes (take 5 s) lettersAndVersion && leb (headerLength s) (length s) && headerSound (headerOf s) ≡ true = passed _ t in (
-      must (sameBytes (take 5 s) lettersAndVersion) (λ f. sym (simp (f, and-false) at e)),
-      leb-true (headerLength s) (length s) (must (leb (headerLength s) (length s)) (λ f. sym (simp (f, and-false) at e))),
-      must (headerSound (headerOf s)) (λ f. sym (simp (f, and-false) at e)),
-    )
+begun s e = (
+  must (sameBytes (take 5 s) lettersAndVersion) (λ f. sym (simp (f, and-false) at e)),
+  leb-true (headerLength s) (length s) (must (leb (headerLength s) (length s)) (λ f. sym (simp (f, and-false) at e))),
+  must (headerSound (headerOf s)) (λ f. sym (simp (f, and-false) at e)),
+)
 
-pub header-said : (s : List ℕ) → T (beginsWithHeader s) → headerSound (headerOf s) ≡ true
-header-said s t = begun s t .2
-
-pub header-size : (s : List ℕ) → T (beginsWithHeader s) → length (headerBytes (headerOf s)) ≡ headerLength s
+header-size : (s : List ℕ) → headerSound (headerOf s) ≡ true → length (headerBytes (headerOf s)) ≡ headerLength s
 unfolding headerOf headerLength
-header-size s t = rw (length-u16s s 11 (getD s 10 0)) at (length-back (headerOf s) (holds (headerOf s) (header-said s t)) [])
+header-size s t = rw (length-u16s s 11 (getD s 10 0)) at (length-back (headerOf s) (holds (headerOf s) t) [])
 
--- The bytes of a journal that begin with a sound header are that header's, with those past it.
-pub header-written-again : (s : List ℕ) → T (every (λ b. ltb b 256) s) → T (beginsWithHeader s) → headerBytes (headerOf s) ++ drop (headerLength s) s ≡ s
-header-written-again s b t = let w = begun s t in header-bytes-again s (bytes-small s b) (w .0) (w .1)
+-- ---- the promises
+pub written-is-read : WrittenIsRead
+unfolding writeHeaderSpec
+written-is-read h out k after w =
+    let x = headerFrom h in
+    let bytes = headerBytes x in
+    let rest = drop (length bytes) out in
+    let told = written HeaderUnsound k (length bytes) out after (over 0 bytes out) (not-header-refused k) (headerSound x) (ltb (length out) (length bytes)) w in
+    let held = holds x (told .0) in
+    let begins = begins-back x held rest (told .0) in
+    rw (told .1, told .2 ∙ over-front bytes out)
+    (sym (rw (fields-back x held rest) at (reading-sound (bytes ++ rest) (length bytes) begins (sym (length-read x held rest)))))
+
+abbrev soundReading : List ℕ → HeaderReading
+soundReading s = record { answer = Accepted (headerLength s); header = headerColumns (headerOf s) }
+
+-- what a reading says that gives a header
+given : (s : List ℕ) (k : ℕ) (h : JournalHeader) → headerReading s ≡ record { answer = Accepted k; header = h } → (beginsWithHeader s ≡ true) × (k ≡ headerLength s) × (h ≡ headerColumns (headerOf s))
+unfolding headerReading
+given s k h r = go (beginsWithHeader s) r
+  where
+    go : (b : Bool) → cond b (soundReading s) (record { answer = HeaderUnsound; header = blankHeader }) ≡ record { answer = Accepted k; header = h }
+        → (b ≡ true) × (k ≡ headerLength s) × (h ≡ headerColumns (headerOf s))
+    go true e = let x : Accepted (headerLength s) ≡ Accepted k = ap (λ o. o .answer) e in (refl, cc, sym (ap (λ o. o .header) e))
+    go false e = let x : HeaderUnsound ≡ Accepted k = ap (λ o. o .answer) e in absurd (let z : _≡_ {A = ℕ} 0 1 = cc in omega arith)
+
+pub read-is-written : ReadIsWritten
+read-is-written s out k h b r room =
+    let told = given s k h r in
+    let w = begun s (told .0) in
+    let n = headerLength s in
+    let size : length (headerBytes (headerOf s)) ≡ n = header-size s (w .2) in
+    let again = header-bytes-again s (bytes-small s b) (w .0) (w .1) in
+    let whole : headerBytes (headerOf s) ≡ take n s = sym (rw again at (take-at (headerBytes (headerOf s)) (drop n s) n size)) in
+    let fits : n ≤ length out = rw (told .1) at room in
+    rw (told .1, told .2, columns-read s)
+    (sym (write-header-whole (headerOf s) out (w .2) n (over 0 (take n s) out) (sym size) (rw size fits) (ap (λ l. over 0 l out) (sym whole))))
