@@ -26,7 +26,7 @@ pub record Tables : Type 0 where
   pub book : List ℕ
   pub lines : List ℤ
 
--- The tables of the lists that a call is lent.
+-- The lent lists as this record.
 abbrev pub lent : List ℕ → List ℕ → List ℤ → List ℤ → List ℕ → List ℤ → Tables
 lent head prices lots value book lines = record { head = head; prices = prices; lots = lots; value = value; book = book; lines = lines }
 
