@@ -15,13 +15,6 @@ use mir.Facts.{toZ-ofZ}
 use Rattle.arith.specs.Bits.{bitsOf, inWindow}
 use Rattle.arith.specs.Tests.{never, by-leb}
 
-pub back : {x : ℤ} → SFits w64 x → toZ w64 (ofZ w64 x) ≡ x
-back s = toZ-ofZ s
-
--- An element that was read: what its slice says of it is its bound.
-pub back-mag : (x : ℤ) → mag x < 2 ^ 63 → toZ w64 (ofZ w64 x) ≡ x
-back-mag x h = toZ-ofZ (record { sfits = h })
-
 -- ---- a signed number's bits
 minus-one : (n : ℕ) → negsuc 0 -ℤ negsuc n ≡ pos n
 minus-one n = predℤ-+ℤ (pos 0) (pos (suc n)) ∙ ap predℤ (+ℤ-idl (pos (suc n)))
@@ -41,7 +34,7 @@ below-sub (negsuc n) h t = rw (minus-one n) (record { sfits = h })
 
 pub below-is : (x : ℤ) → mag x < 2 ^ 63 → leZ (pos 0) x ≡ false → toZ w64 (ofZ w64 (negsuc 0 -ℤ x)) ≡ pos (mag x)
 below-is (pos n) h t = absurd (omega (arith, leb-false 0 n t))
-below-is (negsuc n) h t = rw (minus-one n) (back {x = pos n} (record { sfits = h }))
+below-is (negsuc n) h t = rw (minus-one n) (toZ-ofZ {w = w64} {z = pos n} (record { sfits = h }))
 
 pub below-bits : (x : ℤ) → mag x < 2 ^ 63 → leZ (pos 0) x ≡ false → 18446744073709551615 - mag x ≡ bitsOf x
 unfolding bitsOf

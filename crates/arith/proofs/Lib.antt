@@ -1,7 +1,6 @@
-pub mod Bits
-pub mod Every
 pub mod Scans
+pub mod Rows
 pub mod Writes
 pub mod Appends
 pub mod Signed
-pub mod Rows
+pub mod Bits

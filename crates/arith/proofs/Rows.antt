@@ -1,14 +1,14 @@
 -- Tests of the first n places of each of m blocks of w: as one part, or column by column. Assumes nothing.
 use mathlib.Core.Path.{_≡_, refl, sym, _∙_}
 use mathlib.Core.Bool.{Bool, true, _&&_, and-assoc}
-use mathlib.Core.List.{List, [], _∷_}
+use mathlib.Core.List.{List, [], _∷_, _++_}
 use Prim.Native.Nat.{ℕ, zero, suc, _+_, _*_, _<_}
 use native.Mathlib.Nat.{suc-mul, zero-mul, add-comm, le-refl}
 use lib.ListN.{take, drop, getD}
 use lib.Seq.{take-add, take-take, take-nil, getD-take, getD-drop}
 use Rattle.arith.specs.Lists.{every, everyBlock}
 use Rattle.arith.specs.Tests.{and-true, and-left, and-right}
-use Rattle.arith.proofs.Every.{and-swap, every-append, every-weaker}
+use Rattle.arith.proofs.Scans.{and-swap, every-weaker}
 
 -- Where each place that passes p passes q, all do that all pass p.
 module _ {A : Type 0} (p q : A → Bool) (weaker : (x : A) → p x ≡ true → q x ≡ true) where
@@ -21,12 +21,17 @@ module _ {A : Type 0} (p q : A → Bool) (weaker : (x : A) → p x ≡ true → 
       rw (every-weaker p q weaker (take n (take w l)) (and-left here rest e)) (rows-weaker w n m (drop w l) (and-right here rest e))
 
 module _ {A : Type 0} (p : A → Bool) where
+  every-append : (xs ys : List A) → every p (xs ++ ys) ≡ every p xs && every p ys
+  unfolding every
+  every-append [] ys = refl
+  every-append (x ∷ xs) ys = rw (every-append xs ys) (sym (and-assoc (p x) (every p xs) (every p ys)))
+
   -- Whole blocks, one after the other, are one part.
   pub whole-rows : (w m : ℕ) (l : List A) → every p (take (m * w) l) ≡ everyBlock w (λ row. every p (take w row)) m l
   unfolding every everyBlock
   whole-rows w zero l = rw (zero-mul w)
   whole-rows w (suc m) l =
-      rw (suc-mul m w, add-comm (m * w) w, take-add w (m * w) l, every-append p (take w l) (take (m * w) (drop w l)), whole-rows w m (drop w l), take-take w w l (le-refl w))
+      rw (suc-mul m w, add-comm (m * w) w, take-add w (m * w) l, every-append (take w l) (take (m * w) (drop w l)), whole-rows w m (drop w l), take-take w w l (le-refl w))
 
   pub no-column : (w m : ℕ) (l : List A) → everyBlock w (λ row. every p (take 0 row)) m l ≡ true
   unfolding every everyBlock

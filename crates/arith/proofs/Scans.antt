@@ -9,7 +9,7 @@ use native.Mathlib.Numerals.{add-one}
 use lib.ListN.{length, getD, take, drop, drop-of-length-le}
 use lib.Seq.{drop-cons, drop-drop}
 use Rattle.arith.specs.Lists.{every, any, from, everyBlock}
-use Rattle.arith.specs.Tests.{and-true, or-false}
+use Rattle.arith.specs.Tests.{and-left, and-right, and-true, and-false, or-false}
 
 pub less-one : (n i : ℕ) → i < n → n - i ≡ suc (n - (i + 1))
 less-one n i h = omega arith
@@ -100,3 +100,35 @@ module _ {A : Type 0} (f : ℕ → A) (p : A → Bool) (n i : ℕ) (found one : 
   pub some-end : found || any p (map f (from i (n - i))) ≡ one → n ≤ i → found ≡ one
   unfolding any
   some-end known h = sym (or-false found) ∙ rw (from-end i n h) at known
+
+-- ---- a test of what a list is mapped to, and two tests at once
+module _ {A B : Type 0} where
+  pub every-map : (p : B → Bool) (f : A → B) (l : List A) → every p (map f l) ≡ every (λ a. p (f a)) l
+  unfolding every
+  every-map p f [] = refl
+  every-map p f (x ∷ l) = rw (every-map p f l)
+
+pub map-map : {A B D : Type 0} (g : B → D) (f : A → B) (l : List A) → map g (map f l) ≡ map (λ a. g (f a)) l
+map-map g f [] = refl
+map-map g f (x ∷ l) = rw (map-map g f l)
+
+pub and-swap : (a b c d : Bool) → (a && b) && (c && d) ≡ (a && c) && (b && d)
+and-swap true b true d = refl
+and-swap true b false d = and-false b
+and-swap false b c d = refl
+
+pub every-both : {A : Type 0} (p q : A → Bool) (l : List A) → every (λ a. p a && q a) l ≡ every p l && every q l
+unfolding every
+every-both p q [] = refl
+every-both p q (x ∷ l) = rw (every-both p q l) (and-swap (p x) (q x) (every p l) (every q l))
+
+module _ {A : Type 0} (p q : A → Bool) where
+  pub every-same : ((x : A) → p x ≡ q x) → (l : List A) → every p l ≡ every q l
+  unfolding every
+  every-same same [] = refl
+  every-same same (x ∷ l) = rw (same x, every-same same l)
+
+  pub every-weaker : ((x : A) → p x ≡ true → q x ≡ true) → (l : List A) → every p l ≡ true → every q l ≡ true
+  unfolding every
+  every-weaker weaker [] e = refl
+  every-weaker weaker (x ∷ l) e = rw (weaker x (and-left (p x) (every p l) e)) (every-weaker weaker l (and-right (p x) (every p l) e))

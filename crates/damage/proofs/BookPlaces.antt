@@ -7,7 +7,7 @@ use native.Mathlib.Omega.{arith}
 use lib.Dec.{leb, ltb}
 use Rattle.arith.specs.Lists.{every, allOf, from}
 use Rattle.arith.specs.Tests.{and-true, and-false}
-use Rattle.arith.proofs.Every.{every-same, every-both, every-map}
+use Rattle.arith.proofs.Scans.{every-same, every-both, every-map}
 use Rattle.rules.specs.Days.{Calendar, spanStart, dayAfterSpan, inSpan}
 use Rattle.rules.specs.CalendarLaws.{month-le}
 use Rattle.rules.specs.Ledger.{Tables, calendar, members, acceptedSubmits, orderCount, orderAt, sideAt, orders}

@@ -64,15 +64,6 @@ module _ (f : ℕ → ℕ) (n i : ℕ) (ok all : Bool) where
   unfolding distinct
   distinct-end known h = sym (and-true ok) ∙ rw (from-end i n h) at known
 
-module _ {A : Type 0} (f : ℕ → A) (p : A → Bool) (n i : ℕ) (found one : Bool) where
-  pub some-next : found || any p (map f (from i (n - i))) ≡ one → i < n → (found || p (f i)) || any p (map f (from (i + 1) (n - (i + 1)))) ≡ one
-  unfolding any
-  some-next known h = or-assoc found (p (f i)) (any p (map f (from (i + 1) (n - (i + 1))))) ∙ rw (from-next i n h) at known
-
-  pub some-end : found || any p (map f (from i (n - i))) ≡ one → n ≤ i → found ≡ one
-  unfolding any
-  some-end known h = sym (or-false found) ∙ rw (from-end i n h) at known
-
 -- ---- numbers that rise, the first from k on
 unfoldable pub risesFrom : ℕ → List ℕ → Bool
 risesFrom k [] = true

@@ -1,20 +1,18 @@
--- One test that fails makes the tables unsound, whatever the others say; what those that pass give to the later ones.
--- Assumes nothing.
+-- One test that fails makes the tables unsound, whatever the others say. Assumes nothing.
 use mathlib.Core.Path.{_≡_, refl, sym, _∙_}
 use mathlib.Core.Bool.{Bool, true, false, not, _&&_, _||_}
 use mathlib.Core.List.{[], _∷_}
-use Prim.Native.Nat.{ℕ, _≤_, _*_}
-use lib.Dec.{leb, ltb}
+use Prim.Native.Nat.{ℕ, _*_}
+use lib.Dec.{leb}
 use lib.IntN.{natAbs}
 use lib.ListN.{length}
-use borrow.Author.Tests.{leb-true, ltb-false}
+use borrow.Author.Tests.{leb-true}
 use Rattle.arith.specs.Lists.{every, allOf}
 use Rattle.arith.specs.Tests.{never, and-left, and-right, and-false, and-true}
-use Rattle.arith.specs.Alls.{all-hold}
-use Rattle.rules.specs.Days.{Calendar, inSpan}
+use Rattle.rules.specs.Days.{inSpan}
 use Rattle.rules.specs.Header.{rising, calendarSound}
-use Rattle.rules.specs.Ranges.{mostHolidays, mostMembers, mostOrders, mostLotsRun, mostAcceptedSubmits, mostPrice, leastFirstYear, mostFirstYear}
-use Rattle.rules.specs.Ledger.{Tables, firstYear, holidayCount, members, acceptedSubmits, lotsRun, orderCount, calendar, headLength, pricesLength, rowsLength, bookLength, ledgerShort, linesShort}
+use Rattle.rules.specs.Ranges.{leastFirstYear, mostFirstYear, mostHolidays, mostPrice}
+use Rattle.rules.specs.Ledger.{Tables, firstYear, holidayCount, members, lotsRun, calendar, ledgerShort, linesShort}
 use Rattle.rules.specs.Refusals.{everyRow, headSound, pricesSound, rowsSound, bookSound, damaged, unsound}
 use Rattle.calendar.specs.Bounds.{FirstYear}
 
@@ -92,49 +90,3 @@ year-fails t e =
 
 pub years : (y : ℕ) → leb leastFirstYear y && leb y mostFirstYear ≡ true → FirstYear y
 years y e = (leb-true leastFirstYear y (and-left (leb leastFirstYear y) (leb y mostFirstYear) e), leb-true y mostFirstYear (and-right (leb leastFirstYear y) (leb y mostFirstYear) e))
-
--- ---- what a sound head gives
-pub record HeadHolds (t : Tables) : Type 0 where
-  pub most-members : members t ≤ mostMembers
-  pub most-accepted : acceptedSubmits t ≤ mostAcceptedSubmits
-  pub most-run : lotsRun t ≤ mostLotsRun
-  pub most-orders : orderCount t ≤ mostOrders
-
-pub head-holds : (t : Tables) → headSound t ≡ true → HeadHolds t
-unfolding headSound
-head-holds t e =
-    let all = all-hold _ e in
-    record {
-      most-members = leb-true (members t) mostMembers (and-right (leb 1 (members t)) (leb (members t) mostMembers) (all .1 .1 .0));
-      most-accepted = leb-true (acceptedSubmits t) mostAcceptedSubmits (all .1 .1 .1 .1 .1 .0);
-      most-run = leb-true (lotsRun t) mostLotsRun (all .1 .1 .1 .1 .1 .1 .0);
-      most-orders = leb-true (orderCount t) mostOrders (all .1 .1 .1 .1 .1 .1 .1 .0);
-    }
-
--- ---- what lengths give
-pub record Lengths (t : Tables) : Type 0 where
-  pub head-length : headLength ≤ length (t .head)
-  pub prices-length : pricesLength ≤ length (t .prices)
-  pub lots-length : rowsLength ≤ length (t .lots)
-  pub value-length : rowsLength ≤ length (t .value)
-  pub book-length : bookLength ≤ length (t .book)
-
-none-of-five : (a b c d e : Bool) → a || b || c || d || e ≡ false → (a ≡ false) × (b ≡ false) × (c ≡ false) × (d ≡ false) × (e ≡ false)
-none-of-five false false false false false h = (refl, refl, refl, refl, refl)
-none-of-five false false false false true h = never h
-none-of-five false false false true e h = never h
-none-of-five false false true d e h = never h
-none-of-five false true c d e h = never h
-none-of-five true b c d e h = never h
-
-pub lengths : (t : Tables) → ledgerShort t ≡ false → Lengths t
-unfolding ledgerShort
-lengths t e =
-    let none = none-of-five (ltb (length (t .head)) headLength) (ltb (length (t .prices)) pricesLength) (ltb (length (t .lots)) rowsLength) (ltb (length (t .value)) rowsLength) (ltb (length (t .book)) bookLength) e in
-    record {
-      head-length = ltb-false (length (t .head)) headLength (none .0);
-      prices-length = ltb-false (length (t .prices)) pricesLength (none .1);
-      lots-length = ltb-false (length (t .lots)) rowsLength (none .2);
-      value-length = ltb-false (length (t .value)) rowsLength (none .3);
-      book-length = ltb-false (length (t .book)) bookLength (none .4);
-    }

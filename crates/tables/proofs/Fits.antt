@@ -19,7 +19,7 @@ use Rattle.rules.specs.Ranges.{mostPrice}
 use Rattle.rules.specs.Ledger.{Tables, members, lotsRun, orderCount, limit, mark, submitsThisSecond, rowsLength, sideAt, orderAt, orders}
 use Rattle.rules.specs.Refusals.{memberSound, headSound, contractPricesSound, pricesSound, everyRow, rowsSound, orderSound, sidesSound, bookSound, unsound}
 use Rattle.tables.specs.Fit.{MemberFit, HeadFit, ContractFit, PricesFit, RowsFit, OrderFit, BookFit, Fits}
-use Rattle.arith.proofs.Every.{every-map}
+use Rattle.arith.proofs.Scans.{every-map}
 use Rattle.tables.proofs.Sound.{Undamaged, undamaged}
 
 -- a test of each number below n holds of each of them

@@ -8,7 +8,7 @@ use Prim.Native.Nat.{suc, _-_, _≤_}
 use lib.Dec.{eqb}
 use Rattle.arith.specs.Lists.{any, from}
 use Rattle.damage.specs.Orders.{numberAt}
-use Rattle.damage.proofs.Numbers.{some-next, some-end}
+use Rattle.arith.proofs.Scans.{some-next, some-end}
 use Rattle.damage.proofs.book.is_repeated.Statement.{statement}
 use Rattle.damage.proofs.book.is_repeated.Tie as tie
 

@@ -7,7 +7,7 @@ use lib.Dec.{leb}
 use lib.ListN.{length, getD, drop}
 use lib.IntN.{pos, natAbs}
 use Rattle.arith.specs.Lists.{every}
-use Rattle.arith.proofs.Bits.{back-mag}
+use Rattle.arith.proofs.Signed.{back-mag}
 use Rattle.arith.proofs.Scans.{every-next, every-end}
 use Rattle.damage.proofs.rows.are_within.Statement.{statement}
 use Rattle.damage.proofs.rows.are_within.Tie as tie

@@ -8,7 +8,8 @@ use lib.IntN.{pos}
 use lib.ListN.{length, getD, drop}
 use Rattle.arith.specs.Bits.{inWindow}
 use Rattle.arith.specs.Lists.{every}
-use Rattle.arith.proofs.Bits.{back-mag, or-window, none-below}
+use Rattle.arith.proofs.Bits.{or-window, none-below}
+use Rattle.arith.proofs.Signed.{back-mag}
 use Rattle.arith.proofs.Scans.{every-next, every-end}
 use Rattle.damage.specs.Windows.{IsHalf}
 use Rattle.damage.proofs.rows.or_of.Statement.{statement}

@@ -8,7 +8,8 @@ use lib.IntN.{pos}
 use lib.ListN.{getD, drop}
 use Rattle.arith.specs.Bits.{inWindow}
 use Rattle.arith.specs.Lists.{everyBlock}
-use Rattle.arith.proofs.Bits.{back-mag, or-window, none-below}
+use Rattle.arith.proofs.Bits.{or-window, none-below}
+use Rattle.arith.proofs.Signed.{back-mag}
 use Rattle.arith.proofs.Scans.{block-next, block-end}
 use Rattle.arith.proofs.Rows.{place-at}
 use Rattle.damage.specs.Windows.{everyColumn, IsHalf}

@@ -1,6 +1,6 @@
 use mathlib.Core.Path.{_≡_}
 use Rattle.arith.specs.Bits.{bitsOf}
-use Rattle.arith.proofs.Bits.{back}
+use mir.Facts.{toZ-ofZ}
 use borrow.Author.Needs.{needs}
 use Rattle.damage.proofs.rows.raised.Statement.{statement}
 use Rattle.damage.proofs.rows.raised.Tie as tie
@@ -21,7 +21,7 @@ wrapping-add-u64-requires c κs = search needs
 returns : tie.Need-returns
 returns c =
     let x = c .before .before .args .x in
-    let bits : c .before .bits-of .result ≡ bitsOf x = rw (back (c .before .before .fits .x)) at (c .before .bits-of .ensures) in
+    let bits : c .before .bits-of .result ≡ bitsOf x = rw (toZ-ofZ (c .before .before .fits .x)) at (c .before .bits-of .ensures) in
     rw bits at (c .wrapping-add-u64 .ensures)
 
 pub raised-spec : {M : Type 1} → statement M

@@ -5,7 +5,8 @@ use borrow.Author.Tests.{not-true, not-false}
 use Rattle.calendar.specs.Bounds.{FirstYear}
 use Rattle.rules.specs.Ledger.{Tables, lent, firstYear, ledgerShort, linesShort}
 use Rattle.rules.specs.Refusals.{headSound, pricesSound}
-use Rattle.damage.proofs.Sound.{HeadHolds, head-holds, Lengths, lengths, years, year-fails, ledger-short, lines-short, head-fails, prices-fail, lots-fail, value-fails, book-decides}
+use Rattle.rules.proofs.SoundTables.{Long, long-enough, SoundHead, head-gives}
+use Rattle.damage.proofs.Sound.{years, year-fails, ledger-short, lines-short, head-fails, prices-fail, lots-fail, value-fails, book-decides}
 use borrow.Author.Needs.{needs}
 use Rattle.damage.proofs.unsound.is_unsound.Statement.{statement}
 use Rattle.damage.proofs.unsound.is_unsound.Tie as tie
@@ -47,11 +48,11 @@ head-good c =
     let t = head-left c in
     sym (c .before .is-head-sound .ensures (t .prices) (t .lots) (t .value) (t .book) (t .lines)) ∙ not-false (c .before .is-head-sound .result) (c .if4 .left)
 
-long-at : (c : tie.Else1) → Lengths (short-left c)
-long-at c = lengths (short-left c) (long c)
+long-at : (c : tie.Else1) → Long (short-left c)
+long-at c = long-enough (short-left c) (long c)
 
-holds-at : (c : tie.Else4) → HeadHolds (head-left c)
-holds-at c = head-holds (head-left c) (head-good c)
+gives : (c : tie.Else4) → SoundHead (head-left c)
+gives c = head-gives (head-left c) (head-good c)
 
 is-ledger-short-requires : tie.Need-is-ledger-short-requires
 is-ledger-short-requires c κs = search needs
@@ -72,7 +73,7 @@ returns-2 c =
 
 -- src/unsound.rt:33:22
 shared-slice-read-first-year : tie.Need-shared-slice-read-first-year
-shared-slice-read-first-year c = omega (arith, long-at (c .before .before .before) .head-length)
+shared-slice-read-first-year c = omega (arith, long-at (c .before .before .before) .head)
 
 -- src/unsound.rt:34:9
 is-first-year-sound-requires : tie.Need-is-first-year-sound-requires
@@ -88,7 +89,7 @@ span-of-requires c κs = year-good (c)
 
 -- src/unsound.rt:38:9
 is-head-sound-requires : tie.Need-is-head-sound-requires
-is-head-sound-requires c κs = (long-at (c .before .before .before .before .before .before) .head-length, year-good (c .before), c .span-of .ensures)
+is-head-sound-requires c κs = (long-at (c .before .before .before .before .before .before) .head, year-good (c .before), c .span-of .ensures)
 
 -- src/unsound.rt:39:9
 returns-4 : tie.Need-returns-4
@@ -98,15 +99,15 @@ returns-4 c =
 
 -- src/unsound.rt:41:19
 shared-slice-read-members : tie.Need-shared-slice-read-members
-shared-slice-read-members c = omega (arith, long-at (c .before .before .before .before .before .before .before .before .before) .head-length)
+shared-slice-read-members c = omega (arith, long-at (c .before .before .before .before .before .before .before .before .before) .head)
 
 -- src/unsound.rt:42:15
 shared-slice-read-run : tie.Need-shared-slice-read-run
-shared-slice-read-run c = omega (arith, long-at (c .before .before .before .before .before .before .before .before .before .before) .head-length)
+shared-slice-read-run c = omega (arith, long-at (c .before .before .before .before .before .before .before .before .before .before) .head)
 
 -- src/unsound.rt:43:9
 are-prices-sound-requires : tie.Need-are-prices-sound-requires
-are-prices-sound-requires c κs = (long-at (c .before .before .before .before .before .before .before .before .before .before) .prices-length, holds-at (c .before .before) .most-run)
+are-prices-sound-requires c κs = (long-at (c .before .before .before .before .before .before .before .before .before .before) .prices, gives (c .before .before) .run≤)
 
 -- src/unsound.rt:44:9
 returns-5 : tie.Need-returns-5
@@ -115,7 +116,7 @@ returns-5 c = prices-fail (of (c .before .before .before .before .before .before
 
 -- src/unsound.rt:46:9
 are-rows-within-requires : tie.Need-are-rows-within-requires
-are-rows-within-requires c κs = let h = holds-at (c .before .before .before .before) in (long-at (c .before .before .before .before .before .before .before .before .before .before .before .before) .lots-length, h .most-members, omega arith)
+are-rows-within-requires c κs = let h = gives (c .before .before .before .before) in (long-at (c .before .before .before .before .before .before .before .before .before .before .before .before) .lots, h .members-range .to, omega arith)
 
 -- src/unsound.rt:47:9
 returns-6 : tie.Need-returns-6
@@ -123,11 +124,11 @@ returns-6 c = lots-fail (of (c .before .before .before .before .before .before .
 
 -- src/unsound.rt:49:41
 mul-are-rows-within : tie.Need-mul-are-rows-within
-mul-are-rows-within c = omega (arith, holds-at (c .before .before .before .before .before .before) .most-run)
+mul-are-rows-within c = omega (arith, gives (c .before .before .before .before .before .before) .run≤)
 
 -- src/unsound.rt:49:9
 are-rows-within-requires-2 : tie.Need-are-rows-within-requires-2
-are-rows-within-requires-2 c κs = let h = holds-at (c .before .before .before .before .before .before) in (long-at (c .before .before .before .before .before .before .before .before .before .before .before .before .before .before) .value-length, h .most-members, omega arith)
+are-rows-within-requires-2 c κs = let h = gives (c .before .before .before .before .before .before) in (long-at (c .before .before .before .before .before .before .before .before .before .before .before .before .before .before) .value, h .members-range .to, omega arith)
 
 -- src/unsound.rt:50:9
 returns-7 : tie.Need-returns-7
@@ -136,9 +137,9 @@ returns-7 c = value-fails (of (c .before .before .before .before .before .before
 -- src/unsound.rt:52:6
 is-book-sound-requires : tie.Need-is-book-sound-requires
 is-book-sound-requires c κs =
-    let h = holds-at (c .before .before .before .before .before .before .before .before) in
+    let h = gives (c .before .before .before .before .before .before .before .before) in
     let long = long-at (c .before .before .before .before .before .before .before .before .before .before .before .before .before .before .before .before) in
-    ((long .head-length, c .before .before .before .before .before .before .before .before .before .before .span-of .ensures, long .book-length), (h .most-accepted, h .most-orders))
+    ((long .head, c .before .before .before .before .before .before .before .before .before .before .span-of .ensures, long .book), (h .accepted≤, h .orders≤))
 
 -- src/unsound.rt:17:1
 returns-8 : tie.Need-returns-8
