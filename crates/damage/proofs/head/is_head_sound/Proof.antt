@@ -16,8 +16,6 @@ use Rattle.damage.proofs.head.is_head_sound.Statement.{statement}
 use Rattle.damage.proofs.head.is_head_sound.Tie as tie
 use Rattle.damage.proofs.head.is_head_sound.Reads as reads
 use Rattle.damage.proofs.head.is_head_sound.Lts as lts
-use Rattle.damage.proofs.days.is_calendar_sound.Reads as is-calendar-sound-reads
-use Rattle.damage.proofs.days.is_day_sound.Reads as is-day-sound-reads
 use Rattle.damage.proofs.head.are_members_sound.Reads as are-members-sound-reads
 
 -- src/head.rt:43:19

@@ -13,8 +13,6 @@ use Rattle.damage.proofs.unsound.is_unsound.Tie as tie
 use Rattle.damage.proofs.unsound.is_unsound.Reads as reads
 use Rattle.damage.proofs.unsound.is_unsound.Lts as lts
 use Rattle.damage.proofs.book.is_book_sound.Reads as is-book-sound-reads
-use Rattle.damage.proofs.days.is_first_year_sound.Reads as is-first-year-sound-reads
-use Rattle.damage.proofs.days.span_of.Reads as span-of-reads
 use Rattle.damage.proofs.head.is_head_sound.Reads as is-head-sound-reads
 use Rattle.damage.proofs.lengths.is_ledger_short.Reads as is-ledger-short-reads
 use Rattle.damage.proofs.lengths.is_lines_short.Reads as is-lines-short-reads
