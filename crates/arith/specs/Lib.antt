@@ -11,5 +11,6 @@ pub mod Among
 pub mod Terms
 pub mod Sizes
 pub mod EachBlock
+pub mod Bits
 pub mod Runs
 pub mod Columns

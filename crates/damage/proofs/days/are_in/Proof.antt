@@ -1,0 +1,59 @@
+use borrow.Author.Needs.{needs}
+use native.Mathlib.Omega.{arith}
+use mathlib.Core.Path.{_≡_, refl}
+use mathlib.Core.Bool.{_&&_}
+use Prim.Native.Nat.{_-_, _≤_}
+use lib.ListN.{length, drop}
+use Rattle.arith.specs.Lists.{every}
+use Rattle.arith.proofs.Scans.{every-next, every-end}
+use Rattle.rules.specs.Days.{Calendar, inSpan}
+use Rattle.damage.specs.Spans.{IsSpan}
+use Rattle.damage.proofs.days.are_in.Statement.{statement}
+use Rattle.damage.proofs.days.are_in.Tie as tie
+
+abbrev Inv-loop : tie.InvT-loop
+Inv-loop span days ok₀ i₀ ok i = (i ≤ length days) × ((k : Calendar) → IsSpan span k → ok && every (inSpan k) (drop i days) ≡ every (inSpan k) days)
+
+abbrev μ-loop : tie.MeasureT-loop
+μ-loop span days ok₀ i₀ ok i = length days - i
+
+loop-holds : tie.Need-loop-holds Inv-loop μ-loop
+loop-holds c = (omega arith, λ k s. refl)
+
+mul-t5 : tie.Need-mul-t5 Inv-loop μ-loop
+mul-t5 c = search needs
+
+shared-slice-read-t8 : tie.Need-shared-slice-read-t8 Inv-loop μ-loop
+shared-slice-read-t8 c = search needs
+
+is-in-requires : tie.Need-is-in-requires Inv-loop μ-loop
+is-in-requires c κs = search needs
+
+add-i : tie.Need-add-i Inv-loop μ-loop
+add-i c = search needs
+
+loop-less : tie.Need-loop-less Inv-loop μ-loop
+loop-less c = search needs
+
+loop-again : tie.Need-loop-again Inv-loop μ-loop
+loop-again c =
+    let l = c .before .before .before .loop in
+    (omega arith, λ k s. rw (c .is-in .ensures k s) (every-next (inSpan k) (c .before .before .before .before .before .args .days .now) 0 (l .i) (l .ok) (l .inv .1 k s) (c .before .before .loop-test .taken)))
+
+returns : tie.Need-returns Inv-loop μ-loop
+returns c = let l = c .before .loop in λ k s. every-end (inSpan k) (c .before .before .before .args .days .now) 0 (l .i) (l .ok) (l .inv .1 k s) (c .loop-test .left)
+
+pub are-in-spec : {M : Type 1} → statement M
+are-in-spec =
+    tie.close
+    (tie.spec
+    Inv-loop
+    μ-loop
+    loop-holds
+    mul-t5
+    shared-slice-read-t8
+    is-in-requires
+    add-i
+    loop-less
+    loop-again
+    returns)

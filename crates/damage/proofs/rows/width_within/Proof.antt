@@ -1,0 +1,36 @@
+use native.Mathlib.Omega.{arith}
+use mathlib.Core.Path.{_≡_, refl, _∙_}
+use native.Mathlib.Nat.{one-mul}
+use Prim.Native.Nat.{_*_, _-_, _%_, _^_, _≤_}
+use lib.Count.{leadingZeros, leading-le}
+use lib.Pow.{pow-mono}
+use Rattle.damage.proofs.Columns.{digits}
+use borrow.Author.Needs.{needs}
+use Rattle.damage.proofs.rows.width_within.Statement.{statement}
+use Rattle.damage.proofs.rows.width_within.Tie as tie
+use Rattle.damage.proofs.rows.width_within.Reads as reads
+use Rattle.damage.proofs.rows.width_within.Lts as lts
+
+-- src/rows.rt:131:11
+sub-result : tie.Need-sub-result
+sub-result c = leading-le 64 (c .args .bound)
+
+-- src/rows.rt:131:11
+cast-result : tie.Need-cast-result
+cast-result c = search needs
+
+-- src/rows.rt:131:5
+shl-result : tie.Need-shl-result
+shl-result c = omega (arith, digits (c .args .bound) (c .pre) .0)
+
+-- src/rows.rt:127:1
+returns : tie.Need-returns
+returns c =
+    let b = c .args .bound in
+    let told = digits b (c .pre) in
+    let small : 2 ^ (64 - leadingZeros 64 b) ≤ 2 ^ 62 = pow-mono (told .0) in
+    let whole : (1 * 2 ^ (64 - leadingZeros 64 b)) % 2 ^ 64 ≡ 2 ^ (64 - leadingZeros 64 b) = omega arith in
+    (64 - leadingZeros 64 b, (told .0, whole), rw whole (told .1))
+
+pub width-within-spec : {M : Type 1} → statement M
+width-within-spec = tie.close (tie.spec sub-result cast-result shl-result returns)
