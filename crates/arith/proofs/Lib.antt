@@ -4,3 +4,7 @@ pub mod Writes
 pub mod Appends
 pub mod Signed
 pub mod Bits
+pub mod Beside
+pub mod Runs
+pub mod Padded
+pub mod Widths

@@ -12,5 +12,4 @@ pub mod Terms
 pub mod Sizes
 pub mod EachBlock
 pub mod Bits
-pub mod Runs
 pub mod Columns

@@ -7,9 +7,9 @@ use native.Mathlib.Omega.{arith}
 use borrow.Author.Tests.{le-leb, lt-leb, eq-eqb, ne-eqb}
 use lib.Dec.{eqb, leb}
 use lib.ListN.{length, getD}
-use Rattle.arith.specs.Columns.{column-at}
+use Rattle.arith.proofs.Padded.{column-at}
 use Rattle.arith.specs.Lists.{from, every}
-use Rattle.arith.specs.Runs.{length-run, run-of}
+use Rattle.arith.proofs.Runs.{length-run, run-of}
 use Rattle.arith.specs.Tests.{never, le-or-lt, and-false}
 use Rattle.rules.specs.declared.event.Event.the-variants.{Submit, Cancel, DayLimits, Proposal, Default, CloseOut, CloseOfDay}
 use Rattle.rules.specs.declared.event.Event.{Event}

@@ -8,9 +8,9 @@ use borrow.Author.Tests.{lt-leb, le-leb, le-ltb, eq-eqb, ne-eqb}
 use lib.Dec.{T, eqb, leb, ltb}
 use lib.ListN.{length, getD, take, drop, length-append, List·getD-append}
 use Rattle.arith.specs.Alls.{All, every-all}
-use Rattle.arith.specs.Blocks.{length-flat}
+use Rattle.arith.proofs.Appends.{flat-length}
 use Rattle.arith.specs.Lists.{every, over}
-use Rattle.arith.specs.Overs.{take-over}
+use Rattle.arith.proofs.Beside.{take-over}
 use Rattle.arith.specs.Tests.{never, same-or, and-left, and-right, and-false}
 use Rattle.rules.specs.declared.answer.Answer.the-variants.{Accepted, RecordUnsound}
 use Rattle.rules.specs.declared.event.Event.the-variants.{Submit, Cancel, DayLimits, Proposal, Default, CloseOut, CloseOfDay}
@@ -97,7 +97,7 @@ fields-back (DayLimits e) legs w l =
       u32-back (3 ∷ e .contract ∷ u32Bytes (e .low .0)) [] 6 refl (e .high .0) (omega arith),
     ) refl
 fields-back (Proposal k) legs w l =
-    let whole : length (flatMap legBytes legs) ≡ 10 * k = length-flat legBytes 10 leg-wide legs ∙ ap (λ n. 10 * n) l in
+    let whole : length (flatMap legBytes legs) ≡ 10 * k = omega (arith, flat-length 10 legBytes leg-wide legs) in
     rw (eq-eqb (length (4 ∷ k ∷ flatMap legBytes legs)) (legPlace k) (omega arith)) refl
 fields-back (Default m) legs w l = refl
 fields-back (CloseOut e) legs w l = rw (u16-back (6 ∷ e .contract ∷ []) [] 2 refl (e .ratio) (omega arith)) refl

@@ -7,9 +7,9 @@ use native.Mathlib.Omega.{arith}
 use borrow.Author.Tests.{lt-ltb, le-ltb, lt-leb, leb-true}
 use lib.Dec.{leb, ltb}
 use lib.ListN.{length}
-use Rattle.arith.specs.Blocks.{length-flat}
+use Rattle.arith.proofs.Appends.{flat-length}
 use Rattle.arith.specs.Lists.{over}
-use Rattle.arith.specs.Overs.{over-then}
+use Rattle.arith.proofs.Beside.{over-then}
 use Rattle.arith.specs.Tests.{never, le-or-lt, and-right, and-false}
 use Rattle.rules.specs.declared.answer.Answer.the-variants.{Accepted, TableUnsound, RecordUnsound}
 use Rattle.rules.specs.declared.event.Event.the-variants.{Submit, Cancel, DayLimits, Proposal, Default, CloseOut, CloseOfDay}
@@ -30,7 +30,7 @@ length-record (Submit e) legs l = refl
 length-record (Cancel e) legs l = refl
 length-record (DayLimits e) legs l = refl
 length-record (Proposal k) legs l =
-    let flat : length (flatMap legBytes legs) ≡ 10 * k = length-flat legBytes 10 leg-wide legs ∙ ap (λ n. 10 * n) l in
+    let flat : length (flatMap legBytes legs) ≡ 10 * k = omega (arith, flat-length 10 legBytes leg-wide legs) in
     omega arith
 length-record (Default m) legs l = refl
 length-record (CloseOut e) legs l = refl

@@ -14,11 +14,12 @@ use Rattle.arith.specs.Tests.{never, le-or-lt, by-bool, same-test, and-left, an
 use Rattle.rules.specs.declared.answer.Answer.the-variants.{Accepted, TableUnsound, HeaderUnsound}
 use Rattle.rules.specs.Days.{businessDay, inSpan}
 use Rattle.rules.specs.Header.{Header, u16At, u32At, u16Bytes, u32Bytes, u16sAt, u32sAt, lettersAndVersion, sameBytes, headerOf, headerLength, beginsWithHeader, rising, calendarOf, calendarSound, membersSound, limitSound, daySound, headerSound, headerBytes, writeHeaderSpec}
-use Rattle.arith.specs.Columns.{padded, padded-at}
+use Rattle.arith.specs.Columns.{padded}
+use Rattle.arith.proofs.Padded.{padded-at}
 use Rattle.header.specs.Journal.{firsts, daysSound, headerFrom, headerColumns, blankHeader, headerReading}
 use Rattle.big_endian.proofs.Numbers.{u16-wide, u32-wide}
-use Rattle.arith.specs.Blocks.{length-flat}
-use Rattle.arith.specs.Runs.{length-run, run-of}
+use Rattle.arith.proofs.Appends.{flat-length}
+use Rattle.arith.proofs.Runs.{length-run, run-of}
 use Rattle.header.specs.declared.journal.JournalHeader.{JournalHeader}
 
 -- ---- the first numbers of a column
@@ -137,10 +138,10 @@ module _ (s : List ℕ) where
 -- ---- writing
 module _ (h : JournalHeader) where
   pub length-holidays : length (flatMap u16Bytes (firsts (h .«holiday_count») (h .holidays))) ≡ 2 * h .«holiday_count»
-  length-holidays = length-flat u16Bytes 2 u16-wide (firsts (h .«holiday_count») (h .holidays)) ∙ ap (λ k. 2 * k) (length-firsts (h .«holiday_count») (h .holidays))
+  length-holidays = let days = firsts (h .«holiday_count») (h .holidays) in omega (arith, flat-length 2 u16Bytes u16-wide days, length-firsts (h .«holiday_count») (h .holidays))
 
   length-limits : length (flatMap u32Bytes (firsts (h .members) (h .limits))) ≡ 4 * h .members
-  length-limits = length-flat u32Bytes 4 u32-wide (firsts (h .members) (h .limits)) ∙ ap (λ k. 4 * k) (length-firsts (h .members) (h .limits))
+  length-limits = omega (arith, flat-length 4 u32Bytes u32-wide (firsts (h .members) (h .limits)), length-firsts (h .members) (h .limits))
 
   pub length-header : length (headerBytes (headerFrom h)) ≡ 11 + 2 * h .«holiday_count» + 4 * h .members
   unfolding headerBytes u16Bytes

@@ -10,7 +10,7 @@ use lib.Seq.{take-at}
 use lib.ListN.{length, getD, take, drop, length-append, take-append-drop}
 use Rattle.arith.specs.Alls.{All, every-all, all-map}
 use Rattle.arith.specs.Lists.{from, every, total, over}
-use Rattle.arith.specs.Overs.{over-front}
+use Rattle.arith.proofs.Writes.{over-front}
 use Rattle.arith.specs.Tests.{by-bool, and-right, and-false}
 use Rattle.rules.specs.Ranges.{mostFirstYear, mostLimit}
 use Rattle.rules.specs.Days.{Calendar, leapYear, yearStart, monthStart, spanStart, dayAfterSpan, inSpan}
@@ -23,7 +23,7 @@ use Rattle.header.specs.Trips.{WrittenIsRead, ReadIsWritten}
 use Rattle.header.specs.declared.journal.JournalHeader.{JournalHeader}
 use Rattle.header.specs.declared.reader.HeaderReading.{HeaderReading}
 use Rattle.big_endian.proofs.Numbers.{bytes-small, u16-wide, u32-wide, u16-back, u32-back, all-back, u8-again, u16-again, u32-again, all-again}
-use Rattle.arith.specs.Blocks.{length-flat}
+use Rattle.arith.proofs.Appends.{flat-length}
 
 -- ---- days fit two bytes
 years-most : (n : ℕ) → yearStart n ≤ 366 * n
@@ -96,7 +96,7 @@ module _ (h : Header) (x : Holds h) (rest : List ℕ) where
 
   length-front : length (front ++ flatMap u16Bytes (h .holidays)) ≡ 11 + 2 * length (h .holidays)
   unfolding front u16Bytes
-  length-front = length-append front (flatMap u16Bytes (h .holidays)) ∙ ap (λ k. 11 + k) (length-flat u16Bytes 2 u16-wide (h .holidays))
+  length-front = omega (arith, length-append front (flatMap u16Bytes (h .holidays)), flat-length 2 u16Bytes u16-wide (h .holidays))
 
   limits-back : u32sAt (headerBytes h ++ rest) (11 + 2 * length (h .holidays)) (length (h .limits)) ≡ h .limits
   unfolding u32sAt
@@ -118,7 +118,7 @@ module _ (h : Header) (x : Holds h) (rest : List ℕ) where
   length-back : length (headerBytes h) ≡ 11 + 2 * length (h .holidays) + 4 * h .members
   unfolding headerBytes u16Bytes
   length-back =
-      simp (length-append, length-flat u16Bytes 2 u16-wide (h .holidays), length-flat u32Bytes 4 u32-wide (h .limits)) (omega (arith, x .sized))
+      simp (length-append, flat-length 2 u16Bytes u16-wide (h .holidays), flat-length 4 u32Bytes u32-wide (h .limits)) (omega (arith, x .sized))
 
   length-read : headerLength (headerBytes h ++ rest) ≡ length (headerBytes h)
   unfolding headerLength headerBytes u16Bytes

@@ -2,7 +2,7 @@ use mathlib.Core.Path.{refl}
 use native.Mathlib.Omega.{arith}
 use borrow.Author.Needs.{needs}
 use Rattle.rules.specs.Header.{u16Bytes}
-use Rattle.arith.specs.Overs.{over-next}
+use Rattle.arith.proofs.Beside.{over-next}
 use Rattle.big_endian.proofs.put_u16.Statement.{statement}
 use Rattle.big_endian.proofs.put_u16.Tie as tie
 

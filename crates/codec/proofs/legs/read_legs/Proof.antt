@@ -3,7 +3,8 @@ use native.Mathlib.Omega.{arith}
 use mathlib.Core.List.{map}
 use mathlib.Core.Path.{_≡_, refl, ap, _∙_}
 use Prim.Native.Nat.{_-_, _≤_}
-use Rattle.arith.specs.Columns.{padded, column-next}
+use Rattle.arith.specs.Columns.{padded}
+use Rattle.arith.proofs.Padded.{column-next}
 use Rattle.arith.specs.Lists.{from}
 use Rattle.rules.specs.Ranges.{mostLegs}
 use Rattle.rules.specs.Records.{legPlace, legAt}

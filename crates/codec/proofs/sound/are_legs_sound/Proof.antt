@@ -5,7 +5,7 @@ use mathlib.Core.Path.{_≡_, ap, _∙_}
 use mathlib.Core.Bool.{_&&_}
 use Prim.Native.Nat.{_-_, _≤_}
 use Rattle.arith.specs.Lists.{every, from}
-use Rattle.arith.specs.Runs.{each-start, each-next, each-end}
+use Rattle.arith.proofs.Runs.{run-start, run-passed, run-end}
 use Rattle.rules.specs.Records.{legSound}
 use Rattle.codec.specs.Columns.{legRow, legRows}
 use Rattle.codec.proofs.sound.are_legs_sound.Statement.{statement}
@@ -19,7 +19,7 @@ abbrev μ-loop : tie.MeasureT-loop
 
 loop-holds : tie.Need-loop-holds Inv-loop μ-loop
 unfolding legRows
-loop-holds c = (omega arith, each-start legSound _ _)
+loop-holds c = (omega arith, run-start legSound _ _)
 
 leg-of-requires : tie.Need-leg-of-requires Inv-loop μ-loop
 leg-of-requires c κs = search needs
@@ -37,10 +37,10 @@ loop-again : tie.Need-loop-again Inv-loop μ-loop
 loop-again c =
     let l = c .before .before .before .loop in
     let judged = c .is-leg-sound .ensures ∙ ap legSound (c .before .leg-of .ensures) in
-    (omega arith, rw judged (each-next legSound (legRow (c .before .before .before .before .args .legs)) _ (l .i) (l .ok) (l .inv .1) (c .before .before .loop-test .taken)))
+    (omega arith, rw judged (run-passed legSound (legRow (c .before .before .before .before .args .legs)) _ (l .i) (l .ok) (l .inv .1) (c .before .before .loop-test .taken)))
 
 returns : tie.Need-returns Inv-loop μ-loop
-returns c = let l = c .before .loop in each-end legSound (legRow (c .before .before .args .legs)) _ (l .i) (l .ok) (l .inv .1) (c .loop-test .left)
+returns c = let l = c .before .loop in run-end legSound (legRow (c .before .before .args .legs)) _ (l .i) (l .ok) (l .inv .1) (c .loop-test .left)
 
 pub are-legs-sound-spec : {M : Type 1} → statement M
 are-legs-sound-spec =

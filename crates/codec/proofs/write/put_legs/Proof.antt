@@ -4,7 +4,7 @@ use mathlib.Core.List.{flatMap, map}
 use mathlib.Core.Path.{_≡_, refl}
 use Prim.Native.Nat.{_-_, _≤_}
 use lib.ListN.{length}
-use Rattle.arith.specs.Blocks.{blocks-none, blocks-next}
+use Rattle.arith.proofs.Widths.{blocks-none, blocks-next}
 use Rattle.arith.specs.Lists.{from, over}
 use Rattle.rules.specs.Records.{legBytes}
 use Rattle.codec.specs.Columns.{legRow, legRows}

@@ -6,7 +6,7 @@ use mathlib.Core.Bool.{_&&_}
 use Prim.Native.Nat.{_-_, _≤_}
 use lib.ListN.{getD}
 use Rattle.arith.specs.Lists.{every, from}
-use Rattle.arith.specs.Runs.{each-start, each-next, each-end}
+use Rattle.arith.proofs.Runs.{run-start, run-passed, run-end}
 use Rattle.rules.specs.Header.{limitSound}
 use Rattle.header.specs.Journal.{firsts}
 use Rattle.header.proofs.journal.are_limits_sound.Statement.{statement}
@@ -20,7 +20,7 @@ abbrev μ-loop : tie.MeasureT-loop
 
 loop-holds : tie.Need-loop-holds Inv-loop μ-loop
 unfolding firsts
-loop-holds c = (omega arith, each-start limitSound _ _)
+loop-holds c = (omega arith, run-start limitSound _ _)
 
 mul-ok : tie.Need-mul-ok Inv-loop μ-loop
 mul-ok c = search needs
@@ -35,10 +35,10 @@ loop-less : tie.Need-loop-less Inv-loop μ-loop
 loop-less c = search needs
 
 loop-again : tie.Need-loop-again Inv-loop μ-loop
-loop-again c = let l = c .before .loop in (omega arith, each-next limitSound (λ j. getD (c .before .before .args .t1) j 0) _ (l .i) (l .ok) (l .inv .1) (c .loop-test .taken))
+loop-again c = let l = c .before .loop in (omega arith, run-passed limitSound (λ j. getD (c .before .before .args .t1) j 0) _ (l .i) (l .ok) (l .inv .1) (c .loop-test .taken))
 
 returns : tie.Need-returns Inv-loop μ-loop
-returns c = let l = c .before .loop in each-end limitSound (λ j. getD (c .before .before .args .t1) j 0) _ (l .i) (l .ok) (l .inv .1) (c .loop-test .left)
+returns c = let l = c .before .loop in run-end limitSound (λ j. getD (c .before .before .args .t1) j 0) _ (l .i) (l .ok) (l .inv .1) (c .loop-test .left)
 
 pub are-limits-sound-spec : {M : Type 1} → statement M
 are-limits-sound-spec =

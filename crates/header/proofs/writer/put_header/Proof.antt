@@ -3,7 +3,7 @@ use native.Mathlib.Omega.{arith}
 use borrow.Author.Needs.{needs}
 use Rattle.rules.specs.Header.{u16Bytes, headerBytes}
 use Rattle.header.proofs.Headers.{length-firsts, length-holidays}
-use Rattle.arith.specs.Overs.{over-then}
+use Rattle.arith.proofs.Beside.{over-then}
 use Rattle.header.proofs.writer.put_header.Statement.{statement}
 use Rattle.header.proofs.writer.put_header.Tie as tie
 

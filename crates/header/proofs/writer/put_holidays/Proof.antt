@@ -8,7 +8,7 @@ use Rattle.arith.specs.Lists.{from, over}
 use Rattle.rules.specs.Header.{u16Bytes}
 use Rattle.header.specs.Journal.{firsts}
 use Rattle.big_endian.proofs.Numbers.{u16-wide}
-use Rattle.arith.specs.Blocks.{blocks-none, blocks-next}
+use Rattle.arith.proofs.Widths.{blocks-none, blocks-next}
 use Rattle.header.proofs.writer.put_holidays.Statement.{statement}
 use Rattle.header.proofs.writer.put_holidays.Tie as tie
 

@@ -1,7 +1,7 @@
 use mathlib.Core.Path.{refl}
 use native.Mathlib.Omega.{arith}
 use borrow.Author.Needs.{needs}
-use Rattle.arith.specs.Overs.{over-then}
+use Rattle.arith.proofs.Beside.{over-then}
 use Rattle.header.proofs.writer.put_letters.Statement.{statement}
 use Rattle.header.proofs.writer.put_letters.Tie as tie
 
