@@ -12,7 +12,7 @@ use Rattle.rules.specs.Contracts.{termOf, termClosingDay}
 use Rattle.rules.specs.Ledger.{Tables, calendar, withAcceptedSubmits, withLotsRun, withGgf, withDealt, withOrders, day, time, submitsThisSecond, orderCount, ggf, dayLots, dayValue, lotsAt, valueAt, orderAt}
 use Rattle.rules.specs.Refusals.{applySpec}
 use Rattle.rules.specs.Computed.{tablesAfter, computed}
-use Rattle.rules.specs.ExampleRecords.{buy, sell, close, made, monday, inHead, inPrices, held, order, Each}
+use Rattle.rules.specs.ExampleRecords.{buy, sell, close, made, monday, inHead, inPrices, held, order, bought, accepted, refused, Each, Prints}
 
 -- ---- the GGF
 -- An order of a contract: side, price, lots, day and time of entry.
@@ -142,14 +142,14 @@ unfolding computed
 closing-is-priced = refl
 
 -- Lots that net to zero carry their value: member 0 bought 4 of the year 2021 at 30000 and sold 4 of its first quarter at 31000.
-abbrev bought : List (List ℕ)
-bought = sell 1 17 30000 4 ∷ buy 0 17 30000 4 ∷ buy 1 18 31000 4 ∷ sell 0 18 31000 4 ∷ []
+abbrev yearAndQuarter : List (List ℕ)
+yearAndQuarter = sell 1 17 30000 4 ∷ buy 0 17 30000 4 ∷ buy 1 18 31000 4 ∷ sell 0 18 31000 4 ∷ []
 
 -- Member 0's lots and value in a contract, after so many closes: the first is of day 359, the year's closing day, the third
 -- of 363, the quarter's.
 abbrev rowAfter : ℕ × ℕ → ℤ × ℤ
 rowAfter (n, c) =
-    let t = tablesAfter (made 2020 359 [] (1000 ∷ 1000 ∷ [])) (bought ++ map (λ i. close 61200) (from 0 n)) in
+    let t = tablesAfter (made 2020 359 [] (1000 ∷ 1000 ∷ [])) (yearAndQuarter ++ map (λ i. close 61200) (from 0 n)) in
     (lotsAt t c 0, valueAt t c 0)
 
 rows-that-cascade : Each rowAfter
@@ -168,3 +168,24 @@ surplus-rows : Each (λ c. lotsAt (applySpec (held ((2, 17, pos 7) ∷ []) (made
     ((17, pos 7) ∷ (18, pos 0) ∷ [])
 unfolding computed held
 surplus-rows = refl
+
+-- A sound table that no list of records leads to: 10 lots of the year and 10 of its quarter, and a lots run of 10. The close
+-- is accepted and leaves 20 lots above the lots run.
+damaged-by-a-close : Prints (held ((0, 17, pos 10) ∷ (0, 18, pos 10) ∷ []) (inHead (withLotsRun 10) (made 2020 359 [] (1000 ∷ []))))
+    ((close 0, accepted []) ∷ (close 0, refused 1) ∷ [])
+unfolding computed held
+damaged-by-a-close = refl
+
+-- A cascade carries a member past its limit of 5 lots; its next submit meets 9.
+limit-passed-by-a-close : Prints (made 2020 359 [] (5 ∷ 1000 ∷ []))
+    ((sell 1 17 26000 5, accepted [])
+    ∷ (buy 0 17 26000 5, accepted (bought 0 1 17 5 26000))
+    ∷ (sell 1 18 26000 5, accepted [])
+    ∷ (buy 0 18 26000 5, accepted (bought 0 1 18 5 26000))
+    ∷ (close 36000, accepted [])
+    ∷ (buy 0 18 26000 1, refused 9)
+    ∷ (buy 0 19 26000 1, refused 9)
+    ∷ (sell 0 18 26000 15, accepted [])
+    ∷ [])
+unfolding computed
+limit-passed-by-a-close = refl
