@@ -33,6 +33,10 @@ after rs = tablesAfter monday rs
 abbrev oneDefaulted : ℕ → Tables
 oneDefaulted run = held ((0, 17, pos 5) ∷ []) (marked (0 ∷ []) (inPrices (withGgf 17 26000) (inHead (withLotsRun run) monday)))
 
+-- So many legs, of orders 0, 1 and so on.
+abbrev legs : ℕ → List ℕ
+legs n = proposal (map (λ i. (i, 1, 1)) (from 0 n))
+
 -- ---- the answers: tables, a record, and what is told
 answers : List (Tables × List ℕ × Told)
 answers =
@@ -46,6 +50,27 @@ answers =
     ∷ (monday, 5 ∷ 1 ∷ 0 ∷ [], no 3)
     ∷ (monday, 5 ∷ 1 ∷ [], lines 0)
     ∷ (monday, 8 ∷ 1 ∷ [], no 3)
+    -- 3: 13 legs and 1; with 12 and 2 it is 13, since no such orders rest
+    ∷ (monday, legs 13, no 3)
+    ∷ (monday, legs 12, no 13)
+    ∷ (monday, legs 2, no 13)
+    ∷ (monday, legs 1, no 3)
+    -- 3: ratio 1,001 and 0; with 1,000 and 1 it is 14
+    ∷ (monday, closeOut 17 1001, no 3)
+    ∷ (monday, closeOut 17 1000, no 14)
+    ∷ (monday, closeOut 17 1, no 14)
+    ∷ (monday, closeOut 17 0, no 3)
+    -- 3: price 1,000,001 and 0; contract 102; member 3 of three; time 86,400
+    ∷ (monday, buy 0 17 1000001 1, no 3)
+    ∷ (monday, buy 0 17 1000000 1, lines 0)
+    ∷ (monday, buy 0 17 1 1, lines 0)
+    ∷ (monday, buy 0 17 0 1, no 3)
+    ∷ (monday, buy 0 102 26000 1, no 3)
+    ∷ (monday, buy 0 101 26000 1, noOf 6 101)
+    ∷ (monday, buy 3 17 26000 1, no 3)
+    ∷ (monday, buy 2 17 26000 1, lines 0)
+    ∷ (monday, close 86400, no 3)
+    ∷ (monday, close 86399, lines 0)
     -- 4: submit, cancel, close of day
     ∷ (inHead (withTime 36001) monday, buy 0 17 26000 1, no 4)
     ∷ (after (buy 0 17 26000 1 ∷ []), cancel 35999 0 0, no 4)
@@ -81,8 +106,6 @@ answers =
     -- 11 needs a full book, which takes long to compute: crate rule_examples has it
     -- 12
     ∷ (after (buy 0 17 26000 1 ∷ []), cancel 36000 1 0, no 12)
-    -- 13
-    ∷ (monday, proposal ((0, 1, 1) ∷ (1, 1, 1) ∷ []), no 13)
     -- 14; 15; 16
     ∷ (inPrices (withGgf 17 0) (oneDefaulted 5), closeOut 17 1000, no 14)
     ∷ (inPrices (withGgf 17 26000) (marked (0 ∷ []) monday), closeOut 17 1000, no 15)
