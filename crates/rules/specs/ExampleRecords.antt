@@ -105,10 +105,14 @@ refused n = record { answer = record { number = n; value = 0 }; lines = [] }
 abbrev pub refusedOf : ℕ → ℕ → Printed
 refusedOf n v = record { answer = record { number = n; value = v }; lines = [] }
 
--- The calls with these records, one after the other, print what stands beside them.
-abbrev pub Prints : Tables → List (List ℕ × Printed) → Type 0
-Prints t calls = allPrinted t (map (λ x. x .0) calls) ≡ map (λ x. x .1) calls
+-- What is asked of each of these, beside its answer.
+abbrev pub Each : {A B : Type 0} → (A → B) → List (A × B) → Type 0
+Each asked xs = map (λ x. asked (x .0)) xs ≡ map (λ x. x .1) xs
 
 -- Each of these records, given to the same tables, prints what stands beside it.
 abbrev pub EachPrints : Tables → List (List ℕ × Printed) → Type 0
-EachPrints t calls = map (λ x. printed (applySpec t (x .0))) calls ≡ map (λ x. x .1) calls
+EachPrints t calls = Each (λ r. printed (applySpec t r)) calls
+
+-- The calls with these records, one after the other, print what stands beside them.
+abbrev pub Prints : Tables → List (List ℕ × Printed) → Type 0
+Prints t calls = allPrinted t (map (λ x. x .0) calls) ≡ map (λ x. x .1) calls

@@ -47,7 +47,11 @@ where-matching-stops = refl
 
 -- A member meets its own order; nobody meets an order of another contract.
 own-orders : Prints monday
-    ((sell 0 18 25900 1, accepted []) ∷ (sell 0 17 26000 1, accepted []) ∷ (sell 1 17 26000 1, accepted []) ∷ (buy 0 17 26000 2, accepted (bought 0 0 17 1 26000 ++ bought 0 1 17 1 26000)) ∷ [])
+    ((sell 0 18 25900 1, accepted [])
+    ∷ (sell 0 17 26000 1, accepted [])
+    ∷ (sell 1 17 26000 1, accepted [])
+    ∷ (buy 0 17 26000 2, accepted (bought 0 0 17 1 26000 ++ bought 0 1 17 1 26000))
+    ∷ [])
 unfolding computed
 own-orders = refl
 

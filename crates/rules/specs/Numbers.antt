@@ -6,13 +6,13 @@ use lib.ListN.{replicate}
 use lib.IntN.{pos, negsuc}
 use Rattle.arith.specs.Lists.{from}
 use Rattle.rules.specs.declared.event.OrderKind.the-variants.{Resting, Oeye, Teye}
-use Rattle.rules.specs.declared.order.Side.the-variants.{Buy, Sell}
+use Rattle.rules.specs.declared.order.Side.the-variants.{Buy}
 use Rattle.rules.specs.Answers.{Told, told}
 use Rattle.rules.specs.Header.{headerBytes}
-use Rattle.rules.specs.Ledger.{Tables, lineWidth, withHead, withTime, withAcceptedSubmits, withLotsRun, withGgf, withDayLimits, withLines, withOrders}
+use Rattle.rules.specs.Ledger.{Tables, lineWidth, withHead, withTime, withAcceptedSubmits, withLotsRun, withGgf, withDayLimits, withLines}
 use Rattle.rules.specs.Refusals.{applySpec, makeSpec}
 use Rattle.rules.specs.Computed.{zeroTables, tablesAfter, computed}
-use Rattle.rules.specs.ExampleRecords.{submit, buy, sell, cancel, limits, proposal, default, closeOut, close, made, monday, inHead, inPrices, marked, held, order}
+use Rattle.rules.specs.ExampleRecords.{submit, buy, sell, cancel, limits, proposal, default, closeOut, close, made, monday, inHead, inPrices, marked, held}
 
 -- A refusal; one with a member or contract; an acceptance with its line count.
 abbrev no : ℕ → Told
@@ -33,10 +33,9 @@ after rs = tablesAfter monday rs
 abbrev oneDefaulted : ℕ → Tables
 oneDefaulted run = held ((0, 17, pos 5) ∷ []) (marked (0 ∷ []) (inPrices (withGgf 17 26000) (inHead (withLotsRun run) monday)))
 
--- 256 sells of the first quarter of 2022 rest, one of them at 30000.
-fullBook : Tables
-fullBook =
-    withOrders (order 0 1 18 Sell 30000 2 369 0 ∷ map (λ n. order n 1 18 Sell 31000 1 369 0) (from 1 255)) (inHead (withAcceptedSubmits 256) monday)
+-- So many legs, of orders 0, 1 and so on.
+abbrev legs : ℕ → List ℕ
+legs n = proposal (map (λ i. (i, 1, 1)) (from 0 n))
 
 -- ---- the answers: tables, a record, and what is told
 answers : List (Tables × List ℕ × Told)
@@ -51,6 +50,27 @@ answers =
     ∷ (monday, 5 ∷ 1 ∷ 0 ∷ [], no 3)
     ∷ (monday, 5 ∷ 1 ∷ [], lines 0)
     ∷ (monday, 8 ∷ 1 ∷ [], no 3)
+    -- 3: 13 legs and 1; with 12 and 2 it is 13, since no such orders rest
+    ∷ (monday, legs 13, no 3)
+    ∷ (monday, legs 12, no 13)
+    ∷ (monday, legs 2, no 13)
+    ∷ (monday, legs 1, no 3)
+    -- 3: ratio 1,001 and 0; with 1,000 and 1 it is 14
+    ∷ (monday, closeOut 17 1001, no 3)
+    ∷ (monday, closeOut 17 1000, no 14)
+    ∷ (monday, closeOut 17 1, no 14)
+    ∷ (monday, closeOut 17 0, no 3)
+    -- 3: price 1,000,001 and 0; contract 102; member 3 of three; time 86,400
+    ∷ (monday, buy 0 17 1000001 1, no 3)
+    ∷ (monday, buy 0 17 1000000 1, lines 0)
+    ∷ (monday, buy 0 17 1 1, lines 0)
+    ∷ (monday, buy 0 17 0 1, no 3)
+    ∷ (monday, buy 0 102 26000 1, no 3)
+    ∷ (monday, buy 0 101 26000 1, noOf 6 101)
+    ∷ (monday, buy 3 17 26000 1, no 3)
+    ∷ (monday, buy 2 17 26000 1, lines 0)
+    ∷ (monday, close 86400, no 3)
+    ∷ (monday, close 86399, lines 0)
     -- 4: submit, cancel, close of day
     ∷ (inHead (withTime 36001) monday, buy 0 17 26000 1, no 4)
     ∷ (after (buy 0 17 26000 1 ∷ []), cancel 35999 0 0, no 4)
@@ -83,14 +103,9 @@ answers =
     -- 10; OEYE that meets nothing is accepted
     ∷ (monday, submit 36000 Teye Buy 0 17 26000 1, no 10)
     ∷ (monday, submit 36000 Oeye Buy 0 17 26000 1, lines 0)
-    -- 11, before 17; accepted if nothing is left of it, or if it takes the place of an order that it used up
-    ∷ (inHead (withAcceptedSubmits 4000000000) fullBook, buy 0 18 29999 1, no 11)
-    ∷ (fullBook, buy 0 18 30000 1, lines 2)
-    ∷ (fullBook, buy 0 18 30000 3, lines 2)
+    -- 11 needs a full book, which takes long to compute: crate rule_examples has it
     -- 12
     ∷ (after (buy 0 17 26000 1 ∷ []), cancel 36000 1 0, no 12)
-    -- 13
-    ∷ (monday, proposal ((0, 1, 1) ∷ (1, 1, 1) ∷ []), no 13)
     -- 14; 15; 16
     ∷ (inPrices (withGgf 17 0) (oneDefaulted 5), closeOut 17 1000, no 14)
     ∷ (inPrices (withGgf 17 26000) (marked (0 ∷ []) monday), closeOut 17 1000, no 15)
@@ -108,7 +123,7 @@ answers =
     ∷ []
 
 numbers : map (λ x. told (applySpec (x .0) (x .1) .answer)) answers ≡ map (λ x. x .2) answers
-unfolding computed held marked fullBook answers
+unfolding computed held marked answers
 numbers = refl
 
 -- ---- lower number wins: records with two causes that follow each other

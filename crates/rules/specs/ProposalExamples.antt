@@ -1,13 +1,14 @@
 -- Document 01, "Synthetic matching": proposals that are accepted beside those that are not, computed.
-use Prim.Native.Nat.{ℕ, _+_, _*_}
+use Prim.Native.Nat.{ℕ}
 use mathlib.Core.Path.{_≡_, refl}
 use mathlib.Core.List.{List, [], _∷_, map}
 use lib.IntN.{pos, negsuc}
 use Rattle.rules.specs.declared.order.Side.the-variants.{Buy, Sell}
+use Rattle.rules.specs.Answers.{Outcome}
 use Rattle.rules.specs.Ledger.{Tables, withAcceptedSubmits, withLotsRun, withOrders, orders, dayLots}
 use Rattle.rules.specs.Refusals.{applySpec}
 use Rattle.rules.specs.Computed.{Printed, printed, tablesAfter, computed}
-use Rattle.rules.specs.ExampleRecords.{limits, proposal, monday, inHead, order, line, accepted, refused, EachPrints}
+use Rattle.rules.specs.ExampleRecords.{limits, proposal, monday, inHead, order, line, accepted, refused, Each, EachPrints}
 
 -- A proposal of one lot of each of orders 0 to 3, at these prices.
 abbrev ones : ℕ → ℕ → ℕ → ℕ → List ℕ
@@ -24,6 +25,9 @@ quarterBy b s =
     ∷ order 4 s 24 Sell 30000 2 369 0
     ∷ [])
     (inHead (withAcceptedSubmits 5) monday)
+
+abbrev usedInPart : Outcome Tables
+usedInPart = applySpec (quarterBy 0 1) (proposal ((0, 2, 31300) ∷ (1, 2, 31300) ∷ (2, 2, 31300) ∷ (3, 2, 31300) ∷ []))
 
 abbrev fourLines : ℕ → Printed
 fourLines p = accepted (line 0 18 (pos 1) p ∷ line 1 22 (negsuc 0) p ∷ line 1 23 (negsuc 0) p ∷ line 1 24 (negsuc 0) p ∷ [])
@@ -73,7 +77,7 @@ unfolding computed
 which-legs = refl
 
 -- One member is not enough, nor one contract.
-two-members : map (λ m. printed (applySpec (quarterBy m 1) (ones 31300 31300 31300 31300))) (0 ∷ 1 ∷ []) ≡ fourLines 31300 ∷ refused 13 ∷ []
+two-members : Each (λ m. printed (applySpec (quarterBy m 1) (ones 31300 31300 31300 31300))) ((0, fourLines 31300) ∷ (1, refused 13) ∷ [])
 unfolding computed
 two-members = refl
 
@@ -94,15 +98,18 @@ unfolding computed
 lots-of-legs = refl
 
 -- Its four lines count in the lots run.
-run-of-legs : map (λ run. printed (applySpec (inHead (withLotsRun run) (quarterBy 0 1)) (ones 31300 31300 31300 31300))) (4999996 ∷ 4999997 ∷ [])
-    ≡ fourLines 31300 ∷ refused 17 ∷ []
+run-of-legs : Each (λ run. printed (applySpec (inHead (withLotsRun run) (quarterBy 0 1)) (ones 31300 31300 31300 31300)))
+    ((4999996, fourLines 31300) ∷ (4999997, refused 17) ∷ [])
 unfolding computed
 run-of-legs = refl
 
--- What is left rests with its number, and no lots count in M.
-after-a-proposal :
-    (let t = applySpec (quarterBy 0 1) (proposal ((0, 2, 31300) ∷ (1, 2, 31300) ∷ (2, 2, 31300) ∷ (3, 2, 31300) ∷ [])) .after in
-    dayLots t 18 ∷ dayLots t 22 ∷ map (λ o. 10 * o .number + o .lots .0) (orders t))
-    ≡ 0 ∷ 0 ∷ 1 ∷ 11 ∷ 21 ∷ 42 ∷ []
+-- What is left rests with its number: number and lots of each order.
+after-a-proposal : map (λ o. o .number ∷ o .lots .0 ∷ []) (orders (usedInPart .after))
+    ≡ (0 ∷ 1 ∷ []) ∷ (1 ∷ 1 ∷ []) ∷ (2 ∷ 1 ∷ []) ∷ (4 ∷ 2 ∷ []) ∷ []
 unfolding computed
 after-a-proposal = refl
+
+-- Synthetic lots do not count in M.
+synthetic-lots : Each (dayLots (usedInPart .after)) ((18, 0) ∷ (22, 0) ∷ [])
+unfolding computed
+synthetic-lots = refl
