@@ -21,23 +21,23 @@ pub fn make(
     if damage::is_ledger_short(&*head, &*prices, &*lots, &*value, book) {
         return Answer::TableUnsound;
     }
-    let reading = codec::read_header(bytes);
-    let header = reading.header;
+    let reading = header::read_header(bytes);
+    let read = reading.header;
     // An unsound header comes back as zeros; a sound one has at least one member.
-    if header.members == 0 {
+    if read.members == 0 {
         return Answer::HeaderUnsound;
     }
-    let holidays = header.holidays;
-    let limits = header.limits;
-    let days = header.holiday_count as usize;
-    let members = header.members as usize;
+    let holidays = read.holidays;
+    let limits = read.limits;
+    let days = read.holiday_count as usize;
+    let members = read.members as usize;
     tables::write_fresh(
         &mut *head,
         &mut *prices,
         &mut *lots,
         &mut *value,
-        header.first_year,
-        header.start_day,
+        read.first_year,
+        read.start_day,
         &holidays[..days],
         &limits[..members],
     );
