@@ -1,7 +1,7 @@
 -- Tests, and proofs by the value of a test. Assumes nothing.
 use Prim.Native.Nat.{ℕ, suc, _+_, _≤_, _<_}
 use mathlib.Core.Path.{_≡_, refl, sym, _∙_}
-use mathlib.Core.Bool.{Bool, true, false, not, _&&_, _||_, and-assoc}
+use mathlib.Core.Bool.{Bool, true, false, not, _&&_, _||_}
 use mathlib.Core.List.{List, [], _∷_, _++_}
 use native.Mathlib.Omega.{arith}
 use native.Mathlib.Numerals.{add-one}
@@ -9,7 +9,7 @@ use lib.Dec.{T, eqb, eqb→eq, eqb-refl, leb, leb→le, nleb→lt, ltb}
 use lib.ListN.{length, getD, drop, drop-of-length-le}
 use lib.Seq.{drop-cons}
 use borrow.Author.Tests.{lt-ltb, le-ltb, le-leb, lt-leb, eq-eqb, ne-eqb, ltb-true, not-true, not-false}
-use Rattle.arith.specs.Lists.{every, any}
+use Rattle.arith.specs.Lists.{any}
 
 -- no test has both values
 pub never {ℓ} : {P : Type ℓ} → true ≡ false → P
@@ -116,19 +116,6 @@ module _ {A : Type 0} (p : A → Bool) (l : List A) (z : A) (i : ℕ) (found : B
   pub any-end : length l ≤ i → found ≡ any p l
   unfolding any
   any-end h = sym (or-false found) ∙ rw (drop-of-length-le l h) at known
-
-every-cons : {A : Type 0} (p : A → Bool) (x : A) (l : List A) → every p (x ∷ l) ≡ p x && every p l
-unfolding every
-every-cons p x l = refl
-
--- the same with ok, whether the first i all passed
-module _ {A : Type 0} (p : A → Bool) (l : List A) (z : A) (i : ℕ) (ok : Bool) (known : ok && every p (drop i l) ≡ every p l) where
-  pub every-next : i < length l → (ok && p (getD l i z)) && every p (drop (i + 1) l) ≡ every p l
-  every-next h = and-assoc ok (p (getD l i z)) (every p (drop (i + 1) l)) ∙ rw (add-one, ← every-cons p (getD l i z) (drop (suc i) l), ← drop-cons l i z h) known
-
-  pub every-end : length l ≤ i → ok ≡ every p l
-  unfolding every
-  every-end h = sym (and-true ok) ∙ rw (drop-of-length-le l h) at known
 
 -- ---- what a return goes by
 -- each test that led there, as the Bool that the rules test

@@ -13,9 +13,9 @@ use Rattle.rules.specs.CalendarLaws.{month-le}
 use Rattle.rules.specs.Ledger.{Tables, calendar, members, acceptedSubmits, orderCount, orderAt, sideAt, orders}
 use Rattle.rules.specs.Records.{contractSound, priceSound, lotsSound, timeSound}
 use Rattle.rules.specs.Refusals.{distinct, orderSound, sidesSound, bookSound}
-use Rattle.damage.specs.declared.days.Span.{Span}
+use Rattle.calendar.specs.declared.months.Span.{Span}
+use Rattle.calendar.specs.Spans.{IsSpan}
 use Rattle.damage.specs.Orders.{numberAt, restSound, placeSound, placesSound}
-use Rattle.damage.specs.Spans.{IsSpan}
 use Rattle.damage.proofs.InTurn.{up-to}
 
 pub span-rises : (s : Span) (k : Calendar) → IsSpan s k → s .start .0 ≤ s .end .0

@@ -1,7 +1,6 @@
 // Whether what is lent is too short or damaged: every record is turned back with 1 then.
 mod between;
 mod book;
-mod days;
 mod head;
 mod lengths;
 mod prices;

@@ -3,13 +3,13 @@ ghost use mathlib.Core.Path.{_≡_};
 ghost use Rattle.rules.specs.Ledger.{lent};
 ghost use Rattle.rules.specs.Refusals.{unsound};
 use crate::book::is_book_sound;
-use crate::days::is_first_year_sound;
-use crate::days::span_of;
 use crate::head::is_head_sound;
 use crate::lengths::is_ledger_short;
 use crate::lengths::is_lines_short;
 use crate::prices::are_prices_sound;
 use crate::rows::are_rows_within;
+use calendar::is_first_year_sound;
+use calendar::span_of;
 use rules::layout;
 use rules::ranges;
 

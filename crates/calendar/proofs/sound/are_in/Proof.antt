@@ -5,7 +5,7 @@ use mathlib.Core.Bool.{_&&_}
 use Prim.Native.Nat.{_-_, _≤_}
 use lib.ListN.{length, drop}
 use Rattle.arith.specs.Lists.{every}
-use Rattle.arith.specs.Tests.{every-next, every-end}
+use Rattle.arith.proofs.Scans.{every-next, every-end}
 use Rattle.rules.specs.Days.{Calendar, inSpan}
 use Rattle.calendar.specs.Spans.{IsSpan}
 use Rattle.calendar.proofs.sound.are_in.Statement.{statement}
