@@ -14,8 +14,8 @@ use Rattle.rules.specs.Ledger.{Tables, calendar, members, acceptedSubmits, orde
 use Rattle.rules.specs.Records.{contractSound, priceSound, lotsSound, timeSound}
 use Rattle.rules.specs.Refusals.{distinct, orderSound, sidesSound, bookSound}
 use Rattle.calendar.specs.declared.months.Span.{Span}
-use Rattle.damage.specs.Orders.{numberAt, restSound, placeSound, placesSound}
 use Rattle.calendar.specs.Spans.{IsSpan}
+use Rattle.damage.specs.Orders.{numberAt, restSound, placeSound, placesSound}
 use Rattle.damage.proofs.InTurn.{up-to}
 
 pub span-rises : (s : Span) (k : Calendar) → IsSpan s k → s .start .0 ≤ s .end .0

@@ -1,20 +1,17 @@
 -- One test that fails makes the tables unsound, whatever the others say. Assumes nothing.
-use mathlib.Core.Path.{_≡_, refl, sym, _∙_}
-use mathlib.Core.Bool.{Bool, true, false, not, _&&_, _||_}
+use mathlib.Core.Path.{_≡_, refl}
+use mathlib.Core.Bool.{Bool, true, false, not, _||_}
 use mathlib.Core.List.{[], _∷_}
-use Prim.Native.Nat.{ℕ, _*_}
+use Prim.Native.Nat.{_*_}
 use lib.Dec.{leb}
 use lib.IntN.{natAbs}
-use lib.ListN.{length}
-use borrow.Author.Tests.{leb-true}
-use Rattle.arith.specs.Lists.{every, allOf}
-use Rattle.arith.specs.Tests.{never, and-left, and-right, and-false, and-true}
-use Rattle.rules.specs.Days.{inSpan}
-use Rattle.rules.specs.Header.{rising, calendarSound}
-use Rattle.rules.specs.Ranges.{leastFirstYear, mostFirstYear, mostHolidays, mostPrice}
+use Rattle.arith.specs.Lists.{allOf}
+use Rattle.arith.specs.Tests.{and-false, and-true}
+use Rattle.rules.specs.Header.{firstYearSound}
+use Rattle.rules.specs.Ranges.{mostHolidays, mostPrice}
 use Rattle.rules.specs.Ledger.{Tables, firstYear, holidayCount, members, lotsRun, calendar, ledgerShort, linesShort}
 use Rattle.rules.specs.Refusals.{everyRow, headSound, pricesSound, rowsSound, bookSound, damaged, unsound}
-use Rattle.calendar.specs.Bounds.{FirstYear}
+use Rattle.calendar.proofs.FirstYears.{year-unsound}
 
 -- ---- one test fails
 or-last : (a b : Bool) → true ≡ a || b || true
@@ -76,17 +73,9 @@ module _ (t : Tables) where
   book-decides long lines head prices lots value = rw (long, lines, head, prices, lots, value, and-true (bookSound t))
 
 -- ---- the first year, tested before the rest of the head
-first-of : (a b c d e : Bool) → a && b ≡ false → a && b && c && d && e ≡ false
-first-of true true c d e h = never h
-first-of true false c d e h = refl
-first-of false b c d e h = refl
+unsound-year : (t : Tables) → firstYearSound (firstYear t) ≡ false → headSound t ≡ false
+unfolding headSound allOf
+unsound-year t e = rw (year-unsound (calendar t) e) (and-false (leb (holidayCount t) mostHolidays))
 
-pub year-fails : (t : Tables) → leb leastFirstYear (firstYear t) && leb (firstYear t) mostFirstYear ≡ false → headSound t ≡ false
-unfolding headSound calendarSound allOf
-year-fails t e =
-    let k = calendar t in
-    rw (first-of (leb leastFirstYear (firstYear t)) (leb (firstYear t) mostFirstYear) (leb (length (k .holidays)) 120) (rising (k .holidays)) (every (inSpan k) (k .holidays)) e)
-    (and-false (leb (holidayCount t) mostHolidays))
-
-pub years : (y : ℕ) → leb leastFirstYear y && leb y mostFirstYear ≡ true → FirstYear y
-years y e = (leb-true leastFirstYear y (and-left (leb leastFirstYear y) (leb y mostFirstYear) e), leb-true y mostFirstYear (and-right (leb leastFirstYear y) (leb y mostFirstYear) e))
+pub year-fails : (t : Tables) → firstYearSound (firstYear t) ≡ false → true ≡ unsound t
+year-fails t e = head-fails t (unsound-year t e)

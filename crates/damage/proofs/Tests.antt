@@ -2,12 +2,8 @@
 use mathlib.Core.Path.{_≡_}
 use mathlib.Core.Bool.{Bool, true, _&&_, and-assoc}
 use mathlib.Core.List.{[], _∷_}
-use borrow.Author.Tests.{lt-ltb, le-ltb, le-leb, lt-leb, eq-eqb, ne-eqb}
 use Rattle.arith.specs.Lists.{allOf}
 use Rattle.arith.specs.Tests.{and-true}
-
--- What a return goes by: each test that led there, as the Bool that the rules test.
-pub ruleset tests = (lt-ltb, le-ltb, le-leb, lt-leb, eq-eqb, ne-eqb)
 
 -- A row of tests, joined by & in turn.
 pub all-three : (a b c : Bool) → a && b && c ≡ allOf (a ∷ b ∷ c ∷ [])

@@ -3,19 +3,13 @@ use Rattle.arith.proofs.Bits.{between}
 use borrow.Author.Needs.{needs}
 use Rattle.damage.proofs.between.is_between.Statement.{statement}
 use Rattle.damage.proofs.between.is_between.Tie as tie
-use Rattle.damage.proofs.between.is_between.Reads as reads
-use Rattle.damage.proofs.between.is_between.Lts as lts
-use Rattle.std.proofs.num.wrapping_sub_u64.Reads as wrapping-sub-u64-reads
 
--- src/between.rt:12:5
 wrapping-sub-u64-requires : tie.Need-wrapping-sub-u64-requires
 wrapping-sub-u64-requires c κs = search needs
 
--- src/between.rt:12:44
 sub-result : tie.Need-sub-result
 sub-result c = search needs
 
--- src/between.rt:8:1
 returns : tie.Need-returns
 returns c =
     let a = c .before .args in

@@ -5,27 +5,19 @@ use Rattle.damage.proofs.BookPlaces.{span-rises, book-is}
 use borrow.Author.Needs.{needs}
 use Rattle.damage.proofs.book.is_book_sound.Statement.{statement}
 use Rattle.damage.proofs.book.is_book_sound.Tie as tie
-use Rattle.damage.proofs.book.is_book_sound.Reads as reads
-use Rattle.damage.proofs.book.is_book_sound.Lts as lts
-use Rattle.damage.proofs.book.are_orders_sound.Reads as are-orders-sound-reads
 
--- src/book.rt:111:17
 shared-slice-read-count : tie.Need-shared-slice-read-count
 shared-slice-read-count c = search needs
 
--- src/book.rt:115:9
 shared-slice-read-are-orders-sound : tie.Need-shared-slice-read-are-orders-sound
 shared-slice-read-are-orders-sound c = search needs
 
--- src/book.rt:116:9
 shared-slice-read-are-orders-sound-2 : tie.Need-shared-slice-read-are-orders-sound-2
 shared-slice-read-are-orders-sound-2 c = search needs
 
--- src/book.rt:112:5
 are-orders-sound-requires : tie.Need-are-orders-sound-requires
 are-orders-sound-requires c κs = let a = c .before .before .before .before .before .args in (c .before .before .before .before .before .pre .1 .1, c .before .before .before .before .before .pre .1 .0, c .before .before .before .before .before .pre .0 .2, span-rises (a .span) _ (c .before .before .before .before .before .pre .0 .1 []))
 
--- src/book.rt:106:1
 returns : tie.Need-returns
 returns c =
     let a = c .before .before .before .before .before .before .args in

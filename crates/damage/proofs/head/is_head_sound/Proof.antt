@@ -1,10 +1,10 @@
 use native.Mathlib.Omega.{arith}
-use mathlib.Core.Path.{_≡_, sym, _∙_}
+use mathlib.Core.Path.{_≡_}
 use Prim.Native.Nat.{_+_, _-_}
 use mathlib.Core.Bool.{true}
 use lib.Dec.{leb}
 use lib.ListN.{take, drop, getD}
-use borrow.Author.Tests.{le-leb, lt-leb, not-true, not-false}
+use borrow.Author.Tests.{le-leb, lt-leb}
 use Rattle.arith.specs.Lists.{every, allOf, from}
 use Rattle.rules.specs.Days.{Calendar}
 use Rattle.rules.specs.Header.{calendarSound, membersSound, daySound}
@@ -12,109 +12,87 @@ use Rattle.rules.specs.Refusals.{headSound, memberSound}
 use Rattle.rules.specs.Ledger.{lent}
 use Rattle.damage.proofs.Tests.{all-nine}
 use borrow.Author.Needs.{needs}
+use Rattle.arith.specs.Tests.{asked-true, asked-false}
 use Rattle.damage.proofs.head.is_head_sound.Statement.{statement}
 use Rattle.damage.proofs.head.is_head_sound.Tie as tie
-use Rattle.damage.proofs.head.is_head_sound.Reads as reads
-use Rattle.damage.proofs.head.is_head_sound.Lts as lts
-use Rattle.damage.proofs.head.are_members_sound.Reads as are-members-sound-reads
 
--- src/head.rt:43:19
 shared-slice-read-members : tie.Need-shared-slice-read-members
 shared-slice-read-members c = search needs
 
--- src/head.rt:44:17
 shared-slice-read-count : tie.Need-shared-slice-read-count
 shared-slice-read-count c = search needs
 
--- src/head.rt:46:9
 returns : tie.Need-returns
 unfolding headSound allOf
 returns c = λ p l v b n. rw (lt-leb _ _ (c .if1 .taken))
 
--- src/head.rt:48:15
 add-end : tie.Need-add-end
 add-end c = search needs
 
--- src/head.rt:49:20
 sub-holidays : tie.Need-sub-holidays
 sub-holidays c = search needs
 
--- src/head.rt:49:20
 part-holidays-start : tie.Need-part-holidays-start
 part-holidays-start c = search needs
 
--- src/head.rt:49:20
 part-holidays-end : tie.Need-part-holidays-end
 part-holidays-end c = search needs
 
--- src/head.rt:50:27
 shared-slice-read-is-calendar-sound : tie.Need-shared-slice-read-is-calendar-sound
 shared-slice-read-is-calendar-sound c = search needs
 
--- src/head.rt:50:9
 is-calendar-sound-requires : tie.Need-is-calendar-sound-requires
 is-calendar-sound-requires c κs = (c .before .before .before .before .before .before .pre .1, c .before .before .before .before .before .before .pre .2 _)
 
--- src/head.rt:51:9
 returns-2 : tie.Need-returns-2
 unfolding headSound allOf
 returns-2 c =
     let h = c .before .before .before .before .before .before .before .before .args .head .now in
     let cut : 8 + getD h 2 0 - 8 ≡ getD h 2 0 = omega arith in
-    λ p l v b n. rw (le-leb _ _ (c .before .before .before .before .if1 .left), ← (rw cut at (c .before .is-calendar-sound .ensures)), not-true (c .before .is-calendar-sound .result) (c .if2 .taken))
+    λ p l v b n. rw (le-leb _ _ (c .before .before .before .before .if1 .left), asked-false (rw cut at (c .before .is-calendar-sound .ensures)) (c .if2 .taken))
 
--- src/head.rt:54:9
 returns-3 : tie.Need-returns-3
 unfolding headSound allOf
 returns-3 c =
     let h = c .before .before .before .before .before .before .before .before .before .args .head .now in
     let cut : 8 + getD h 2 0 - 8 ≡ getD h 2 0 = omega arith in
-    λ p l v b n. rw (le-leb _ _ (c .before .before .before .before .before .if1 .left), ← (rw cut at (c .before .before .is-calendar-sound .ensures)), not-false (c .before .before .is-calendar-sound .result) (c .before .if2 .left), lt-leb 1 (getD h 1 0) (c .if3 .taken))
+    λ p l v b n. rw (le-leb _ _ (c .before .before .before .before .before .if1 .left), asked-true (rw cut at (c .before .before .is-calendar-sound .ensures)) (c .before .if2 .left), lt-leb 1 (getD h 1 0) (c .if3 .taken))
 
--- src/head.rt:57:9
 returns-4 : tie.Need-returns-4
 unfolding headSound allOf
 returns-4 c =
     let h = c .before .before .before .before .before .before .before .before .before .before .args .head .now in
     let cut : 8 + getD h 2 0 - 8 ≡ getD h 2 0 = omega arith in
-    λ p l v b n. rw (le-leb _ _ (c .before .before .before .before .before .before .if1 .left), ← (rw cut at (c .before .before .before .is-calendar-sound .ensures)), not-false (c .before .before .before .is-calendar-sound .result) (c .before .before .if2 .left), le-leb 1 (getD h 1 0) (c .before .if3 .left), lt-leb (getD h 1 0) 32 (c .if4 .taken))
+    λ p l v b n. rw (le-leb _ _ (c .before .before .before .before .before .before .if1 .left), asked-true (rw cut at (c .before .before .before .is-calendar-sound .ensures)) (c .before .before .if2 .left), le-leb 1 (getD h 1 0) (c .before .if3 .left), lt-leb (getD h 1 0) 32 (c .if4 .taken))
 
--- src/head.rt:59:50
 shared-slice-read-counts : tie.Need-shared-slice-read-counts
 shared-slice-read-counts c = search needs
 
--- src/head.rt:59:9
 is-day-sound-requires : tie.Need-is-day-sound-requires
 is-day-sound-requires c κs = search needs
 
--- src/head.rt:60:19
 shared-slice-read-counts-2 : tie.Need-shared-slice-read-counts-2
 shared-slice-read-counts-2 c = search needs
 
--- src/head.rt:61:12
 shared-slice-read-counts-3 : tie.Need-shared-slice-read-counts-3
 shared-slice-read-counts-3 c = search needs
 
--- src/head.rt:62:12
 shared-slice-read-counts-4 : tie.Need-shared-slice-read-counts-4
 shared-slice-read-counts-4 c = search needs
 
--- src/head.rt:63:12
 shared-slice-read-counts-5 : tie.Need-shared-slice-read-counts-5
 shared-slice-read-counts-5 c = search needs
 
--- src/head.rt:64:20
 are-members-sound-requires : tie.Need-are-members-sound-requires
 are-members-sound-requires c κs = search needs
 
--- src/head.rt:39:1
 returns-5 : tie.Need-returns-5
 unfolding headSound
 returns-5 c =
     let h = c .before .before .before .before .before .before .before .before .before .before .before .before .before .before .before .before .before .args .head .now in
     let k : Calendar = record { firstYear = getD h 0 0; holidays = take (getD h 2 0) (drop 8 h) } in
     let cut : 8 + getD h 2 0 - 8 ≡ getD h 2 0 = omega arith in
-    let calendar = sym (rw cut at (c .before .before .before .before .before .before .before .before .before .before .is-calendar-sound .ensures)) ∙ not-false (c .before .before .before .before .before .before .before .before .before .before .is-calendar-sound .result) (c .before .before .before .before .before .before .before .before .before .if2 .left) in
+    let calendar = asked-true (rw cut at (c .before .before .before .before .before .before .before .before .before .before .is-calendar-sound .ensures)) (c .before .before .before .before .before .before .before .before .before .if2 .left) in
     let some : membersSound (getD h 1 0) ≡ true = rw (le-leb 1 (getD h 1 0) (c .before .before .before .before .before .before .before .before .if3 .left), le-leb (getD h 1 0) 32 (c .before .before .before .before .before .before .before .if4 .left)) in
     let day = rw cut at (c .before .before .before .before .before .is-day-sound .ensures (getD h 0 0) (c .before .before .before .before .before .before .before .before .before .before .before .before .before .before .before .before .before .pre .2 _)) in
     λ p l v b n. rw (day, c .are-members-sound .ensures p l v b n)

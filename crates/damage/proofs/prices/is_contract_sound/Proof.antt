@@ -1,81 +1,60 @@
-use native.Mathlib.Omega.{arith}
-use mathlib.Core.Path.{_∙_}
-use borrow.Author.Tests.{not-true, not-false}
 use Rattle.arith.specs.Lists.{allOf}
-use Rattle.arith.specs.Tests.{and-true}
-use Rattle.damage.proofs.Tests.{tests}
+use Rattle.arith.specs.Tests.{and-true, asked-true, asked-false}
+use Rattle.arith.specs.Tests.{tests}
 use Rattle.damage.proofs.InTurn.{contract-in-turn}
 use borrow.Author.Needs.{needs}
 use Rattle.damage.proofs.prices.is_contract_sound.Statement.{statement}
 use Rattle.damage.proofs.prices.is_contract_sound.Tie as tie
-use Rattle.damage.proofs.prices.is_contract_sound.Reads as reads
-use Rattle.damage.proofs.prices.is_contract_sound.Lts as lts
-use Rattle.damage.proofs.between.is_between.Reads as is-between-reads
 
--- src/prices.rt:18:29
 shared-slice-read-if1 : tie.Need-shared-slice-read-if1
 shared-slice-read-if1 c = search needs
 
--- src/prices.rt:19:9
 returns : tie.Need-returns
 unfolding allOf
 returns c = rw (← contract-in-turn (c .before .before .before .args .run) (c .before .before .before .args .prices .now)) (search tests)
 
--- src/prices.rt:21:16
 shared-slice-read-high : tie.Need-shared-slice-read-high
 shared-slice-read-high c = search needs
 
--- src/prices.rt:23:9
 returns-2 : tie.Need-returns-2
 unfolding allOf
 returns-2 c = rw (← contract-in-turn (c .before .before .before .before .before .args .run) (c .before .before .before .before .before .args .prices .now)) (search tests)
 
--- src/prices.rt:25:20
 shared-slice-read-is-between : tie.Need-shared-slice-read-is-between
 shared-slice-read-is-between c = search needs
 
--- src/prices.rt:25:44
 add-is-between : tie.Need-add-is-between
 add-is-between c = search needs
 
--- src/prices.rt:25:9
 is-between-requires : tie.Need-is-between-requires
 is-between-requires c κs = search needs
 
--- src/prices.rt:26:9
 returns-3 : tie.Need-returns-3
 unfolding allOf
-returns-3 c = rw (← contract-in-turn (c .before .before .before .before .before .before .before .before .args .run) (c .before .before .before .before .before .before .before .before .args .prices .now), ← (c .before .is-between .ensures), not-true (c .before .is-between .result) (c .if3 .taken)) (search tests)
+returns-3 c = rw (← contract-in-turn (c .before .before .before .before .before .before .before .before .args .run) (c .before .before .before .before .before .before .before .before .args .prices .now), asked-false (c .before .is-between .ensures) (c .if3 .taken)) (search tests)
 
--- src/prices.rt:28:16
 shared-slice-read-lots : tie.Need-shared-slice-read-lots
 shared-slice-read-lots c = search needs
 
--- src/prices.rt:30:9
 returns-4 : tie.Need-returns-4
 unfolding allOf
-returns-4 c = rw (← contract-in-turn (c .before .before .before .before .before .before .before .before .before .before .args .run) (c .before .before .before .before .before .before .before .before .before .before .args .prices .now), ← (c .before .before .before .is-between .ensures), not-false (c .before .before .before .is-between .result) (c .before .before .if3 .left)) (search tests)
+returns-4 c = rw (← contract-in-turn (c .before .before .before .before .before .before .before .before .before .before .args .run) (c .before .before .before .before .before .before .before .before .before .before .args .prices .now), asked-true (c .before .before .before .is-between .ensures) (c .before .before .if3 .left)) (search tests)
 
--- src/prices.rt:33:9
 shared-slice-read-is-between-2 : tie.Need-shared-slice-read-is-between-2
 shared-slice-read-is-between-2 c = search needs
 
--- src/prices.rt:35:9
 mul-is-between : tie.Need-mul-is-between
 mul-is-between c = search needs
 
--- src/prices.rt:35:9
 add-is-between-2 : tie.Need-add-is-between-2
 add-is-between-2 c = search needs
 
--- src/prices.rt:32:5
 is-between-requires-2 : tie.Need-is-between-requires-2
 is-between-requires-2 c κs = search needs
 
--- src/prices.rt:14:1
 returns-5 : tie.Need-returns-5
 unfolding allOf
-returns-5 c = rw (← contract-in-turn (c .before .before .before .before .before .before .before .before .before .before .before .before .args .run) (c .before .before .before .before .before .before .before .before .before .before .before .before .args .prices .now), ← (c .before .before .before .before .before .is-between .ensures), not-false (c .before .before .before .before .before .is-between .result) (c .before .before .before .before .if3 .left), ← (c .is-between2 .ensures), and-true (c .is-between2 .result)) (search tests)
+returns-5 c = rw (← contract-in-turn (c .before .before .before .before .before .before .before .before .before .before .before .before .args .run) (c .before .before .before .before .before .before .before .before .before .before .before .before .args .prices .now), asked-true (c .before .before .before .before .before .is-between .ensures) (c .before .before .before .before .if3 .left), ← (c .is-between2 .ensures), and-true (c .is-between2 .result)) (search tests)
 
 pub is-contract-sound-spec : {M : Type 1} → statement M
 is-contract-sound-spec =

@@ -1,5 +1,5 @@
 use native.Mathlib.Omega.{arith}
-use mathlib.Core.Path.{refl, sym, ap, _∙_}
+use mathlib.Core.Path.{sym, ap, _∙_}
 use Prim.Native.Nat.{_/_, _^_}
 use lib.Seq.{length-take-le}
 use Rattle.arith.specs.Bits.{inWindow}
@@ -7,30 +7,21 @@ use Rattle.damage.proofs.Columns.{row-whole}
 use borrow.Author.Needs.{needs}
 use Rattle.damage.proofs.rows.are_near.Statement.{statement}
 use Rattle.damage.proofs.rows.are_near.Tie as tie
-use Rattle.damage.proofs.rows.are_near.Reads as reads
-use Rattle.damage.proofs.rows.are_near.Lts as lts
-use Rattle.damage.proofs.rows.or_of.Reads as or-of-reads
-use Rattle.damage.proofs.rows.or_of_columns.Reads as or-of-columns-reads
 
--- src/rows.rt:121:22
 slice-aggregate-or-of : tie.Need-slice-aggregate-or-of
 slice-aggregate-or-of c = sym (length-take-le 3264 (c .before .before .args .rows .now) (omega arith))
 
--- src/rows.rt:121:16
 or-of-requires : tie.Need-or-of-requires
 or-of-requires c κs = search needs
 
--- src/rows.rt:121:9
 returns : tie.Need-returns
 returns c =
     let a = c .before .before .before .args in
     λ k h. rw (h .1, c .before .before .if1 .taken) (c .or-of .ensures k (h .0, ap (λ w. w / 2) (h .1)) ∙ row-whole (inWindow (2 ^ k)) (a .rows .now))
 
--- src/rows.rt:123:5
 or-of-columns-requires : tie.Need-or-of-columns-requires
 or-of-columns-requires c κs = search needs
 
--- src/rows.rt:115:1
 returns-2 : tie.Need-returns-2
 returns-2 c =
     λ k h. rw (h .1) (c .or-of-columns .ensures k (h .0, ap (λ w. w / 2) (h .1)))

@@ -3,32 +3,22 @@ use Rattle.damage.proofs.Columns.{row-within}
 use borrow.Author.Needs.{needs}
 use Rattle.damage.proofs.rows.are_rows_within.Statement.{statement}
 use Rattle.damage.proofs.rows.are_rows_within.Tie as tie
-use Rattle.damage.proofs.rows.are_rows_within.Reads as reads
-use Rattle.damage.proofs.rows.are_rows_within.Lts as lts
-use Rattle.damage.proofs.rows.are_near.Reads as are-near-reads
-use Rattle.damage.proofs.rows.is_each_within.Reads as is-each-within-reads
-use Rattle.damage.proofs.rows.width_within.Reads as width-within-reads
 
--- src/rows.rt:141:9
 width-within-requires : tie.Need-width-within-requires
 width-within-requires c κs = search needs
 
--- src/rows.rt:142:8
 are-near-requires : tie.Need-are-near-requires
 are-near-requires c κs = search needs
 
--- src/rows.rt:143:9
 returns : tie.Need-returns
 returns c =
     let a = c .before .before .before .args in
     let w = c .before .before .width-within .ensures in
     row-within (c .before .before .width-within .result) (a .bound) (a .members) (a .rows .now) (w .2) (sym (c .before .are-near .ensures (w .0) (w .1)) ∙ c .if1 .taken)
 
--- src/rows.rt:145:5
 is-each-within-requires : tie.Need-is-each-within-requires
 is-each-within-requires c κs = search needs
 
--- src/rows.rt:136:1
 returns-2 : tie.Need-returns-2
 returns-2 c = c .is-each-within .ensures
 

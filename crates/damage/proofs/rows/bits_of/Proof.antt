@@ -1,21 +1,15 @@
-use borrow.Author.Needs.{needs}
 use native.Mathlib.Omega.{arith}
 use mir.Facts.{fits-of-lt, toZ-ofZ}
 use Rattle.arith.proofs.Bits.{up-cast, up-bits, below-sub, below-is, below-bits}
 use Rattle.damage.proofs.rows.bits_of.Statement.{statement}
 use Rattle.damage.proofs.rows.bits_of.Tie as tie
-use Rattle.damage.proofs.rows.bits_of.Reads as reads
-use Rattle.damage.proofs.rows.bits_of.Lts as lts
 
--- src/rows.rt:58:9
 cast-result : tie.Need-cast-result
 cast-result c = let x = c .before .args .x in let s = c .before .fits .x in rw (toZ-ofZ s) (up-cast x (s .sfits) (rw (toZ-ofZ s) at (c .if1 .taken)))
 
--- src/rows.rt:60:22
 sub-result : tie.Need-sub-result
 sub-result c = let x = c .before .args .x in let s = c .before .fits .x in rw (toZ-ofZ s) (below-sub x (s .sfits) (rw (toZ-ofZ s) at (c .if1 .left)))
 
--- src/rows.rt:60:21
 cast-result-2 : tie.Need-cast-result-2
 cast-result-2 c =
     let x = c .before .args .x in
@@ -23,7 +17,6 @@ cast-result-2 c =
     let below = rw (toZ-ofZ s) at (c .if1 .left) in
     rw (toZ-ofZ s, below-is x (s .sfits) below) (tt, fits-of-lt (omega (arith, s .sfits)))
 
--- src/rows.rt:60:9
 sub-result-2 : tie.Need-sub-result-2
 sub-result-2 c =
     let x = c .before .args .x in
@@ -31,11 +24,9 @@ sub-result-2 c =
     let below = rw (toZ-ofZ s) at (c .if1 .left) in
     rw (toZ-ofZ s, below-is x (s .sfits) below) (omega (arith, s .sfits))
 
--- src/rows.rt:54:1
 returns : tie.Need-returns
 returns c = let x = c .before .args .x in let s = c .before .fits .x in rw (toZ-ofZ s) (up-bits x (rw (toZ-ofZ s) at (c .if1 .taken)))
 
--- src/rows.rt:54:1
 returns-2 : tie.Need-returns-2
 returns-2 c =
     let x = c .before .args .x in

@@ -1,25 +1,18 @@
 use native.Mathlib.Omega.{arith}
 use mir.Facts.{fits-of-lt, toZ-ofZ}
 use Rattle.arith.proofs.Bits.{up-cast, below-sub, below-is, below-abs}
-use borrow.Author.Needs.{needs}
 use Rattle.damage.proofs.rows.is_within.Statement.{statement}
 use Rattle.damage.proofs.rows.is_within.Tie as tie
-use Rattle.damage.proofs.rows.is_within.Reads as reads
-use Rattle.damage.proofs.rows.is_within.Lts as lts
 
--- src/rows.rt:20:17
 cast-result : tie.Need-cast-result
 cast-result c = let x = c .before .args .x in let s = c .before .fits .x in rw (toZ-ofZ s) (up-cast x (s .sfits) (rw (toZ-ofZ s) at (c .if1 .taken)))
 
--- src/rows.rt:20:9
 returns : tie.Need-returns
 returns c = rw (toZ-ofZ (c .before .fits .x))
 
--- src/rows.rt:22:7
 sub-result : tie.Need-sub-result
 sub-result c = let x = c .before .args .x in let s = c .before .fits .x in rw (toZ-ofZ s) (below-sub x (s .sfits) (rw (toZ-ofZ s) at (c .if1 .left)))
 
--- src/rows.rt:22:6
 cast-result-2 : tie.Need-cast-result-2
 cast-result-2 c =
     let x = c .before .args .x in
@@ -27,7 +20,6 @@ cast-result-2 c =
     let below = rw (toZ-ofZ s) at (c .if1 .left) in
     rw (toZ-ofZ s, below-is x (s .sfits) below) (tt, fits-of-lt (omega (arith, s .sfits)))
 
--- src/rows.rt:16:1
 returns-2 : tie.Need-returns-2
 returns-2 c =
     let x = c .before .args .x in

@@ -14,9 +14,6 @@ use Rattle.arith.proofs.Scans.{every-next, every-end}
 use Rattle.damage.specs.Windows.{IsHalf}
 use Rattle.damage.proofs.rows.or_of.Statement.{statement}
 use Rattle.damage.proofs.rows.or_of.Tie as tie
-use Rattle.damage.proofs.rows.or_of.Reads as reads
-use Rattle.damage.proofs.rows.or_of.Lts as lts
-use Rattle.damage.proofs.rows.raised.Reads as raised-reads
 
 abbrev Inv-loop : tie.InvT-loop
 Inv-loop rows half seen₀ i₀ seen i = (i ≤ length rows) × ((k : ℕ) → IsHalf half k → ltb seen (2 ^ k) && every (inWindow (2 ^ k)) (drop i rows) ≡ every (inWindow (2 ^ k)) rows)
@@ -24,31 +21,24 @@ Inv-loop rows half seen₀ i₀ seen i = (i ≤ length rows) × ((k : ℕ) → I
 abbrev μ-loop : tie.MeasureT-loop
 μ-loop rows half seen₀ i₀ seen i = length rows - i
 
--- src/rows.rt:78:5
 loop-holds : tie.Need-loop-holds Inv-loop μ-loop
 loop-holds c = (omega arith, λ k h. rw (none-below k))
 
--- src/rows.rt:79:17
 mul-x : tie.Need-mul-x Inv-loop μ-loop
 mul-x c = search needs
 
--- src/rows.rt:79:17
 shared-slice-copy-out-x : tie.Need-shared-slice-copy-out-x Inv-loop μ-loop
 shared-slice-copy-out-x c = search needs
 
--- src/rows.rt:80:23
 raised-requires : tie.Need-raised-requires Inv-loop μ-loop
 raised-requires c κs = search needs
 
--- src/rows.rt:81:9
 add-i : tie.Need-add-i Inv-loop μ-loop
 add-i c = search needs
 
--- src/rows.rt:78:5
 loop-less : tie.Need-loop-less Inv-loop μ-loop
 loop-less c = search needs
 
--- src/rows.rt:78:5
 loop-again : tie.Need-loop-again Inv-loop μ-loop
 loop-again c =
     let a = c .before .before .before .before .args in
@@ -60,7 +50,6 @@ loop-again c =
           (every-next (inWindow (2 ^ k)) (a .rows .now) (pos 0) (l .i) (ltb (l .seen) (2 ^ k)) (l .inv .1 k h) (c .before .before .loop-test .taken)),
     )
 
--- src/rows.rt:73:1
 returns : tie.Need-returns Inv-loop μ-loop
 returns c =
     let a = c .before .before .args in

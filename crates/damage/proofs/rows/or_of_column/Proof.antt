@@ -15,9 +15,6 @@ use Rattle.arith.proofs.Rows.{place-at}
 use Rattle.damage.specs.Windows.{everyColumn, IsHalf}
 use Rattle.damage.proofs.rows.or_of_column.Statement.{statement}
 use Rattle.damage.proofs.rows.or_of_column.Tie as tie
-use Rattle.damage.proofs.rows.or_of_column.Reads as reads
-use Rattle.damage.proofs.rows.or_of_column.Lts as lts
-use Rattle.damage.proofs.rows.raised.Reads as raised-reads
 
 abbrev Inv-loop : tie.InvT-loop
 Inv-loop rows member half seen₀ contract₀ seen contract = (contract ≤ 102) × ((k : ℕ) → IsHalf half k → ltb seen (2 ^ k) && everyBlock 32 (λ rows. inWindow (2 ^ k) (getD rows member (pos 0))) (102 - contract) (drop (contract * 32) rows) ≡ everyColumn (inWindow (2 ^ k)) member rows)
@@ -25,40 +22,31 @@ Inv-loop rows member half seen₀ contract₀ seen contract = (contract ≤ 102)
 abbrev μ-loop : tie.MeasureT-loop
 μ-loop rows member half seen₀ contract₀ seen contract = 102 - contract
 
--- src/rows.rt:93:5
 loop-holds : tie.Need-loop-holds Inv-loop μ-loop
 unfolding everyColumn
 loop-holds c = (omega arith, λ k h. rw (none-below k))
 
--- src/rows.rt:94:22
 mul-x : tie.Need-mul-x Inv-loop μ-loop
 mul-x c = search needs
 
--- src/rows.rt:94:22
 add-x : tie.Need-add-x Inv-loop μ-loop
 add-x c = search needs
 
--- src/rows.rt:94:17
 mul-x-2 : tie.Need-mul-x-2 Inv-loop μ-loop
 mul-x-2 c = search needs
 
--- src/rows.rt:94:17
 shared-slice-copy-out-x : tie.Need-shared-slice-copy-out-x Inv-loop μ-loop
 shared-slice-copy-out-x c = search needs
 
--- src/rows.rt:95:23
 raised-requires : tie.Need-raised-requires Inv-loop μ-loop
 raised-requires c κs = search needs
 
--- src/rows.rt:96:9
 add-contract : tie.Need-add-contract Inv-loop μ-loop
 add-contract c = search needs
 
--- src/rows.rt:93:5
 loop-less : tie.Need-loop-less Inv-loop μ-loop
 loop-less c = search needs
 
--- src/rows.rt:93:5
 loop-again : tie.Need-loop-again Inv-loop μ-loop
 loop-again c =
     let a = c .before .before .before .before .args in
@@ -70,7 +58,6 @@ loop-again c =
           (block-next 32 (λ rows. inWindow (2 ^ k) (getD rows (a .member) (pos 0))) 102 (a .rows .now) (l .contract) (ltb (l .seen) (2 ^ k)) (everyColumn (inWindow (2 ^ k)) (a .member) (a .rows .now)) (l .inv .1 k h) (c .before .before .loop-test .taken)),
     )
 
--- src/rows.rt:87:1
 returns : tie.Need-returns Inv-loop μ-loop
 returns c =
     let a = c .before .before .args in

@@ -10,9 +10,6 @@ use Rattle.damage.specs.Windows.{IsHalf}
 use Rattle.damage.proofs.Columns.{row-none, row-more}
 use Rattle.damage.proofs.rows.or_of_columns.Statement.{statement}
 use Rattle.damage.proofs.rows.or_of_columns.Tie as tie
-use Rattle.damage.proofs.rows.or_of_columns.Reads as reads
-use Rattle.damage.proofs.rows.or_of_columns.Lts as lts
-use Rattle.damage.proofs.rows.or_of_column.Reads as or-of-column-reads
 
 abbrev Inv-loop : tie.InvT-loop
 Inv-loop rows n half seen₀ member₀ seen member = (member ≤ n) × ((k : ℕ) → IsHalf half k → ltb seen (2 ^ k) ≡ everyRow (inWindow (2 ^ k)) member rows)
@@ -20,23 +17,18 @@ Inv-loop rows n half seen₀ member₀ seen member = (member ≤ n) × ((k : ℕ
 abbrev μ-loop : tie.MeasureT-loop
 μ-loop rows n half seen₀ member₀ seen member = n - member
 
--- src/rows.rt:107:5
 loop-holds : tie.Need-loop-holds Inv-loop μ-loop
 loop-holds c = (omega arith, λ k h. rw (none-below k) (sym (row-none (inWindow (2 ^ k)) (c .args .rows .now))))
 
--- src/rows.rt:108:23
 or-of-column-requires : tie.Need-or-of-column-requires Inv-loop μ-loop
 or-of-column-requires c κs = search needs
 
--- src/rows.rt:109:9
 add-member : tie.Need-add-member Inv-loop μ-loop
 add-member c = search needs
 
--- src/rows.rt:107:5
 loop-less : tie.Need-loop-less Inv-loop μ-loop
 loop-less c = search needs
 
--- src/rows.rt:107:5
 loop-again : tie.Need-loop-again Inv-loop μ-loop
 loop-again c =
     let a = c .before .before .before .args in
@@ -45,7 +37,6 @@ loop-again c =
       λ k h. rw (or-below k (l .seen) (c .or-of-column .result), c .or-of-column .ensures k h, l .inv .1 k h) (sym (row-more k (l .member) (a .rows .now))),
     )
 
--- src/rows.rt:101:1
 returns : tie.Need-returns Inv-loop μ-loop
 returns c =
     let l = c .before .loop in

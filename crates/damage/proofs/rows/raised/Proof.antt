@@ -4,20 +4,13 @@ use mir.Facts.{toZ-ofZ}
 use borrow.Author.Needs.{needs}
 use Rattle.damage.proofs.rows.raised.Statement.{statement}
 use Rattle.damage.proofs.rows.raised.Tie as tie
-use Rattle.damage.proofs.rows.raised.Reads as reads
-use Rattle.damage.proofs.rows.raised.Lts as lts
-use Rattle.damage.proofs.rows.bits_of.Reads as bits-of-reads
-use Rattle.std.proofs.num.wrapping_add_u64.Reads as wrapping-add-u64-reads
 
--- src/rows.rt:68:32
 bits-of-requires : tie.Need-bits-of-requires
 bits-of-requires c κs = search needs
 
--- src/rows.rt:68:5
 wrapping-add-u64-requires : tie.Need-wrapping-add-u64-requires
 wrapping-add-u64-requires c κs = search needs
 
--- src/rows.rt:65:1
 returns : tie.Need-returns
 returns c =
     let x = c .before .before .args .x in

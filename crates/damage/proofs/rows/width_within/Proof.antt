@@ -1,6 +1,5 @@
 use native.Mathlib.Omega.{arith}
-use mathlib.Core.Path.{_≡_, refl, _∙_}
-use native.Mathlib.Nat.{one-mul}
+use mathlib.Core.Path.{_≡_}
 use Prim.Native.Nat.{_*_, _-_, _%_, _^_, _≤_}
 use lib.Count.{leadingZeros, leading-le}
 use lib.Pow.{pow-mono}
@@ -8,22 +7,16 @@ use Rattle.damage.proofs.Columns.{digits}
 use borrow.Author.Needs.{needs}
 use Rattle.damage.proofs.rows.width_within.Statement.{statement}
 use Rattle.damage.proofs.rows.width_within.Tie as tie
-use Rattle.damage.proofs.rows.width_within.Reads as reads
-use Rattle.damage.proofs.rows.width_within.Lts as lts
 
--- src/rows.rt:131:11
 sub-result : tie.Need-sub-result
 sub-result c = leading-le 64 (c .args .bound)
 
--- src/rows.rt:131:11
 cast-result : tie.Need-cast-result
 cast-result c = search needs
 
--- src/rows.rt:131:5
 shl-result : tie.Need-shl-result
 shl-result c = omega (arith, digits (c .args .bound) (c .pre) .0)
 
--- src/rows.rt:127:1
 returns : tie.Need-returns
 returns c =
     let b = c .args .bound in
