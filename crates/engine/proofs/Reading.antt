@@ -13,9 +13,9 @@ use Rattle.arith.specs.Tests.{true-or, and-left, and-right}
 use Rattle.rules.specs.declared.answer.Answer.the-variants.{Accepted}
 use Rattle.rules.specs.Days.{inSpan}
 use Rattle.rules.specs.Header.{Header, u16At, u32At, u16sAt, u32sAt, headerLength, headerOf, rising, calendarOf, calendarSound, membersSound, limitSound, daySound, sameBytes, lettersAndVersion, headerSound, beginsWithHeader}
-use Rattle.codec.specs.declared.header_reader.HeaderReading.{HeaderReading}
-use Rattle.codec.specs.Columns.{padded}
-use Rattle.codec.specs.Journal.{headerColumns, headerReading}
+use Rattle.header.specs.declared.reader.HeaderReading.{HeaderReading}
+use Rattle.arith.specs.Columns.{padded}
+use Rattle.header.specs.Journal.{headerColumns, headerReading}
 use Rattle.tables.specs.Headers.{header}
 use Rattle.arith.proofs.Appends.{from-length}
 

@@ -21,7 +21,7 @@ pub fn make(
     if damage::is_ledger_short(&*head, &*prices, &*lots, &*value, book) {
         return Answer::TableUnsound;
     }
-    let reading = codec::read_header(bytes);
+    let reading = header::read_header(bytes);
     let header = reading.header;
     // An unsound header comes back as zeros; a sound one has at least one member.
     if header.members == 0 {
