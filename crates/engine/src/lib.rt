@@ -22,22 +22,22 @@ pub fn make(
         return Answer::TableUnsound;
     }
     let reading = header::read_header(bytes);
-    let read = reading.header;
+    let header = reading.header;
     // An unsound header comes back as zeros; a sound one has at least one member.
-    if read.members == 0 {
+    if header.members == 0 {
         return Answer::HeaderUnsound;
     }
-    let holidays = read.holidays;
-    let limits = read.limits;
-    let days = read.holiday_count as usize;
-    let members = read.members as usize;
+    let holidays = header.holidays;
+    let limits = header.limits;
+    let days = header.holiday_count as usize;
+    let members = header.members as usize;
     tables::write_fresh(
         &mut *head,
         &mut *prices,
         &mut *lots,
         &mut *value,
-        read.first_year,
-        read.start_day,
+        header.first_year,
+        header.start_day,
         &holidays[..days],
         &limits[..members],
     );

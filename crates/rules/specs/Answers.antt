@@ -4,6 +4,8 @@ use mathlib.Core.Bool.{Bool, true, false}
 use mathlib.Core.List.{List, [], _∷_}
 use Rattle.rules.specs.declared.answer.Answer.{Answer}
 use Rattle.rules.specs.declared.answer.Answer.the-variants.{Accepted, TableUnsound, HeaderUnsound, RecordUnsound, TimeBelowLedger, MemberDefaulted, ContractNotOpen, PriceOutsideLimits, SixthSubmit, AboveLimit, CannotMatchInFull, BookFull, NoSuchOrder, NotAcceptable, NoReferencePrice, NoDefaultedLots, NoTaker, TotalPassed, NoLaterDay}
+use Rattle.rules.specs.declared.units.Day.{Day}
+use Rattle.rules.specs.declared.units.Day.the-variants.{On, NoDay}
 
 -- An answer as the paper gives it: the number of the cause and, with 5, the member, with 6, the contract.
 -- An accepted record has number 0 and returns its line count.
@@ -31,6 +33,11 @@ told NoDefaultedLots = record { number = 15; value = 0 }
 told NoTaker = record { number = 16; value = 0 }
 told TotalPassed = record { number = 17; value = 0 }
 told NoLaterDay = record { number = 18; value = 0 }
+
+-- The paper's number for the next business day, with the day: that there is no later one in the span is 18.
+abbrev pub toldNextDay : Day → Told
+toldNextDay (On d) = record { number = 0; value = d .0 }
+toldNextDay NoDay = told NoLaterDay
 
 -- What a call answers, and what it leaves.
 pub record Outcome (S : Type 0) : Type 0 where
