@@ -11,3 +11,4 @@ pub mod Among
 pub mod Terms
 pub mod Sizes
 pub mod EachBlock
+pub mod Columns
