@@ -1,6 +1,7 @@
 -- A member's turn, a round and several rounds. Assumes nothing.
 use Prim.Native.Nat.{ℕ, zero, suc, _+_, _-_, _≤_, _<_}
 use mathlib.Core.Path.{_≡_, refl, sym, _∙_}
+use mathlib.Core.Bool.{Bool, true, false, _&&_}
 use mathlib.Core.List.{List, [], _∷_}
 use native.Mathlib.Omega.{arith}
 use native.Mathlib.Nat.{suc-add}
@@ -52,19 +53,19 @@ round-keeps mins (i ∷ is) d k b =
     (λ p. rw (turn-none mins i d k (omega arith)) (round-keeps mins is d k (λ j. b (suc j)))))
     (λ q. rw (turn-full mins i d k (omega arith)) (round-keeps mins is d k (λ j. b (suc j))))
 
--- A round read from its front.
+-- A round read from its front: the turn of the member at place i.
 module _ (mins is d : List ℕ) (k i : ℕ) (within : i < length is) where
-  abbrev rest : Dealing → Dealing
-  rest s = round mins (drop i is) s
+  abbrev deals : Bool
+  deals = ltb 0 k && ltb (getD d (getD is i 0) 0) (getD mins (getD is i 0) 0)
 
-  pub round-deals : 0 < k → getD d (getD is i 0) 0 < getD mins (getD is i 0) 0
-      → round mins (drop (i + 1) is) (record { received = set d (getD is i 0) (getD d (getD is i 0) 0 + 1); left = k - 1 }) ≡ rest (record { received = d; left = k })
-  unfolding round
-  round-deals p q = rw (drop-cons is i 0 within, round, turn-deals mins (getD is i 0) d k p q, add-one)
+  pub round-deals : deals ≡ true
+      → round mins (drop (i + 1) is) (record { received = set d (getD is i 0) (getD d (getD is i 0) 0 + 1); left = k - 1 }) ≡ round mins (drop i is) (record { received = d; left = k })
+  unfolding round turn
+  round-deals e = rw (drop-cons is i 0 within, round, turn, e, add-one)
 
-  pub round-full : getD mins (getD is i 0) 0 ≤ getD d (getD is i 0) 0 → round mins (drop (i + 1) is) (record { received = d; left = k }) ≡ rest (record { received = d; left = k })
-  unfolding round
-  round-full q = rw (drop-cons is i 0 within, round, turn-full mins (getD is i 0) d k q, add-one)
+  pub round-passes : deals ≡ false → round mins (drop (i + 1) is) (record { received = d; left = k }) ≡ round mins (drop i is) (record { received = d; left = k })
+  unfolding round turn
+  round-passes e = rw (drop-cons is i 0 within, round, turn, e, add-one)
 
 pub round-end : (mins is : List ℕ) (s : Dealing) (i : ℕ) → length is ≤ i → round mins (drop i is) s ≡ s
 unfolding round
