@@ -33,6 +33,13 @@ module _ (l : ℕ) (ws : List ℕ) (some : 0 < sumOf ws) where
   unfolding dealtOut dealtTo
   dealt-from-level r h = ap (λ s. s .received) (after r h .0)
 
+  -- as the code deals it out
+  pub dealt-by-round : (m is d : List ℕ) (r k : ℕ) (s : Dealing) → m ≡ mins → is ≡ inOrder (comesFirst m ws) (from 0 (length ws)) → Highest l m r
+      → d ≡ atLevel r m → k ≡ l - sumOf (atLevel r m) → s ≡ round m is (record { received = d; left = k }) → s .received ≡ dealtOut l ws
+  dealt-by-round m is d r k s em ei h ed ek es =
+      let e : s ≡ round m (inOrder (comesFirst m ws) (from 0 (length ws))) (record { received = atLevel r m; left = l - sumOf (atLevel r m) }) = rw (ei, ed, ek) at es in
+      ap (λ (x : Dealing). x .received) (rw em at e) ∙ sym (dealt-from-level r (rw em at h))
+
   pub all-dealt : sumOf (dealtOut l ws) ≡ l
   unfolding dealtTo
   all-dealt =

@@ -1,17 +1,14 @@
-use borrow.Author.Needs.{needs}
-use Prim.Native.Nat.{ℕ, _+_, _-_, _≤_, _<_}
-use mathlib.Core.Path.{_≡_, refl, sym, ap, _∙_}
+use Prim.Native.Nat.{_+_, _-_, _≤_}
+use mathlib.Core.Path.{_≡_, refl}
 use mathlib.Core.List.{_++_}
 use native.Mathlib.Omega.{arith}
-use lib.ListN.{length, getD, take, drop, length-set}
+use lib.ListN.{length, take, drop, length-set}
+use borrow.Author.Needs.{needs}
 use Rattle.arith.specs.Columns.{written-next, written-end}
 use Rattle.rules.specs.Default.{givenUp}
 use Rattle.rules.proofs.Netting.{given-next, given-end}
 use Rattle.dealing.proofs.columns.give_up.Statement.{statement}
 use Rattle.dealing.proofs.columns.give_up.Tie as tie
-use Rattle.dealing.proofs.columns.give_up.Reads as reads
-use Rattle.dealing.proofs.columns.give_up.Lts as lts
-use Rattle.dealing.proofs.columns.smaller.Reads as smaller-reads
 
 abbrev Inv-loop : tie.InvT-loop
 Inv-loop lots held given₀ left₀ i₀ given left i = (i ≤ length held) × (length given ≡ length held) × (take i given ++ givenUp left (drop i held) ≡ givenUp lots held)
@@ -19,55 +16,46 @@ Inv-loop lots held given₀ left₀ i₀ given left i = (i ≤ length held) × (
 abbrev μ-loop : tie.MeasureT-loop
 μ-loop lots held given₀ left₀ i₀ given left i = length held - i
 
--- src/columns.rt:34:5
 loop-holds : tie.Need-loop-holds Inv-loop μ-loop
 loop-holds c = (omega arith, c .before .before .pre, refl)
 
--- src/columns.rt:35:35
 mul-smaller : tie.Need-mul-smaller Inv-loop μ-loop
 mul-smaller c = search needs
 
--- src/columns.rt:35:35
 shared-slice-read-smaller : tie.Need-shared-slice-read-smaller Inv-loop μ-loop
 shared-slice-read-smaller c = search needs
 
--- src/columns.rt:35:13
 smaller-requires : tie.Need-smaller-requires Inv-loop μ-loop
 smaller-requires c κs = search needs
 
--- src/columns.rt:36:9
 mul-given : tie.Need-mul-given Inv-loop μ-loop
 mul-given c = search needs
 
--- src/columns.rt:36:9
 slice-write-given : tie.Need-slice-write-given Inv-loop μ-loop
 slice-write-given c = search needs
 
--- src/columns.rt:37:9
 sub-left : tie.Need-sub-left Inv-loop μ-loop
 sub-left c = omega (arith, c .smaller .ensures)
 
--- src/columns.rt:38:9
 add-i : tie.Need-add-i Inv-loop μ-loop
 add-i c = search needs
 
--- src/columns.rt:34:5
 loop-less : tie.Need-loop-less Inv-loop μ-loop
 loop-less c = search needs
 
--- src/columns.rt:34:5
 loop-again : tie.Need-loop-again Inv-loop μ-loop
 loop-again c = let a = c .before .before .before .before .before .before .args in
     let l = c .before .before .before .loop in
-    let rest = given-next (l .left) (a .held .now) (l .i) (c .before .before .loop-test .taken) in
-    (omega arith, simp length-set (l .inv .1), rw (c .smaller .ensures)
-    (written-next (l .given) (l .i) _ _ _ (omega arith) (rw rest at (l .inv .2))))
+    let rest = given-next (l .left) (a .held .now) (l .i) (c .before .before .loop-test .taken) in (
+      omega arith,
+      simp length-set (l .inv .1),
+      rw (c .smaller .ensures)
+          (written-next (l .given) (l .i) _ _ _ (omega arith) (rw rest at (l .inv .2))),
+    )
 
--- src/columns.rt:28:1
 same-length : tie.Need-same-length Inv-loop μ-loop
 same-length c = omega arith
 
--- src/columns.rt:28:1
 returns : tie.Need-returns Inv-loop μ-loop
 returns c = let l = c .before .loop in
     written-end (l .given) (l .i) _ _ (omega arith) (given-end (l .left) _ (l .i) (c .loop-test .left)) (l .inv .2)

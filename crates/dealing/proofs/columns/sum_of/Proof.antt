@@ -1,16 +1,14 @@
-use borrow.Author.Needs.{needs}
-use Prim.Native.Nat.{ℕ, _+_, _*_, _-_, _≤_, _<_}
-use mathlib.Core.Path.{_≡_, refl, sym, ap, _∙_}
+use Prim.Native.Nat.{_+_, _*_, _-_, _≤_}
+use mathlib.Core.Path.{_≡_}
 use native.Mathlib.Omega.{arith}
-use lib.ListN.{length, getD, drop}
+use lib.ListN.{length, drop}
+use borrow.Author.Needs.{needs}
 use Rattle.arith.specs.Columns.{total-next, total-end}
 use Rattle.arith.specs.Lists.{total}
 use Rattle.rules.specs.Default.{sumOf}
 use Rattle.dealing.specs.Levels.{mostWeight}
 use Rattle.dealing.proofs.columns.sum_of.Statement.{statement}
 use Rattle.dealing.proofs.columns.sum_of.Tie as tie
-use Rattle.dealing.proofs.columns.sum_of.Reads as reads
-use Rattle.dealing.proofs.columns.sum_of.Lts as lts
 
 abbrev Inv-loop : tie.InvT-loop
 Inv-loop numbers sum₀ i₀ sum i = (i ≤ length numbers) × (sum ≤ i * mostWeight) × (sum + total (λ n. n) (drop i numbers) ≡ sumOf numbers)
@@ -18,36 +16,28 @@ Inv-loop numbers sum₀ i₀ sum i = (i ≤ length numbers) × (sum ≤ i * most
 abbrev μ-loop : tie.MeasureT-loop
 μ-loop numbers sum₀ i₀ sum i = length numbers - i
 
--- src/columns.rt:14:5
 loop-holds : tie.Need-loop-holds Inv-loop μ-loop
 unfolding sumOf
 loop-holds c = (omega arith, omega arith, omega arith)
 
--- src/columns.rt:15:16
 mul-sum : tie.Need-mul-sum Inv-loop μ-loop
 mul-sum c = search needs
 
--- src/columns.rt:15:16
 shared-slice-read-sum : tie.Need-shared-slice-read-sum Inv-loop μ-loop
 shared-slice-read-sum c = search needs
 
--- src/columns.rt:15:9
 add-sum : tie.Need-add-sum Inv-loop μ-loop
 add-sum c = omega (arith, c .before .before .before .pre .few, c .before .before .before .pre .each (c .before .before .loop .i))
 
--- src/columns.rt:16:9
 add-i : tie.Need-add-i Inv-loop μ-loop
 add-i c = search needs
 
--- src/columns.rt:14:5
 loop-less : tie.Need-loop-less Inv-loop μ-loop
 loop-less c = search needs
 
--- src/columns.rt:14:5
 loop-again : tie.Need-loop-again Inv-loop μ-loop
 loop-again c = (omega arith, omega (arith, c .before .before .before .pre .each (c .before .before .loop .i)), omega (arith, total-next (c .before .before .before .args .numbers .now) (c .before .before .loop .i) (λ n. n) 0 (c .before .loop-test .taken), c .before .before .loop .inv .2))
 
--- src/columns.rt:8:1
 returns : tie.Need-returns Inv-loop μ-loop
 returns c = omega (arith, total-end (c .before .before .args .numbers .now) (c .before .loop .i) (λ n. n) (c .loop-test .left), c .before .loop .inv .2)
 

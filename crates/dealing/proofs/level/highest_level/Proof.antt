@@ -1,15 +1,12 @@
-use borrow.Author.Needs.{needs}
-use Prim.Native.Nat.{ℕ, _+_, _-_, _/_, _≤_, _<_}
-use mathlib.Core.Path.{_≡_, refl, sym, ap, _∙_}
+use Prim.Native.Nat.{_+_, _-_, _/_, _≤_, _<_}
+use mathlib.Core.Path.{_≡_}
 use native.Mathlib.Omega.{arith}
+use borrow.Author.Needs.{needs}
 use Rattle.rules.specs.Default.{sumOf}
 use Rattle.dealing.specs.Levels.{atLevel}
 use Rattle.dealing.proofs.Levels.{level-zero}
 use Rattle.dealing.proofs.level.highest_level.Statement.{statement}
 use Rattle.dealing.proofs.level.highest_level.Tie as tie
-use Rattle.dealing.proofs.level.highest_level.Reads as reads
-use Rattle.dealing.proofs.level.highest_level.Lts as lts
-use Rattle.dealing.proofs.level.lots_at_level.Reads as lots-at-level-reads
 
 abbrev Inv-loop : tie.InvT-loop
 Inv-loop lots minima low₀ high₀ low high = (low ≤ high) × (high ≤ lots) × (sumOf (atLevel low minima) ≤ lots) × (high < lots → lots < sumOf (atLevel (high + 1) minima))
@@ -17,46 +14,36 @@ Inv-loop lots minima low₀ high₀ low high = (low ≤ high) × (high ≤ lots)
 abbrev μ-loop : tie.MeasureT-loop
 μ-loop lots minima low₀ high₀ low high = high - low
 
--- src/level.rt:40:5
 loop-holds : tie.Need-loop-holds Inv-loop μ-loop
 loop-holds c = (omega arith, omega arith, omega (arith, level-zero (c .before .args .minima .now)), λ h. absurd (omega arith))
 
--- src/level.rt:41:30
 sub-middle : tie.Need-sub-middle Inv-loop μ-loop
 sub-middle c = search needs
 
--- src/level.rt:41:22
 sub-middle-2 : tie.Need-sub-middle-2 Inv-loop μ-loop
 sub-middle-2 c = search needs
 
--- src/level.rt:42:12
 lots-at-level-requires : tie.Need-lots-at-level-requires Inv-loop μ-loop
 lots-at-level-requires c κs = search needs
 
--- src/level.rt:40:5
 loop-less : tie.Need-loop-less Inv-loop μ-loop
 loop-less c = search needs
 
--- src/level.rt:40:5
 loop-again : tie.Need-loop-again Inv-loop μ-loop
 loop-again c = (omega arith, omega arith, rw (← c .before .lots-at-level .ensures) (c .if1 .taken), c .before .before .before .loop .inv .3)
 
--- src/level.rt:45:20
 sub-high : tie.Need-sub-high Inv-loop μ-loop
 sub-high c = search needs
 
--- src/level.rt:40:5
 loop-less-2 : tie.Need-loop-less-2 Inv-loop μ-loop
 loop-less-2 c = search needs
 
--- src/level.rt:40:5
 loop-again-2 : tie.Need-loop-again-2 Inv-loop μ-loop
 loop-again-2 c = let l = c .before .before .before .loop in
     let middle = l .high - (l .high - l .low) / 2 in
     let e : middle - 1 + 1 ≡ middle = omega arith in
     (omega arith, omega arith, l .inv .2, λ h. rw (e, ← c .before .lots-at-level .ensures) (c .if1 .left))
 
--- src/level.rt:34:1
 returns : tie.Need-returns Inv-loop μ-loop
 returns c = let l = c .before .loop in
     let e : l .low ≡ l .high = omega arith in

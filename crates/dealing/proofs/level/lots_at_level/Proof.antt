@@ -1,8 +1,8 @@
-use borrow.Author.Needs.{needs}
-use Prim.Native.Nat.{ℕ, _+_, _*_, _-_, _≤_, _<_, min}
-use mathlib.Core.Path.{_≡_, refl, sym, ap, _∙_}
+use Prim.Native.Nat.{_+_, _*_, _-_, _≤_, min}
+use mathlib.Core.Path.{_≡_}
 use native.Mathlib.Omega.{arith}
-use lib.ListN.{length, getD, drop}
+use lib.ListN.{length, drop}
+use borrow.Author.Needs.{needs}
 use Rattle.arith.specs.Columns.{total-next, total-end}
 use Rattle.arith.specs.Lists.{total}
 use Rattle.rules.specs.Default.{sumOf}
@@ -10,9 +10,6 @@ use Rattle.rules.proofs.Netting.{sum-map}
 use Rattle.dealing.specs.Levels.{atLevel, mostLots}
 use Rattle.dealing.proofs.level.lots_at_level.Statement.{statement}
 use Rattle.dealing.proofs.level.lots_at_level.Tie as tie
-use Rattle.dealing.proofs.level.lots_at_level.Reads as reads
-use Rattle.dealing.proofs.level.lots_at_level.Lts as lts
-use Rattle.dealing.proofs.columns.smaller.Reads as smaller-reads
 
 abbrev Inv-loop : tie.InvT-loop
 Inv-loop level minima sum₀ i₀ sum i = (i ≤ length minima) × (sum ≤ i * mostLots) × (sum + total (min level) (drop i minima) ≡ sumOf (atLevel level minima))
@@ -20,40 +17,31 @@ Inv-loop level minima sum₀ i₀ sum i = (i ≤ length minima) × (sum ≤ i * 
 abbrev μ-loop : tie.MeasureT-loop
 μ-loop level minima sum₀ i₀ sum i = length minima - i
 
--- src/level.rt:15:5
 loop-holds : tie.Need-loop-holds Inv-loop μ-loop
 unfolding atLevel
 loop-holds c = (omega arith, omega arith, omega (arith, sum-map (min (c .before .args .level)) (c .before .args .minima .now)))
 
--- src/level.rt:16:31
 mul-smaller : tie.Need-mul-smaller Inv-loop μ-loop
 mul-smaller c = search needs
 
--- src/level.rt:16:31
 shared-slice-read-smaller : tie.Need-shared-slice-read-smaller Inv-loop μ-loop
 shared-slice-read-smaller c = search needs
 
--- src/level.rt:16:16
 smaller-requires : tie.Need-smaller-requires Inv-loop μ-loop
 smaller-requires c κs = search needs
 
--- src/level.rt:16:9
 add-sum : tie.Need-add-sum Inv-loop μ-loop
 add-sum c = omega (arith, c .smaller .ensures)
 
--- src/level.rt:17:9
 add-i : tie.Need-add-i Inv-loop μ-loop
 add-i c = search needs
 
--- src/level.rt:15:5
 loop-less : tie.Need-loop-less Inv-loop μ-loop
 loop-less c = search needs
 
--- src/level.rt:15:5
 loop-again : tie.Need-loop-again Inv-loop μ-loop
 loop-again c = (omega arith, omega (arith, c .smaller .ensures), omega (arith, c .smaller .ensures, total-next (c .before .before .before .before .before .args .minima .now) (c .before .before .before .loop .i) (min (c .before .before .before .before .before .args .level)) 0 (c .before .before .loop-test .taken), c .before .before .before .loop .inv .2))
 
--- src/level.rt:9:1
 returns : tie.Need-returns Inv-loop μ-loop
 returns c = omega (arith, total-end (c .before .before .before .args .minima .now) (c .before .loop .i) (min (c .before .before .before .args .level)) (c .loop-test .left), c .before .loop .inv .2)
 

@@ -1,40 +1,35 @@
+use mathlib.Core.Path.{_≡_, sym, ap, _∙_}
+use native.Mathlib.Omega.{arith}
+use lib.ListN.{length, length-take, length-append}
+use lib.Seq.{take-at}
 use borrow.Author.Needs.{needs}
+use Rattle.rules.proofs.Minimums.{minimums-length}
 use Rattle.dealing.proofs.turns.deal_out.Statement.{statement}
 use Rattle.dealing.proofs.turns.deal_out.Tie as tie
-use Rattle.dealing.proofs.turns.deal_out.Reads as reads
-use Rattle.dealing.proofs.turns.deal_out.Lts as lts
-use Rattle.dealing.proofs.minimums.find_minimums.Reads as find-minimums-reads
-use Rattle.dealing.proofs.turns.deal_by_minimums.Reads as deal-by-minimums-reads
 
--- src/turns.rt:56:34
 array-borrow-prefix-minima : tie.Need-array-borrow-prefix-minima
 array-borrow-prefix-minima c = search needs
 
--- src/turns.rt:56:34
 slice-aggregate-find-minimums : tie.Need-slice-aggregate-find-minimums
-slice-aggregate-find-minimums c = ?
+slice-aggregate-find-minimums c = simp length-take (omega arith)
 
--- src/turns.rt:56:5
 find-minimums-requires : tie.Need-find-minimums-requires
-find-minimums-requires c κs = ?
+find-minimums-requires c κs = ((omega arith, c .before .before .before .pre .0 .1, simp length-take (omega arith)), c .before .before .before .pre .1)
 
--- src/turns.rt:57:37
 array-share-prefix-minima : tie.Need-array-share-prefix-minima
-array-share-prefix-minima c = ?
+array-share-prefix-minima c = simp length-append (omega (arith, ap length (c .before .find-minimums .ensures) ∙ minimums-length _ _))
 
--- src/turns.rt:57:37
 slice-aggregate-deal-by-minimums : tie.Need-slice-aggregate-deal-by-minimums
-slice-aggregate-deal-by-minimums c = ?
+slice-aggregate-deal-by-minimums c = let long : length (c .before .before .find-minimums .last .1 .1 .0) ≡ length (c .before .before .before .before .before .before .args .weights .now) = ap length (c .before .before .find-minimums .ensures) ∙ minimums-length _ _ in
+    sym (ap length (take-at (c .before .before .find-minimums .last .1 .1 .0) _ _ long) ∙ long)
 
--- src/turns.rt:57:5
 deal-by-minimums-requires : tie.Need-deal-by-minimums-requires
-deal-by-minimums-requires c κs = ?
+deal-by-minimums-requires c κs = let long : length (c .before .before .before .find-minimums .last .1 .1 .0) ≡ length (c .before .before .before .before .before .before .before .args .weights .now) = ap length (c .before .before .before .find-minimums .ensures) ∙ minimums-length _ _ in
+    (c .before .before .before .before .before .before .before .pre .0, (c .before .before .before .before .before .before .before .pre .1, take-at (c .before .before .before .find-minimums .last .1 .1 .0) _ _ long ∙ c .before .before .before .find-minimums .ensures))
 
--- src/turns.rt:49:1
 same-length : tie.Need-same-length
 same-length c = search needs
 
--- src/turns.rt:49:1
 returns : tie.Need-returns
 returns c = search needs
 

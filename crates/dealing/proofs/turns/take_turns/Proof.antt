@@ -1,18 +1,16 @@
-use lib.Dec.{ltb}
-use borrow.Author.Tests.{ltb-true}
-use Rattle.arith.specs.Tests.{and-left, and-right}
-use borrow.Author.Needs.{needs}
-use Prim.Native.Nat.{ℕ, _+_, _-_, _≤_, _<_}
-use mathlib.Core.Path.{_≡_, refl, sym, ap, _∙_}
+use Prim.Native.Nat.{_-_, _≤_, _<_}
+use mathlib.Core.Path.{_≡_, refl, sym, _∙_}
 use mathlib.Core.Logic.{⊎-elim}
 use native.Mathlib.Omega.{arith}
-use lib.ListN.{length, getD, drop, set, length-set}
-use Rattle.rules.specs.Default.{Dealing, round}
+use lib.Dec.{ltb}
+use lib.ListN.{length, getD, drop, length-set}
+use borrow.Author.Tests.{ltb-true}
+use borrow.Author.Needs.{needs}
+use Rattle.arith.specs.Tests.{and-left, and-right}
+use Rattle.rules.specs.Default.{round}
 use Rattle.rules.proofs.Turns.{round-deals, round-passes, round-end}
 use Rattle.dealing.proofs.turns.take_turns.Statement.{statement}
 use Rattle.dealing.proofs.turns.take_turns.Tie as tie
-use Rattle.dealing.proofs.turns.take_turns.Reads as reads
-use Rattle.dealing.proofs.turns.take_turns.Lts as lts
 
 abbrev Inv-loop : tie.InvT-loop
 Inv-loop minima order received₀ lots left₀ i₀ received left i = (i ≤ length order) × (length received ≡ length minima) × (round minima (drop i order) (record { received = received; left = left }) ≡ round minima order (record { received = received₀; left = lots }))
@@ -20,35 +18,27 @@ Inv-loop minima order received₀ lots left₀ i₀ received left i = (i ≤ len
 abbrev μ-loop : tie.MeasureT-loop
 μ-loop minima order received₀ lots left₀ i₀ received left i = length order - i
 
--- src/turns.rt:21:5
 loop-holds : tie.Need-loop-holds Inv-loop μ-loop
 loop-holds c = (omega arith, omega arith, refl)
 
--- src/turns.rt:22:22
 mul-member : tie.Need-mul-member Inv-loop μ-loop
 mul-member c = search needs
 
--- src/turns.rt:22:22
 shared-slice-read-member : tie.Need-shared-slice-read-member Inv-loop μ-loop
 shared-slice-read-member c = search needs
 
--- src/turns.rt:23:19
 mul-has : tie.Need-mul-has Inv-loop μ-loop
 mul-has c = omega (arith, c .before .before .before .pre .1 (c .before .before .loop .i))
 
--- src/turns.rt:23:19
 slice-read-has : tie.Need-slice-read-has Inv-loop μ-loop
 slice-read-has c = omega (arith, c .before .before .before .before .pre .1 (c .before .before .before .loop .i))
 
--- src/turns.rt:24:32
 mul-if1 : tie.Need-mul-if1 Inv-loop μ-loop
 mul-if1 c = omega (arith, c .before .before .before .before .pre .1 (c .before .before .before .loop .i))
 
--- src/turns.rt:24:32
 shared-slice-read-if1 : tie.Need-shared-slice-read-if1 Inv-loop μ-loop
 shared-slice-read-if1 c = omega (arith, c .before .before .before .before .before .pre .1 (c .before .before .before .before .loop .i))
 
--- src/turns.rt:25:32
 add-received : tie.Need-add-received Inv-loop μ-loop
 add-received c = let l = c .before .before .before .before .before .loop in
     let a = c .before .before .before .before .before .before .args in
@@ -56,38 +46,30 @@ add-received c = let l = c .before .before .before .before .before .loop in
     let less : getD (l .received) m 0 < getD (a .minima .now) m 0 = ltb-true _ _ (and-right (ltb 0 (l .left)) _ (c .if1 .taken)) in
     omega (arith, c .before .shared-slice-known2 .given m)
 
--- src/turns.rt:25:13
 mul-received : tie.Need-mul-received Inv-loop μ-loop
 mul-received c = omega (arith, c .before .before .before .before .before .before .pre .1 (c .before .before .before .before .before .loop .i))
 
--- src/turns.rt:25:13
 slice-write-received : tie.Need-slice-write-received Inv-loop μ-loop
 slice-write-received c = omega (arith, c .before .before .before .before .before .before .pre .1 (c .before .before .before .before .before .loop .i))
 
--- src/turns.rt:26:13
 sub-left : tie.Need-sub-left Inv-loop μ-loop
 sub-left c = let some : 0 < c .before .before .before .before .before .loop .left = ltb-true _ _ (and-left _ _ (c .if1 .taken)) in omega arith
 
--- src/turns.rt:28:9
 add-i : tie.Need-add-i Inv-loop μ-loop
 add-i c = search needs
 
--- src/turns.rt:21:5
 loop-less : tie.Need-loop-less Inv-loop μ-loop
 loop-less c = search needs
 
--- src/turns.rt:21:5
 loop-again : tie.Need-loop-again Inv-loop μ-loop
 loop-again c = let l = c .before .before .before .before .before .loop in
     ⊎-elim
     (λ w. rw (w .1, w .2) (omega arith, simp length-set (l .inv .1), round-deals _ _ (l .received) (l .left) (l .i) (c .before .before .before .before .loop-test .taken) (w .0 .taken) ∙ l .inv .2))
     (λ w. rw (w .1, w .2) (omega arith, l .inv .1, round-passes _ _ (l .received) (l .left) (l .i) (c .before .before .before .before .loop-test .taken) (w .0 .left) ∙ l .inv .2)) (c .if1 .came)
 
--- src/turns.rt:14:1
 same-length : tie.Need-same-length Inv-loop μ-loop
 same-length c = omega arith
 
--- src/turns.rt:14:1
 returns : tie.Need-returns Inv-loop μ-loop
 returns c = sym (round-end _ _ _ (c .before .loop .i) (c .loop-test .left)) ∙ c .before .loop .inv .2
 
