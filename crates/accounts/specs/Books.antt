@@ -25,13 +25,13 @@ use Rattle.rules.specs.declared.order.Side.the-variants.{Buy, Sell}
 use Rattle.rules.specs.Answers.{Outcome, decide}
 use Rattle.rules.specs.Days.{inSpan, businessDay}
 use Rattle.rules.specs.Header.{daySound}
-use Rattle.rules.specs.Ledger.{Tables, Line, withHead, withPrices, members, holidayCount, day, time, accepted, submits, calendar, orderCount, sideAt, sideNumber, orderPlaces, orders, withOrders, withoutSubmits, timed, booked}
+use Rattle.rules.specs.Ledger.{Tables, Line, withHead, withPrices, members, holidayCount, day, time, acceptedSubmits, submitsThisSecond, calendar, orderCount, sideAt, sideNumber, orderPlaces, orders, withOrders, withoutSubmits, timed, booked}
 use Rattle.rules.specs.Records.{timeSound, contractSound, priceSound, lotsSound, eventSound}
 use Rattle.rules.specs.Matching.{withLots, Matched, matched, incoming, submitMatched, submitLines, isResting, wouldRest, submitOrders, withDeals, counted, submitBooked}
 use Rattle.rules.specs.Synthetic.{usedByLegs, proposalLines, proposalBooked}
 use Rattle.rules.specs.Default.{closeOutLines, closeOutBooked, defaultBooked}
-use Rattle.rules.specs.CloseOfDay.{closeContract, closingContracts, closeAll, priced, nextDay, onDay, closeBooked}
-use Rattle.rules.specs.Refusals.{headSound, orderSound, sidesSound, bookSound, damaged, isCancelled, submitCauses, cancelCauses, limitsCauses, proposalCauses, defaultCauses, closeOutCauses, closeCauses, submitSpec, cancelSpec, limitsSpec, proposalSpec, defaultSpec, closeOutSpec, closeSpec, eventSpec}
+use Rattle.rules.specs.CloseOfDay.{closingContracts, isOfAny, withClosed, priced, nextDay, onDay, closeBooked}
+use Rattle.rules.specs.Refusals.{headSound, orderSound, sidesSound, bookSound, damaged, isCancelled, submitCauses, cancelCauses, dayLimitsCauses, proposalCauses, defaultCauses, closeOutCauses, closeCauses, submitSpec, cancelSpec, dayLimitsSpec, proposalSpec, defaultSpec, closeOutSpec, closeSpec, eventSpec}
 use Rattle.rules.specs.Accounts.{isAccepted}
 use Rattle.accounts.specs.Heads.{SameHeader, field, changing, ofMember, same-header, then-same, set-other, same-holidays, but-the-day}
 use Rattle.accounts.specs.Runs.{Sound, orders-same, timed-same}
@@ -44,12 +44,12 @@ use Rattle.accounts.specs.Remains.{Remain, Distinct, remain-same, remain
 -- ---- orders
 -- what the soundness of an order reads of the tables: the members and the calendar stand, accepted submits do not fall
 pub record SameTerms (t t′ : Tables) : Type 0 where
-  pub more : accepted t ≤ accepted t′
+  pub more : acceptedSubmits t ≤ acceptedSubmits t′
   pub size : members t′ ≡ members t
   pub days : calendar t′ ≡ calendar t
 
 -- so it is after a record whose head kept the header; with f = 3 the day is another one
-pub header-terms : {f : ℕ} (t t′ : Tables) → 3 ≤ f → Sound t → SameHeader f (t .head) (t′ .head) → accepted t ≤ accepted t′ → SameTerms t t′
+pub header-terms : {f : ℕ} (t t′ : Tables) → 3 ≤ f → Sound t → SameHeader f (t .head) (t′ .head) → acceptedSubmits t ≤ acceptedSubmits t′ → SameTerms t t′
 header-terms {f} t t′ q s a b =
     let year = a .places 0 (field (omega arith)) in
     let listed = ap (λ n. take n (drop 8 (t′ .head))) (a .places 2 (field (omega arith))) ∙ same-holidays f (t .head) (t′ .head) (holidayCount t) a (s .head-long) (s .few-holidays) in
@@ -60,7 +60,7 @@ lots-range : (q : ℕ) → lotsSound q ≡ true → (1 ≤ q) × (q ≤ 100)
 lots-range q e = (leb-true 1 q (and-left (leb 1 q) (leb q 100) e), leb-true q 100 (and-right (leb 1 q) (leb q 100) e))
 
 -- the tests of an order, one by one
-fields-sound : (t : Tables) (o : Order) → o .number < accepted t → ltb (o .member) (members t) ≡ true → contractSound (o .contract) ≡ true → priceSound (o .price .0) ≡ true
+fields-sound : (t : Tables) (o : Order) → o .number < acceptedSubmits t → ltb (o .member) (members t) ≡ true → contractSound (o .contract) ≡ true → priceSound (o .price .0) ≡ true
     → (1 ≤ o .lots .0) × (o .lots .0 ≤ 100) → inSpan (calendar t) (o .day .0) ≡ true → timeSound (o .time) ≡ true → orderSound t o ≡ true
 unfolding orderSound
 fields-sound t o n m c p q d s = hold-all _ (lt-ltb _ _ n, (m, (c, (p, (rw (le-leb 1 (o .lots .0) (q .0), le-leb (o .lots .0) 100 (q .1)) refl, (d, (s, tt)))))))
@@ -71,7 +71,7 @@ unfolding orderSound
 order-stays t t′ s o q u v e =
     let a = all-hold _ e in
     let range = lots-range (o .lots .0) (a .1 .1 .1 .1 .0) in
-    fields-sound t′ (withLots q o) (omega (arith, ltb-true (o .number) (accepted t) (a .0), s .more)) (ap (ltb (o .member)) (s .size) ∙ a .1 .0) (a .1 .1 .0) (a .1 .1 .1 .0)
+    fields-sound t′ (withLots q o) (omega (arith, ltb-true (o .number) (acceptedSubmits t) (a .0), s .more)) (ap (ltb (o .member)) (s .size) ∙ a .1 .0) (a .1 .1 .0) (a .1 .1 .1 .0)
     (u (range .0), omega arith) (ap (λ k. inSpan k (o .day .0)) (s .days) ∙ a .1 .1 .1 .1 .1 .0) (a .1 .1 .1 .1 .1 .1 .0)
 
 -- ---- sides, as they stand in the book
@@ -165,7 +165,7 @@ written-header : (os : List Order) (t : Tables) → SameHeader 4 (t .head) (with
 unfolding withOrders
 written-header os t = set-other 4 (t .head) 7 _ (omega arith) (changing (omega arith) (omega arith))
 
-written-accepted : (os : List Order) (t : Tables) → accepted (withOrders os t) ≡ accepted t
+written-accepted : (os : List Order) (t : Tables) → acceptedSubmits (withOrders os t) ≡ acceptedSubmits t
 unfolding withOrders
 written-accepted os t = getD-set-other (t .head) 7 5 (length os) 0 (λ e. omega arith)
 
@@ -175,10 +175,10 @@ unfolding withoutSubmits
 without-place t i b m l = over-outside 192 (replicate (members t) 0) (t .head) (omega (arith, length-replicate {A = ℕ} (members t) 0)) i 0 (λ q. absurd (omega arith))
 
 -- a later time leaves the count of accepted submits
-timed-accepted : (n : ℕ) (t : Tables) → Sound t → accepted (timed n t) ≡ accepted t
+timed-accepted : (n : ℕ) (t : Tables) → Sound t → acceptedSubmits (timed n t) ≡ acceptedSubmits t
 unfolding timed
 timed-accepted n t s =
-    by-bool (λ b. accepted (cond b (withHead (set (withoutSubmits t .head) 4 n) t) t) ≡ accepted t) (ltb (time t) n)
+    by-bool (λ b. acceptedSubmits (cond b (withHead (set (withoutSubmits t .head) 4 n) t) t) ≡ acceptedSubmits t) (ltb (time t) n)
     (λ _. getD-set-other (withoutSubmits t .head) 4 5 n 0 (λ e. omega arith) ∙ without-place t 5 (s .head-long) (s .few-members) (omega arith)) (λ _. refl)
 
 -- ---- a record that writes orders os in tables u, which have the header of t
@@ -200,16 +200,16 @@ module _ (ls : List Line) (os : List Order) (t u : Tables) (s : Sound t) (a : Sa
   unfolding booked
   sides-after = sides-same (withOrders os u) after count-stays refl ∙ sides-written os u long
 
-  accepted-after : accepted after ≡ accepted u
+  accepted-after : acceptedSubmits after ≡ acceptedSubmits u
   accepted-after = booked-place ls (withOrders os u) 5 (λ e. omega arith) ∙ written-accepted os u
 
-  terms-after : accepted t ≤ accepted u → SameTerms t after
+  terms-after : acceptedSubmits t ≤ acceptedSubmits u → SameTerms t after
   terms-after b = header-terms t after (omega arith) s (then-same a (then-same (written-header os u) (booked-header ls (withOrders os u)))) (omega (arith, accepted-after))
 
 -- ---- records that take orders out of the book, or use lots of them, or leave it
 module _ (t : Tables) (s : Sound t) (k : BookKept t) where
   -- os: what remains of the orders; u: tables with the header and the accepted submits of t
-  taken-book : (ls : List Line) (os : List Order) (u : Tables) → SameHeader 4 (t .head) (u .head) → accepted u ≡ accepted t → Remain (orders t) os
+  taken-book : (ls : List Line) (os : List Order) (u : Tables) → SameHeader 4 (t .head) (u .head) → acceptedSubmits u ≡ acceptedSubmits t → Remain (orders t) os
       → BookKept (booked ls (withOrders os u) .after)
   taken-book ls os u a same x =
       remains-kept t (booked ls (withOrders os u) .after) (terms-after ls os t u s a (omega arith)) k (sides-after ls os t u s a) (rw (orders-after ls os t u s a) x)
@@ -275,7 +275,7 @@ submit-deals t e b =
     omega (arith, deals-few (length (orders t)) (incoming t e) (orders t) resting)
 
 -- t′: tables with one more accepted submit
-module _ (t t′ : Tables) (terms : SameTerms t t′) (later : accepted t < accepted t′) (k : BookKept t) (e : Submission) (legs : List Leg)
+module _ (t t′ : Tables) (terms : SameTerms t t′) (later : acceptedSubmits t < acceptedSubmits t′) (k : BookKept t) (e : Submission) (legs : List Leg)
     (fine : eventSound (members t) (Submit e) legs ≡ true) (today : inSpan (calendar t) (day t) ≡ true)
     (room : wouldRest t e && leb 256 (length (submitMatched t e .resting)) ≡ false) where
   abbrev m : Matched
@@ -307,9 +307,9 @@ module _ (t t′ : Tables) (terms : SameTerms t t′) (later : accepted t < acce
   resting-sound = remain-all (λ o. orderSound t o ≡ true) (λ o. orderSound t′ o ≡ true) (order-stays t t′ terms) resting-remain (book-orders t (k .sound))
 
   -- no other has its number
-  number-new : (o : Order) (q : ℕ) → (0 < o .lots .0 → 0 < q) → q ≤ o .lots .0 → orderSound t o ≡ true → eqb (o .number) (accepted t) ≡ false
+  number-new : (o : Order) (q : ℕ) → (0 < o .lots .0 → 0 < q) → q ≤ o .lots .0 → orderSound t o ≡ true → eqb (o .number) (acceptedSubmits t) ≡ false
   unfolding orderSound
-  number-new o q u v a = ne-eqb (o .number) (accepted t) (omega (arith, ltb-true (o .number) (accepted t) (all-hold _ a .0)))
+  number-new o q u v a = ne-eqb (o .number) (acceptedSubmits t) (omega (arith, ltb-true (o .number) (acceptedSubmits t) (all-hold _ a .0)))
 
   submit-sound : All (λ o. orderSound t′ o ≡ true) (submitOrders t e)
   unfolding submitOrders
@@ -322,7 +322,7 @@ module _ (t t′ : Tables) (terms : SameTerms t t′) (later : accepted t < acce
   submit-distinct =
       let d = remain-distinct resting-remain (book-distinct t (k .sound)) in
       by-bool (λ b. Distinct (cond b (m .resting ++ (new ∷ [])) (m .resting))) (wouldRest t e)
-      (λ _. distinct-more (m .resting) new (remain-all (λ o. orderSound t o ≡ true) (λ o. eqb (o .number) (accepted t) ≡ false) number-new resting-remain (book-orders t (k .sound))) d)
+      (λ _. distinct-more (m .resting) new (remain-all (λ o. orderSound t o ≡ true) (λ o. eqb (o .number) (acceptedSubmits t) ≡ false) number-new resting-remain (book-orders t (k .sound))) d)
       (λ _. d)
 
   submit-few : length (submitOrders t e) ≤ 256
@@ -336,17 +336,17 @@ pub submit-book : (t : Tables) → Sound t → BookKept t → (e : Submission) (
 unfolding submitBooked withDeals counted
 submit-book t s k e legs fine today room =
     let u = timed (e .time) t in
-    let one = submits u (e .member) + 1 in
+    let one = submitsThisSecond u (e .member) + 1 in
     let l = set (u .head) (192 + e .member) one in
     let v = withDeals (e .contract) (submitMatched t e .deals) (counted (e .member) u) in
     let os = submitOrders t e in
     let ls = submitLines t e in
     let t′ = submitBooked t e .after in
     let a = then-same (timed-same (e .time) t s) (set-other 4 (u .head) (192 + e .member) one (omega arith) (ofMember (omega arith))) in
-    let b = then-same a (set-other 4 l 5 (accepted u + 1) (omega arith) (changing (omega arith) (omega arith))) in
-    let one-more : accepted v ≡ accepted t + 1 = getD-set-same l 5 (accepted u + 1) 0 (omega (arith, a .longer, s .head-long)) ∙ ap (λ n. n + 1) (timed-accepted (e .time) t s) in
+    let b = then-same a (set-other 4 l 5 (acceptedSubmits u + 1) (omega arith) (changing (omega arith) (omega arith))) in
+    let one-more : acceptedSubmits v ≡ acceptedSubmits t + 1 = getD-set-same l 5 (acceptedSubmits u + 1) 0 (omega (arith, a .longer, s .head-long)) ∙ ap (λ n. n + 1) (timed-accepted (e .time) t s) in
     let terms : SameTerms t t′ = terms-after ls os t v s b (omega arith) in
-    let later : accepted t < accepted t′ = omega (arith, accepted-after ls os t v s b) in
+    let later : acceptedSubmits t < acceptedSubmits t′ = omega (arith, accepted-after ls os t v s b) in
     let is = orders-after ls os t v s b in
     sound-book t′ (sides-after ls os t v s b) (rw is (submit-sound t t′ terms later k e legs fine today room)) (rw is (submit-distinct t t′ terms later k e legs fine today room))
     (rw is (submit-few t t′ terms later k e legs fine today room))
@@ -355,27 +355,21 @@ submit-book t s k e legs fine today room =
 -- v: the tables u with some contracts closed
 record Closed (u v : Tables) : Type 0 where
   header : SameHeader 4 (u .head) (v .head)
-  numbers : accepted v ≡ accepted u
+  numbers : acceptedSubmits v ≡ acceptedSubmits u
   sides : sidesSound v ≡ true
   remain : Remain (orders u) (orders v)
 
-closed-next : (c : ℕ) (u v : Tables) → 7 < length (u .head) → Closed u v → Closed u (closeContract c v)
-unfolding closeContract
-closed-next c u v b a =
-    let os = kept (λ o. not (eqb (o .contract) c)) (orders v) in
-    let w = withOrders os v in
-    let long : 7 < length (v .head) = omega (arith, a .header .longer) in
+closed-all : (cs : List ℕ) (u : Tables) → 7 < length (u .head) → sidesSound u ≡ true → Closed u (withClosed cs u)
+unfolding withClosed
+closed-all cs u long a =
+    let os = kept (λ o. not (isOfAny cs o)) (orders u) in
+    let w = withOrders os u in
     record {
-      header = then-same (a .header) (written-header os v);
-      numbers = written-accepted os v ∙ a .numbers;
-      sides = sides-same w (closeContract c v) refl refl ∙ sides-written os v long;
-      remain = remain-then (a .remain) (rw (orders-same w (closeContract c v) refl refl ∙ orders-written os v long) (kept-remain _ (orders v)));
+      header = written-header os u;
+      numbers = written-accepted os u;
+      sides = sides-same w (withClosed cs u) refl refl ∙ sides-written os u long;
+      remain = rw (orders-same w (withClosed cs u) refl refl ∙ orders-written os u long) (kept-remain _ (orders u));
     }
-
-closed-all : (cs : List ℕ) (u v : Tables) → 7 < length (u .head) → Closed u v → Closed u (closeAll cs v)
-unfolding closeAll
-closed-all [] u v b a = a
-closed-all (c ∷ cs) u v b a = closed-all cs u (closeContract c v) b (closed-next c u v b a)
 
 -- the new day changes neither the book nor the count of accepted submits
 day-place : (x : ℕ) (t : Tables) (i : ℕ) → 224 ≤ length (t .head) → members t ≤ 32 → 4 < i → i < 192 → getD (onDay x t .head) i 0 ≡ getD (t .head) i 0
@@ -388,10 +382,9 @@ pub close-book : (t : Tables) → Sound t → BookKept t → (n : ℕ) → BookK
 unfolding closeBooked priced onDay
 close-book t s k n =
     let u = priced n t in
-    let v = closeAll (closingContracts t) u in
+    let v = withClosed (closingContracts t) u in
     let t′ = onDay (nextDay t) v in
-    let a = closed-all (closingContracts t) u u (omega (arith, s .head-long))
-    (record { header = same-header 4 (t .head); numbers = refl; sides = sides-same t u refl refl ∙ book-sides t (k .sound); remain = remain-same (orders u) }) in
+    let a = closed-all (closingContracts t) u (omega (arith, s .head-long)) (sides-same t u refl refl ∙ book-sides t (k .sound)) in
     let long : 224 ≤ length (v .head) = omega (arith, a .header .longer, s .head-long) in
     let few : members v ≤ 32 = omega (arith, a .header .places 1 (field (omega arith)), s .few-members) in
     let at : (i : ℕ) → 4 < i → i < 192 → getD (t′ .head) i 0 ≡ getD (v .head) i 0 = λ i. day-place (nextDay t) v i long few in
@@ -407,12 +400,12 @@ module _ (t : Tables) (s : Sound t) (k : BookKept t) (today : inSpan (calendar t
   decided causes o r f = decide-shows (λ x. BookKept (x .after)) t o causes (λ a q. k) r f
 
   pub event-book : (e : Event) (legs : List Leg) → eventSound (members t) e legs ≡ true → BookKept (eventSpec t e legs .after)
-  unfolding eventSpec submitSpec cancelSpec limitsSpec proposalSpec defaultSpec closeOutSpec closeSpec
+  unfolding eventSpec submitSpec cancelSpec dayLimitsSpec proposalSpec defaultSpec closeOutSpec closeSpec
   event-book (Submit e) legs q =
       decided (submitCauses t e) (submitBooked t e) (refl, (refl, (refl, (refl, (refl, (refl, (refl, (refl, (refl, tt)))))))))
       (λ f. submit-book t s k e legs q today (f .1 .1 .1 .1 .1 .1 .1 .0))
   event-book (Cancel e) legs q = decided (cancelCauses t e) _ (refl, (refl, tt)) (λ f. cancel-book t s k (e .time) (λ o. not (isCancelled e o)))
-  event-book (DayLimits e) legs q = decided (limitsCauses t e) _ (refl, tt) (λ f. limits-book t s k _)
+  event-book (DayLimits e) legs q = decided (dayLimitsCauses t e) _ (refl, tt) (λ f. limits-book t s k _)
   event-book (Proposal n) legs q = decided (proposalCauses t legs) (proposalBooked t legs) (refl, (refl, tt)) (λ f. proposal-book t s k legs)
   event-book (Default m) legs q = decided (defaultCauses t m) (defaultBooked t m) (refl, tt) (λ f. default-book t s k m)
   event-book (CloseOut e) legs q = decided (closeOutCauses t e) (closeOutBooked t e) (refl, (refl, (refl, (refl, (refl, tt))))) (λ f. close-out-book t s k e)

@@ -21,7 +21,7 @@ use Rattle.rules.specs.Contracts.{childrenOf}
 use Rattle.rules.specs.HourLaws.{yearOf, quarterOf, monthOf, cascading}
 use Rattle.rules.specs.Header.{Header}
 use Rattle.rules.specs.Ledger.{Tables, Line, members, lotsRun, rowPlace, lineRun, withOrders, fresh}
-use Rattle.rules.specs.CloseOfDay.{cascaded, closeContract, closeAll}
+use Rattle.rules.specs.CloseOfDay.{cascaded, allCascaded, withClosed}
 use Rattle.rules.specs.Refusals.{everyRow, rowsSound}
 use Rattle.rules.specs.Accounts.{Column, lots, value, row, amount}
 use Rattle.accounts.specs.Lines.{rowTotal}
@@ -139,25 +139,16 @@ pub record Roomy (n : ℕ) (t : Tables) : Type 0 where
   pub value-long : 3264 ≤ length (t .value)
 
 module _ (n : ℕ) (few : n ≤ 32) where
-  closed-roomy : (c : ℕ) (t : Tables) → c < 102 → Roomy n t → Roomy n (closeContract c t)
-  unfolding closeContract withOrders
-  closed-roomy c t k r =
-      let q : members t ≤ 32 = omega (arith, r .size) in
-      record {
-        size = getD-set-other (t .head) 7 1 _ 0 (omega arith) ∙ r .size;
-        lots-long = omega (arith, cascaded-length (members t) c (t .lots) (r .lots-long) k q, r .lots-long);
-        value-long = omega (arith, cascaded-length (members t) c (t .value) (r .value-long) k q, r .value-long);
-      }
+  columns-cascaded : {b : ℕ} (cs : List ℕ) (l : List ℤ) → All (λ c. c < 102) cs → 3264 ≤ length l → Bounded n b (rowsIn l) → Bounded n b (rowsIn (allCascaded n cs l))
+  unfolding allCascaded
+  columns-cascaded [] l h r a = a
+  columns-cascaded (c ∷ cs) l h r a =
+      columns-cascaded cs (cascaded n c l) (h .1) (omega (arith, cascaded-length n c l r (h .0) few)) (column-cascaded n c l (h .0) few r a)
 
-  closed-one : {b : ℕ} (x : Column) (c : ℕ) (t : Tables) → c < 102 → Roomy n t → Bounded n b (row x t) → Bounded n b (row x (closeContract c t))
-  unfolding closeContract
-  closed-one {b} lots c t k r a = subst (λ s. Bounded n b (rowsIn (cascaded s c (t .lots)))) (sym (r .size)) (column-cascaded n c (t .lots) k few (r .lots-long) a)
-  closed-one {b} value c t k r a = subst (λ s. Bounded n b (rowsIn (cascaded s c (t .value)))) (sym (r .size)) (column-cascaded n c (t .value) k few (r .value-long) a)
-
-  pub bounded-closed : {b : ℕ} (x : Column) (cs : List ℕ) (t : Tables) → All (λ c. c < 102) cs → Roomy n t → Bounded n b (row x t) → Bounded n b (row x (closeAll cs t))
-  unfolding closeAll
-  bounded-closed x [] t h r a = a
-  bounded-closed x (c ∷ cs) t h r a = bounded-closed x cs (closeContract c t) (h .1) (closed-roomy c t (h .0) r) (closed-one x c t (h .0) r a)
+  pub bounded-closed : {b : ℕ} (x : Column) (cs : List ℕ) (t : Tables) → All (λ c. c < 102) cs → Roomy n t → Bounded n b (row x t) → Bounded n b (row x (withClosed cs t))
+  unfolding withClosed
+  bounded-closed {b} lots cs t h r a = subst (λ s. Bounded n b (rowsIn (allCascaded s cs (t .lots)))) (sym (r .size)) (columns-cascaded cs (t .lots) h (r .lots-long) a)
+  bounded-closed {b} value cs t h r a = subst (λ s. Bounded n b (rowsIn (allCascaded s cs (t .value)))) (sym (r .size)) (columns-cascaded cs (t .value) h (r .value-long) a)
 
 -- ---- the lots run, and the test of damage
 -- each column's rows do not pass the lots run

@@ -16,7 +16,7 @@ use Rattle.rules.specs.Answers.{Outcome, decide}
 use Rattle.rules.specs.Contracts.{hasCascaded}
 use Rattle.rules.specs.Header.{Header, calendarOf}
 use Rattle.rules.specs.Ledger.{Tables, Line, members, holidayCount, orders, ledgerShort, linesShort, lineLots, lineValue, booked}
-use Rattle.rules.specs.Refusals.{headSound, orderSound, bookSound, damaged}
+use Rattle.rules.specs.Refusals.{headSound, orderSound, bookSound, damaged, unsound}
 use Rattle.rules.specs.Accounts.{Column, lots, value, row, amount, isAccepted, linesOf}
 use Rattle.accounts.specs.Lines.{Fits, rowTotal}
 use Rattle.accounts.specs.Heads.{SameHeader}
@@ -145,8 +145,8 @@ sound-parts t long a b =
       placed = all-map (λ o. orderSound t o ≡ true) _ (orders t) (order-placed t) (every-all (orderSound t) (orders t) (book .1 .0));
     }
 
-pub sound-of : (t : Tables) → ledgerShort t || linesShort t || damaged t ≡ false → Sound t
-unfolding damaged
+pub sound-of : (t : Tables) → unsound t ≡ false → Sound t
+unfolding unsound damaged
 sound-of t e =
     let a = all-hold _ (not-false _ (or-right (ledgerShort t || linesShort t) (damaged t) e)) in
     sound-parts t (long-enough t (or-left (ledgerShort t) (linesShort t) (or-left (ledgerShort t || linesShort t) (damaged t) e))) (a .0) (a .1 .1 .1 .0)

@@ -21,12 +21,12 @@ use Rattle.rules.specs.declared.units.Day.{Day}
 use Rattle.rules.specs.declared.units.Day.the-variants.{On, NoDay}
 use Rattle.rules.specs.declared.units.DayNo.{DayNo}
 use Rattle.rules.specs.Days.{Calendar, nextBusinessDay}
-use Rattle.rules.specs.Contracts.{termOf, contractsOf, childrenOf, closingDay, notBefore, isOn, isBefore, stillToClose, hasCascaded}
+use Rattle.rules.specs.Contracts.{termOf, contractsOf, childrenOf, termClosingDay, notBefore, isOn, isBefore, stillToClose, hasCascaded}
 use Rattle.rules.specs.CalendarLaws.{firstMonthOf, next-business, before-or-not, closes-today, closed-by-next, quarter-later-by-number, open-stays, open-in-ledger, open-to-close}
 use Rattle.rules.specs.HourLaws.{Cascading, year, quarter, cascading}
 use Rattle.rules.specs.Header.{Header, calendarOf}
-use Rattle.rules.specs.Ledger.{Tables, Line, members, day, calendar, orders, withOrders, withoutSubmits, firstLines}
-use Rattle.rules.specs.CloseOfDay.{closeContract, closingContracts, closeAll, priced, nextDay, onDay, closeBooked}
+use Rattle.rules.specs.Ledger.{Tables, Line, withRows, members, day, calendar, orders, withOrders, withoutSubmits, firstLines}
+use Rattle.rules.specs.CloseOfDay.{cascaded, closingContracts, allCascaded, isOfAny, withClosed, priced, nextDay, onDay, closeBooked}
 use Rattle.rules.specs.Accounts.{Column, lots, value, row}
 use Rattle.accounts.specs.Cascade.{cascade-keeps}
 use Rattle.accounts.specs.Heads.{SameHeader, field, changing, same-header, then-same, set-other, over-other, but-the-day}
@@ -56,11 +56,11 @@ holds-fewer : (h : Header) (R : Rows) (log : List Line) (K K′ : ℕ → Bool) 
 holds-fewer h R log K K′ f a = record { same = a .same; zero = a .zero; empty = λ x c m l b t. a .empty x c m l b (f c l t) }
 
 -- ---- which contracts have closed by the evening of day d
-on-closed : (d : ℕ) (z : Day) → isOn d z ≡ true → notBefore (suc d) z ≡ false
+on-closed : (d : ℕ) (z : Day) → isOn z d ≡ true → notBefore z (suc d) ≡ false
 on-closed d (On x) e = lt-leb (suc d) (x .0) (omega (arith, eqb-true (x .0) d e))
 on-closed d NoDay e = refl
 
-before-closed : (d : ℕ) (z : Day) → isBefore d z ≡ true → notBefore (suc d) z ≡ false
+before-closed : (d : ℕ) (z : Day) → isBefore z d ≡ true → notBefore z (suc d) ≡ false
 before-closed d (On x) e = lt-leb (suc d) (x .0) (omega (arith, ltb-true (x .0) d e))
 before-closed d NoDay e = refl
 
@@ -72,12 +72,12 @@ module _ (k : Calendar) (d : ℕ) where
   closed-before : Closed (hasCascaded k d)
   unfolding hasCascaded stillToClose
   closed-before e t = (
-    omega (arith, leb-true (e % 17) 4 (and-left (leb (e % 17) 4) (isBefore d (closingDay k (termOf e))) t)),
-    before-closed d (closingDay k (termOf e)) (and-right (leb (e % 17) 4) (isBefore d (closingDay k (termOf e))) t),
+    omega (arith, leb-true (e % 17) 4 (and-left (leb (e % 17) 4) (isBefore (termClosingDay k (termOf e)) d) t)),
+    before-closed d (termClosingDay k (termOf e)) (and-right (leb (e % 17) 4) (isBefore (termClosingDay k (termOf e)) d) t),
   )
 
   -- so no child of a contract that closes this evening is
-  children-clear : (K : ℕ → Bool) (c : ℕ) → Closed K → isOn d (closingDay k (termOf c)) ≡ true → c % 17 < 5 → (e : ℕ) → childOf c e ≡ true → K e ≡ false
+  children-clear : (K : ℕ → Bool) (c : ℕ) → Closed K → isOn (termClosingDay k (termOf c)) d ≡ true → c % 17 < 5 → (e : ℕ) → childOf c e ≡ true → K e ≡ false
   children-clear K c z o b e v = true-or (K e) (λ t. never (absurd (go (cascading c b) (z e t)))) (λ t. t)
     where
       go : Cascading c → (e % 17 < 5) × (stillToClose k (suc d) (termOf e) ≡ false) → ⊥
@@ -117,6 +117,21 @@ only true true q f e = never f
 only true false q f e = e
 only false b q f e = e
 
+-- A contract's rows cascade in both columns, and nothing else changes.
+abbrev rowsCascaded : ℕ → Tables → Tables
+rowsCascaded c u = withRows (cascaded (members u) c (u .lots)) (cascaded (members u) c (u .value)) u
+
+unfoldable allRowsCascaded : List ℕ → Tables → Tables
+allRowsCascaded [] u = u
+allRowsCascaded (c ∷ cs) u = allRowsCascaded cs (rowsCascaded c u)
+
+closed-rows : (cs : List ℕ) (u : Tables) (x : Column) (c m : ℕ) → row x (withClosed cs u) c m ≡ row x (allRowsCascaded cs u) c m
+unfolding withClosed allCascaded allRowsCascaded
+closed-rows [] u lots e m = refl
+closed-rows [] u value e m = refl
+closed-rows (c ∷ cs) u lots e m = closed-rows cs (rowsCascaded c u) lots e m
+closed-rows (c ∷ cs) u value e m = closed-rows cs (rowsCascaded c u) value e m
+
 module _ (h : Header) (d : ℕ) (t : Tables) (r : Runs h d t) (s : Sound t) (log : List Line) where
   abbrev k : Calendar
   k = calendarOf h
@@ -132,10 +147,10 @@ module _ (h : Header) (d : ℕ) (t : Tables) (r : Runs h d t) (s : Sound t) (log
   few : h .members ≤ 32
   few = rw (r .size) at (s .few-members)
 
-  evening-next : (c : ℕ) (u : Tables) (K : ℕ → Bool) → c < 102 → isOn d (closingDay k (termOf c)) ≡ true → Evening u K → Evening (closeContract c u) (λ e. (eqb c e && leb (c % 17) 4) || K e)
-  unfolding closeContract withOrders stillToClose
+  evening-next : (c : ℕ) (u : Tables) (K : ℕ → Bool) → c < 102 → isOn (termClosingDay k (termOf c)) d ≡ true → Evening u K → Evening (rowsCascaded c u) (λ e. (eqb c e && leb (c % 17) 4) || K e)
+  unfolding stillToClose
   evening-next c u K b o v = record {
-    header = then-same (v .header) (set-other 4 (u .head) 7 _ (omega arith) (changing (omega arith) (omega arith)));
+    header = v .header;
     lots-long = omega (arith, cascaded-length (members u) c (u .lots) (v .lots-long) b same32);
     value-long = omega (arith, cascaded-length (members u) c (u .value) (v .value-long) b same32);
     holds = le-or-lt 5 (c % 17)
@@ -154,42 +169,32 @@ module _ (h : Header) (d : ℕ) (t : Tables) (r : Runs h d t) (s : Sound t) (log
       new : (e : ℕ) → eqb c e && leb (c % 17) 4 ≡ true → (e % 17 < 5) × (stillToClose k (suc d) (termOf e) ≡ false)
       new e q =
           let same = eqb-true c e (and-left (eqb c e) (leb (c % 17) 4) q) in
-          rw (← same) (omega (arith, leb-true (c % 17) 4 (and-right (eqb c e) (leb (c % 17) 4) q)), on-closed d (closingDay k (termOf c)) o)
+          rw (← same) (omega (arith, leb-true (c % 17) 4 (and-right (eqb c e) (leb (c % 17) 4) q)), on-closed d (termClosingDay k (termOf c)) o)
 
-      stays : (x : Column) (e m : ℕ) → 5 ≤ c % 17 → row x (closeContract c u) e m ≡ row x u e m
+      stays : (x : Column) (e m : ℕ) → 5 ≤ c % 17 → row x (rowsCascaded c u) e m ≡ row x u e m
       stays lots e m l = ap (λ z. getD z (e * 32 + m) (pos 0)) (cascaded-month (members u) c (u .lots) l)
       stays value e m l = ap (λ z. getD z (e * 32 + m) (pos 0)) (cascaded-month (members u) c (u .value) l)
 
-      moved : (x : Column) (e m : ℕ) → m < h .members → c % 17 < 5 → row x (closeContract c u) e m ≡ cond (eqb c e) (pos 0) (row x u e m +ℤ when (childOf c e) (row x u c m))
+      moved : (x : Column) (e m : ℕ) → m < h .members → c % 17 < 5 → row x (rowsCascaded c u) e m ≡ cond (eqb c e) (pos 0) (row x u e m +ℤ when (childOf c e) (row x u c m))
       moved lots e m q l = cascaded-row (members u) c (u .lots) (v .lots-long) b same32 e m l (omega (arith, size))
       moved value e m q l = cascaded-row (members u) c (u .value) (v .value-long) b same32 e m l (omega (arith, size))
 
-  evening-all : (cs : List ℕ) (u : Tables) (K : ℕ → Bool) → All (λ c. (c < 102) × (isOn d (closingDay k (termOf c)) ≡ true)) cs → Evening u K → Evening (closeAll cs u) (closedBy cs K)
-  unfolding closeAll closedBy
+  evening-all : (cs : List ℕ) (u : Tables) (K : ℕ → Bool) → All (λ c. (c < 102) × (isOn (termClosingDay k (termOf c)) d ≡ true)) cs → Evening u K → Evening (allRowsCascaded cs u) (closedBy cs K)
+  unfolding allRowsCascaded closedBy
   evening-all [] u K a v = v
-  evening-all (c ∷ cs) u K a v = evening-all cs (closeContract c u) _ (a .1) (evening-next c u K (a .0 .0) (a .0 .1) v)
-
-long : (c : ℕ) (u : Tables) → 7 < length (u .head) → 7 < length (closeContract c u .head)
-unfolding closeContract withOrders
-long c u b = omega (arith, length-set (u .head) 7 (length (kept (λ o. not (eqb (o .contract) c)) (orders u))))
-
-left : (c : ℕ) (u : Tables) → 7 < length (u .head) → orders (closeContract c u) ≡ kept (λ o. not (eqb (o .contract) c)) (orders u)
-unfolding closeContract
-left c u b =
-    let os = kept (λ o. not (eqb (o .contract) c)) (orders u) in
-    orders-same (withOrders os u) (closeContract c u) refl refl ∙ orders-written os u b
+  evening-all (c ∷ cs) u K a v = evening-all cs (rowsCascaded c u) _ (a .1) (evening-next c u K (a .0 .0) (a .0 .1) v)
 
 -- the orders that are left are of none of the contracts
-not-equal : (a b : ℕ) → not (eqb a b) ≡ true → eqb a b ≡ false
-not-equal a b e = true-or (eqb a b) (λ q. never (sym e ∙ ap not q)) (λ q. q)
-
-orders-closed : (P : Order → Type 0) (cs : List ℕ) (u : Tables) → 7 < length (u .head) → All P (orders u) → All (λ o. P o × All (λ c. eqb (o .contract) c ≡ false) cs) (orders (closeAll cs u))
-unfolding closeAll
-orders-closed P [] u b a = all-map P (λ o. P o × Unit {0}) (orders u) (λ o p. (p, tt)) a
-orders-closed P (c ∷ cs) u b a =
-    all-map (λ o. (P o × (eqb (o .contract) c ≡ false)) × All (λ c. eqb (o .contract) c ≡ false) cs) (λ o. P o × All (λ x. eqb (o .contract) x ≡ false) (c ∷ cs)) (orders (closeAll cs (closeContract c u))) (λ o p. (p .0 .0, (p .0 .1, p .1)))
-    (orders-closed (λ o. P o × (eqb (o .contract) c ≡ false)) cs (closeContract c u) (long c u b) (rw (left c u b)
-    (all-map (λ o. P o × (not (eqb (o .contract) c) ≡ true)) (λ o. P o × (eqb (o .contract) c ≡ false)) (kept (λ o. not (eqb (o .contract) c)) (orders u)) (λ o p. (p .0, not-equal (o .contract) c (p .1))) (all-kept P (λ o. not (eqb (o .contract) c)) (orders u) a))))
+orders-closed : (P : Order → Type 0) (cs : List ℕ) (u : Tables) → 7 < length (u .head) → All P (orders u) → All (λ o. P o × (isOfAny cs o ≡ false)) (orders (withClosed cs u))
+unfolding withClosed
+orders-closed P cs u b a =
+    let stays : Order → Bool = λ o. not (isOfAny cs o) in
+    rw (orders-same (withOrders (kept stays (orders u)) u) (withClosed cs u) refl refl ∙ orders-written (kept stays (orders u)) u b)
+    (all-map (λ o. P o × (stays o ≡ true)) (λ o. P o × (isOfAny cs o ≡ false)) (kept stays (orders u)) (λ o p. (p .0, not-true (isOfAny cs o) (p .1))) (all-kept P stays (orders u) a))
+  where
+    not-true : (b : Bool) → not b ≡ true → b ≡ false
+    not-true true e = never (sym e)
+    not-true false e = refl
 
 -- ---- the list of contracts that close
 abbrev all-contracts : List ℕ
@@ -200,10 +205,10 @@ unfolding contractsOf kept from every termOf
 contracts-below = refl
 
 -- each is one of the 102 and closes today
-pub closing-today : (t : Tables) → All (λ c. (c < 102) × (isOn (day t) (closingDay (calendar t) (termOf c)) ≡ true)) (closingContracts t)
+pub closing-today : (t : Tables) → All (λ c. (c < 102) × (isOn (termClosingDay (calendar t) (termOf c)) (day t) ≡ true)) (closingContracts t)
 unfolding closingContracts
 closing-today t =
-    let p : ℕ → Bool = λ c. isOn (day t) (closingDay (calendar t) (termOf c)) in
+    let p : ℕ → Bool = λ c. isOn (termClosingDay (calendar t) (termOf c)) (day t) in
     all-map (λ c. (ltb c 102 ≡ true) × (p c ≡ true)) (λ c. (c < 102) × (p c ≡ true)) (kept p all-contracts) (λ c q. (ltb-true c 102 (q .0), q .1))
     (all-kept (λ c. ltb c 102 ≡ true) p all-contracts (every-all (λ c. ltb c 102) all-contracts contracts-below))
 
@@ -219,15 +224,9 @@ any-kept p (x ∷ l) c e q =
     (λ s _. rw (s, q, eq-eqb c c refl))
     (λ s f. true-or (p x) (λ t. rw (t, any-kept p l c f q) (or-true (eqb x c))) (λ t. rw t (any-kept p l c f q))) e
 
-none-listed : (c : ℕ) (cs : List ℕ) → All (λ x. eqb c x ≡ false) cs → any (λ x. eqb x c) cs ≡ false
-unfolding any
-none-listed c [] h = refl
-none-listed c (x ∷ cs) h = rw (ne-eqb x c (λ e. never (sym (eq-eqb c x (sym e)) ∙ h .0))) (none-listed c cs (h .1))
-
-closing-header : (cs : List ℕ) (u : Tables) → SameHeader 4 (u .head) (closeAll cs u .head)
-unfolding closeAll closeContract withOrders
-closing-header [] u = same-header 4 (u .head)
-closing-header (c ∷ cs) u = then-same (set-other 4 (u .head) 7 _ (omega arith) (changing (omega arith) (omega arith))) (closing-header cs (closeContract c u))
+closing-header : (cs : List ℕ) (u : Tables) → SameHeader 4 (u .head) (withClosed cs u .head)
+unfolding withClosed withOrders
+closing-header cs u = set-other 4 (u .head) 7 _ (omega arith) (changing (omega arith) (omega arith))
 
 -- ---- the new day
 pub day-header : (x : ℕ) (v : Tables) → 224 ≤ length (v .head) → SameHeader 3 (v .head) (onDay x v .head)
@@ -254,18 +253,18 @@ day-orders x v b m =
 -- ---- the close of day
 module _ (h : Header) (d : ℕ) (t : Tables) (r : Runs h d t) (s : Sound t) (n : ℕ) where
   closes : ℕ → Bool
-  closes c = isOn d (closingDay (calendarOf h) (termOf c))
+  closes c = isOn (termClosingDay (calendarOf h) (termOf c)) d
 
-  closes-here : (c : ℕ) → isOn (day t) (closingDay (calendar t) (termOf c)) ≡ closes c
+  closes-here : (c : ℕ) → isOn (termClosingDay (calendar t) (termOf c)) (day t) ≡ closes c
   unfolding closes
-  closes-here c = ap (λ k. isOn (day t) (closingDay k (termOf c))) (runs-calendar r) ∙ ap (λ x. isOn x (closingDay (calendarOf h) (termOf c))) (r .today)
+  closes-here c = ap (λ k. isOn (termClosingDay k (termOf c)) (day t)) (runs-calendar r) ∙ ap (λ x. isOn (termClosingDay (calendarOf h) (termOf c)) x) (r .today)
 
   closing-all : All (λ c. (c < 102) × (closes c ≡ true)) (closingContracts t)
   closing-all = all-map _ (λ c. (c < 102) × (closes c ≡ true)) (closingContracts t) (λ c q. (q .0, sym (closes-here c) ∙ q .1)) (closing-today t)
 
   closing-listed : (c : ℕ) → c < 102 → closes c ≡ true → any (λ x. eqb x c) (closingContracts t) ≡ true
   unfolding closingContracts
-  closing-listed c b e = any-kept (λ c. isOn (day t) (closingDay (calendar t) (termOf c))) all-contracts c
+  closing-listed c b e = any-kept (λ c. isOn (termClosingDay (calendar t) (termOf c)) (day t)) all-contracts c
       (passed _ (every-from (λ c. any (λ x. eqb x c) all-contracts) 0 102 contracts-listed c (omega arith) (omega arith))) (closes-here c ∙ e)
 
   evening : (log : List Line) → Holds h (rowsOf t) log (hasCascaded (calendarOf h) d) → Evening h d t r s log (priced n t) (hasCascaded (calendarOf h) d)
@@ -291,21 +290,21 @@ module _ (h : Header) (d : ℕ) (t : Tables) (r : Runs h d t) (s : Sound t) (n :
     cascaded-next : (e : ℕ) → e < 102 → hasCascaded (calendarOf h) (x .0) e ≡ true → closedBy (closingContracts t) (hasCascaded (calendarOf h) d) e ≡ true
     unfolding hasCascaded closes
     cascaded-next e b q =
-        let z = closingDay (calendarOf h) (termOf e) in
-        let parent = and-left (leb (e % 17) 4) (isBefore (x .0) z) q in
-        let past = sym (closed-by-next (calendarOf h) d x (termOf e) next) ∙ and-right (leb (e % 17) 4) (isBefore (x .0) z) q in
-        true-or (isBefore d z) (λ p. closed-keeps (closingContracts t) (hasCascaded (calendarOf h) d) e (rw (parent, p)))
+        let z = termClosingDay (calendarOf h) (termOf e) in
+        let parent = and-left (leb (e % 17) 4) (isBefore z (x .0)) q in
+        let past = sym (closed-by-next (calendarOf h) d x (termOf e) next) ∙ and-right (leb (e % 17) 4) (isBefore z (x .0)) q in
+        true-or (isBefore z d) (λ p. closed-keeps (closingContracts t) (hasCascaded (calendarOf h) d) e (rw (parent, p)))
         (λ p. closed-has (closingContracts t) (hasCascaded (calendarOf h) d) e (closing-listed e b (rw p at past)) (omega (arith, leb-true (e % 17) 4 parent)))
 
     -- an order that is left is of a contract that is open on the next day
-    open-next : (o : Order) → InOpen h d o → All (λ c. eqb (o .contract) c ≡ false) (closingContracts t) → InOpen h (x .0) o
-    unfolding closes stillToClose
+    open-next : (o : Order) → InOpen h d o → isOfAny (closingContracts t) o ≡ false → InOpen h (x .0) o
+    unfolding closes stillToClose isOfAny
     open-next o p q =
         let c = o .contract in
-        let z = closingDay (calendarOf h) (termOf c) in
-        let later : isOn d z ≡ false = true-or (isOn d z) (λ e. never (sym (closing-listed c (open-in-ledger (calendarOf h) d c p) e) ∙ none-listed c (closingContracts t) q)) (λ e. e) in
-        let still : isBefore d z ≡ false = before-or-not d z ∙ ap not (open-to-close (calendarOf h) d c p) in
-        let ahead : isBefore (x .0) z ≡ false = closed-by-next (calendarOf h) d x (termOf c) next ∙ rw (still, later) in
+        let z = termClosingDay (calendarOf h) (termOf c) in
+        let later : isOn z d ≡ false = true-or (isOn z d) (λ e. never (sym (closing-listed c (open-in-ledger (calendarOf h) d c p) e) ∙ q)) (λ e. e) in
+        let still : isBefore z d ≡ false = before-or-not d z ∙ ap not (open-to-close (calendarOf h) d c p) in
+        let ahead : isBefore z (x .0) ≡ false = closed-by-next (calendarOf h) d x (termOf c) next ∙ rw (still, later) in
         open-stays (calendarOf h) d (x .0) c (omega (arith, next-business (calendarOf h) d x next .0)) p (not-false _ (sym (before-or-not (x .0) z) ∙ ahead))
 
     day-rows : (y : ℕ) (v : Tables) (q : Column) (c m : ℕ) → row q (onDay y v) c m ≡ row q v c m
@@ -318,16 +317,16 @@ module _ (h : Header) (d : ℕ) (t : Tables) (r : Runs h d t) (s : Sound t) (n :
     close-does =
         let cs = closingContracts t in
         let u = priced n t in
-        let v = closeAll cs u in
+        let v = withClosed cs u in
         let a = closing-header cs u in
         let long : 224 ≤ length (v .head) = omega (arith, a .longer, s .head-long) in
         record {
           runs = runs-with 3 h d (x .0) t (onDay (nextDay t) v) (omega arith) r s (then-same (but-the-day a) (day-header (nextDay t) v long)) (day-is (nextDay t) v long ∙ next-here)
               (rw (day-orders (nextDay t) v long (omega (arith, a .places 1 (field (omega arith)), s .few-members)))
-              (all-map (λ o. InOpen h d o × All (λ c. eqb (o .contract) c ≡ false) cs) (InOpen h (x .0)) (orders v) (λ o q. open-next o (q .0) (q .1))
+              (all-map (λ o. InOpen h d o × (isOfAny cs o ≡ false)) (InOpen h (x .0)) (orders v) (λ o q. open-next o (q .0) (q .1))
               (orders-closed (InOpen h d) cs u (omega (arith, s .head-long)) (rw (orders-same t u refl refl) (r .resting)))));
           holds = λ log p. rw (append-nil log)
               (holds-fewer h (rowsOf (onDay (nextDay t) v)) log (closedBy cs (hasCascaded (calendarOf h) d)) (hasCascaded (calendarOf h) (x .0)) cascaded-next
-              (holds-same h (rowsOf v) (rowsOf (onDay (nextDay t) v)) log (closedBy cs (hasCascaded (calendarOf h) d)) (λ q c m _ _. day-rows (nextDay t) v q c m)
+              (holds-same h (rowsOf (allRowsCascaded cs u)) (rowsOf (onDay (nextDay t) v)) log (closedBy cs (hasCascaded (calendarOf h) d)) (λ q c m _ _. day-rows (nextDay t) v q c m ∙ closed-rows cs u q c m)
               (evening-all h d t r s log cs u (hasCascaded (calendarOf h) d) closing-all (evening log p) .holds)));
         }

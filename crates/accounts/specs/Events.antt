@@ -15,7 +15,7 @@ use Rattle.rules.specs.declared.event.CloseOutTerms.{CloseOutTerms}
 use Rattle.rules.specs.declared.event.Event.{Event}
 use Rattle.rules.specs.declared.event.Event.the-variants.{Submit, Cancel, DayLimits, Proposal, Default, CloseOut, CloseOfDay}
 use Rattle.rules.specs.declared.event.Leg.{Leg}
-use Rattle.rules.specs.declared.event.NewLimits.{NewLimits}
+use Rattle.rules.specs.declared.event.NewDayLimits.{NewDayLimits}
 use Rattle.rules.specs.declared.event.Reading.{Reading}
 use Rattle.rules.specs.declared.event.Reading.the-variants.{Sound, Unsound}
 use Rattle.rules.specs.declared.event.Submission.{Submission}
@@ -26,7 +26,7 @@ use Rattle.rules.specs.Header.{Header, calendarOf, membersSound}
 use Rattle.rules.specs.Ledger.{Tables, members, day, ledgerShort, linesShort}
 use Rattle.rules.specs.Records.{timeSound, contractSound, priceSound, lotsSound, eventSound, fieldsOf, legsOf, ifSound, readOf}
 use Rattle.rules.specs.CloseOfDay.{hasNextDay, closeBooked}
-use Rattle.rules.specs.Refusals.{damaged, isCancelled, submitCauses, cancelCauses, limitsCauses, proposalCauses, defaultCauses, closeOutCauses, closeCauses, submitSpec, cancelSpec, limitsSpec, proposalSpec, defaultSpec, closeOutSpec, closeSpec, eventSpec, readingSpec, applySpec}
+use Rattle.rules.specs.Refusals.{unsound, isCancelled, submitCauses, cancelCauses, dayLimitsCauses, proposalCauses, defaultCauses, closeOutCauses, closeCauses, submitSpec, cancelSpec, dayLimitsSpec, proposalSpec, defaultSpec, closeOutSpec, closeSpec, eventSpec, readingSpec, applySpec}
 use Rattle.rules.specs.Accounts.{isAccepted, dayReached, dayAfterEvent}
 use Rattle.accounts.specs.Runs.{Runs, runs-calendar}
 use Rattle.accounts.specs.Runs as runs
@@ -51,9 +51,9 @@ module _ (h : Header) (d : ℕ) (t : Tables) (r : Runs h d t) (s : runs.Sound t)
   unfolding cancelSpec
   cancel-shows e = decide-shows (Does h d d t) t _ (cancelCauses t e) (refuses d) (refl, (refl, tt)) (λ f. cancel-does h d t r s (e .time) (λ o. not (isCancelled e o)))
 
-  limits-shows : (e : NewLimits) → Does h d d t (limitsSpec t e)
-  unfolding limitsSpec
-  limits-shows e = decide-shows (Does h d d t) t _ (limitsCauses t e) (refuses d) (refl, tt) (λ f. limits-does h d t r s _)
+  limits-shows : (e : NewDayLimits) → Does h d d t (dayLimitsSpec t e)
+  unfolding dayLimitsSpec
+  limits-shows e = decide-shows (Does h d d t) t _ (dayLimitsCauses t e) (refuses d) (refl, tt) (λ f. limits-does h d t r s _)
 
   proposal-shows : (legs : List Leg) → Does h d d t (proposalSpec t legs)
   unfolding proposalSpec
@@ -121,7 +121,7 @@ read-sound n bytes e =
 pub apply-shows : (h : Header) (d : ℕ) (t : Tables) (bytes : List ℕ) → Runs h d t → Does h d (dayAfterEvent (calendarOf h) d (readOf (h .members) bytes)) t (applySpec t bytes)
 unfolding applySpec readingSpec
 apply-shows h d t bytes r =
-    decide-shows (Does h d _ t) t _ ((ledgerShort t || linesShort t || damaged t, _) ∷ []) (λ a q. refused-does h d _ t a q r) (refl, tt)
+    decide-shows (Does h d _ t) t _ ((unsound t, _) ∷ []) (λ a q. refused-does h d _ t a q r) (refl, tt)
     (λ f. subst (λ n. Does h d (dayAfterEvent (calendarOf h) d (readOf n bytes)) t (readingSpec t (readOf (members t) bytes) (legsOf bytes))) (r .size)
     (go (readOf (members t) bytes) refl (sound-of t (f .0))))
   where

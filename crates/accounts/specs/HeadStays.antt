@@ -19,14 +19,14 @@ use Rattle.rules.specs.declared.event.Submission.{Submission}
 use Rattle.rules.specs.declared.order.Order.{Order}
 use Rattle.rules.specs.declared.units.Day.{Day}
 use Rattle.rules.specs.declared.units.Day.the-variants.{On, NoDay}
-use Rattle.rules.specs.Days.{businessDay, spanStart, spanEnd, inSpan, nextBusinessDay}
+use Rattle.rules.specs.Days.{businessDay, spanStart, dayAfterSpan, inSpan, nextBusinessDay}
 use Rattle.rules.specs.CalendarLaws.{next-business}
 use Rattle.rules.specs.Header.{Header, calendarOf, calendarSound, membersSound, limitSound, daySound, headerSound}
-use Rattle.rules.specs.Ledger.{Tables, Line, withHead, withPrices, members, holidayCount, day, time, accepted, lotsRun, orderCount, limit, mark, submits, calendar, orders, withOrders, lineRun, booked, withoutSubmits, timed, freshHead, fresh}
+use Rattle.rules.specs.Ledger.{Tables, Line, withHead, withPrices, members, holidayCount, day, time, acceptedSubmits, lotsRun, orderCount, limit, mark, submitsThisSecond, calendar, orders, withOrders, lineRun, booked, withoutSubmits, timed, freshHead, fresh}
 use Rattle.rules.specs.Matching.{withLots, matched, incoming, submitLines, wouldRest, submitsAt, submitOrders, withDeals, submitMatched, counted, submitBooked}
 use Rattle.rules.specs.Synthetic.{proposalLines, usedByLegs, proposalBooked}
 use Rattle.rules.specs.Default.{defaultBooked, closeOutLines, closeOutBooked}
-use Rattle.rules.specs.CloseOfDay.{closeContract, closingContracts, closeAll, priced, hasNextDay, nextDay, onDay, closeBooked}
+use Rattle.rules.specs.CloseOfDay.{closingContracts, isOfAny, withClosed, priced, hasNextDay, nextDay, onDay, closeBooked}
 use Rattle.rules.specs.Refusals.{memberSound, headSound, submitCauses, proposalCauses, closeOutCauses, closeCauses}
 use Rattle.accounts.specs.Heads.{SameHeader, OtherPlace, field, changing, ofMember, same-header, then-same, set-other, over-other, same-holidays}
 use Rattle.accounts.specs.Runs.{runs-calendar}
@@ -138,14 +138,14 @@ module _ (t : Tables) (holidays≤ : leb (holidayCount t) 120 ≡ true) (calenda
       let few : m < 32 = omega (arith, leb-true (members t) 32 (and-right (leb 1 (members t)) (leb (members t) 32) membersAre)) in
       let limitIs = le-leb (limit t m) 100000 (rw (most-limit m few) at (b (128 + m) (ofLimit m h refl))) in
       let markIs = le-leb (mark t m) 1 (rw (most-mark m few) at (b (160 + m) (ofMark m h refl))) in
-      let submitsAre = le-leb (submits t m) 5 (rw (most-submits m few) at (b (192 + m) (ofSubmits m h refl))) in
+      let submitsAre = le-leb (submitsThisSecond t m) 5 (rw (most-submits m few) at (b (192 + m) (ofSubmits m h refl))) in
       hold-all _ (limitIs, (markIs, (submitsAre, tt)))
 
   head-shows : headSound t ≡ true
   unfolding headSound most
   head-shows =
       let timeIs = le-leb (time t) 86399 (b 4 (ofTime refl)) in
-      let acceptedAre = le-leb (accepted t) 4000000000 (b 5 (ofAccepted refl)) in
+      let acceptedAre = le-leb (acceptedSubmits t) 4000000000 (b 5 (ofAccepted refl)) in
       let runIs = le-leb (lotsRun t) 5000000 (b 6 (ofRun refl)) in
       let ordersAre = le-leb (orderCount t) 256 (b 7 (ofOrders refl)) in
       let each = passed _ (from-every (memberSound t) 0 (members t) (λ m _ h. passes _ (member-shows m (omega arith)))) in
@@ -164,12 +164,12 @@ module _ (t : Tables) (sound : headSound t ≡ true) where
   head-in-range : InRange (members t) (t .head)
   unfolding headSound memberSound most
   head-in-range i (ofTime e) = rw e (leb-true (time t) 86399 (all-hold _ sound .1 .1 .1 .1 .0))
-  head-in-range i (ofAccepted e) = rw e (leb-true (accepted t) 4000000000 (all-hold _ sound .1 .1 .1 .1 .1 .0))
+  head-in-range i (ofAccepted e) = rw e (leb-true (acceptedSubmits t) 4000000000 (all-hold _ sound .1 .1 .1 .1 .1 .0))
   head-in-range i (ofRun e) = rw e (leb-true (lotsRun t) 5000000 (all-hold _ sound .1 .1 .1 .1 .1 .1 .0))
   head-in-range i (ofOrders e) = rw e (leb-true (orderCount t) 256 (all-hold _ sound .1 .1 .1 .1 .1 .1 .1 .0))
   head-in-range i (ofLimit m h e) = rw (e, most-limit m (omega (arith, few-members))) (leb-true (limit t m) 100000 (all-hold _ (member-sound m h) .0))
   head-in-range i (ofMark m h e) = rw (e, most-mark m (omega (arith, few-members))) (leb-true (mark t m) 1 (all-hold _ (member-sound m h) .1 .0))
-  head-in-range i (ofSubmits m h e) = rw (e, most-submits m (omega (arith, few-members))) (leb-true (submits t m) 5 (all-hold _ (member-sound m h) .1 .1 .0))
+  head-in-range i (ofSubmits m h e) = rw (e, most-submits m (omega (arith, few-members))) (leb-true (submitsThisSecond t m) 5 (all-hold _ (member-sound m h) .1 .1 .0))
 
   module _ (f : ℕ) (t′ : Tables) (f≥ : 3 ≤ f) (long : 224 ≤ length (t .head)) (header : SameHeader f (t .head) (t′ .head)) where
     same-members : members t′ ≡ members t
@@ -240,26 +240,26 @@ module _ (t : Tables) (sound : headSound t ≡ true) (long : 224 ≤ length (t .
       (λ _. stays-set 4 s (omega arith) (changing (omega arith) (omega arith)) (λ e. omega arith) (λ _. h) (stays-zeros (omega arith) (few-members t sound) long (unchanged 4)))
       (λ _. unchanged 4)
 
-  timed-accepted : (s : ℕ) → accepted (timed s t) ≡ accepted t
+  timed-accepted : (s : ℕ) → acceptedSubmits (timed s t) ≡ acceptedSubmits t
   unfolding timed withoutSubmits
   timed-accepted s =
-      by-bool (λ b. accepted (cond b (withHead (set (withoutSubmits t .head) 4 s) t) t) ≡ accepted t) (ltb (time t) s)
+      by-bool (λ b. acceptedSubmits (cond b (withHead (set (withoutSubmits t .head) 4 s) t) t) ≡ acceptedSubmits t) (ltb (time t) s)
       (λ _. getD-set-other (withoutSubmits t .head) 4 5 s 0 (λ e. omega arith) ∙ zeros-other (members t) (t .head) (few-members t sound) long 5 (omega arith)) (λ _. refl)
 
-  timed-submits : (s m : ℕ) → m < members t → submits (timed s t) m ≡ submitsAt t s m
+  timed-submits : (s m : ℕ) → m < members t → submitsThisSecond (timed s t) m ≡ submitsAt t s m
   unfolding timed withoutSubmits submitsAt
   timed-submits s m h =
-      by-bool (λ b. submits (cond b (withHead (set (withoutSubmits t .head) 4 s) t) t) m ≡ cond b 0 (submits t m)) (ltb (time t) s)
+      by-bool (λ b. submitsThisSecond (cond b (withHead (set (withoutSubmits t .head) 4 s) t) t) m ≡ cond b 0 (submitsThisSecond t m)) (ltb (time t) s)
       (λ _. getD-set-other (withoutSubmits t .head) 4 (192 + m) s 0 (λ e. omega arith) ∙ zeros-here (members t) (t .head) (few-members t sound) long m h) (λ _. refl)
 
   -- a submit: below five in the second and below 4,000,000,000 in all before it
   module _ (e : Submission) (time≤ : e .time ≤ 86399) (member< : e .member < members t) (f : All (λ c. c .0 ≡ false) (submitCauses t e)) where
-    totals : (lotsRun t + lineRun (submitLines t e) ≤ 5000000) × (accepted t < 4000000000)
+    totals : (lotsRun t + lineRun (submitLines t e) ≤ 5000000) × (acceptedSubmits t < 4000000000)
     totals =
         let runs = ltb 5000000 (lotsRun t + lineRun (submitLines t e)) in
-        let counts = leb 4000000000 (accepted t) in
+        let counts = leb 4000000000 (acceptedSubmits t) in
         let passed = f .1 .1 .1 .1 .1 .1 .1 .1 .0 in
-        (ltb-false _ _ (or-left runs counts passed), leb-false 4000000000 (accepted t) (or-right runs counts passed))
+        (ltb-false _ _ (or-left runs counts passed), leb-false 4000000000 (acceptedSubmits t) (or-right runs counts passed))
 
     -- one more order rests only where there is room
     submit-few : length (submitOrders t e) ≤ 256
@@ -276,8 +276,8 @@ module _ (t : Tables) (sound : headSound t ≡ true) (long : 224 ≤ length (t .
         let m = e .member in
         let u = timed (e .time) t in
         stays-orders 4 (length (submitOrders t e)) (omega arith) submit-few
-        (stays-set 5 (accepted u + 1) (omega arith) (changing (omega arith) (omega arith)) (λ q. omega arith) (λ _. omega (arith, timed-accepted (e .time), totals .1))
-        (stays-set (192 + m) (submits u m + 1) (omega arith) (ofMember (omega arith)) (λ q. omega arith)
+        (stays-set 5 (acceptedSubmits u + 1) (omega arith) (changing (omega arith) (omega arith)) (λ q. omega arith) (λ _. omega (arith, timed-accepted (e .time), totals .1))
+        (stays-set (192 + m) (submitsThisSecond u m + 1) (omega arith) (ofMember (omega arith)) (λ q. omega arith)
         (λ _. rw (most-submits m (omega (arith, few-members t sound))) (omega (arith, timed-submits (e .time) m member<, leb-false 5 (submitsAt t (e .time) m) (f .1 .1 .1 .1 .0))))
         (stays-timed (e .time) time≤)))
 
@@ -319,12 +319,11 @@ module _ (t : Tables) (sound : headSound t ≡ true) (long : 224 ≤ length (t .
   close-out-head e f = head-booked (closeOutLines t e) t (unchanged 4) (ltb-false _ _ (f .1 .1 .1 .1 .0))
 
   -- ---- the close of day
-  stays-closed : (cs : List ℕ) (u : Tables) → Stays 3 (members t) (t .head) (u .head) → Stays 3 (members t) (t .head) (closeAll cs u .head)
-  unfolding closeAll closeContract withOrders most
-  stays-closed [] u w = w
-  stays-closed (c ∷ cs) u w =
-      let others : Order → Bool = λ o. not (eqb (o .contract) c) in
-      stays-closed cs (closeContract c u) (stays-orders 3 (length (kept others (orders u))) (omega arith) (omega (arith, remain-few u _ (kept-remain others (orders u)), w .ranges 7 (ofOrders refl))) w)
+  stays-closed : (cs : List ℕ) (u : Tables) → Stays 3 (members t) (t .head) (u .head) → Stays 3 (members t) (t .head) (withClosed cs u .head)
+  unfolding withClosed withOrders most
+  stays-closed cs u w =
+      let others : Order → Bool = λ o. not (isOfAny cs o) in
+      stays-orders 3 (length (kept others (orders u))) (omega arith) (omega (arith, remain-few u _ (kept-remain others (orders u)), w .ranges 7 (ofOrders refl))) w
 
   stays-day : (d : ℕ) (u : Tables) → members u ≡ members t → Stays 3 (members t) (t .head) (u .head) → Stays 3 (members t) (t .head) (onDay d u .head)
   unfolding onDay withoutSubmits most
@@ -340,25 +339,25 @@ module _ (t : Tables) (sound : headSound t ≡ true) (long : 224 ≤ length (t .
     where
       first : spanStart (calendar t) ≤ day t
       first =
-          let span = leb (spanStart (calendar t)) (day t) && ltb (day t) (spanEnd (calendar t)) in
-          leb-true _ _ (and-left (leb (spanStart (calendar t)) (day t)) (ltb (day t) (spanEnd (calendar t))) (and-left span (businessDay (calendar t) (day t)) (all-hold _ sound .1 .1 .1 .0)))
+          let span = leb (spanStart (calendar t)) (day t) && ltb (day t) (dayAfterSpan (calendar t)) in
+          leb-true _ _ (and-left (leb (spanStart (calendar t)) (day t)) (ltb (day t) (dayAfterSpan (calendar t))) (and-left span (businessDay (calendar t) (day t)) (all-hold _ sound .1 .1 .1 .0)))
 
       go : (z : Day) → nextBusinessDay (calendar t) (day t) ≡ z → daySound (calendar t) (nextDay t) ≡ true
       go (On x) e =
           let w = next-business (calendar t) (day t) x e in
-          rw (e, nextDay, le-leb (spanStart (calendar t)) (x .0) (omega (arith, first, w .0)), lt-ltb (x .0) (spanEnd (calendar t)) (w .2), w .1)
+          rw (e, nextDay, le-leb (spanStart (calendar t)) (x .0) (omega (arith, first, w .0)), lt-ltb (x .0) (dayAfterSpan (calendar t)) (w .2), w .1)
       go NoDay e = never (sym h ∙ rw (e, hasNextDay))
 
   pub close-stays : (n : ℕ) → Stays 3 (members t) (t .head) (closeBooked t n .after .head)
   unfolding closeBooked priced
   close-stays n =
       let w = stays-closed (closingContracts t) (priced n t) (unchanged 3) in
-      stays-day (nextDay t) (closeAll (closingContracts t) (priced n t)) (w .header .places 1 (field (omega arith))) w
+      stays-day (nextDay t) (withClosed (closingContracts t) (priced n t)) (w .header .places 1 (field (omega arith))) w
 
   pub close-head : (n : ℕ) → All (λ c. c .0 ≡ false) (closeCauses t n) → headSound (closeBooked t n .after) ≡ true
   unfolding closeBooked priced
   close-head n f =
-      let v = closeAll (closingContracts t) (priced n t) in
+      let v = withClosed (closingContracts t) (priced n t) in
       head-again t sound 3 (onDay (nextDay t) v) (omega arith) long (close-stays n .header) (close-stays n .ranges)
       (ap (daySound (calendar t)) (day-is (nextDay t) v (omega (arith, stays-closed (closingContracts t) (priced n t) (unchanged 3) .header .longer))) ∙ next-sound (not-false _ (f .1 .0)))
 

@@ -17,7 +17,7 @@ use Rattle.rules.specs.Header.{Header}
 use Rattle.rules.specs.Ledger.{Tables, Line, members, day, calendar, withHead, withPrices, time, orders, withOrders, withoutSubmits, timed, lineLots, lineValue, booked, freshHead, freshPrices, freshRows, fresh}
 use Rattle.rules.specs.Matching.{Deal, submitMatched, submitLines, submitOrders, withDeals, counted, submitBooked}
 use Rattle.rules.specs.Synthetic.{proposalLines, usedByLegs, proposalBooked}
-use Rattle.rules.specs.CloseOfDay.{contractRows, ggfAtClose, addedTo, zeroRows, cascaded, closeContract, closeAll, withGgfs, withoutDeals, priced, closingContracts, nextDay, onDay, closeBooked}
+use Rattle.rules.specs.CloseOfDay.{contractRows, ggfAtClose, addedTo, zeroRows, cascaded, allCascaded, isOfAny, withClosed, withGgfs, withoutDeals, priced, closingContracts, nextDay, onDay, closeBooked}
 use Rattle.rules.specs.Default.{defaultBooked, closeOutLines, closeOutBooked}
 use Rattle.accounts.specs.Calls.{Long}
 use Rattle.accounts.specs.Rows.{posted-length}
@@ -85,15 +85,22 @@ cascaded-longer n c l =
     by-bool (λ b. length l ≤ length (cond b (zeroRows n c (addedTo n c (childrenOf c) l)) l)) (leb (c % 17) 4)
     (λ _. omega (arith, over-longer (c * 32) (replicate n (pos 0)) (addedTo n c (childrenOf c) l), added-longer n c (childrenOf c) l)) (λ _. omega arith)
 
-close-longer : (cs : List ℕ) (t : Tables) → Longer t (closeAll cs t)
-unfolding closeAll closeContract
-close-longer [] t = longer-same t
-close-longer (c ∷ cs) t =
-    let u = withOrders (kept (λ o. not (eqb (o .contract) c)) (orders t)) t in
-    let a = orders-longer (kept (λ o. not (eqb (o .contract) c)) (orders t)) t in
-    longer-then
-    (record { head = a .head; prices = a .prices; lots = cascaded-longer (members t) c (t .lots); value = cascaded-longer (members t) c (t .value); book = a .book })
-    (close-longer cs (closeContract c t))
+all-cascaded-longer : (n : ℕ) (cs : List ℕ) (l : List ℤ) → length l ≤ length (allCascaded n cs l)
+unfolding allCascaded
+all-cascaded-longer n [] l = omega arith
+all-cascaded-longer n (c ∷ cs) l = omega (arith, cascaded-longer n c l, all-cascaded-longer n cs (cascaded n c l))
+
+close-longer : (cs : List ℕ) (t : Tables) → Longer t (withClosed cs t)
+unfolding withClosed
+close-longer cs t =
+    let a = orders-longer (kept (λ o. not (isOfAny cs o)) (orders t)) t in
+    record {
+      head = a .head;
+      prices = a .prices;
+      lots = all-cascaded-longer (members t) cs (t .lots);
+      value = all-cascaded-longer (members t) cs (t .value);
+      book = a .book;
+    }
 
 ggfs-longer : (t : Tables) (s : ℕ) (cs l : List ℕ) → length l ≤ length (withGgfs t s cs l)
 unfolding withGgfs

@@ -26,7 +26,7 @@ use Rattle.rules.specs.Matching.{submitBooked}
 use Rattle.rules.specs.Synthetic.{proposalBooked}
 use Rattle.rules.specs.CloseOfDay.{closeBooked}
 use Rattle.rules.specs.Default.{defaultBooked, closeOutBooked}
-use Rattle.rules.specs.Refusals.{headSound, memberSound, pricesSound, orderSound, sidesSound, bookSound, damaged, isCancelled, submitCauses, cancelCauses, limitsCauses, proposalCauses, defaultCauses, closeOutCauses, closeCauses, submitSpec, cancelSpec, limitsSpec, proposalSpec, defaultSpec, closeOutSpec, closeSpec, eventSpec, readingSpec, applySpec, makeSpec}
+use Rattle.rules.specs.Refusals.{headSound, memberSound, pricesSound, orderSound, sidesSound, bookSound, damaged, unsound, isCancelled, submitCauses, cancelCauses, dayLimitsCauses, proposalCauses, defaultCauses, closeOutCauses, closeCauses, submitSpec, cancelSpec, dayLimitsSpec, proposalSpec, defaultSpec, closeOutSpec, closeSpec, eventSpec, readingSpec, applySpec, makeSpec}
 use Rattle.rules.specs.Accounts.{Call, callSpec, after}
 use Rattle.accounts.specs.Runs as runs
 use Rattle.accounts.specs.Runs.{Runs}
@@ -77,7 +77,7 @@ module _ (h : Header) (d : ℕ) (t : Tables) (r : Runs h d t) (a : InOrder t) wh
   kept-by causes o = decide-leaves-what LongRows t o causes (a .long, a .rows)
 
   event-long-rows : (e : Event) (legs : List Leg) → eventSound (members t) e legs ≡ true → LongRows (eventSpec t e legs .after)
-  unfolding eventSpec submitSpec cancelSpec limitsSpec proposalSpec defaultSpec closeOutSpec closeSpec eventSound
+  unfolding eventSpec submitSpec cancelSpec dayLimitsSpec proposalSpec defaultSpec closeOutSpec closeSpec eventSound
   event-long-rows (Submit e) legs q =
       let f = submission-sound (members t) e legs q in
       kept-by (submitCauses t e) _ (λ c. (
@@ -85,7 +85,7 @@ module _ (h : Header) (d : ℕ) (t : Tables) (r : Runs h d t) (a : InOrder t) wh
         submit-rows h d t r s (a .rows) e (not-false _ (c .1 .1 .0)) (omega (arith, leb-true (e .contract) 101 (f .2))) (ltb-true (e .member) (members t) (f .1)) (a .book .sound),
       ))
   event-long-rows (Cancel e) legs q = kept-by (cancelCauses t e) _ (λ c. (cancel-long t (a .long) (e .time) (λ o. not (isCancelled e o)), cancel-rows h d t r s (a .rows) (e .time) (λ o. not (isCancelled e o))))
-  event-long-rows (DayLimits e) legs q = kept-by (limitsCauses t e) _ (λ c. (limits-long t (a .long) (e .contract) (e .low .0) (e .high .0), limits-rows h d t r s (a .rows) _))
+  event-long-rows (DayLimits e) legs q = kept-by (dayLimitsCauses t e) _ (λ c. (limits-long t (a .long) (e .contract) (e .low .0) (e .high .0), limits-rows h d t r s (a .rows) _))
   event-long-rows (Proposal n) legs q =
       kept-by (proposalCauses t legs) _ (λ c. (
         proposal-long t (a .long) legs,
@@ -115,7 +115,7 @@ module _ (h : Header) (d : ℕ) (t : Tables) (r : Runs h d t) (a : InOrder t) wh
   pub apply-in-order : (bytes : List ℕ) → InOrder (applySpec t bytes .after)
   unfolding applySpec readingSpec
   apply-in-order bytes =
-      decide-leaves-what InOrder t (readingSpec t (readOf (members t) bytes) (legsOf bytes)) ((ledgerShort t || linesShort t || damaged t, _) ∷ []) a
+      decide-leaves-what InOrder t (readingSpec t (readOf (members t) bytes) (legsOf bytes)) ((unsound t, _) ∷ []) a
       (λ _. go (readOf (members t) bytes) refl)
     where
       go : (x : Reading) → readOf (members t) bytes ≡ x → InOrder (readingSpec t x (legsOf bytes) .after)
@@ -164,10 +164,10 @@ decide-number t o ((true, x) ∷ cs) r e = r .0
 decide-number t o ((false, x) ∷ cs) r e = decide-number t o cs (r .1) e
 
 event-number : (t : Tables) (e : Event) (legs : List Leg) → eqb (told (eventSpec t e legs .answer) .number) 1 ≡ false
-unfolding eventSpec submitSpec cancelSpec limitsSpec proposalSpec defaultSpec closeOutSpec closeSpec submitBooked proposalBooked defaultBooked closeOutBooked closeBooked booked
+unfolding eventSpec submitSpec cancelSpec dayLimitsSpec proposalSpec defaultSpec closeOutSpec closeSpec submitBooked proposalBooked defaultBooked closeOutBooked closeBooked booked
 event-number t (Submit e) legs = decide-number t _ (submitCauses t e) (refl, (refl, (refl, (refl, (refl, (refl, (refl, (refl, (refl, tt))))))))) refl
 event-number t (Cancel e) legs = decide-number t _ (cancelCauses t e) (refl, (refl, tt)) refl
-event-number t (DayLimits e) legs = decide-number t _ (limitsCauses t e) (refl, tt) refl
+event-number t (DayLimits e) legs = decide-number t _ (dayLimitsCauses t e) (refl, tt) refl
 event-number t (Proposal n) legs = decide-number t _ (proposalCauses t legs) (refl, (refl, tt)) refl
 event-number t (Default m) legs = decide-number t _ (defaultCauses t m) (refl, tt) refl
 event-number t (CloseOut e) legs = decide-number t _ (closeOutCauses t e) (refl, (refl, (refl, (refl, (refl, tt))))) refl
@@ -179,7 +179,7 @@ reading-number t (Sound e) legs = event-number t e legs
 reading-number t Unsound legs = refl
 
 apply-number : (t : Tables) (bytes : List ℕ) → (ledgerShort t ≡ false) × (damaged t ≡ false) → linesShort t ≡ false → eqb (told (applySpec t bytes .answer) .number) 1 ≡ false
-unfolding applySpec
+unfolding applySpec unsound
 apply-number t bytes a l = rw (a .0, l, a .1) (reading-number t (readOf (members t) bytes) (legsOf bytes))
 
 pub answers-1-for-lines-alone : (header : List ℕ) (t : Tables) (calls : List Call) (call : Call) → T (beginsWithHeader header) → T (not (ledgerShort t))

@@ -21,7 +21,7 @@ use Rattle.rules.specs.declared.event.CloseOutTerms.{CloseOutTerms}
 use Rattle.rules.specs.declared.event.Event.{Event}
 use Rattle.rules.specs.declared.event.Event.the-variants.{Submit, Cancel, DayLimits, Proposal, Default, CloseOut, CloseOfDay}
 use Rattle.rules.specs.declared.event.Leg.{Leg}
-use Rattle.rules.specs.declared.event.NewLimits.{NewLimits}
+use Rattle.rules.specs.declared.event.NewDayLimits.{NewDayLimits}
 use Rattle.rules.specs.declared.event.Submission.{Submission}
 use Rattle.rules.specs.declared.order.Order.{Order}
 use Rattle.rules.specs.declared.order.Side.{Side}
@@ -30,12 +30,12 @@ use Rattle.rules.specs.Answers.{Outcome, decide}
 use Rattle.rules.specs.Contracts.{thresholdOf, kindOf, openContracts}
 use Rattle.rules.specs.Header.{Header}
 use Rattle.rules.specs.Ledger.{Tables, Line, withHead, withPrices, members, day, time, lotsRun, calendar, ggf, dayLots, dayValue, orders, withOrders, lineRun, booked, withoutSubmits, timed, freshPrices, fresh}
-use Rattle.rules.specs.Records.{timeSound, contractSound, limitsSound, numberSound, eventSound}
+use Rattle.rules.specs.Records.{timeSound, contractSound, dayLimitsSound, numberSound, eventSound}
 use Rattle.rules.specs.Matching.{signed, otherSide, Deal, dealLines, incoming, matched, submitMatched, submitLines, withDeals, counted, submitBooked}
 use Rattle.rules.specs.Synthetic.{proposalLines, usedByLegs, proposalBooked}
 use Rattle.rules.specs.Default.{defaultBooked, closeOutLines, closeOutBooked}
-use Rattle.rules.specs.CloseOfDay.{roundedHalfUp, quotes, bestQuote, quotedPrice, ggfAtClose, withGgfs, withoutDeals, closeContract, closingContracts, closeAll, priced, onDay, closeBooked}
-use Rattle.rules.specs.Refusals.{contractPricesSound, pricesSound, headSound, orderSound, bookSound, submitCauses, cancelCauses, limitsCauses, proposalCauses, defaultCauses, closeOutCauses, closeCauses, submitSpec, cancelSpec, limitsSpec, proposalSpec, defaultSpec, closeOutSpec, closeSpec, eventSpec}
+use Rattle.rules.specs.CloseOfDay.{roundedHalfUp, quotes, bestQuote, quotedPrice, ggfAtClose, withGgfs, withoutDeals, closingContracts, withClosed, priced, onDay, closeBooked}
+use Rattle.rules.specs.Refusals.{contractPricesSound, pricesSound, headSound, orderSound, bookSound, submitCauses, cancelCauses, dayLimitsCauses, proposalCauses, defaultCauses, closeOutCauses, closeCauses, submitSpec, cancelSpec, dayLimitsSpec, proposalSpec, defaultSpec, closeOutSpec, closeSpec, eventSpec}
 use Rattle.rules.specs.Accounts.{isAccepted}
 use Rattle.accounts.specs.Calls.{decide-shows, Long}
 use Rattle.accounts.specs.Matches.{best-all}
@@ -287,7 +287,7 @@ module _ (t : Tables) (head : headSound t ≡ true) (long : 224 ≤ length (t .h
   close-out-prices e = prices-left (closeOutLines t e) t (unchanged t head long 4) refl
 
   module _ (wide : 510 ≤ length (t .prices)) where
-    pub limits-prices : (e : NewLimits) → e .contract < 102 → 1 ≤ e .low .0 → e .low .0 ≤ e .high .0 → e .high .0 ≤ 1000000
+    pub limits-prices : (e : NewDayLimits) → e .contract < 102 → 1 ≤ e .low .0 → e .low .0 ≤ e .high .0 → e .high .0 ≤ 1000000
         → pricesSound (booked [] (withPrices (set (set (t .prices) (e .contract * 5 + 1) (e .low .0)) (e .contract * 5 + 2) (e .high .0)) t) .after) ≡ true
     limits-prices e c< a b h =
         let l = set (set (t .prices) (e .contract * 5 + 1) (e .low .0)) (e .contract * 5 + 2) (e .high .0) in
@@ -325,13 +325,12 @@ module _ (t : Tables) (head : headSound t ≡ true) (long : 224 ≤ length (t .h
       new-ggfs s [] l w p = (w, p)
       new-ggfs s (c ∷ cs) l w p = new-ggfs s cs (set l (c * 5) (ggfAtClose t s c)) (rw (length-set l (c * 5) (ggfAtClose t s c)) w) (new-ggf (lotsRun t) l c (ggfAtClose t s c) w (ggf-most s c) p)
 
-      closed-prices : (cs : List ℕ) (u : Tables) → closeAll cs u .prices ≡ u .prices
-      unfolding closeAll closeContract withOrders
-      closed-prices [] u = refl
-      closed-prices (c ∷ cs) u = closed-prices cs (closeContract c u)
+      closed-prices : (cs : List ℕ) (u : Tables) → withClosed cs u .prices ≡ u .prices
+      unfolding withClosed withOrders
+      closed-prices cs u = refl
 
       -- without deals they are sound beside any lots run
-      closed-sound : (n run : ℕ) → everyBlock 5 (contractPricesSound run) 102 (closeAll (closingContracts t) (priced n t) .prices) ≡ true
+      closed-sound : (n run : ℕ) → everyBlock 5 (contractPricesSound run) 102 (withClosed (closingContracts t) (priced n t) .prices) ≡ true
       unfolding priced withoutDeals
       closed-sound n run =
           let l = withGgfs t n (openContracts (calendar t) (day t)) (t .prices) in
@@ -371,7 +370,7 @@ module _ (t : Tables) (head : headSound t ≡ true) (sound : pricesSound t ≡ t
   decided causes o r f = decide-shows (λ x. HeadAndPrices (x .after)) t o causes (λ a q. (head, sound)) r f
 
   pub event-head-prices : (e : Event) (legs : List Leg) → eventSound (members t) e legs ≡ true → HeadAndPrices (eventSpec t e legs .after)
-  unfolding eventSpec eventSound submitSpec cancelSpec limitsSpec proposalSpec defaultSpec closeOutSpec closeSpec
+  unfolding eventSpec eventSound submitSpec cancelSpec dayLimitsSpec proposalSpec defaultSpec closeOutSpec closeSpec
   event-head-prices (Submit e) legs q =
       let s = submission-sound (members t) e legs q in
       let time≤ = leb-true (e .time) 86399 (s .0) in
@@ -389,13 +388,13 @@ module _ (t : Tables) (head : headSound t ≡ true) (sound : pricesSound t ≡ t
       let l = e .low .0 in
       let h = e .high .0 in
       let contractIs = contractSound (e .contract) in
-      let both = and-left (contractIs && limitsSound l h) (eqb (length legs) 0) q in
-      let limits = and-right contractIs (limitsSound l h) both in
+      let both = and-left (contractIs && dayLimitsSound l h) (eqb (length legs) 0) q in
+      let limits = and-right contractIs (dayLimitsSound l h) both in
       let front = and-left (leb 1 l && leb l h) (leb h 1000000) limits in
-      decided (limitsCauses t e) _ (refl, tt)
+      decided (dayLimitsCauses t e) _ (refl, tt)
       (λ f. (
         limits-head t head long _,
-        limits-prices t head long sound wide e (omega (arith, leb-true (e .contract) 101 (and-left contractIs (limitsSound l h) both)))
+        limits-prices t head long sound wide e (omega (arith, leb-true (e .contract) 101 (and-left contractIs (dayLimitsSound l h) both)))
             (leb-true 1 l (and-left (leb 1 l) (leb l h) front)) (leb-true l h (and-right (leb 1 l) (leb l h) front)) (leb-true h 1000000 (and-right (leb 1 l && leb l h) (leb h 1000000) limits)),
       ))
   event-head-prices (Proposal n) legs q =

@@ -20,7 +20,7 @@ use Rattle.rules.specs.Matching.{submitBooked}
 use Rattle.rules.specs.Synthetic.{proposalBooked}
 use Rattle.rules.specs.CloseOfDay.{closeBooked}
 use Rattle.rules.specs.Default.{defaultBooked, closeOutBooked}
-use Rattle.rules.specs.Refusals.{damaged, submitCauses, cancelCauses, limitsCauses, proposalCauses, defaultCauses, closeOutCauses, closeCauses, submitSpec, cancelSpec, limitsSpec, proposalSpec, defaultSpec, closeOutSpec, closeSpec, eventSpec, readingSpec, applySpec, makeSpec}
+use Rattle.rules.specs.Refusals.{unsound, submitCauses, cancelCauses, dayLimitsCauses, proposalCauses, defaultCauses, closeOutCauses, closeCauses, submitSpec, cancelSpec, dayLimitsSpec, proposalSpec, defaultSpec, closeOutSpec, closeSpec, eventSpec, readingSpec, applySpec, makeSpec}
 use Rattle.rules.specs.Accounts.{isAccepted}
 use Rattle.accounts.specs.Calls.{decide-shows}
 
@@ -37,10 +37,10 @@ unfolding booked
 booked-leaves t u ls e = never e
 
 event-leaves : (t : Tables) (e : Event) (legs : List Leg) → Leaves t (eventSpec t e legs)
-unfolding eventSpec submitSpec cancelSpec limitsSpec proposalSpec defaultSpec closeOutSpec closeSpec submitBooked proposalBooked defaultBooked closeOutBooked closeBooked
+unfolding eventSpec submitSpec cancelSpec dayLimitsSpec proposalSpec defaultSpec closeOutSpec closeSpec submitBooked proposalBooked defaultBooked closeOutBooked closeBooked
 event-leaves t (Submit e) legs = decide-leaves t _ (submitCauses t e) (refl, (refl, (refl, (refl, (refl, (refl, (refl, (refl, (refl, tt))))))))) (booked-leaves t _ _)
 event-leaves t (Cancel e) legs = decide-leaves t _ (cancelCauses t e) (refl, (refl, tt)) (booked-leaves t _ _)
-event-leaves t (DayLimits e) legs = decide-leaves t _ (limitsCauses t e) (refl, tt) (booked-leaves t _ _)
+event-leaves t (DayLimits e) legs = decide-leaves t _ (dayLimitsCauses t e) (refl, tt) (booked-leaves t _ _)
 event-leaves t (Proposal n) legs = decide-leaves t _ (proposalCauses t legs) (refl, (refl, tt)) (booked-leaves t _ _)
 event-leaves t (Default m) legs = decide-leaves t _ (defaultCauses t m) (refl, tt) (booked-leaves t _ _)
 event-leaves t (CloseOut e) legs = decide-leaves t _ (closeOutCauses t e) (refl, (refl, (refl, (refl, (refl, tt))))) (booked-leaves t _ _)
@@ -54,7 +54,7 @@ reading-leaves t Unsound legs = λ _. refl
 pub refused-changes-nothing : (t : Tables) (bytes : List ℕ) → isAccepted (applySpec t bytes .answer) ≡ false → applySpec t bytes .after ≡ t
 unfolding applySpec
 refused-changes-nothing t bytes =
-    decide-leaves t (readingSpec t (readOf (members t) bytes) (legsOf bytes)) ((ledgerShort t || linesShort t || damaged t, _) ∷ []) (refl, tt)
+    decide-leaves t (readingSpec t (readOf (members t) bytes) (legsOf bytes)) ((unsound t, _) ∷ []) (refl, tt)
     (reading-leaves t (readOf (members t) bytes) (legsOf bytes))
 
 -- after 1 or 2 no ledger is made

@@ -24,7 +24,7 @@ use Rattle.rules.specs.Ledger.{Tables, Line, withHead, withPrices, members, tim
 use Rattle.rules.specs.Records.{numberSound, lotsSound, priceSound, legSound}
 use Rattle.rules.specs.Matching.{incoming, matching, matched, submitMatched, submitLines, submitOrders, withDeals, counted, submitBooked}
 use Rattle.rules.specs.Synthetic.{numbered, namedLegs, legLine, acceptable, proposalLines, usedByLegs, proposalBooked}
-use Rattle.rules.specs.CloseOfDay.{closeContract, closingContracts, closeAll, priced, nextDay, onDay, closeBooked}
+use Rattle.rules.specs.CloseOfDay.{closingContracts, withClosed, priced, nextDay, onDay, closeBooked}
 use Rattle.rules.specs.Default.{closeOutLines, closeOutBooked, defaultBooked}
 use Rattle.rules.specs.Refusals.{contractPricesSound, pricesSound, orderSound, bookSound}
 use Rattle.rules.specs.Accounts.{Column, lots, value, row, amount}
@@ -70,10 +70,9 @@ run-timed n t s =
     by-bool (λ b. SameRun (t .head) ((cond b (withHead (set (withoutSubmits t .head) 4 n) t) t) .head)) (ltb (time t) n)
     (λ _. run-set 4 n (omega arith) (omega arith) (run-zeros (members t) (s .few-members) (s .head-long) (run-start (t .head)))) (λ _. run-start (t .head))
 
-run-closed : {l : List ℕ} (cs : List ℕ) (t : Tables) → SameRun l (t .head) → SameRun l (closeAll cs t .head)
-unfolding closeAll closeContract withOrders
-run-closed [] t a = a
-run-closed (c ∷ cs) t a = run-closed cs (closeContract c t) (run-set 7 _ (omega arith) (omega arith) a)
+run-closed : {l : List ℕ} (cs : List ℕ) (t : Tables) → SameRun l (t .head) → SameRun l (withClosed cs t .head)
+unfolding withClosed withOrders
+run-closed cs t a = run-set 7 _ (omega arith) (omega arith) a
 
 -- ---- tables after a record
 -- t′ has the rows of t
@@ -174,7 +173,7 @@ module _ (h : Header) (d : ℕ) (t : Tables) (r : Runs h d t) (s : Sound t) (a :
   close-rows n =
       let cs = closingContracts t in
       let u = priced n t in
-      let v = closeAll cs u in
+      let v = withClosed cs u in
       let same = run-closed cs u (run-start (t .head)) in
       let closed : WithinRun v = λ x. subst₂ (λ k run. Bounded k (weight x * run) (row x v)) (sym (same .size)) (sym (same .run))
       (bounded-closed (members t) (s .few-members) x cs u (all-map _ (λ c. c < 102) cs (λ c q. q .0) (closing-today t)) (record { size = refl; lots-long = s .lots-long; value-long = s .value-long })

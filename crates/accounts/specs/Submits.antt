@@ -16,10 +16,10 @@ use Rattle.rules.specs.declared.order.Order.{Order}
 use Rattle.rules.specs.declared.order.Side.{Side}
 use Rattle.rules.specs.declared.order.Side.the-variants.{Buy, Sell}
 use Rattle.rules.specs.Days.{Calendar}
-use Rattle.rules.specs.Contracts.{holdsHour, termOf, closingDay, stillToClose, openOn, hasCascaded}
+use Rattle.rules.specs.Contracts.{holdsHour, termOf, termClosingDay, stillToClose, openOn, hasCascaded}
 use Rattle.rules.specs.CalendarLaws.{before-or-not, open-to-close}
 use Rattle.rules.specs.Header.{Header, calendarOf}
-use Rattle.rules.specs.Ledger.{Tables, Line, members, day, isOpen, time, accepted, submits, withHead, orders, withOrders, withoutSubmits, timed}
+use Rattle.rules.specs.Ledger.{Tables, Line, members, day, isOpen, time, acceptedSubmits, submitsThisSecond, withHead, orders, withOrders, withoutSubmits, timed}
 use Rattle.rules.specs.Matching.{signed, otherSide, opposes, withLots, Deal, matching, matched, dealLines, incoming, submitMatched, submitLines, wouldRest, submitOrders, withDeals, counted, submitBooked}
 use Rattle.rules.specs.Accounts.{Column, lots, value, amount}
 use Rattle.accounts.specs.Lines.{Fits, hourTotal}
@@ -75,7 +75,7 @@ open-here h d t c r = ap (λ k. openOn k (day t) c) (runs-calendar r) ∙ ap (λ
 
 pub open-not-cascaded : (k : Calendar) (d c : ℕ) → openOn k d c ≡ true → hasCascaded k d c ≡ false
 unfolding hasCascaded stillToClose
-open-not-cascaded k d c e = rw (before-or-not d (closingDay k (termOf c)), open-to-close k d c e) (and-false (leb (c % 17) 4))
+open-not-cascaded k d c e = rw (before-or-not d (termClosingDay k (termOf c)), open-to-close k d c e) (and-false (leb (c % 17) 4))
 
 -- ---- a submit
 module _ (h : Header) (d : ℕ) (t : Tables) (r : Runs h d t) (s : Sound t) where
@@ -121,8 +121,8 @@ module _ (h : Header) (d : ℕ) (t : Tables) (r : Runs h d t) (s : Sound t) wher
     submit-does =
         let u = timed (e .time) t in
         let v = withDeals (e .contract) (submitMatched t e .deals) (counted (e .member) u) in
-        let a = then-same (timed-header (e .time)) (then-same (set-other 4 (u .head) (192 + e .member) (submits u (e .member) + 1) (omega arith) (ofMember (omega arith)))
-        (set-other 4 (set (u .head) (192 + e .member) (submits u (e .member) + 1)) 5 (accepted u + 1) (omega arith) (changing (omega arith) (omega arith)))) in
+        let a = then-same (timed-header (e .time)) (then-same (set-other 4 (u .head) (192 + e .member) (submitsThisSecond u (e .member) + 1) (omega arith) (ofMember (omega arith)))
+        (set-other 4 (set (u .head) (192 + e .member) (submitsThisSecond u (e .member) + 1)) 5 (acceptedSubmits u + 1) (omega arith) (changing (omega arith) (omega arith)))) in
         booked-does h d (submitLines t e) t (withOrders (submitOrders t e) v) r s
         (then-same a (set-other 4 (v .head) 7 (length (submitOrders t e)) (omega arith) (changing (omega arith) (omega arith))))
         (rw (orders-written (submitOrders t e) v (omega (arith, a .longer, s .head-long))) submit-rests)

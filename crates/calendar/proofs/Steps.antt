@@ -6,7 +6,7 @@ use native.Mathlib.Omega.{arith}
 use native.Mathlib.Numerals.{add-one}
 use borrow.Author.Tests.{le-leb, lt-leb}
 use Rattle.rules.specs.declared.units.Day.the-variants.{On, NoDay}
-use Rattle.rules.specs.Days.{Calendar, businessDay, spanEnd, firstBusinessDay, nextBusinessDay, businessDayBefore}
+use Rattle.rules.specs.Days.{Calendar, businessDay, dayAfterSpan, firstBusinessDay, nextBusinessDay, businessDayBefore}
 
 module _ (k : Calendar) where
   -- ---- backwards
@@ -45,10 +45,10 @@ module _ (k : Calendar) where
   unfolding firstBusinessDay
   next-more z x l b = rw (less-one z x l, b, add-one x)
 
-  pub next-past : (d : ℕ) → spanEnd k ≤ d → nextBusinessDay k d ≡ NoDay
+  pub next-past : (d : ℕ) → dayAfterSpan k ≤ d → nextBusinessDay k d ≡ NoDay
   unfolding nextBusinessDay
-  next-past d l = next-end (spanEnd k) (suc d) (omega arith)
+  next-past d l = next-end (dayAfterSpan k) (suc d) (omega arith)
 
-  pub next-start : (d : ℕ) → firstBusinessDay k (spanEnd k - (d + 1)) (d + 1) ≡ nextBusinessDay k d
+  pub next-start : (d : ℕ) → firstBusinessDay k (dayAfterSpan k - (d + 1)) (d + 1) ≡ nextBusinessDay k d
   unfolding nextBusinessDay
   next-start d = rw (add-one d)

@@ -2,7 +2,7 @@
 ghost use mathlib.Core.Path.{_≡_};
 ghost use mathlib.Core.List.{List};
 ghost use Prim.Native.Nat.{ℕ, _≤_};
-ghost use Rattle.rules.specs.Contracts.{monthsIn, termOf, kindOf, firstDay, endDay, daysOf, closingDay, isOn, stillToClose, openOn};
+ghost use Rattle.rules.specs.Contracts.{monthsIn, termOf, kindOf, termFirstDay, termDayAfter, daysOf, termClosingDay, isOn, stillToClose, openOn};
 ghost use Rattle.rules.specs.CalendarLaws.{openByCount};
 ghost use Rattle.calendar.specs.Bounds.{FirstYear, InLedger};
 use crate::days::business_day_before;
@@ -58,7 +58,7 @@ fn months_in(kind: ContractKind) -> u64
 
 fn term_first_day(first_year: u64, t: Term) -> DayNo
     requires { ⌜ FirstYear «first_year» × InLedger t ⌝ }
-    ensures { λ r. ⌜ ((h : List ℕ) → r .0 ≡ firstDay (record { firstYear = «first_year»; holidays = h }) t) ⌝ }
+    ensures { λ r. ⌜ ((h : List ℕ) → r .0 ≡ termFirstDay (record { firstYear = «first_year»; holidays = h }) t) ⌝ }
 {
     let kind = t.kind;
     month_start(first_month(first_year) + months_in(kind) * t.index)
@@ -66,7 +66,7 @@ fn term_first_day(first_year: u64, t: Term) -> DayNo
 
 fn term_end_day(first_year: u64, t: Term) -> DayNo
     requires { ⌜ FirstYear «first_year» × InLedger t ⌝ }
-    ensures { λ r. ⌜ ((h : List ℕ) → r .0 ≡ endDay (record { firstYear = «first_year»; holidays = h }) t) ⌝ }
+    ensures { λ r. ⌜ ((h : List ℕ) → r .0 ≡ termDayAfter (record { firstYear = «first_year»; holidays = h }) t) ⌝ }
 {
     let kind = t.kind;
     let n = months_in(kind);
@@ -76,7 +76,7 @@ fn term_end_day(first_year: u64, t: Term) -> DayNo
 // The first delivery day, whatever the holidays.
 pub fn first_day(first_year: u64, contract: u64) -> DayNo
     requires { ⌜ FirstYear «first_year» × (contract ≤ 101) ⌝ }
-    ensures { λ r. ⌜ ((h : List ℕ) → r .0 ≡ firstDay (record { firstYear = «first_year»; holidays = h }) (termOf contract)) ⌝ }
+    ensures { λ r. ⌜ ((h : List ℕ) → r .0 ≡ termFirstDay (record { firstYear = «first_year»; holidays = h }) (termOf contract)) ⌝ }
 {
     term_first_day(first_year, term_of(contract))
 }
@@ -94,7 +94,7 @@ pub fn days_of(first_year: u64, contract: u64) -> u64
 
 fn term_closing_day(first_year: u64, holidays: &[u64], t: Term) -> Day
     requires { ⌜ FirstYear «first_year» × InLedger t ⌝ }
-    ensures { λ r. ⌜ r ≡ closingDay (record { firstYear = «first_year»; holidays = now (holidays .entry) }) t ⌝ }
+    ensures { λ r. ⌜ r ≡ termClosingDay (record { firstYear = «first_year»; holidays = now (holidays .entry) }) t ⌝ }
 {
     let kind = t.kind;
     business_day_before(
@@ -106,7 +106,7 @@ fn term_closing_day(first_year: u64, holidays: &[u64], t: Term) -> Day
 
 pub fn closing_day(first_year: u64, holidays: &[u64], contract: u64) -> Day
     requires { ⌜ FirstYear «first_year» × (contract ≤ 101) ⌝ }
-    ensures { λ r. ⌜ r ≡ closingDay (record { firstYear = «first_year»; holidays = now (holidays .entry) }) (termOf contract) ⌝ }
+    ensures { λ r. ⌜ r ≡ termClosingDay (record { firstYear = «first_year»; holidays = now (holidays .entry) }) (termOf contract) ⌝ }
 {
     term_closing_day(first_year, holidays, term_of(contract))
 }
@@ -114,7 +114,7 @@ pub fn closing_day(first_year: u64, holidays: &[u64], contract: u64) -> Day
 // Whether a contract's closing day is this day.
 pub fn closes_on(first_year: u64, holidays: &[u64], day: DayNo, contract: u64) -> bool
     requires { ⌜ FirstYear «first_year» × (contract ≤ 101) ⌝ }
-    ensures { λ r. ⌜ r ≡ isOn (day .0) (closingDay (record { firstYear = «first_year»; holidays = now (holidays .entry) }) (termOf contract)) ⌝ }
+    ensures { λ r. ⌜ r ≡ isOn (termClosingDay (record { firstYear = «first_year»; holidays = now (holidays .entry) }) (termOf contract)) (day .0) ⌝ }
 {
     match closing_day(first_year, holidays, contract) {
         Day::On(x) => x.0 == day.0,

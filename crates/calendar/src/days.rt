@@ -4,7 +4,7 @@ ghost use mathlib.Core.List.{List};
 ghost use Prim.Native.Nat.{ℕ, _*_, _-_};
 ghost use lib.Dec.{eqb};
 ghost use Rattle.arith.specs.Lists.{any};
-ghost use Rattle.rules.specs.Days.{businessDay, spanStart, spanEnd, inSpan, firstBusinessDay, nextBusinessDay, businessDayBefore};
+ghost use Rattle.rules.specs.Days.{businessDay, spanStart, dayAfterSpan, inSpan, firstBusinessDay, nextBusinessDay, businessDayBefore};
 ghost use Rattle.calendar.specs.Bounds.{FirstYear};
 use crate::months::month_start;
 use rules::Day;
@@ -98,7 +98,7 @@ pub fn span_start(first_year: u64) -> DayNo
 // The first day after the span, whatever the holidays.
 pub fn span_end(first_year: u64) -> DayNo
     requires { ⌜ FirstYear «first_year» ⌝ }
-    ensures { λ r. ⌜ ((h : List ℕ) → r .0 ≡ spanEnd (record { firstYear = «first_year»; holidays = h })) ⌝ }
+    ensures { λ r. ⌜ ((h : List ℕ) → r .0 ≡ dayAfterSpan (record { firstYear = «first_year»; holidays = h })) ⌝ }
 {
     month_start(first_month(first_year) + SPAN)
 }

@@ -10,7 +10,7 @@ use lib.ListN.{length, getD, take, drop, length-append, take-append-drop}
 use Rattle.arith.specs.Alls.{All, every-all, all-map}
 use Rattle.arith.specs.Lists.{from, every, total}
 use Rattle.arith.specs.Tests.{by-bool, and-right, and-false, passed, passes}
-use Rattle.rules.specs.Days.{Calendar, leapYear, yearStart, monthStart, spanStart, spanEnd, inSpan}
+use Rattle.rules.specs.Days.{Calendar, leapYear, yearStart, monthStart, spanStart, dayAfterSpan, inSpan}
 use Rattle.rules.specs.Header.{Header, u16At, u32At, u16Bytes, u32Bytes, u16sAt, u32sAt, lettersAndVersion, sameBytes, headerLength, headerOf, headerBytes, calendarOf, calendarSound, limitSound, daySound, headerSound, beginsWithHeader}
 use Rattle.codec.specs.Headers.{same-true, length-u16s}
 use Rattle.codec.specs.Numbers.{bytes-small, u16-wide, u32-wide, u16-back, u32-back, all-back, u8-again, u16-again, u32-again, all-again}
@@ -28,8 +28,8 @@ whole-years : (i m : ℕ) → i / 12 ≡ m → i % 12 ≡ 0 → monthStart i ≤
 unfolding monthStart total from
 whole-years i m e f = rw (e, f) (omega (arith, years-most m))
 
-span-most : (k : Calendar) → k .firstYear ≤ 2094 → spanEnd k ≤ 29280
-unfolding spanEnd
+span-most : (k : Calendar) → k .firstYear ≤ 2094 → dayAfterSpan k ≤ 29280
+unfolding dayAfterSpan
 span-most k h =
     let years : (12 * (k .firstYear - 2020) + 72) / 12 ≡ k .firstYear - 2020 + 6 = omega arith in
     let most = whole-years (12 * (k .firstYear - 2020) + 72) (k .firstYear - 2020 + 6) years (omega arith) in
@@ -37,7 +37,7 @@ span-most k h =
 
 in-span-small : (k : Calendar) (d : ℕ) → k .firstYear ≤ 2094 → inSpan k d ≡ true → d < 65536
 unfolding inSpan
-in-span-small k d y t = omega (arith, span-most k y, ltb-true d (spanEnd k) (and-right (leb (spanStart k) d) (ltb d (spanEnd k)) t))
+in-span-small k d y t = omega (arith, span-most k y, ltb-true d (dayAfterSpan k) (and-right (leb (spanStart k) d) (ltb d (dayAfterSpan k)) t))
 
 -- ---- what a sound header holds
 record Holds (h : Header) : Type 0 where

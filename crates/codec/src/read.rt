@@ -15,7 +15,7 @@ use rules::CloseOutTerms;
 use rules::Event;
 use rules::Kurus;
 use rules::Lots;
-use rules::NewLimits;
+use rules::NewDayLimits;
 use rules::OrderKind;
 use rules::Reading;
 use rules::Side;
@@ -86,7 +86,7 @@ fn limits_of(bytes: &[u8]) -> Reading
     if bytes.len() != 10 {
         return Reading::Unsound;
     }
-    Reading::Sound(Event::DayLimits(NewLimits {
+    Reading::Sound(Event::DayLimits(NewDayLimits {
         contract: u8_at(bytes, 1),
         low: Kurus(u32_at(bytes, 2)),
         high: Kurus(u32_at(bytes, 6)),

@@ -14,7 +14,7 @@ use rules::Event;
 use rules::Kurus;
 use rules::Leg;
 use rules::Lots;
-use rules::NewLimits;
+use rules::NewDayLimits;
 use rules::Submission;
 
 const MOST_MEMBERS: u64 = 32;
@@ -63,7 +63,7 @@ fn cancel_sound(members: u64, e: Cancellation) -> bool
     (e.time <= LAST_SECOND) & (e.member < members) & (e.order < ORDER_NUMBERS)
 }
 
-fn limits_sound(e: NewLimits) -> bool
+fn limits_sound(e: NewDayLimits) -> bool
     ensures { λ r. ⌜ r ≡ eventSound 0 (DayLimits e) [] ⌝ }
 {
     let low = e.low.0;

@@ -20,7 +20,7 @@ use rules::Cancellation;
 use rules::CloseOutTerms;
 use rules::Event;
 use rules::Leg;
-use rules::NewLimits;
+use rules::NewDayLimits;
 use rules::OrderKind;
 use rules::Side;
 use rules::Submission;
@@ -70,7 +70,7 @@ fn put_cancel(out: &mut [u8], e: Cancellation)
     put_u32(out, 6, e.order);
 }
 
-fn put_limits(out: &mut [u8], e: NewLimits)
+fn put_limits(out: &mut [u8], e: NewDayLimits)
     requires { ⌜ (10 ≤ length (now out)) × (e .contract < 256) ⌝ }
     ensures { λ r. ⌜ now (out .exit) ≡ over 0 (bytesOf (DayLimits e) []) (now (out .entry)) ⌝ }
 {

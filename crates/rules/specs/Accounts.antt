@@ -13,7 +13,8 @@ use Rattle.rules.specs.declared.event.Reading.the-variants.{Sound, Unsou
 use Rattle.rules.specs.declared.units.Day.{Day}
 use Rattle.rules.specs.declared.units.Day.the-variants.{On, NoDay}
 use Rattle.rules.specs.Answers.{Outcome, told}
-use Rattle.rules.specs.Days.{Calendar, spanStart, spanEnd, nextBusinessDay}
+use Rattle.rules.specs.Ranges.{contractCount}
+use Rattle.rules.specs.Days.{Calendar, spanStart, dayAfterSpan, nextBusinessDay}
 use Rattle.rules.specs.Contracts.{holdsHour, hasCascaded}
 use Rattle.rules.specs.Header.{Header, calendarOf, headerOf, beginsWithHeader}
 use Rattle.rules.specs.Ledger.{Tables, Line, withLines, lotsAt, valueAt, lineLots, lineValue, firstLines, ledgerShort}
@@ -51,7 +52,7 @@ log t (call ∷ calls) = let o = callSpec t call in linesOf (o .answer) (o .afte
 -- ---- the engine's account
 -- The sum, in a member's rows of all contracts whose period holds the hour.
 unfoldable pub engineAccount : Calendar → (ℕ → ℕ → ℤ) → ℕ → ℕ → ℤ
-engineAccount k row m h = sum 102 (λ c. when (holdsHour k c h) (row c m))
+engineAccount k row m h = sum contractCount (λ c. when (holdsHour k c h) (row c m))
 
 -- ---- the other account
 -- It starts at zero for every member and hour. Each deal line, in printed order, adds its amount to its member in
@@ -102,7 +103,7 @@ amount value = lineValue
 
 -- h is a delivery hour of the six years, counted from the first hour of day 0.
 abbrev pub DeliveryHour : Calendar → ℕ → Type 0
-DeliveryHour k h = (24 * spanStart k ≤ h) × (h < 24 * spanEnd k)
+DeliveryHour k h = (24 * spanStart k ≤ h) × (h < 24 * dayAfterSpan k)
 
 -- What holds of the tables t after a list whose log is ls, on the list's day d, for the header h.
 pub record Agrees (h : Header) (t : Tables) (ls : List Line) (d : ℕ) : Type 0 where
@@ -113,7 +114,7 @@ pub record Agrees (h : Header) (t : Tables) (ls : List Line) (d : ℕ) : Type 0 
   pub engine-zero : (x : Column) (hour : ℕ) → DeliveryHour (calendarOf h) hour → sum (h .members) (λ m. engineAccount (calendarOf h) (row x t) m hour) ≡ pos 0
   pub other-zero : (x : Column) (hour : ℕ) → DeliveryHour (calendarOf h) hour → sum (h .members) (λ m. otherAccount (calendarOf h) (amount x) ls m hour) ≡ pos 0
   -- nothing is left in a contract that has cascaded
-  pub nothing-left : (x : Column) (c m : ℕ) → c < 102 → m < h .members → T (hasCascaded (calendarOf h) d c) → row x t c m ≡ pos 0
+  pub nothing-left : (x : Column) (c m : ℕ) → c < contractCount → m < h .members → T (hasCascaded (calendarOf h) d c) → row x t c m ≡ pos 0
 
 -- For every sound header, all lent tables of sufficient length, whatever they hold, and every list of calls, from the
 -- fresh ledger.

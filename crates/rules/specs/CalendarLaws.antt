@@ -17,8 +17,8 @@ use Rattle.rules.specs.declared.contract.Term.{Term}
 use Rattle.rules.specs.declared.units.Day.{Day}
 use Rattle.rules.specs.declared.units.Day.the-variants.{On, NoDay}
 use Rattle.rules.specs.declared.units.DayNo.{DayNo}
-use Rattle.rules.specs.Days.{Calendar, leapYear, monthDays, yearStart, monthLength, monthStart, businessDay, spanEnd, firstBusinessDay, nextBusinessDay, businessDayBefore}
-use Rattle.rules.specs.Contracts.{openCount, closingDistance, monthsIn, sameKind, termOf, kindOf, contractsOf, childrenOf, firstDay, endDay, holdsDay, holdsHour, closingDay, notBefore, isOn, isBefore, stillToClose, openOfKind, openContracts, openOn}
+use Rattle.rules.specs.Days.{Calendar, leapYear, monthDays, yearStart, monthLength, monthStart, businessDay, dayAfterSpan, firstBusinessDay, nextBusinessDay, businessDayBefore}
+use Rattle.rules.specs.Contracts.{openCount, closingDistance, monthsIn, sameKind, termOf, kindOf, contractsOf, childrenOf, termFirstDay, termDayAfter, holdsDay, holdsHour, termClosingDay, notBefore, isOn, isBefore, stillToClose, openOfKind, openContracts, openOn}
 
 -- ---- months
 least-days : (a b c : Bool) → 28 ≤ cond a (cond b 29 28) (cond c 30 31)
@@ -75,17 +75,17 @@ no-day : {P : Type 0} {x : DayNo} → NoDay ≡ On x → P
 no-day e = absurd (let z : _≡_ {A = ℕ} 0 1 = cc in omega arith)
 
 -- A day that was looked for is earlier than d exactly if it is not d or later.
-pub before-or-not : (d : ℕ) (z : Day) → isBefore d z ≡ not (notBefore d z)
+pub before-or-not : (d : ℕ) (z : Day) → isBefore z d ≡ not (notBefore z d)
 before-or-not d (On x) = by-leb (λ b. ltb (x .0) d ≡ not b) d (x .0) (λ l. le-ltb _ _ l) (λ l. lt-ltb _ _ l)
 before-or-not d NoDay = refl
 
 -- What is on day d is not before it.
-pub on-not-before : (d : ℕ) (z : Day) → isOn d z ≡ true → notBefore d z ≡ true
+pub on-not-before : (d : ℕ) (z : Day) → isOn z d ≡ true → notBefore z d ≡ true
 on-not-before d (On x) e = le-leb d (x .0) (omega (arith, eqb-true (x .0) d e))
 on-not-before d NoDay e = e
 
 -- What is not before a day is not before an earlier one.
-not-before-down : (d e : ℕ) (z : Day) → d ≤ e → notBefore e z ≡ true → notBefore d z ≡ true
+not-before-down : (d e : ℕ) (z : Day) → d ≤ e → notBefore z e ≡ true → notBefore z d ≡ true
 not-before-down d e (On x) l h = le-leb d (x .0) (omega (arith, leb-true e (x .0) h))
 not-before-down d e NoDay l h = h
 
@@ -223,7 +223,7 @@ module _ (k : Calendar) where
       (λ l. omega (arith, between-none d f (omega arith), one-most (leb d f && businessDay k f)))
 
   -- The nth business day before f is day d or later exactly if at least n business days lie from d up to f.
-  pub closes-by-count : (d n f : ℕ) → 0 < n → notBefore d (businessDayBefore k n f) ≡ leb n (between k d f)
+  pub closes-by-count : (d n f : ℕ) → 0 < n → notBefore (businessDayBefore k n f) d ≡ leb n (between k d f)
   unfolding businessDayBefore
   closes-by-count d n zero p = sym (lt-leb n _ (omega (arith, between-none d zero (omega arith))))
   closes-by-count d n (suc x) p =
@@ -269,47 +269,47 @@ module _ (k : Calendar) where
 
   -- It is the first after day d, in the span.
   pub next-business : (d : ℕ) (x : DayNo) → nextBusinessDay k d ≡ On x
-      → (d < x .0) × (businessDay k (x .0) ≡ true) × (x .0 < spanEnd k) × ((y : ℕ) → d < y → y < x .0 → businessDay k y ≡ false)
+      → (d < x .0) × (businessDay k (x .0) ≡ true) × (x .0 < dayAfterSpan k) × ((y : ℕ) → d < y → y < x .0 → businessDay k y ≡ false)
   unfolding nextBusinessDay
-  next-business d x e = let w = first-business (spanEnd k - suc d) (suc d) x e in (w .0, w .1, omega arith, w .3)
+  next-business d x e = let w = first-business (dayAfterSpan k - suc d) (suc d) x e in (w .0, w .1, omega arith, w .3)
 
   -- Where there is none, no day of the span after d is a business day.
-  pub next-none : (d : ℕ) → nextBusinessDay k d ≡ NoDay → (y : ℕ) → d < y → y < spanEnd k → businessDay k y ≡ false
+  pub next-none : (d : ℕ) → nextBusinessDay k d ≡ NoDay → (y : ℕ) → d < y → y < dayAfterSpan k → businessDay k y ≡ false
   unfolding nextBusinessDay
-  next-none d e y l h = first-none (spanEnd k - suc d) (suc d) e y l (omega arith)
+  next-none d e y l h = first-none (dayAfterSpan k - suc d) (suc d) e y l (omega arith)
 
   -- ---- closing
   -- A closing day is a business day, before the first delivery day.
-  pub closing-business : (t : Term) (x : DayNo) → closingDay k t ≡ On x → (businessDay k (x .0) ≡ true) × (x .0 < firstDay k t)
-  unfolding closingDay
-  closing-business t x e = before-business (closingDistance (t .kind)) (firstDay k t) x e
+  pub closing-business : (t : Term) (x : DayNo) → termClosingDay k t ≡ On x → (businessDay k (x .0) ≡ true) × (x .0 < termFirstDay k t)
+  unfolding termClosingDay
+  closing-business t x e = before-business (closingDistance (t .kind)) (termFirstDay k t) x e
 
   -- A contract is still to close on day d exactly if at least its distance of business days lie from d up to its first delivery day.
-  pub to-close-count : (d : ℕ) (t : Term) → stillToClose k d t ≡ leb (closingDistance (t .kind)) (between k d (firstDay k t))
-  unfolding stillToClose closingDay
-  to-close-count d t = closes-by-count d (closingDistance (t .kind)) (firstDay k t) (distance-pos (t .kind))
+  pub to-close-count : (d : ℕ) (t : Term) → stillToClose k d t ≡ leb (closingDistance (t .kind)) (between k d (termFirstDay k t))
+  unfolding stillToClose termClosingDay
+  to-close-count d t = closes-by-count d (closingDistance (t .kind)) (termFirstDay k t) (distance-pos (t .kind))
 
-  to-close-least : (d : ℕ) (t : Term) → stillToClose k d t ≡ true → closingDistance (t .kind) ≤ between k d (firstDay k t)
-  to-close-least d t c = leb-true (closingDistance (t .kind)) (between k d (firstDay k t)) (sym (to-close-count d t) ∙ c)
+  to-close-least : (d : ℕ) (t : Term) → stillToClose k d t ≡ true → closingDistance (t .kind) ≤ between k d (termFirstDay k t)
+  to-close-least d t c = leb-true (closingDistance (t .kind)) (between k d (termFirstDay k t)) (sym (to-close-count d t) ∙ c)
 
-  to-close-enough : (d : ℕ) (t : Term) → closingDistance (t .kind) ≤ between k d (firstDay k t) → stillToClose k d t ≡ true
+  to-close-enough : (d : ℕ) (t : Term) → closingDistance (t .kind) ≤ between k d (termFirstDay k t) → stillToClose k d t ≡ true
   to-close-enough d t l = to-close-count d t ∙ le-leb _ _ l
 
   -- What closes on day d is still to close on it.
-  pub closes-today : (d : ℕ) (t : Term) → isOn d (closingDay k t) ≡ true → stillToClose k d t ≡ true
+  pub closes-today : (d : ℕ) (t : Term) → isOn (termClosingDay k t) d ≡ true → stillToClose k d t ≡ true
   unfolding stillToClose
-  closes-today d t e = on-not-before d (closingDay k t) e
+  closes-today d t e = on-not-before d (termClosingDay k t) e
 
   -- What is still to close on a day is still to close on each day before.
   pub to-close-down : (d e : ℕ) (t : Term) → d ≤ e → stillToClose k e t ≡ true → stillToClose k d t ≡ true
   unfolding stillToClose
-  to-close-down d e t l h = not-before-down d e (closingDay k t) l h
+  to-close-down d e t l h = not-before-down d e (termClosingDay k t) l h
 
   -- What has closed before the next business day closed before this day or on it.
-  pub closed-by-next : (d : ℕ) (x : DayNo) (t : Term) → nextBusinessDay k d ≡ On x → isBefore (x .0) (closingDay k t) ≡ isBefore d (closingDay k t) || isOn d (closingDay k t)
-  closed-by-next d x t n = go (closingDay k t) refl (next-business d x n .0)
+  pub closed-by-next : (d : ℕ) (x : DayNo) (t : Term) → nextBusinessDay k d ≡ On x → isBefore (termClosingDay k t) (x .0) ≡ isBefore (termClosingDay k t) d || isOn (termClosingDay k t) d
+  closed-by-next d x t n = go (termClosingDay k t) refl (next-business d x n .0)
     where
-      go : (z : Day) → closingDay k t ≡ z → d < x .0 → isBefore (x .0) z ≡ isBefore d z || isOn d z
+      go : (z : Day) → termClosingDay k t ≡ z → d < x .0 → isBefore z (x .0) ≡ isBefore z d || isOn z d
       go NoDay e h = refl
       go (On z) e h =
           le-or-lt (x .0) (z .0) (λ l. rw (le-ltb (z .0) (x .0) l, le-ltb (z .0) d (omega arith), ne-eqb (z .0) d (λ q. omega arith)))
@@ -319,21 +319,21 @@ module _ (k : Calendar) where
           (λ m. rw (lt-ltb (z .0) d m))))
 
   -- Of two contracts, the one that keeps no more distance and delivers no earlier closes no earlier,
-  pub closes-no-earlier : (d : ℕ) (s t : Term) → closingDistance (t .kind) ≤ closingDistance (s .kind) → firstDay k s ≤ firstDay k t → stillToClose k d s ≡ true → stillToClose k d t ≡ true
-  closes-no-earlier d s t l f c = to-close-enough d t (omega (arith, to-close-least d s c, between-up d (firstDay k s) (firstDay k t) f))
+  pub closes-no-earlier : (d : ℕ) (s t : Term) → closingDistance (t .kind) ≤ closingDistance (s .kind) → termFirstDay k s ≤ termFirstDay k t → stillToClose k d s ≡ true → stillToClose k d t ≡ true
+  closes-no-earlier d s t l f c = to-close-enough d t (omega (arith, to-close-least d s c, between-up d (termFirstDay k s) (termFirstDay k t) f))
 
   -- and, where it keeps less distance, closes later.
-  pub closes-later : (d : ℕ) (s t : Term) → closingDistance (t .kind) < closingDistance (s .kind) → firstDay k s ≤ firstDay k t → stillToClose k d s ≡ true → stillToClose k (suc d) t ≡ true
-  closes-later d s t l f c = to-close-enough (suc d) t (omega (arith, to-close-least d s c, between-up (suc d) (firstDay k s) (firstDay k t) f, between-later d (firstDay k s)))
+  pub closes-later : (d : ℕ) (s t : Term) → closingDistance (t .kind) < closingDistance (s .kind) → termFirstDay k s ≤ termFirstDay k t → stillToClose k d s ≡ true → stillToClose k (suc d) t ≡ true
+  closes-later d s t l f c = to-close-enough (suc d) t (omega (arith, to-close-least d s c, between-up (suc d) (termFirstDay k s) (termFirstDay k t) f, between-later d (termFirstDay k s)))
 
   -- A year's quarters close on a later day than the year,
   pub quarter-later : (d i q : ℕ) → stillToClose k d (nth Year i) ≡ true → stillToClose k (suc d) (nth Quarter (4 * i + q)) ≡ true
-  unfolding firstDay
+  unfolding termFirstDay
   quarter-later d i q c = closes-later d (nth Year i) (nth Quarter (4 * i + q)) (omega arith) (month-le _ _ (omega arith)) c
 
   -- and a quarter's months no earlier than the quarter.
   pub month-no-earlier : (d i m : ℕ) → stillToClose k d (nth Quarter i) ≡ true → stillToClose k d (nth Month (3 * i + m)) ≡ true
-  unfolding firstDay
+  unfolding termFirstDay
   month-no-earlier d i m c = closes-no-earlier d (nth Quarter i) (nth Month (3 * i + m)) (omega arith) (month-le _ _ (omega arith)) c
 
   -- The same by contract numbers.
@@ -349,8 +349,8 @@ module _ (k : Calendar) where
 
   -- ---- open
   -- Of a kind, what comes later delivers no earlier,
-  pub first-le : (s : ContractKind) (i j : ℕ) → i ≤ j → firstDay k (nth s i) ≤ firstDay k (nth s j)
-  unfolding firstDay
+  pub first-le : (s : ContractKind) (i j : ℕ) → i ≤ j → termFirstDay k (nth s i) ≤ termFirstDay k (nth s j)
+  unfolding termFirstDay
   first-le s i j l = month-le _ _ (omega (arith, mul-le-mul-left (monthsIn s) l))
 
   -- and closes no earlier.
@@ -429,39 +429,39 @@ module _ (k : Calendar) where
 
   -- ---- periods
   -- Of a kind, each begins where the one before it ends.
-  pub ends-next : (s : ContractKind) (i : ℕ) → endDay k (nth s i) ≡ firstDay k (nth s (suc i))
-  unfolding endDay firstDay
+  pub ends-next : (s : ContractKind) (i : ℕ) → termDayAfter k (nth s i) ≡ termFirstDay k (nth s (suc i))
+  unfolding termDayAfter termFirstDay
   ends-next s i = rw (mul-suc (monthsIn s) i)
 
   -- A year's quarters begin and end with it, and so do a quarter's months.
-  pub year-begins : (i : ℕ) → firstDay k (nth Quarter (4 * i)) ≡ firstDay k (nth Year i)
-  unfolding firstDay
+  pub year-begins : (i : ℕ) → termFirstDay k (nth Quarter (4 * i)) ≡ termFirstDay k (nth Year i)
+  unfolding termFirstDay
   year-begins i = ap monthStart (omega arith)
 
-  pub year-ends : (i : ℕ) → endDay k (nth Quarter (4 * i + 3)) ≡ endDay k (nth Year i)
-  unfolding endDay
+  pub year-ends : (i : ℕ) → termDayAfter k (nth Quarter (4 * i + 3)) ≡ termDayAfter k (nth Year i)
+  unfolding termDayAfter
   year-ends i = ap monthStart (omega arith)
 
-  pub quarter-begins : (i : ℕ) → firstDay k (nth Month (3 * i)) ≡ firstDay k (nth Quarter i)
-  unfolding firstDay
+  pub quarter-begins : (i : ℕ) → termFirstDay k (nth Month (3 * i)) ≡ termFirstDay k (nth Quarter i)
+  unfolding termFirstDay
   quarter-begins i = ap monthStart (omega arith)
 
-  pub quarter-ends : (i : ℕ) → endDay k (nth Month (3 * i + 2)) ≡ endDay k (nth Quarter i)
-  unfolding endDay
+  pub quarter-ends : (i : ℕ) → termDayAfter k (nth Month (3 * i + 2)) ≡ termDayAfter k (nth Quarter i)
+  unfolding termDayAfter
   quarter-ends i = ap monthStart (omega arith)
 
   -- Of n contracts of a kind that follow each other, one holds a day of their common period, and none any other day.
   one-holds : (s : ContractKind) (d n a j : ℕ) → ((i : ℕ) → i < n → termOf (a + i) ≡ nth s (j + i))
-      → howMany (λ e. holdsDay k e d) (from a n) ≡ cond (leb (firstDay k (nth s j)) d && ltb d (firstDay k (nth s (j + n)))) 1 0
+      → howMany (λ e. holdsDay k e d) (from a n) ≡ cond (leb (termFirstDay k (nth s j)) d && ltb d (termFirstDay k (nth s (j + n)))) 1 0
   unfolding howMany from holdsDay
-  one-holds s d zero a j f = rw (add-zero j) (sym (no-span (firstDay k (nth s j)) d))
+  one-holds s d zero a j f = rw (add-zero j) (sym (no-span (termFirstDay k (nth s j)) d))
   one-holds s d (suc n) a j f =
       let here : termOf a ≡ nth s j = rw (add-zero a, add-zero j) at (f 0 (omega arith)) in
       let rest = one-holds s d n (suc a) (suc j) (λ i l. rw (suc-add, suc-add, ← add-suc, ← add-suc) (f (suc i) (omega arith))) in
       rw (rest, here, ends-next s j, suc-add j n, add-suc j n) (one-span _ _ _ d (first-le s j (suc j) (omega arith)) (first-le s (suc j) (suc (j + n)) (omega arith)))
 
   children-hold : (s : ContractKind) (t : Term) (d c a j n : ℕ) → termOf c ≡ t → ((i : ℕ) → i < suc n → termOf (a + i) ≡ nth s (j + i))
-      → firstDay k (nth s j) ≡ firstDay k t → endDay k (nth s (j + n)) ≡ endDay k t → howMany (λ e. holdsDay k e d) (from a (suc n)) ≡ cond (holdsDay k c d) 1 0
+      → termFirstDay k (nth s j) ≡ termFirstDay k t → termDayAfter k (nth s (j + n)) ≡ termDayAfter k t → howMany (λ e. holdsDay k e d) (from a (suc n)) ≡ cond (holdsDay k c d) 1 0
   unfolding holdsDay
   children-hold s t d c a j n e f b z = rw (e, ← b, ← z, ends-next s (j + n), ← add-suc j n) (one-holds s d (suc n) a j f)
 

@@ -12,7 +12,7 @@ use Rattle.rules.specs.declared.order.Side.the-variants.{Buy, Sell}
 use Rattle.rules.specs.declared.units.Day.{Day}
 use Rattle.rules.specs.declared.units.Day.the-variants.{On, NoDay}
 use Rattle.rules.specs.Answers.{told}
-use Rattle.rules.specs.Contracts.{thresholdOf, termOf, closingDay}
+use Rattle.rules.specs.Contracts.{thresholdOf, termOf, termClosingDay}
 use Rattle.rules.specs.Ledger.{Tables, lotsAt, valueAt}
 use Rattle.rules.specs.CloseOfDay.{priceOfDay}
 use Rattle.rules.specs.Default.{minimums, dealtOut}
@@ -63,7 +63,7 @@ proposalNumber legs =
     .number
 
 result : Input → List ℤ
-result (closing y c) = pos (dayNumber (closingDay (record { firstYear = y; holidays = [] }) (termOf c))) ∷ []
+result (closing y c) = pos (dayNumber (termClosingDay (record { firstYear = y; holidays = [] }) (termOf c))) ∷ []
 result (ggfOfDeals deals) = pos (dayPrice deals none none) ∷ []
 result (ggfWithQuotes deals b s) = pos (dayPrice deals (quote Buy b) (quote Sell s)) ∷ []
 result (cascade n c) = let t = cascadeAfter n in lotsAt t c 0 ∷ valueAt t c 0 ∷ []

@@ -4,9 +4,9 @@ use mathlib.Core.Bool.{Bool, true, false, cond, not, _&&_, _||_}
 use mathlib.Core.List.{List, [], _∷_, _++_, zipWith}
 use mathlib.Core.Option.{Option, none, some}
 use lib.Dec.{eqb, leb, ltb}
-use lib.ListN.{take, drop, set, replicate}
+use lib.ListN.{take, drop, replicate}
 use lib.IntN.{ℤ, pos, _+ℤ_}
-use Rattle.arith.specs.Lists.{kept, over, inEachBlock}
+use Rattle.arith.specs.Lists.{any, kept, over, inEachBlock}
 use Rattle.rules.specs.declared.answer.Answer.the-variants.{Accepted}
 use Rattle.rules.specs.declared.contract.ContractKind.the-variants.{Year, Quarter, Month}
 use Rattle.rules.specs.declared.order.Order.{Order}
@@ -14,9 +14,10 @@ use Rattle.rules.specs.declared.order.Side.{Side}
 use Rattle.rules.specs.declared.order.Side.the-variants.{Buy, Sell}
 use Rattle.rules.specs.declared.units.Day.the-variants.{On, NoDay}
 use Rattle.rules.specs.Answers.{Outcome}
+use Rattle.rules.specs.Ranges.{contractCount, secondsToQuote}
 use Rattle.rules.specs.Days.{nextBusinessDay}
-use Rattle.rules.specs.Contracts.{thresholdOf, kindOf, termOf, contractsOf, childrenOf, closingDay, isOn, openContracts}
-use Rattle.rules.specs.Ledger.{Tables, withHead, withPrices, withRows, members, day, calendar, ggf, dayLots, dayValue, orders, withOrders, withoutSubmits}
+use Rattle.rules.specs.Contracts.{thresholdOf, kindOf, contractsOf, childrenOf, closesOn, openContracts}
+use Rattle.rules.specs.Ledger.{Tables, withHead, withPrices, withRows, members, day, calendar, withDay, withTime, priceWidth, dayLotsPlace, ggf, dayLots, dayValue, withGgf, rowsFrom, orders, withOrders, withoutSubmits}
 use Rattle.rules.specs.Matching.{sameSide, best}
 
 -- ---- the GGF, the reference price
@@ -26,7 +27,7 @@ roundedHalfUp n d = (2 * n + d) / (2 * d)
 
 -- The order entered on an earlier day, or at least 300 s before the record's time.
 unfoldable pub enteredBefore : ℕ → ℕ → Order → Bool
-enteredBefore d s o = ltb (o .day .0) d || eqb (o .day .0) d && leb (o .time + 300) s
+enteredBefore d s o = ltb (o .day .0) d || eqb (o .day .0) d && leb (o .time + secondsToQuote) s
 
 -- An order that quotes: of that contract and side, entered in time, and still with the threshold's lots or more.
 unfoldable pub quotes : Tables → ℕ → ℕ → Side → Order → Bool
@@ -57,10 +58,10 @@ ggfAtClose t s c =
 -- The prices with a new GGF for each of these contracts.
 unfoldable pub withGgfs : Tables → ℕ → List ℕ → List ℕ → List ℕ
 withGgfs t s [] l = l
-withGgfs t s (c ∷ cs) l = withGgfs t s cs (set l (c * 5) (ggfAtClose t s c))
+withGgfs t s (c ∷ cs) l = withGgfs t s cs (withGgf c (ggfAtClose t s c) l)
 
 unfoldable pub withoutDeals : List ℕ → List ℕ
-withoutDeals l = inEachBlock 5 (λ five. over 3 (0 ∷ 0 ∷ []) five) 102 l
+withoutDeals l = inEachBlock priceWidth (over (dayLotsPlace 0) (0 ∷ 0 ∷ [])) contractCount l
 
 -- A new GGF for every open contract; M and V of all contracts become 0.
 unfoldable pub priced : ℕ → Tables → Tables
@@ -69,33 +70,37 @@ priced s t = withPrices (withoutDeals (withGgfs t s (openContracts (calendar t) 
 -- ---- closing contracts
 -- The first n rows of a contract, in a column of rows.
 abbrev pub contractRows : ℕ → ℕ → List ℤ → List ℤ
-contractRows n c l = take n (drop (c * 32) l)
+contractRows n c l = take n (drop (rowsFrom c) l)
 
 -- The parent's rows added to each of the children's, same lots and value.
 unfoldable pub addedTo : ℕ → ℕ → List ℕ → List ℤ → List ℤ
 addedTo n p [] l = l
-addedTo n p (c ∷ cs) l = addedTo n p cs (over (c * 32) (zipWith _+ℤ_ (contractRows n c l) (contractRows n p l)) l)
+addedTo n p (c ∷ cs) l = addedTo n p cs (over (rowsFrom c) (zipWith _+ℤ_ (contractRows n c l) (contractRows n p l)) l)
 
 unfoldable pub zeroRows : ℕ → ℕ → List ℤ → List ℤ
-zeroRows n c l = over (c * 32) (replicate n (pos 0)) l
+zeroRows n c l = over (rowsFrom c) (replicate n (pos 0)) l
 
 -- A year's rows are added to its four quarters, a quarter's to its three months, and set to zero; a month's rows stay.
 unfoldable pub cascaded : ℕ → ℕ → List ℤ → List ℤ
 cascaded n c l = cond (leb (c % 17) 4) (zeroRows n c (addedTo n c (childrenOf c) l)) l
 
--- A closing contract: its resting orders go, its rows cascade.
-unfoldable pub closeContract : ℕ → Tables → Tables
-closeContract c t =
-    withRows (cascaded (members t) c (t .lots)) (cascaded (members t) c (t .value)) (withOrders (kept (λ o. not (eqb (o .contract) c)) (orders t)) t)
-
 -- The contracts whose closing day is the ledger's day, years before quarters before months, each by delivery.
 unfoldable pub closingContracts : Tables → List ℕ
-closingContracts t =
-    kept (λ c. isOn (day t) (closingDay (calendar t) (termOf c))) (contractsOf Year ++ (contractsOf Quarter ++ contractsOf Month))
+closingContracts t = kept (λ c. closesOn (calendar t) c (day t)) (contractsOf Year ++ (contractsOf Quarter ++ contractsOf Month))
 
-unfoldable pub closeAll : List ℕ → Tables → Tables
-closeAll [] t = t
-closeAll (c ∷ cs) t = closeAll cs (closeContract c t)
+-- Each contract's rows cascade, one contract after the other.
+unfoldable pub allCascaded : ℕ → List ℕ → List ℤ → List ℤ
+allCascaded n [] l = l
+allCascaded n (c ∷ cs) l = allCascaded n cs (cascaded n c l)
+
+-- The order is of one of these contracts.
+unfoldable pub isOfAny : List ℕ → Order → Bool
+isOfAny cs o = any (λ c. eqb c (o .contract)) cs
+
+-- The closing contracts: their resting orders go, all together; their rows cascade.
+unfoldable pub withClosed : List ℕ → Tables → Tables
+withClosed cs t =
+    withRows (allCascaded (members t) cs (t .lots)) (allCascaded (members t) cs (t .value)) (withOrders (kept (λ o. not (isOfAny cs o)) (orders t)) t)
 
 -- ---- the new day
 unfoldable pub hasNextDay : Tables → Bool
@@ -106,8 +111,8 @@ nextDay t = elim (nextBusinessDay (calendar t) (day t)) [ On d ↦ d .0 | NoDay 
 
 -- The second's counts and time become 0, day the next business day.
 unfoldable pub onDay : ℕ → Tables → Tables
-onDay d t = withHead (set (set (withoutSubmits t .head) 3 d) 4 0) t
+onDay d t = withHead (withTime 0 (withDay d (withoutSubmits t .head))) t
 
 -- No deal lines.
 unfoldable pub closeBooked : Tables → ℕ → Outcome Tables
-closeBooked t s = record { answer = Accepted 0; after = onDay (nextDay t) (closeAll (closingContracts t) (priced s t)) }
+closeBooked t s = record { answer = Accepted 0; after = onDay (nextDay t) (withClosed (closingContracts t) (priced s t)) }

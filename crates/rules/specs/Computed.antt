@@ -9,28 +9,28 @@ use Rattle.rules.specs.declared.event.Event.the-variants.{Submit, Propos
 use Rattle.rules.specs.declared.event.OrderKind.the-variants.{Resting}
 use Rattle.rules.specs.declared.order.Side.{Side}
 use Rattle.rules.specs.Answers.{Outcome, Told, told}
-use Rattle.rules.specs.Days.{leapYear, monthDays, yearStart, monthLength, monthStart, businessDay, spanStart, spanEnd, inSpan, firstBusinessDay, nextBusinessDay, businessDayBefore}
-use Rattle.rules.specs.Contracts.{termOf, contractsOf, childrenOf, firstDay, endDay, daysOf, holdsDay, holdsHour, closingDay, stillToClose, openOfKind, openContracts, openOn, hasCascaded}
+use Rattle.rules.specs.Days.{leapYear, monthDays, yearStart, monthLength, monthStart, businessDay, spanStart, dayAfterSpan, inSpan, firstBusinessDay, nextBusinessDay, businessDayBefore}
+use Rattle.rules.specs.Contracts.{termOf, contractsOf, childrenOf, termFirstDay, termDayAfter, daysOf, holdsDay, holdsHour, termClosingDay, stillToClose, openOfKind, openContracts, openOn, hasCascaded}
 use Rattle.rules.specs.Header.{u16At, u32At, u16Bytes, u32Bytes, u16sAt, u32sAt, sameBytes, headerLength, headerOf, headerBytes, rising, calendarSound, daySound, headerSound, beginsWithHeader}
-use Rattle.rules.specs.Ledger.{Tables, Line, isOpen, orders, withOrders, firstLines, posted, lineRun, booked, withoutSubmits, timed, ledgerShort, linesShort, freshHead, freshPrices, freshRows, fresh}
+use Rattle.rules.specs.Ledger.{Tables, Line, headLength, pricesLength, rowsLength, bookLength, linesLength, isOpen, orders, withOrders, firstLines, posted, lineRun, booked, withoutSubmits, timed, ledgerShort, linesShort, freshHead, freshPrices, freshRows, fresh}
 use Rattle.rules.specs.Records.{eventSound, bytesOf, writeSpec, fieldsOf, legsOf, readOf}
 use Rattle.rules.specs.Matching.{precedes, best, opposes, meets, used, matching, matched, submitMatched, submitLines, wouldRest, submitsAt, restingLots, aboveLimit, submitOrders, withDeals, counted, submitBooked}
 use Rattle.rules.specs.Synthetic.{numbered, namedLegs, priceAllowed, twoOccur, inHour, balancedInHour, balanced, inFull, priorityKept, acceptable, proposalLines, usedByLegs, proposalBooked}
-use Rattle.rules.specs.CloseOfDay.{enteredBefore, quotes, bestQuote, ggfAtClose, withGgfs, withoutDeals, priced, addedTo, zeroRows, cascaded, closeContract, closingContracts, closeAll, hasNextDay, nextDay, onDay, closeBooked}
+use Rattle.rules.specs.CloseOfDay.{enteredBefore, quotes, bestQuote, ggfAtClose, withGgfs, withoutDeals, priced, addedTo, zeroRows, cascaded, closingContracts, allCascaded, isOfAny, withClosed, hasNextDay, nextDay, onDay, closeBooked}
 use Rattle.rules.specs.Default.{defaultBooked, sumOf, defaultedLongs, defaultedShorts, givenUp, changeLines, smallerTotal, nettedLongs, nettedShorts, nettingChanges, longsLeft, shortsLeft, lotsLeft, othersLots, openWeight, weights, minimum, minimums, comesFirst, placed, inOrder, turn, round, rounds, dealtOut, taken, defaultedChanges, takerChanges, closeOutLines, closeOutBooked}
-use Rattle.rules.specs.Refusals.{everyRow, rowsSound, contractPricesSound, pricesSound, memberSound, headSound, orderSound, distinct, sidesSound, bookSound, damaged, submitSpec, cancelSpec, limitsSpec, proposalSpec, defaultSpec, closeOutSpec, closeSpec, eventSpec, readingSpec, applySpec, makeSpec}
+use Rattle.rules.specs.Refusals.{everyRow, rowsSound, contractPricesSound, pricesSound, memberSound, headSound, orderSound, distinct, sidesSound, bookSound, damaged, unsound, submitSpec, cancelSpec, dayLimitsSpec, proposalSpec, defaultSpec, closeOutSpec, closeSpec, eventSpec, readingSpec, applySpec, makeSpec}
 use Rattle.rules.specs.Accounts.{linesOf}
 
 -- Tables of the least length, all zero.
 abbrev pub zeroTables : Tables
 zeroTables =
     record {
-      head = replicate 224 0;
-      prices = replicate 510 0;
-      lots = replicate 3264 (pos 0);
-      value = replicate 3264 (pos 0);
-      book = replicate 2048 0;
-      lines = replicate 800 (pos 0);
+      head = replicate headLength 0;
+      prices = replicate pricesLength 0;
+      lots = replicate rowsLength (pos 0);
+      value = replicate rowsLength (pos 0);
+      book = replicate bookLength 0;
+      lines = replicate linesLength (pos 0);
     }
 
 -- What a call prints: its answer and the deal lines.
@@ -69,5 +69,5 @@ proposalBytes legs = bytesOf (Proposal (length legs)) (map (λ g. record { order
 
 -- `unfolding computed` opens every definition of the rules, so that what they say of a list computes.
 unfoldable pub computed : {A : Type 0} → A → A
-unfolding up dn every any kept howMany total over everyBlock inEachBlock allOf from count flatMap zipWith leapYear monthDays yearStart monthLength monthStart businessDay spanStart spanEnd inSpan firstBusinessDay nextBusinessDay businessDayBefore termOf contractsOf childrenOf firstDay endDay daysOf holdsDay holdsHour closingDay stillToClose openOfKind openContracts openOn hasCascaded u16At u32At u16Bytes u32Bytes u16sAt u32sAt sameBytes headerLength headerOf headerBytes rising calendarSound daySound headerSound beginsWithHeader isOpen orders withOrders firstLines posted lineRun booked withoutSubmits timed ledgerShort linesShort freshHead freshPrices freshRows fresh eventSound bytesOf writeSpec fieldsOf legsOf readOf precedes best opposes meets used matching matched submitMatched submitLines wouldRest submitsAt restingLots aboveLimit submitOrders withDeals counted submitBooked numbered namedLegs priceAllowed twoOccur inHour balancedInHour balanced inFull priorityKept acceptable proposalLines usedByLegs proposalBooked enteredBefore quotes bestQuote ggfAtClose withGgfs withoutDeals priced addedTo zeroRows cascaded closeContract closingContracts closeAll hasNextDay nextDay onDay closeBooked defaultBooked sumOf defaultedLongs defaultedShorts givenUp changeLines smallerTotal nettedLongs nettedShorts nettingChanges longsLeft shortsLeft lotsLeft othersLots openWeight weights minimum minimums comesFirst placed inOrder turn round rounds dealtOut taken defaultedChanges takerChanges closeOutLines closeOutBooked everyRow rowsSound contractPricesSound pricesSound memberSound headSound orderSound distinct sidesSound bookSound damaged submitSpec cancelSpec limitsSpec proposalSpec defaultSpec closeOutSpec closeSpec eventSpec readingSpec applySpec makeSpec printed allPrinted tablesAfter madeLedger orderBytes closeBytes proposalBytes
+unfolding up dn every any kept howMany total over everyBlock inEachBlock allOf from count flatMap zipWith leapYear monthDays yearStart monthLength monthStart businessDay spanStart dayAfterSpan inSpan firstBusinessDay nextBusinessDay businessDayBefore termOf contractsOf childrenOf termFirstDay termDayAfter daysOf holdsDay holdsHour termClosingDay stillToClose openOfKind openContracts openOn hasCascaded u16At u32At u16Bytes u32Bytes u16sAt u32sAt sameBytes headerLength headerOf headerBytes rising calendarSound daySound headerSound beginsWithHeader isOpen orders withOrders firstLines posted lineRun booked withoutSubmits timed ledgerShort linesShort freshHead freshPrices freshRows fresh eventSound bytesOf writeSpec fieldsOf legsOf readOf precedes best opposes meets used matching matched submitMatched submitLines wouldRest submitsAt restingLots aboveLimit submitOrders withDeals counted submitBooked numbered namedLegs priceAllowed twoOccur inHour balancedInHour balanced inFull priorityKept acceptable proposalLines usedByLegs proposalBooked enteredBefore quotes bestQuote ggfAtClose withGgfs withoutDeals priced addedTo zeroRows cascaded closingContracts allCascaded isOfAny withClosed hasNextDay nextDay onDay closeBooked defaultBooked sumOf defaultedLongs defaultedShorts givenUp changeLines smallerTotal nettedLongs nettedShorts nettingChanges longsLeft shortsLeft lotsLeft othersLots openWeight weights minimum minimums comesFirst placed inOrder turn round rounds dealtOut taken defaultedChanges takerChanges closeOutLines closeOutBooked everyRow rowsSound contractPricesSound pricesSound memberSound headSound orderSound distinct sidesSound bookSound damaged unsound submitSpec cancelSpec dayLimitsSpec proposalSpec defaultSpec closeOutSpec closeSpec eventSpec readingSpec applySpec makeSpec printed allPrinted tablesAfter madeLedger orderBytes closeBytes proposalBytes
 computed a = a

@@ -10,6 +10,7 @@ use Rattle.rules.specs.declared.contract.ContractKind.the-variants.{Year
 use Rattle.rules.specs.declared.contract.Term.{Term}
 use Rattle.rules.specs.declared.units.Day.{Day}
 use Rattle.rules.specs.declared.units.Day.the-variants.{On, NoDay}
+use Rattle.rules.specs.Ranges.{contractCount}
 use Rattle.rules.specs.Days.{Calendar, monthStart, firstMonth, businessDayBefore}
 
 -- ---- kinds
@@ -60,53 +61,70 @@ kindOf c = termOf c .kind
 
 -- All contracts of a kind, by delivery: within a kind the numbers rise with delivery.
 unfoldable pub contractsOf : ContractKind → List ℕ
-contractsOf s = kept (λ c. sameKind (kindOf c) s) (from 0 102)
+contractsOf s = kept (λ c. sameKind (kindOf c) s) (from 0 contractCount)
 
 -- A year's four quarters, a quarter's three months.
 unfoldable pub childrenOf : ℕ → List ℕ
 childrenOf c = cond (eqb (c % 17) 0) (from (c + 1) 4) (cond (leb (c % 17) 4) (from (17 * (c / 17) + 5 + 3 * (c % 17 - 1)) 3) [])
 
 -- ---- periods
--- The first delivery day, and the first day after the last.
-unfoldable pub firstDay : Calendar → Term → ℕ
-firstDay k t = monthStart (firstMonth k + monthsIn (t .kind) * t .index)
+-- The first delivery day of a term, and the first day after its last.
+unfoldable pub termFirstDay : Calendar → Term → ℕ
+termFirstDay k t = monthStart (firstMonth k + monthsIn (t .kind) * t .index)
 
-unfoldable pub endDay : Calendar → Term → ℕ
-endDay k t = monthStart (firstMonth k + (monthsIn (t .kind) * t .index + monthsIn (t .kind)))
+unfoldable pub termDayAfter : Calendar → Term → ℕ
+termDayAfter k t = monthStart (firstMonth k + (monthsIn (t .kind) * t .index + monthsIn (t .kind)))
+
+-- The same of a contract by its number.
+abbrev pub firstDay : Calendar → ℕ → ℕ
+firstDay k c = termFirstDay k (termOf c)
+
+abbrev pub dayAfter : Calendar → ℕ → ℕ
+dayAfter k c = termDayAfter k (termOf c)
 
 -- How many days it delivers.
 unfoldable pub daysOf : Calendar → ℕ → ℕ
-daysOf k c = endDay k (termOf c) - firstDay k (termOf c)
+daysOf k c = dayAfter k c - firstDay k c
 
 unfoldable pub holdsDay : Calendar → ℕ → ℕ → Bool
-holdsDay k c d = leb (firstDay k (termOf c)) d && ltb d (endDay k (termOf c))
+holdsDay k c d = leb (firstDay k c) d && ltb d (dayAfter k c)
 
 -- Every day has 24 delivery hours: hour h, counted from the first hour of day 0, is one of day h / 24.
 unfoldable pub holdsHour : Calendar → ℕ → ℕ → Bool
 holdsHour k c h = holdsDay k c (h / 24)
 
 -- ---- closing and open
-unfoldable pub closingDay : Calendar → Term → Day
-closingDay k t = businessDayBefore k (closingDistance (t .kind)) (firstDay k t)
+unfoldable pub termClosingDay : Calendar → Term → Day
+termClosingDay k t = businessDayBefore k (closingDistance (t .kind)) (termFirstDay k t)
 
--- The closing day is day d or later; NoDay lies before day 0.
-abbrev pub notBefore : ℕ → Day → Bool
-notBefore d (On x) = leb d (x .0)
-notBefore d NoDay = false
+-- A day that is looked for is day d or later; NoDay lies before day 0.
+abbrev pub notBefore : Day → ℕ → Bool
+notBefore (On x) d = leb d (x .0)
+notBefore NoDay d = false
 
 -- It is day d.
-abbrev pub isOn : ℕ → Day → Bool
-isOn d (On x) = eqb (x .0) d
-isOn d NoDay = false
+abbrev pub isOn : Day → ℕ → Bool
+isOn (On x) d = eqb (x .0) d
+isOn NoDay d = false
 
 -- It is earlier than day d.
-abbrev pub isBefore : ℕ → Day → Bool
-isBefore d (On x) = ltb (x .0) d
-isBefore d NoDay = true
+abbrev pub isBefore : Day → ℕ → Bool
+isBefore (On x) d = ltb (x .0) d
+isBefore NoDay d = true
 
--- The contract's closing day is day d or later.
+-- The closing day of a contract by its number, and whether it is on a day or before it.
+abbrev pub closingDay : Calendar → ℕ → Day
+closingDay k c = termClosingDay k (termOf c)
+
+abbrev pub closesOn : Calendar → ℕ → ℕ → Bool
+closesOn k c d = isOn (closingDay k c) d
+
+abbrev pub closesBefore : Calendar → ℕ → ℕ → Bool
+closesBefore k c d = isBefore (closingDay k c) d
+
+-- The term's closing day is day d or later.
 unfoldable pub stillToClose : Calendar → ℕ → Term → Bool
-stillToClose k d t = notBefore d (closingDay k t)
+stillToClose k d t = notBefore (termClosingDay k t) d
 
 -- Open on a day: of each kind, the first 4 years, 8 quarters, 15 months by delivery, among those in the ledger whose
 -- closing day is that day or later.
@@ -121,4 +139,4 @@ openOn k d c = any (λ x. eqb x c) (openOfKind k d (kindOf c))
 
 -- A contract has cascaded once it is a year or quarter whose closing day is before the day.
 unfoldable pub hasCascaded : Calendar → ℕ → ℕ → Bool
-hasCascaded k d c = leb (c % 17) 4 && isBefore d (closingDay k (termOf c))
+hasCascaded k d c = leb (c % 17) 4 && closesBefore k c d

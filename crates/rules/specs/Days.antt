@@ -6,6 +6,7 @@ use lib.Dec.{eqb, leb, ltb}
 use Rattle.arith.specs.Lists.{any, total, from}
 use Rattle.rules.specs.declared.units.Day.{Day}
 use Rattle.rules.specs.declared.units.Day.the-variants.{On, NoDay}
+use Rattle.rules.specs.Ranges.{leastFirstYear, monthsInSpan}
 
 -- What a ledger knows of days: its first year and its holiday list.
 pub record Calendar : Type 0 where
@@ -43,18 +44,18 @@ sunday d = eqb (d % 7) 4
 unfoldable pub businessDay : Calendar → ℕ → Bool
 businessDay k d = not (saturday d) && not (sunday d) && not (any (λ x. eqb x d) (k .holidays))
 
--- The span: six years from the first year.
+-- The span: six years from the first year; its first day, and the first day after its last.
 abbrev pub firstMonth : Calendar → ℕ
-firstMonth k = 12 * (k .firstYear - 2020)
+firstMonth k = 12 * (k .firstYear - leastFirstYear)
 
 unfoldable pub spanStart : Calendar → ℕ
 spanStart k = monthStart (firstMonth k)
 
-unfoldable pub spanEnd : Calendar → ℕ
-spanEnd k = monthStart (firstMonth k + 72)
+unfoldable pub dayAfterSpan : Calendar → ℕ
+dayAfterSpan k = monthStart (firstMonth k + monthsInSpan)
 
 unfoldable pub inSpan : Calendar → ℕ → Bool
-inSpan k d = leb (spanStart k) d && ltb d (spanEnd k)
+inSpan k d = leb (spanStart k) d && ltb d (dayAfterSpan k)
 
 -- The first business day of the n days from x on.
 unfoldable pub firstBusinessDay : Calendar → ℕ → ℕ → Day
@@ -63,7 +64,7 @@ firstBusinessDay k (suc n) x = let later = firstBusinessDay k n (suc x) in cond 
 
 -- The next business day after day d in the span.
 unfoldable pub nextBusinessDay : Calendar → ℕ → Day
-nextBusinessDay k d = firstBusinessDay k (spanEnd k - suc d) (suc d)
+nextBusinessDay k d = firstBusinessDay k (dayAfterSpan k - suc d) (suc d)
 
 -- The nth business day before day d, n at least 1; NoDay where it lies before day 0.
 -- Day d itself is not counted: the search begins on the day before it.

@@ -10,12 +10,12 @@ use Rattle.arith.specs.Lists.{kept, total, from}
 use Rattle.rules.specs.declared.event.CloseOutTerms.{CloseOutTerms}
 use Rattle.rules.specs.Answers.{Outcome}
 use Rattle.rules.specs.Contracts.{daysOf, openContracts}
-use Rattle.rules.specs.Ledger.{Tables, Line, withHead, members, day, calendar, defaulted, ggf, lotsAt, orders, withOrders, booked}
+use Rattle.rules.specs.Ledger.{Tables, Line, withHead, withMark, members, day, calendar, defaulted, ggf, lotsAt, orders, withOrders, booked}
 
 -- ---- default
 -- A default record marks the member and removes its orders.
 unfoldable pub defaultBooked : Tables → ℕ → Outcome Tables
-defaultBooked t m = booked [] (withOrders (kept (λ o. not (eqb (o .member) m)) (orders t)) (withHead (set (t .head) (160 + m) 1) t))
+defaultBooked t m = booked [] (withOrders (kept (λ o. not (eqb (o .member) m)) (orders t)) (withHead (withMark m (t .head)) t))
 
 -- ---- close-out
 -- A list has one number for each member, by member.

@@ -10,8 +10,8 @@ use borrow.Author.Tests.{le-leb, eq-eqb, ne-eqb}
 use Rattle.arith.specs.Lists.{from}
 use Rattle.arith.specs.Tests.{le-or-lt, same-or}
 use Rattle.arith.specs.Among.{by-span, every-from, from-every}
-use Rattle.rules.specs.Days.{Calendar, monthStart, firstMonth, spanStart, spanEnd}
-use Rattle.rules.specs.Contracts.{childrenOf, firstDay, endDay, holdsDay, holdsHour}
+use Rattle.rules.specs.Days.{Calendar, monthStart, firstMonth, spanStart, dayAfterSpan}
+use Rattle.rules.specs.Contracts.{childrenOf, termFirstDay, termDayAfter, holdsDay, holdsHour}
 use Rattle.rules.specs.CalendarLaws.{month-le, month-lt, firstMonthOf, term-year, term-quarter, term-month}
 use Rattle.rules.specs.Synthetic.{Named, inHour, balancedInHour, balanced}
 
@@ -27,8 +27,8 @@ pub record MonthOfHour (k : Calendar) (h : ℕ) : Type 0 where
   pub month< : month < 72
   pub lies : InMonth k month h
 
-pub month-of-hour : (k : Calendar) (h : ℕ) → 24 * spanStart k ≤ h → h < 24 * spanEnd k → MonthOfHour k h
-unfolding spanStart spanEnd
+pub month-of-hour : (k : Calendar) (h : ℕ) → 24 * spanStart k ≤ h → h < 24 * dayAfterSpan k → MonthOfHour k h
+unfolding spanStart dayAfterSpan
 month-of-hour k h from-start to-end = below 72 (omega arith) (omega arith)
   where
     below : (n : ℕ) → n ≤ 72 → h / 24 < monthStart (firstMonth k + n) → MonthOfHour k h
@@ -90,7 +90,7 @@ module _ (k : Calendar) (i h : ℕ) (lies : InMonth k i h) where
 
   -- Exactly three contracts hold the hour.
   pub holds-hour : (c : ℕ) → holdsHour k c h ≡ holdsMonth c i
-  unfolding holdsHour holdsDay firstDay endDay
+  unfolding holdsHour holdsDay termFirstDay termDayAfter
   holds-hour c =
       same-or (c % 17) 0
       (λ z. rw (term-year c z) (in-months (12 * (c / 17)) 12 (holdsMonth c i) (λ x y. holds-year c i (omega arith))
@@ -106,7 +106,7 @@ pub same-month : (k : Calendar) (i h h′ : ℕ) → InMonth k i h → InMonth k
 same-month k i h h′ l l′ c = holds-hour k i h l c ∙ sym (holds-hour k i h′ l′ c)
 
 -- ---- a proposal that is balanced in the first hour of each month is balanced in every hour
-pub balanced-every-hour : (k : Calendar) (ns : List Named) → T (balanced k ns) → (h : ℕ) → 24 * spanStart k ≤ h → h < 24 * spanEnd k → T (balancedInHour k ns h)
+pub balanced-every-hour : (k : Calendar) (ns : List Named) → T (balanced k ns) → (h : ℕ) → 24 * spanStart k ≤ h → h < 24 * dayAfterSpan k → T (balancedInHour k ns h)
 unfolding balanced balancedInHour inHour
 balanced-every-hour k ns b h l u =
     let m = month-of-hour k h l u in
@@ -115,8 +115,8 @@ balanced-every-hour k ns b h l u =
     (every-from (λ i. balancedInHour k ns (24 * monthStart (firstMonth k + i))) 0 72 b i (omega arith) (omega (arith, m .month<)))
 
 -- and one that is balanced in every hour of the six years is balanced
-pub every-hour-balanced : (k : Calendar) (ns : List Named) → ((h : ℕ) → 24 * spanStart k ≤ h → h < 24 * spanEnd k → T (balancedInHour k ns h)) → T (balanced k ns)
-unfolding balanced spanStart spanEnd
+pub every-hour-balanced : (k : Calendar) (ns : List Named) → ((h : ℕ) → 24 * spanStart k ≤ h → h < 24 * dayAfterSpan k → T (balancedInHour k ns h)) → T (balanced k ns)
+unfolding balanced spanStart dayAfterSpan
 every-hour-balanced k ns f =
     from-every (λ i. balancedInHour k ns (24 * monthStart (firstMonth k + i))) 0 72
     (λ i _ l. f (24 * monthStart (firstMonth k + i)) (omega (arith, month-le (firstMonth k) (firstMonth k + i) (omega arith)))

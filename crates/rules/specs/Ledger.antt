@@ -12,6 +12,7 @@ use Rattle.rules.specs.declared.order.Order.{Order}
 use Rattle.rules.specs.declared.order.Side.{Side}
 use Rattle.rules.specs.declared.order.Side.the-variants.{Buy, Sell}
 use Rattle.rules.specs.Answers.{Outcome}
+use Rattle.rules.specs.Ranges.{contractCount, mostMembers, mostOrders, mostPrice, leastLines}
 use Rattle.rules.specs.Days.{Calendar}
 use Rattle.rules.specs.Contracts.{openOn}
 use Rattle.rules.specs.Header.{Header}
@@ -41,46 +42,86 @@ withBook l t = record { head = t .head; prices = t .prices; lots = t .lots; valu
 abbrev pub withLines : List ℤ → Tables → Tables
 withLines l t = record { head = t .head; prices = t .prices; lots = t .lots; value = t .value; book = t .book; lines = l }
 
--- ---- the head: 224 places
+-- ---- the head: its places
+abbrev pub firstYearPlace : ℕ
+firstYearPlace = 0
+
+abbrev pub membersPlace : ℕ
+membersPlace = 1
+
+abbrev pub holidayCountPlace : ℕ
+holidayCountPlace = 2
+
+abbrev pub dayPlace : ℕ
+dayPlace = 3
+
+abbrev pub timePlace : ℕ
+timePlace = 4
+
+abbrev pub acceptedSubmitsPlace : ℕ
+acceptedSubmitsPlace = 5
+
+abbrev pub lotsRunPlace : ℕ
+lotsRunPlace = 6
+
+abbrev pub orderCountPlace : ℕ
+orderCountPlace = 7
+
+-- 120 places for holidays from here on; then 32 for the members' position limits, for their default marks and for
+-- their accepted submits in the present second.
+abbrev pub holidaysFrom : ℕ
+holidaysFrom = 8
+
+abbrev pub limitsFrom : ℕ
+limitsFrom = 128
+
+abbrev pub marksFrom : ℕ
+marksFrom = 160
+
+abbrev pub submitsFrom : ℕ
+submitsFrom = 192
+
+-- ---- the head as it is read
 abbrev pub firstYear : Tables → ℕ
-firstYear t = getD (t .head) 0 0
+firstYear t = getD (t .head) firstYearPlace 0
 
 abbrev pub members : Tables → ℕ
-members t = getD (t .head) 1 0
+members t = getD (t .head) membersPlace 0
 
 abbrev pub holidayCount : Tables → ℕ
-holidayCount t = getD (t .head) 2 0
+holidayCount t = getD (t .head) holidayCountPlace 0
 
 abbrev pub day : Tables → ℕ
-day t = getD (t .head) 3 0
+day t = getD (t .head) dayPlace 0
 
 abbrev pub time : Tables → ℕ
-time t = getD (t .head) 4 0
+time t = getD (t .head) timePlace 0
 
 -- The count of accepted submits.
-abbrev pub accepted : Tables → ℕ
-accepted t = getD (t .head) 5 0
+abbrev pub acceptedSubmits : Tables → ℕ
+acceptedSubmits t = getD (t .head) acceptedSubmitsPlace 0
 
 -- The lots run: the sum of absolute lots over all deal lines.
 abbrev pub lotsRun : Tables → ℕ
-lotsRun t = getD (t .head) 6 0
+lotsRun t = getD (t .head) lotsRunPlace 0
 
 abbrev pub orderCount : Tables → ℕ
-orderCount t = getD (t .head) 7 0
+orderCount t = getD (t .head) orderCountPlace 0
 
--- 120 places for holidays from 8 on; 32 for the members' position limits from 128, default marks from 160,
--- accepted submits in the present second from 192.
 abbrev pub holidays : Tables → List ℕ
-holidays t = take (holidayCount t) (drop 8 (t .head))
+holidays t = take (holidayCount t) (drop holidaysFrom (t .head))
 
+-- A member's position limit.
 abbrev pub limit : Tables → ℕ → ℕ
-limit t m = getD (t .head) (128 + m) 0
+limit t m = getD (t .head) (limitsFrom + m) 0
 
+-- A member's default mark.
 abbrev pub mark : Tables → ℕ → ℕ
-mark t m = getD (t .head) (160 + m) 0
+mark t m = getD (t .head) (marksFrom + m) 0
 
-abbrev pub submits : Tables → ℕ → ℕ
-submits t m = getD (t .head) (192 + m) 0
+-- A member's accepted submits in the present second.
+abbrev pub submitsThisSecond : Tables → ℕ → ℕ
+submitsThisSecond t m = getD (t .head) (submitsFrom + m) 0
 
 abbrev pub calendar : Tables → Calendar
 calendar t = record { firstYear = firstYear t; holidays = holidays t }
@@ -92,27 +133,85 @@ defaulted t m = eqb (mark t m) 1
 unfoldable pub isOpen : Tables → ℕ → Bool
 isOpen t c = openOn (calendar t) (day t) c
 
+-- ---- the head as it is written
+abbrev pub withDay : ℕ → List ℕ → List ℕ
+withDay d head = set head dayPlace d
+
+abbrev pub withTime : ℕ → List ℕ → List ℕ
+withTime s head = set head timePlace s
+
+abbrev pub withAcceptedSubmits : ℕ → List ℕ → List ℕ
+withAcceptedSubmits n head = set head acceptedSubmitsPlace n
+
+abbrev pub withLotsRun : ℕ → List ℕ → List ℕ
+withLotsRun n head = set head lotsRunPlace n
+
+abbrev pub withOrderCount : ℕ → List ℕ → List ℕ
+withOrderCount n head = set head orderCountPlace n
+
+abbrev pub withMark : ℕ → List ℕ → List ℕ
+withMark m head = set head (marksFrom + m) 1
+
+abbrev pub withSubmitsThisSecond : ℕ → ℕ → List ℕ → List ℕ
+withSubmitsThisSecond m n head = set head (submitsFrom + m) n
+
 -- ---- prices: five places for each of the 102 contracts
+abbrev pub priceWidth : ℕ
+priceWidth = 5
+
+abbrev pub ggfPlace : ℕ → ℕ
+ggfPlace c = c * priceWidth
+
+abbrev pub lowPlace : ℕ → ℕ
+lowPlace c = c * priceWidth + 1
+
+abbrev pub highPlace : ℕ → ℕ
+highPlace c = c * priceWidth + 2
+
+abbrev pub dayLotsPlace : ℕ → ℕ
+dayLotsPlace c = c * priceWidth + 3
+
+abbrev pub dayValuePlace : ℕ → ℕ
+dayValuePlace c = c * priceWidth + 4
+
 -- The GGF, the reference price; 0 = none yet.
 abbrev pub ggf : Tables → ℕ → ℕ
-ggf t c = getD (t .prices) (c * 5) 0
+ggf t c = getD (t .prices) (ggfPlace c) 0
 
 abbrev pub low : Tables → ℕ → ℕ
-low t c = getD (t .prices) (c * 5 + 1) 0
+low t c = getD (t .prices) (lowPlace c) 0
 
 abbrev pub high : Tables → ℕ → ℕ
-high t c = getD (t .prices) (c * 5 + 2) 0
+high t c = getD (t .prices) (highPlace c) 0
 
 -- M, the day's ordinary lots, and V, their lots times price, each deal counted once.
 abbrev pub dayLots : Tables → ℕ → ℕ
-dayLots t c = getD (t .prices) (c * 5 + 3) 0
+dayLots t c = getD (t .prices) (dayLotsPlace c) 0
 
 abbrev pub dayValue : Tables → ℕ → ℕ
-dayValue t c = getD (t .prices) (c * 5 + 4) 0
+dayValue t c = getD (t .prices) (dayValuePlace c) 0
+
+abbrev pub withGgf : ℕ → ℕ → List ℕ → List ℕ
+withGgf c p prices = set prices (ggfPlace c) p
+
+-- A contract's low and high.
+abbrev pub withDayLimits : ℕ → ℕ → ℕ → List ℕ → List ℕ
+withDayLimits c l h prices = set (set prices (lowPlace c) l) (highPlace c) h
+
+-- A contract's M and V.
+abbrev pub withDealt : ℕ → ℕ → ℕ → List ℕ → List ℕ
+withDealt c m v prices = set (set prices (dayLotsPlace c) m) (dayValuePlace c) v
 
 -- ---- rows: the rows of one contract lie together, member by member, 32 places for each
+abbrev pub rowWidth : ℕ
+rowWidth = mostMembers
+
+-- Where a contract's rows begin, and a member's row.
+abbrev pub rowsFrom : ℕ → ℕ
+rowsFrom c = c * rowWidth
+
 abbrev pub rowPlace : ℕ → ℕ → ℕ
-rowPlace c m = c * 32 + m
+rowPlace c m = rowsFrom c + m
 
 -- Net lots (buys less sells), and value, the sum of signed lots times price: one lot is 0.1 MWh in an hour and a price
 -- is for a MWh, so value is in tenths of a kuruş for each delivery hour.
@@ -130,20 +229,23 @@ abbrev pub sideNumber : Side → ℕ
 sideNumber Buy = 0
 sideNumber Sell = 1
 
+abbrev pub orderWidth : ℕ
+orderWidth = 8
+
 abbrev pub sideAt : List ℕ → ℕ → ℕ
-sideAt l i = getD l (i * 8 + 3) 0
+sideAt l i = getD l (i * orderWidth + 3) 0
 
 abbrev pub orderAt : List ℕ → ℕ → Order
 orderAt l i =
     record {
-      number = getD l (i * 8) 0;
-      member = getD l (i * 8 + 1) 0;
-      contract = getD l (i * 8 + 2) 0;
+      number = getD l (i * orderWidth) 0;
+      member = getD l (i * orderWidth + 1) 0;
+      contract = getD l (i * orderWidth + 2) 0;
       side = sideOf (sideAt l i);
-      price = record { 0 = getD l (i * 8 + 4) 0 };
-      lots = record { 0 = getD l (i * 8 + 5) 0 };
-      day = record { 0 = getD l (i * 8 + 6) 0 };
-      time = getD l (i * 8 + 7) 0;
+      price = record { 0 = getD l (i * orderWidth + 4) 0 };
+      lots = record { 0 = getD l (i * orderWidth + 5) 0 };
+      day = record { 0 = getD l (i * orderWidth + 6) 0 };
+      time = getD l (i * orderWidth + 7) 0;
     }
 
 abbrev pub orderPlaces : Order → List ℕ
@@ -164,9 +266,12 @@ orders t = map (orderAt (t .book)) (from 0 (orderCount t))
 
 -- The book holds these orders and no other; places past them stay as they were.
 unfoldable pub withOrders : List Order → Tables → Tables
-withOrders os t = withBook (over 0 (flatMap orderPlaces os) (t .book)) (withHead (set (t .head) 7 (length os)) t)
+withOrders os t = withBook (over 0 (flatMap orderPlaces os) (t .book)) (withHead (withOrderCount (length os) (t .head)) t)
 
 -- ---- deal lines: four places for each line, member, contract, signed lots, price
+abbrev pub lineWidth : ℕ
+lineWidth = 4
+
 pub record Line : Type 0 where
   pub member : ℕ
   pub contract : ℕ
@@ -180,10 +285,10 @@ linePlaces l = pos (l .member) ∷ pos (l .contract) ∷ l .lots ∷ pos (l .pri
 abbrev pub lineAt : List ℤ → ℕ → Line
 lineAt l i =
     record {
-      member = natAbs (getD l (i * 4) (pos 0));
-      contract = natAbs (getD l (i * 4 + 1) (pos 0));
-      lots = getD l (i * 4 + 2) (pos 0);
-      price = natAbs (getD l (i * 4 + 3) (pos 0));
+      member = natAbs (getD l (i * lineWidth) (pos 0));
+      contract = natAbs (getD l (i * lineWidth + 1) (pos 0));
+      lots = getD l (i * lineWidth + 2) (pos 0);
+      price = natAbs (getD l (i * lineWidth + 3) (pos 0));
     }
 
 -- The first n lines of a line table.
@@ -215,46 +320,62 @@ booked ls t =
       answer = Accepted (length ls);
       after =
           withLines (over 0 (flatMap linePlaces ls) (t .lines))
-          (withRows (posted lineLots ls (t .lots)) (posted lineValue ls (t .value)) (withHead (set (t .head) 6 (lotsRun t + lineRun ls)) t));
+          (withRows (posted lineLots ls (t .lots)) (posted lineValue ls (t .value)) (withHead (withLotsRun (lotsRun t + lineRun ls) (t .head)) t));
     }
 
 -- ---- time and the second's counts
 -- No member has an accepted submit in the present second.
 unfoldable pub withoutSubmits : Tables → Tables
-withoutSubmits t = withHead (over 192 (replicate (members t) 0) (t .head)) t
+withoutSubmits t = withHead (over submitsFrom (replicate (members t) 0) (t .head)) t
 
 -- An accepted record's time becomes the ledger's; in a later second nobody has submitted yet.
 unfoldable pub timed : ℕ → Tables → Tables
-timed s t = cond (ltb (time t) s) (withHead (set (withoutSubmits t .head) 4 s) t) t
+timed s t = cond (ltb (time t) s) (withHead (withTime s (withoutSubmits t .head)) t) t
 
 -- ---- fresh
--- How long each table must be, sized for 32 members; a call is lent 200 places for lines of four numbers.
+-- How long each table must be, sized for 32 members.
+abbrev pub headLength : ℕ
+headLength = 224
+
+abbrev pub pricesLength : ℕ
+pricesLength = contractCount * priceWidth
+
+abbrev pub rowsLength : ℕ
+rowsLength = contractCount * rowWidth
+
+abbrev pub bookLength : ℕ
+bookLength = mostOrders * orderWidth
+
+abbrev pub linesLength : ℕ
+linesLength = leastLines * lineWidth
+
 unfoldable pub ledgerShort : Tables → Bool
 ledgerShort t =
-    ltb (length (t .head)) 224
-    || ltb (length (t .prices)) 510
-    || ltb (length (t .lots)) 3264
-    || ltb (length (t .value)) 3264
-    || ltb (length (t .book)) 2048
+    ltb (length (t .head)) headLength
+    || ltb (length (t .prices)) pricesLength
+    || ltb (length (t .lots)) rowsLength
+    || ltb (length (t .value)) rowsLength
+    || ltb (length (t .book)) bookLength
 
+-- A call is lent 200 places for lines.
 unfoldable pub linesShort : Tables → Bool
-linesShort t = ltb (length (t .lines)) 800
+linesShort t = ltb (length (t .lines)) linesLength
 
 -- Fresh: zero rows, counts and GGFs, empty book, no marks, low 1, high 1,000,000, the start day, time 0.
 -- Surplus places stay untouched: those of holidays past the count, of members past the members, of orders and lines.
 unfoldable pub freshHead : Header → List ℕ → List ℕ
 freshHead h l =
     let n = h .members in
-    over 192 (replicate n 0)
-    (over 160 (replicate n 0)
-    (over 128 (h .limits)
-    (over 8 (h .holidays) (over 0 (h .firstYear ∷ n ∷ length (h .holidays) ∷ h .startDay ∷ 0 ∷ 0 ∷ 0 ∷ 0 ∷ []) l))))
+    over submitsFrom (replicate n 0)
+    (over marksFrom (replicate n 0)
+    (over limitsFrom (h .limits)
+    (over holidaysFrom (h .holidays) (over firstYearPlace (h .firstYear ∷ n ∷ length (h .holidays) ∷ h .startDay ∷ 0 ∷ 0 ∷ 0 ∷ 0 ∷ []) l))))
 
 unfoldable pub freshPrices : List ℕ → List ℕ
-freshPrices l = inEachBlock 5 (λ five. 0 ∷ 1 ∷ 1000000 ∷ 0 ∷ 0 ∷ []) 102 l
+freshPrices l = inEachBlock priceWidth (λ five. 0 ∷ 1 ∷ mostPrice ∷ 0 ∷ 0 ∷ []) contractCount l
 
 unfoldable pub freshRows : ℕ → List ℤ → List ℤ
-freshRows n l = inEachBlock 32 (over 0 (replicate n (pos 0))) 102 l
+freshRows n l = inEachBlock rowWidth (over 0 (replicate n (pos 0))) contractCount l
 
 unfoldable pub fresh : Header → Tables → Tables
 fresh h t =

@@ -1,3 +1,4 @@
+pub mod Ranges
 pub mod Days
 pub mod Contracts
 pub mod Answers

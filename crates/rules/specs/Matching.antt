@@ -15,7 +15,7 @@ use Rattle.rules.specs.declared.order.Order.{Order}
 use Rattle.rules.specs.declared.order.Side.{Side}
 use Rattle.rules.specs.declared.order.Side.the-variants.{Buy, Sell}
 use Rattle.rules.specs.Answers.{Outcome}
-use Rattle.rules.specs.Ledger.{Tables, Line, withHead, withPrices, day, time, accepted, limit, submits, dayLots, dayValue, lotsAt, orders, withOrders, booked, timed}
+use Rattle.rules.specs.Ledger.{Tables, Line, withHead, withPrices, withDealt, withAcceptedSubmits, withSubmitsThisSecond, day, time, acceptedSubmits, limit, submitsThisSecond, dayLots, dayValue, lotsAt, orders, withOrders, booked, timed}
 
 -- ---- sides
 abbrev pub sameSide : Side → Side → Bool
@@ -132,7 +132,7 @@ dealLines o d =
 abbrev pub incoming : Tables → Submission → Order
 incoming t e =
     record {
-      number = accepted t;
+      number = acceptedSubmits t;
       member = e .member;
       contract = e .contract;
       side = e .side;
@@ -164,7 +164,7 @@ wouldRest t e = isResting (e .kind) && ltb 0 (submitMatched t e .left)
 
 -- The member's accepted submits that bear this time on this day.
 unfoldable pub submitsAt : Tables → ℕ → ℕ → ℕ
-submitsAt t s m = cond (ltb (time t) s) 0 (submits t m)
+submitsAt t s m = cond (ltb (time t) s) 0 (submitsThisSecond t m)
 
 -- The member's resting lots of that contract and side.
 unfoldable pub restingLots : Tables → ℕ → ℕ → Side → ℕ
@@ -191,14 +191,12 @@ submitOrders t e =
 unfoldable pub withDeals : ℕ → List Deal → Tables → Tables
 withDeals c ds t =
     withPrices
-    (set (set (t .prices) (c * 5 + 3) (dayLots t c + total (λ d. d .lots) ds))
-    (c * 5 + 4)
-    (dayValue t c + total (λ d. d .lots * d .resting .price .0) ds))
+    (withDealt c (dayLots t c + total (λ d. d .lots) ds) (dayValue t c + total (λ d. d .lots * d .resting .price .0) ds) (t .prices))
     t
 
 -- One more accepted submit, and one more of the member in the present second.
 unfoldable pub counted : ℕ → Tables → Tables
-counted m t = withHead (set (set (t .head) (192 + m) (submits t m + 1)) 5 (accepted t + 1)) t
+counted m t = withHead (withAcceptedSubmits (acceptedSubmits t + 1) (withSubmitsThisSecond m (submitsThisSecond t m + 1) (t .head))) t
 
 unfoldable pub submitBooked : Tables → Submission → Outcome Tables
 submitBooked t e =

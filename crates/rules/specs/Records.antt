@@ -35,8 +35,8 @@ abbrev pub lotsSound : ℕ → Bool
 lotsSound q = leb 1 q && leb q 100
 
 -- 1 ≤ low ≤ high ≤ 1,000,000.
-abbrev pub limitsSound : ℕ → ℕ → Bool
-limitsSound l h = leb 1 l && leb l h && leb h 1000000
+abbrev pub dayLimitsSound : ℕ → ℕ → Bool
+dayLimitsSound l h = leb 1 l && leb l h && leb h 1000000
 
 -- An order number has no range of its own: it is any u32.
 abbrev pub numberSound : ℕ → Bool
@@ -50,7 +50,7 @@ unfoldable pub eventSound : ℕ → Event → List Leg → Bool
 eventSound n (Submit e) legs =
     timeSound (e .time) && ltb (e .member) n && contractSound (e .contract) && priceSound (e .price .0) && lotsSound (e .lots .0) && eqb (length legs) 0
 eventSound n (Cancel e) legs = timeSound (e .time) && ltb (e .member) n && numberSound (e .order) && eqb (length legs) 0
-eventSound n (DayLimits e) legs = contractSound (e .contract) && limitsSound (e .low .0) (e .high .0) && eqb (length legs) 0
+eventSound n (DayLimits e) legs = contractSound (e .contract) && dayLimitsSound (e .low .0) (e .high .0) && eqb (length legs) 0
 eventSound n (Proposal k) legs = leb 2 k && leb k 12 && eqb (length legs) k && every legSound legs
 eventSound n (Default m) legs = ltb m n && eqb (length legs) 0
 eventSound n (CloseOut e) legs = contractSound (e .contract) && leb 1 (e .ratio) && leb (e .ratio) 1000 && eqb (length legs) 0

@@ -3,7 +3,7 @@ use Prim.Native.Nat.{ℕ, _+_, _*_}
 use mathlib.Core.Bool.{Bool, true, not, _&&_, _||_}
 use mathlib.Core.List.{List, [], _∷_, map}
 use lib.Dec.{eqb, leb, ltb}
-use lib.ListN.{length, take, getD, set}
+use lib.ListN.{length, take, getD}
 use lib.IntN.{ℤ, natAbs}
 use Rattle.arith.specs.Lists.{every, any, kept, from, everyBlock, allOf}
 use Rattle.rules.specs.declared.answer.Answer.{Answer}
@@ -13,16 +13,17 @@ use Rattle.rules.specs.declared.event.CloseOutTerms.{CloseOutTerms}
 use Rattle.rules.specs.declared.event.Event.{Event}
 use Rattle.rules.specs.declared.event.Event.the-variants.{Submit, Cancel, DayLimits, Proposal, Default, CloseOut, CloseOfDay}
 use Rattle.rules.specs.declared.event.Leg.{Leg}
-use Rattle.rules.specs.declared.event.NewLimits.{NewLimits}
+use Rattle.rules.specs.declared.event.NewDayLimits.{NewDayLimits}
 use Rattle.rules.specs.declared.event.Reading.{Reading}
 use Rattle.rules.specs.declared.event.Reading.the-variants.{Sound, Unsound}
 use Rattle.rules.specs.declared.event.Submission.{Submission}
 use Rattle.rules.specs.declared.order.Order.{Order}
 use Rattle.rules.specs.Answers.{Outcome, decide}
+use Rattle.rules.specs.Ranges.{contractCount, mostHolidays, mostPrice, mostOrders, mostSubmitsInSecond, mostLotsRun, mostAcceptedSubmits}
 use Rattle.rules.specs.Days.{inSpan}
 use Rattle.rules.specs.Header.{calendarSound, membersSound, limitSound, daySound, headerOf, beginsWithHeader}
-use Rattle.rules.specs.Ledger.{Tables, Line, withPrices, members, holidayCount, day, time, accepted, lotsRun, orderCount, limit, mark, submits, calendar, defaulted, isOpen, ggf, low, high, sideAt, orders, withOrders, lineRun, booked, timed, ledgerShort, linesShort, fresh}
-use Rattle.rules.specs.Records.{timeSound, contractSound, priceSound, lotsSound, limitsSound, legsOf, readOf}
+use Rattle.rules.specs.Ledger.{Tables, Line, withPrices, members, holidayCount, day, time, acceptedSubmits, lotsRun, orderCount, limit, mark, submitsThisSecond, calendar, defaulted, isOpen, priceWidth, ggfPlace, lowPlace, highPlace, dayLotsPlace, dayValuePlace, ggf, low, high, withDayLimits, rowWidth, sideAt, orders, withOrders, lineRun, booked, timed, ledgerShort, linesShort, fresh}
+use Rattle.rules.specs.Records.{timeSound, contractSound, priceSound, lotsSound, dayLimitsSound, legsOf, readOf}
 use Rattle.rules.specs.Matching.{submitMatched, submitLines, isTeye, wouldRest, submitsAt, aboveLimit, submitBooked}
 use Rattle.rules.specs.Synthetic.{acceptable, proposalLines, proposalBooked}
 use Rattle.rules.specs.CloseOfDay.{hasNextDay, closeBooked}
@@ -31,45 +32,45 @@ use Rattle.rules.specs.Default.{defaultBooked, sumOf, defaultedLongs, de
 -- ---- damage (1)
 -- Every row of the members of every contract.
 unfoldable pub everyRow : (ℤ → Bool) → ℕ → List ℤ → Bool
-everyRow p n l = everyBlock 32 (λ rows. every p (take n rows)) 102 l
+everyRow p n l = everyBlock rowWidth (λ rows. every p (take n rows)) contractCount l
 
 -- A row's lots do not pass the lots run in absolute size, nor its value 1,000,000 times that.
 unfoldable pub rowsSound : Tables → Bool
-rowsSound t = everyRow (λ z. leb (natAbs z) (lotsRun t)) (members t) (t .lots) && everyRow (λ z. leb (natAbs z) (1000000 * lotsRun t)) (members t) (t .value)
+rowsSound t = everyRow (λ z. leb (natAbs z) (lotsRun t)) (members t) (t .lots) && everyRow (λ z. leb (natAbs z) (mostPrice * lotsRun t)) (members t) (t .value)
 
 -- A contract's five numbers: its GGF is 0 or a price, low and high are in their ranges, M does not pass the lots run,
 -- and V is from M to 1,000,000 M.
 unfoldable pub contractPricesSound : ℕ → List ℕ → Bool
 contractPricesSound run prices =
-    let m = getD prices 3 0 in
-    let v = getD prices 4 0 in
+    let m = getD prices (dayLotsPlace 0) 0 in
+    let v = getD prices (dayValuePlace 0) 0 in
     allOf
-    (leb (getD prices 0 0) 1000000
-    ∷ limitsSound (getD prices 1 0) (getD prices 2 0)
+    (leb (getD prices (ggfPlace 0) 0) mostPrice
+    ∷ dayLimitsSound (getD prices (lowPlace 0) 0) (getD prices (highPlace 0) 0)
     ∷ leb m run
     ∷ leb m v
-    ∷ leb v (1000000 * m)
+    ∷ leb v (mostPrice * m)
     ∷ [])
 
 unfoldable pub pricesSound : Tables → Bool
-pricesSound t = everyBlock 5 (contractPricesSound (lotsRun t)) 102 (t .prices)
+pricesSound t = everyBlock priceWidth (contractPricesSound (lotsRun t)) contractCount (t .prices)
 
 -- A member's limit, mark and count in the present second.
 unfoldable pub memberSound : Tables → ℕ → Bool
-memberSound t m = allOf (limitSound (limit t m) ∷ leb (mark t m) 1 ∷ leb (submits t m) 5 ∷ [])
+memberSound t m = allOf (limitSound (limit t m) ∷ leb (mark t m) 1 ∷ leb (submitsThisSecond t m) mostSubmitsInSecond ∷ [])
 
--- The header's fields, day, time and counts.
+-- The header's fields, the day, the time, the counts of the ledger and the fields of each member.
 unfoldable pub headSound : Tables → Bool
 headSound t =
     allOf
-    (leb (holidayCount t) 120
+    (leb (holidayCount t) mostHolidays
     ∷ calendarSound (calendar t)
     ∷ membersSound (members t)
     ∷ daySound (calendar t) (day t)
     ∷ timeSound (time t)
-    ∷ leb (accepted t) 4000000000
-    ∷ leb (lotsRun t) 5000000
-    ∷ leb (orderCount t) 256
+    ∷ leb (acceptedSubmits t) mostAcceptedSubmits
+    ∷ leb (lotsRun t) mostLotsRun
+    ∷ leb (orderCount t) mostOrders
     ∷ every (memberSound t) (from 0 (members t))
     ∷ [])
 
@@ -78,7 +79,7 @@ headSound t =
 unfoldable pub orderSound : Tables → Order → Bool
 orderSound t o =
     allOf
-    (ltb (o .number) (accepted t)
+    (ltb (o .number) (acceptedSubmits t)
     ∷ ltb (o .member) (members t)
     ∷ contractSound (o .contract)
     ∷ priceSound (o .price .0)
@@ -101,10 +102,14 @@ bookSound t = allOf (sidesSound t ∷ every (orderSound t) (orders t) ∷ distin
 unfoldable pub damaged : Tables → Bool
 damaged t = not (allOf (headSound t ∷ pricesSound t ∷ rowsSound t ∷ bookSound t ∷ []))
 
+-- A lent table is too short or damaged, or there are under 200 places for lines.
+unfoldable pub unsound : Tables → Bool
+unsound t = ledgerShort t || linesShort t || damaged t
+
 -- ---- the causes of each kind, in rising number
 -- The lots run would pass 5,000,000.
 abbrev pub runWouldPass : Tables → List Line → Bool
-runWouldPass t ls = ltb 5000000 (lotsRun t + lineRun ls)
+runWouldPass t ls = ltb mostLotsRun (lotsRun t + lineRun ls)
 
 abbrev pub submitCauses : Tables → Submission → List (Bool × Answer)
 submitCauses t e =
@@ -112,11 +117,11 @@ submitCauses t e =
     ∷ (defaulted t (e .member), MemberDefaulted (e .member))
     ∷ (not (isOpen t (e .contract)), ContractNotOpen (e .contract))
     ∷ (ltb (e .price .0) (low t (e .contract)) || ltb (high t (e .contract)) (e .price .0), PriceOutsideLimits)
-    ∷ (leb 5 (submitsAt t (e .time) (e .member)), SixthSubmit)
+    ∷ (leb mostSubmitsInSecond (submitsAt t (e .time) (e .member)), SixthSubmit)
     ∷ (aboveLimit t e, AboveLimit)
     ∷ (isTeye (e .kind) && ltb 0 (submitMatched t e .left), CannotMatchInFull)
-    ∷ (wouldRest t e && leb 256 (length (submitMatched t e .resting)), BookFull)
-    ∷ (runWouldPass t (submitLines t e) || leb 4000000000 (accepted t), TotalPassed)
+    ∷ (wouldRest t e && leb mostOrders (length (submitMatched t e .resting)), BookFull)
+    ∷ (runWouldPass t (submitLines t e) || leb mostAcceptedSubmits (acceptedSubmits t), TotalPassed)
     ∷ []
 
 -- The resting order that a cancel names.
@@ -126,8 +131,8 @@ isCancelled e o = eqb (o .number) (e .order) && eqb (o .member) (e .member)
 abbrev pub cancelCauses : Tables → Cancellation → List (Bool × Answer)
 cancelCauses t e = (ltb (e .time) (time t), TimeBelowLedger) ∷ (not (any (isCancelled e) (orders t)), NoSuchOrder) ∷ []
 
-abbrev pub limitsCauses : Tables → NewLimits → List (Bool × Answer)
-limitsCauses t e = (not (isOpen t (e .contract)), ContractNotOpen (e .contract)) ∷ []
+abbrev pub dayLimitsCauses : Tables → NewDayLimits → List (Bool × Answer)
+dayLimitsCauses t e = (not (isOpen t (e .contract)), ContractNotOpen (e .contract)) ∷ []
 
 abbrev pub proposalCauses : Tables → List Leg → List (Bool × Answer)
 proposalCauses t legs = (not (acceptable t legs), NotAcceptable) ∷ (runWouldPass t (proposalLines t legs), TotalPassed) ∷ []
@@ -156,10 +161,10 @@ unfoldable pub cancelSpec : Tables → Cancellation → Outcome Tables
 cancelSpec t e = decide (cancelCauses t e) t (booked [] (withOrders (kept (λ o. not (isCancelled e o)) (orders t)) (timed (e .time) t)))
 
 -- Low and high stand until a record changes them; orders already resting stay.
-unfoldable pub limitsSpec : Tables → NewLimits → Outcome Tables
-limitsSpec t e =
-    decide (limitsCauses t e) t
-    (booked [] (withPrices (set (set (t .prices) (e .contract * 5 + 1) (e .low .0)) (e .contract * 5 + 2) (e .high .0)) t))
+unfoldable pub dayLimitsSpec : Tables → NewDayLimits → Outcome Tables
+dayLimitsSpec t e =
+    decide (dayLimitsCauses t e) t
+    (booked [] (withPrices (withDayLimits (e .contract) (e .low .0) (e .high .0) (t .prices)) t))
 
 unfoldable pub proposalSpec : Tables → List Leg → Outcome Tables
 proposalSpec t legs = decide (proposalCauses t legs) t (proposalBooked t legs)
@@ -177,7 +182,7 @@ closeSpec t s = decide (closeCauses t s) t (closeBooked t s)
 unfoldable pub eventSpec : Tables → Event → List Leg → Outcome Tables
 eventSpec t (Submit e) legs = submitSpec t e
 eventSpec t (Cancel e) legs = cancelSpec t e
-eventSpec t (DayLimits e) legs = limitsSpec t e
+eventSpec t (DayLimits e) legs = dayLimitsSpec t e
 eventSpec t (Proposal n) legs = proposalSpec t legs
 eventSpec t (Default m) legs = defaultSpec t m
 eventSpec t (CloseOut e) legs = closeOutSpec t e
@@ -190,7 +195,7 @@ readingSpec t Unsound legs = record { answer = RecordUnsound; after = t }
 -- One record applied to the lent tables, whatever they hold and whatever its bytes.
 unfoldable pub applySpec : Tables → List ℕ → Outcome Tables
 applySpec t bytes =
-    decide ((ledgerShort t || linesShort t || damaged t, TableUnsound) ∷ []) t (readingSpec t (readOf (members t) bytes) (legsOf bytes))
+    decide ((unsound t, TableUnsound) ∷ []) t (readingSpec t (readOf (members t) bytes) (legsOf bytes))
 
 -- Making a ledger: 1 before 2, and of 1 only length is tested. It is lent no line table.
 unfoldable pub makeSpec : Tables → List ℕ → Outcome Tables

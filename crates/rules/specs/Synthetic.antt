@@ -11,6 +11,7 @@ use Rattle.rules.specs.declared.order.Order.{Order}
 use Rattle.rules.specs.declared.order.Side.{Side}
 use Rattle.rules.specs.declared.order.Side.the-variants.{Buy, Sell}
 use Rattle.rules.specs.Answers.{Outcome}
+use Rattle.rules.specs.Ranges.{monthsInSpan}
 use Rattle.rules.specs.Days.{Calendar, firstMonth, monthStart}
 use Rattle.rules.specs.Contracts.{holdsHour}
 use Rattle.rules.specs.Header.{rising}
@@ -66,7 +67,7 @@ balancedInHour k ns h = eqb (inHour k legLots Buy h ns) (inHour k legLots Sell h
 -- In every hour of the six years. All hours of a month lie in the same contracts, so the first hour of each of the 72
 -- months is tried; `balanced-every-hour` says that this is every hour.
 unfoldable pub balanced : Calendar → List Named → Bool
-balanced k ns = every (λ i. balancedInHour k ns (24 * monthStart (firstMonth k + i))) (from 0 72)
+balanced k ns = every (λ i. balancedInHour k ns (24 * monthStart (firstMonth k + i))) (from 0 monthsInSpan)
 
 -- The order is a leg in full.
 unfoldable pub inFull : List Named → Order → Bool

@@ -28,7 +28,7 @@ pub struct Cancellation {
     pub order: u64,
 }
 
-pub struct NewLimits {
+pub struct NewDayLimits {
     pub contract: u64,
     pub low: Kurus,
     pub high: Kurus,
@@ -52,7 +52,7 @@ pub struct Leg {
 pub enum Event {
     Submit(Submission),
     Cancel(Cancellation),
-    DayLimits(NewLimits),
+    DayLimits(NewDayLimits),
     // With the number of its legs.
     Proposal(u64),
     // With the member.

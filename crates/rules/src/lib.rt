@@ -2,7 +2,9 @@
 mod answer;
 mod contract;
 mod event;
+pub mod layout;
 mod order;
+pub mod ranges;
 mod units;
 
 pub use answer::Answer;
@@ -12,7 +14,7 @@ pub use event::Cancellation;
 pub use event::CloseOutTerms;
 pub use event::Event;
 pub use event::Leg;
-pub use event::NewLimits;
+pub use event::NewDayLimits;
 pub use event::OrderKind;
 pub use event::Reading;
 pub use event::Submission;

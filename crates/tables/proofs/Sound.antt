@@ -11,7 +11,7 @@ use Rattle.arith.specs.Alls.{all-hold}
 use lib.ListN.{length}
 use Rattle.rules.specs.Days.{Calendar, inSpan}
 use Rattle.rules.specs.Header.{rising, calendarSound}
-use Rattle.rules.specs.Ledger.{Tables, firstYear, members, holidayCount, accepted, lotsRun, orderCount, calendar, ledgerShort, linesShort}
+use Rattle.rules.specs.Ledger.{Tables, firstYear, members, holidayCount, acceptedSubmits, lotsRun, orderCount, calendar, ledgerShort, linesShort}
 use Rattle.rules.specs.Refusals.{headSound, pricesSound, rowsSound, bookSound, damaged}
 use Rattle.calendar.specs.Bounds.{FirstYear}
 
@@ -30,7 +30,7 @@ pub record HeadHolds (t : Tables) : Type 0 where
   pub most-holidays : holidayCount t ≤ 120
   pub least-members : 1 ≤ members t
   pub most-members : members t ≤ 32
-  pub most-accepted : accepted t ≤ 4000000000
+  pub most-accepted : acceptedSubmits t ≤ 4000000000
   pub most-run : lotsRun t ≤ 5000000
   pub most-orders : orderCount t ≤ 256
 
@@ -43,7 +43,7 @@ head-holds t e =
       most-holidays = leb-true (holidayCount t) 120 (all .0);
       least-members = leb-true 1 (members t) (and-left (leb 1 (members t)) (leb (members t) 32) (all .1 .1 .0));
       most-members = leb-true (members t) 32 (and-right (leb 1 (members t)) (leb (members t) 32) (all .1 .1 .0));
-      most-accepted = leb-true (accepted t) 4000000000 (all .1 .1 .1 .1 .1 .0);
+      most-accepted = leb-true (acceptedSubmits t) 4000000000 (all .1 .1 .1 .1 .1 .0);
       most-run = leb-true (lotsRun t) 5000000 (all .1 .1 .1 .1 .1 .1 .0);
       most-orders = leb-true (orderCount t) 256 (all .1 .1 .1 .1 .1 .1 .1 .0);
     }

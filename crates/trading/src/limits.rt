@@ -3,10 +3,10 @@ ghost use mathlib.Core.Path.{_≡_};
 ghost use mathlib.Core.Bool.{false, _||_};
 ghost use Prim.Native.Nat.{_≤_};
 ghost use Rattle.rules.specs.Ledger.{ledgerShort, linesShort};
-ghost use Rattle.rules.specs.Refusals.{damaged, limitsSpec};
+ghost use Rattle.rules.specs.Refusals.{damaged, dayLimitsSpec};
 ghost use Rattle.tables.specs.Lent.{lent};
 use rules::Answer;
-use rules::NewLimits;
+use rules::NewDayLimits;
 
 // Low and high are written; orders already resting stay.
 pub fn apply_limits(
@@ -16,11 +16,11 @@ pub fn apply_limits(
     value: &[i64],
     book: &[u64],
     lines: &[i64],
-    e: NewLimits,
+    e: NewDayLimits,
 ) -> Answer
     requires { ⌜ (ledgerShort (lent (now head) (now prices) (now lots) (now value) (now book) (now lines)) || linesShort (lent (now head) (now prices) (now lots) (now value) (now book) (now lines)) || damaged (lent (now head) (now prices) (now lots) (now value) (now book) (now lines)) ≡ false) × (e .contract ≤ 101) ⌝ }
     ensures { λ r. ⌜ record { answer = r; after = lent (now (head .entry)) (now (prices .exit)) (now (lots .entry)) (now (value .entry)) (now (book .entry)) (now (lines .entry)) }
-        ≡ limitsSpec (lent (now (head .entry)) (now (prices .entry)) (now (lots .entry)) (now (value .entry)) (now (book .entry)) (now (lines .entry))) e ⌝ }
+        ≡ dayLimitsSpec (lent (now (head .entry)) (now (prices .entry)) (now (lots .entry)) (now (value .entry)) (now (book .entry)) (now (lines .entry))) e ⌝ }
 {
     let contract = e.contract;
     if !tables::is_contract_open(head, contract) {

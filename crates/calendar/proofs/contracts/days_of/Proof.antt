@@ -1,7 +1,7 @@
 use mathlib.Core.List.{[]}
 use native.Mathlib.Omega.{arith}
 use Rattle.rules.specs.CalendarLaws.{month-le}
-use Rattle.rules.specs.Contracts.{firstDay, endDay, daysOf}
+use Rattle.rules.specs.Contracts.{termFirstDay, termDayAfter, daysOf}
 use Rattle.calendar.specs.Bounds.{numbered}
 use borrow.Author.Needs.{needs}
 use Rattle.calendar.proofs.contracts.days_of.Statement.{statement}
@@ -17,7 +17,7 @@ term-first-day-requires : tie.Need-term-first-day-requires
 term-first-day-requires c κs = (c .before .before .pre .0, rw (c .before .term-of .ensures) (numbered _ (c .before .before .pre .1)))
 
 sub-result : tie.Need-sub-result
-unfolding firstDay endDay
+unfolding termFirstDay termDayAfter
 sub-result c = rw (c .before .before .term-first-day .ensures [], c .before .before .before .term-end-day .ensures []) (month-le _ _ (omega arith))
 
 returns : tie.Need-returns

@@ -1,5 +1,5 @@
 use native.Mathlib.Omega.{arith}
-use Rattle.rules.specs.Contracts.{endDay}
+use Rattle.rules.specs.Contracts.{termDayAfter}
 use borrow.Author.Needs.{needs}
 use Rattle.calendar.proofs.contracts.term_end_day.Statement.{statement}
 use Rattle.calendar.proofs.contracts.term_end_day.Tie as tie
@@ -23,7 +23,7 @@ month-start-requires : tie.Need-month-start-requires
 month-start-requires c κs = rw (c .before .before .months-in .ensures) (omega arith)
 
 returns : tie.Need-returns
-unfolding endDay
+unfolding termDayAfter
 returns c = λ h. rw (c .before .before .before .months-in .ensures, c .before .before .first-month .ensures) at (c .month-start .ensures)
 
 pub term-end-day-spec : {M : Type 1} → statement M

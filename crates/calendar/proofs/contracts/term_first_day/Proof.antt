@@ -1,5 +1,5 @@
 use native.Mathlib.Omega.{arith}
-use Rattle.rules.specs.Contracts.{firstDay}
+use Rattle.rules.specs.Contracts.{termFirstDay}
 use borrow.Author.Needs.{needs}
 use Rattle.calendar.proofs.contracts.term_first_day.Statement.{statement}
 use Rattle.calendar.proofs.contracts.term_first_day.Tie as tie
@@ -20,7 +20,7 @@ month-start-requires : tie.Need-month-start-requires
 month-start-requires c κs = rw (c .before .months-in .ensures) (omega arith)
 
 returns : tie.Need-returns
-unfolding firstDay
+unfolding termFirstDay
 returns c = λ h. rw (c .before .before .months-in .ensures, c .before .before .before .first-month .ensures) at (c .month-start .ensures)
 
 pub term-first-day-spec : {M : Type 1} → statement M

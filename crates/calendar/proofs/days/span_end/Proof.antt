@@ -1,5 +1,5 @@
 use native.Mathlib.Omega.{arith}
-use Rattle.rules.specs.Days.{spanEnd}
+use Rattle.rules.specs.Days.{dayAfterSpan}
 use borrow.Author.Needs.{needs}
 use Rattle.calendar.proofs.days.span_end.Statement.{statement}
 use Rattle.calendar.proofs.days.span_end.Tie as tie
@@ -14,7 +14,7 @@ month-start-requires : tie.Need-month-start-requires
 month-start-requires c κs = rw (c .first-month .ensures) (omega arith)
 
 returns : tie.Need-returns
-unfolding spanEnd
+unfolding dayAfterSpan
 returns c = λ h. rw (c .before .first-month .ensures) at (c .month-start .ensures)
 
 pub span-end-spec : {M : Type 1} → statement M

@@ -3,7 +3,7 @@ use Prim.Native.Nat.{_*_, min}
 use lib.Dec.{leb}
 use lib.ListN.{getD}
 use borrow.Author.Tests.{leb-true}
-use Rattle.rules.specs.Records.{limitsSound}
+use Rattle.rules.specs.Records.{dayLimitsSound}
 use Rattle.tables.proofs.Tests.{all-five}
 use Rattle.rules.specs.Refusals.{contractPricesSound}
 use borrow.Author.Needs.{needs}
@@ -39,7 +39,7 @@ returns c =
     let m = getD l 3 0 in
     let v = getD l 4 0 in
     rw (c .smaller .ensures)
-    (all-five (leb (getD l 0 0) 1000000) (limitsSound (getD l 1 0) (getD l 2 0)) (leb m run) (leb m v) (leb v (1000000 * m)) (leb v (1000000 * min m run))
+    (all-five (leb (getD l 0 0) 1000000) (dayLimitsSound (getD l 1 0) (getD l 2 0)) (leb m run) (leb m v) (leb v (1000000 * m)) (leb v (1000000 * min m run))
     (λ t. rw (min-eq-left (leb-true m run t))))
 
 pub is-contract-sound-spec : {M : Type 1} → statement M

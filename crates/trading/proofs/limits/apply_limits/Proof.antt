@@ -2,7 +2,7 @@ use native.Mathlib.Omega.{arith}
 use mathlib.Core.Path.{sym, _∙_}
 use lib.ListN.{length-set}
 use borrow.Author.Tests.{not-true, not-false}
-use Rattle.rules.specs.Refusals.{limitsSpec}
+use Rattle.rules.specs.Refusals.{dayLimitsSpec}
 use Rattle.tables.specs.Lent.{lent}
 use Rattle.tables.proofs.Sound.{Undamaged, undamaged}
 use Rattle.tables.proofs.Booked.{booked-none}
@@ -17,7 +17,7 @@ is-contract-open-requires : tie.Need-is-contract-open-requires
 is-contract-open-requires c κs = let u = known (c .before .before .before) in (u .long .head-length, u .numbers .years, u .numbers .most-holidays, c .before .before .before .pre .1)
 
 returns : tie.Need-returns
-unfolding limitsSpec
+unfolding dayLimitsSpec
 returns c = let a = c .before .before .before .before .before .args in rw (sym (c .before .is-contract-open .ensures (a .prices .now) (a .lots .now) (a .value .now) (a .book .now) (a .lines .now)) ∙ not-true (c .before .is-contract-open .result) (c .if1 .taken))
 
 mul-at : tie.Need-mul-at
@@ -45,7 +45,7 @@ same-length : tie.Need-same-length
 same-length c = search needs
 
 returns-2 : tie.Need-returns-2
-unfolding limitsSpec
+unfolding dayLimitsSpec
 returns-2 c =
     let a = c .before .before .before .before .before .args in
     rw (sym (c .before .is-contract-open .ensures (a .prices .now) (a .lots .now) (a .value .now) (a .book .now) (a .lines .now)) ∙ not-false (c .before .is-contract-open .result) (c .if1 .left)) (sym (booked-none _ _ _ _ _ _))

@@ -1,0 +1,73 @@
+-- Numbers of document 01 that stand in several places, each under one name.
+use Prim.Native.Nat.{ℕ}
+
+-- "Days and contracts": 17 contracts for each of six years, a year, four quarters and twelve months.
+abbrev pub contractCount : ℕ
+contractCount = 102
+
+abbrev pub contractsInYear : ℕ
+contractsInYear = 17
+
+abbrev pub monthsInSpan : ℕ
+monthsInSpan = 72
+
+abbrev pub leastFirstYear : ℕ
+leastFirstYear = 2020
+
+abbrev pub mostFirstYear : ℕ
+mostFirstYear = 2094
+
+-- "What the ledger holds".
+abbrev pub mostMembers : ℕ
+mostMembers = 32
+
+abbrev pub mostOrders : ℕ
+mostOrders = 256
+
+-- Places for deal lines that a call is lent.
+abbrev pub leastLines : ℕ
+leastLines = 200
+
+-- "Records". A time is 0 to 86,399 s.
+abbrev pub lastSecond : ℕ
+lastSecond = 86399
+
+abbrev pub mostHolidays : ℕ
+mostHolidays = 120
+
+-- A position limit is 0 to 100,000 lots.
+abbrev pub mostLimit : ℕ
+mostLimit = 100000
+
+-- A price is 1 to 1,000,000 kuruş.
+abbrev pub mostPrice : ℕ
+mostPrice = 1000000
+
+-- An order and a leg have 1 to 100 lots.
+abbrev pub mostLots : ℕ
+mostLots = 100
+
+abbrev pub leastLegs : ℕ
+leastLegs = 2
+
+abbrev pub mostLegs : ℕ
+mostLegs = 12
+
+-- Per mille.
+abbrev pub mostRatio : ℕ
+mostRatio = 1000
+
+-- "Matching": accepted submits of a member that bear one time on one day.
+abbrev pub mostSubmitsInSecond : ℕ
+mostSubmitsInSecond = 5
+
+-- "Close of day": an order of the same day quotes if it entered so many seconds before the record's time.
+abbrev pub secondsToQuote : ℕ
+secondsToQuote = 300
+
+-- "Why a record is turned back".
+abbrev pub mostLotsRun : ℕ
+mostLotsRun = 5000000
+
+abbrev pub mostAcceptedSubmits : ℕ
+mostAcceptedSubmits = 4000000000

@@ -1,0 +1,40 @@
+// Numbers of document 01 that stand in several places; specs/Ranges has the same under the same names.
+
+pub const CONTRACT_COUNT: u64 = 102;
+
+pub const LAST_CONTRACT: u64 = 101;
+
+pub const LEAST_FIRST_YEAR: u64 = 2020;
+
+pub const MOST_FIRST_YEAR: u64 = 2094;
+
+pub const MOST_MEMBERS: u64 = 32;
+
+pub const MOST_ORDERS: u64 = 256;
+
+pub const LEAST_LINES: u64 = 200;
+
+// A time is 0 to 86,399 s.
+pub const LAST_SECOND: u64 = 86399;
+
+pub const MOST_HOLIDAYS: u64 = 120;
+
+pub const MOST_LIMIT: u64 = 100000;
+
+pub const MOST_PRICE: u64 = 1000000;
+
+pub const MOST_LOTS: u64 = 100;
+
+pub const LEAST_LEGS: u64 = 2;
+
+pub const MOST_LEGS: u64 = 12;
+
+pub const MOST_RATIO: u64 = 1000;
+
+pub const MOST_SUBMITS_IN_SECOND: u64 = 5;
+
+pub const SECONDS_TO_QUOTE: u64 = 300;
+
+pub const MOST_LOTS_RUN: u64 = 5000000;
+
+pub const MOST_ACCEPTED_SUBMITS: u64 = 4000000000;
