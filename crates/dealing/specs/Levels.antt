@@ -3,6 +3,7 @@ use Prim.Native.Nat.{ℕ, _+_, _*_, _≤_, _<_, min}
 use mathlib.Core.List.{List, map}
 use lib.ListN.{length, getD}
 use Rattle.rules.specs.Default.{sumOf}
+use Rattle.rules.specs.Ranges.{contractCount, mostMembers, mostLotsRun}
 
 -- Every member at its minimum or at r lots, whichever is less.
 unfoldable pub atLevel : ℕ → List ℕ → List ℕ
@@ -14,14 +15,14 @@ pub record Highest (lots : ℕ) (mins : List ℕ) (r : ℕ) : Type 0 where
   pub enough : sumOf (atLevel r mins) ≤ lots
   pub short : r < lots → lots < sumOf (atLevel (r + 1) mins)
 
--- The most lots of one member, and the largest weight: 27 open contracts of at most 366 days each.
-abbrev pub mostLots : ℕ
-mostLots = 5000000
+-- A contract delivers on at most 372 days, twelve months of 31; a weight is a sum of days times lots over all contracts at most.
+abbrev pub mostDays : ℕ
+mostDays = 372
 
 abbrev pub mostWeight : ℕ
-mostWeight = 27 * 366 * 5000000
+mostWeight = contractCount * (mostDays * mostLotsRun)
 
 -- One number for each member, none above a bound.
 pub record Column (most : ℕ) (ns : List ℕ) : Type 0 where
-  pub few : length ns ≤ 32
+  pub few : length ns ≤ mostMembers
   pub each : (i : ℕ) → getD ns i 0 ≤ most

@@ -3,11 +3,12 @@ ghost use mathlib.Core.Path.{_≡_};
 ghost use Prim.Native.Nat.{ℕ, _≤_};
 ghost use lib.ListN.{length};
 ghost use Rattle.rules.specs.Default.{sumOf};
-ghost use Rattle.dealing.specs.Levels.{atLevel, mostLots, Highest};
+ghost use Rattle.rules.specs.Ranges.{mostMembers, mostLotsRun};
+ghost use Rattle.dealing.specs.Levels.{atLevel, Highest};
 use crate::columns::smaller;
 
 pub fn lots_at_level(level: u64, minima: &[u64]) -> u64
-    requires { ⌜ (level ≤ mostLots) × (length (now minima) ≤ 32) ⌝ }
+    requires { ⌜ (level ≤ mostLotsRun) × (length (now minima) ≤ mostMembers) ⌝ }
     ensures { λ r. ⌜ r ≡ sumOf (atLevel level (now (minima .entry))) ⌝ }
 {
     let mut sum: u64 = 0;
@@ -32,7 +33,7 @@ pub fn fill_to_level(level: u64, minima: &[u64], received: &mut [u64])
 
 // The highest level that the lots suffice for, by halves: its cost does not grow with the lots.
 pub fn highest_level(lots: u64, minima: &[u64]) -> u64
-    requires { ⌜ (lots ≤ mostLots) × (length (now minima) ≤ 32) ⌝ }
+    requires { ⌜ (lots ≤ mostLotsRun) × (length (now minima) ≤ mostMembers) ⌝ }
     ensures { λ r. ⌜ Highest lots (now (minima .entry)) r ⌝ }
 {
     let mut low: u64 = 0;

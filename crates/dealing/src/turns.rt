@@ -3,12 +3,14 @@ ghost use mathlib.Core.Path.{_≡_};
 ghost use Prim.Native.Nat.{ℕ, _≤_, _<_};
 ghost use lib.ListN.{length, getD};
 ghost use Rattle.rules.specs.Default.{Dealing, sumOf, minimums, comesFirst, inOrder, round, dealtOut};
-ghost use Rattle.dealing.specs.Levels.{mostLots, mostWeight, Column};
+ghost use Rattle.rules.specs.Ranges.{mostLotsRun};
+ghost use Rattle.dealing.specs.Levels.{mostWeight, Column};
 use crate::level::fill_to_level;
 use crate::level::highest_level;
 use crate::level::lots_at_level;
 use crate::minimums::find_minimums;
 use crate::order::put_in_order;
+use rules::layout::ROW_WIDTH;
 
 // A round: each member in order receives one lot, never past its minimum, while there are any.
 fn take_turns(minima: &[u64], order: &[usize], received: &mut [u64], lots: u64) -> u64
@@ -32,11 +34,11 @@ fn take_turns(minima: &[u64], order: &[usize], received: &mut [u64], lots: u64) 
 
 // Whole rounds are taken at once: up to the highest level that the lots suffice for; one round deals the rest.
 fn deal_by_minimums(lots: u64, weights: &[u64], minima: &[u64], received: &mut [u64])
-    requires { ⌜ (lots ≤ mostLots) × (0 < sumOf (now weights)) × (length (now received) ≡ length (now weights)) ⌝ }
+    requires { ⌜ (lots ≤ mostLotsRun) × (0 < sumOf (now weights)) × (length (now received) ≡ length (now weights)) ⌝ }
     requires { ⌜ Column mostWeight (now weights) × (now minima ≡ minimums lots (now weights)) ⌝ }
     ensures { λ _. ⌜ now (received .exit) ≡ dealtOut lots (now (weights .entry)) ⌝ }
 {
-    let mut order = [0usize; 32];
+    let mut order = [0usize; ROW_WIDTH];
     let members = weights.len();
     put_in_order(minima, weights, &mut order[..members]);
     let level = highest_level(lots, minima);
@@ -47,11 +49,11 @@ fn deal_by_minimums(lots: u64, weights: &[u64], minima: &[u64], received: &mut [
 
 // Lots dealt out to the members by weight.
 pub fn deal_out(lots: u64, weights: &[u64], received: &mut [u64])
-    requires { ⌜ (lots ≤ mostLots) × (0 < sumOf (now weights)) × (length (now received) ≡ length (now weights)) ⌝ }
+    requires { ⌜ (lots ≤ mostLotsRun) × (0 < sumOf (now weights)) × (length (now received) ≡ length (now weights)) ⌝ }
     requires { ⌜ Column mostWeight (now weights) ⌝ }
     ensures { λ _. ⌜ now (received .exit) ≡ dealtOut lots (now (weights .entry)) ⌝ }
 {
-    let mut minima = [0u64; 32];
+    let mut minima = [0u64; ROW_WIDTH];
     let members = weights.len();
     find_minimums(lots, weights, &mut minima[..members]);
     deal_by_minimums(lots, weights, &minima[..members], received);

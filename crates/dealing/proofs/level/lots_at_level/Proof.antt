@@ -7,12 +7,13 @@ use Rattle.arith.specs.Columns.{total-next, total-end}
 use Rattle.arith.specs.Lists.{total}
 use Rattle.rules.specs.Default.{sumOf}
 use Rattle.rules.proofs.Netting.{sum-map}
-use Rattle.dealing.specs.Levels.{atLevel, mostLots}
+use Rattle.rules.specs.Ranges.{mostLotsRun}
+use Rattle.dealing.specs.Levels.{atLevel}
 use Rattle.dealing.proofs.level.lots_at_level.Statement.{statement}
 use Rattle.dealing.proofs.level.lots_at_level.Tie as tie
 
 abbrev Inv-loop : tie.InvT-loop
-Inv-loop level minima sum₀ i₀ sum i = (i ≤ length minima) × (sum ≤ i * mostLots) × (sum + total (min level) (drop i minima) ≡ sumOf (atLevel level minima))
+Inv-loop level minima sum₀ i₀ sum i = (i ≤ length minima) × (sum ≤ i * mostLotsRun) × (sum + total (min level) (drop i minima) ≡ sumOf (atLevel level minima))
 
 abbrev μ-loop : tie.MeasureT-loop
 μ-loop level minima sum₀ i₀ sum i = length minima - i
