@@ -12,3 +12,4 @@ pub mod Terms
 pub mod Sizes
 pub mod EachBlock
 pub mod Columns
+pub mod Totals
