@@ -13,3 +13,4 @@ pub mod Sizes
 pub mod EachBlock
 pub mod Columns
 pub mod Totals
+pub mod Negatives

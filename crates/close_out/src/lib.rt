@@ -1,0 +1,2 @@
+// The close-out of a contract: netting among the defaulted, lots dealt out to the others.
+mod columns;
