@@ -1,12 +1,12 @@
 -- A list read from its front, and one written from its front, place by place. Assumes nothing.
-use Prim.Native.Nat.{ℕ, zero, suc, _+_, _*_, _≤_, _<_}
-use mathlib.Core.Path.{_≡_, refl, sym, _∙_}
+use Prim.Native.Nat.{ℕ, zero, suc, _+_, _-_, _≤_, _<_}
+use mathlib.Core.Path.{_≡_, refl, sym, ap, _∙_}
 use mathlib.Core.List.{List, [], _∷_, _++_, map, append-nil}
 use native.Mathlib.Omega.{arith}
 use native.Mathlib.Numerals.{add-one}
-use lib.ListN.{length, getD, set, take, drop, drop-of-length-le}
+use lib.ListN.{length, getD, set, take, drop, length-map, drop-of-length-le}
 use lib.Seq.{take-all, take-suc-set, drop-cons, append-snoc}
-use Rattle.arith.specs.Lists.{total}
+use Rattle.arith.specs.Lists.{total, from}
 
 -- ---- read
 module _ {A : Type 0} (l : List A) (i : ℕ) where
@@ -23,6 +23,45 @@ module _ {A : Type 0} (l : List A) (i : ℕ) where
   pub total-end : (f : A → ℕ) → length l ≤ i → total f (drop i l) ≡ 0
   unfolding total
   total-end f h = rw (drop-of-length-le l h)
+
+-- ---- numbers from i up to n
+module _ (n i : ℕ) where
+  from-more : i < n → from i (n - i) ≡ i ∷ from (i + 1) (n - (i + 1))
+  unfolding from
+  from-more h = let e : n - i ≡ suc (n - (i + 1)) = omega arith in rw (e, add-one i)
+
+  from-none : n ≤ i → from i (n - i) ≡ []
+  unfolding from
+  from-none h = let e : n - i ≡ zero = omega arith in rw e
+
+  pub mapped-next : {B : Type 0} (f : ℕ → B) → i < n → map f (from i (n - i)) ≡ f i ∷ map f (from (i + 1) (n - (i + 1)))
+  mapped-next f h = rw (from-more h)
+
+  pub mapped-end : {B : Type 0} (f : ℕ → B) → n ≤ i → map f (from i (n - i)) ≡ []
+  mapped-end f h = rw (from-none h)
+
+  pub summed-next : (f : ℕ → ℕ) → i < n → total f (from i (n - i)) ≡ f i + total f (from (i + 1) (n - (i + 1)))
+  unfolding total
+  summed-next f h = rw (from-more h)
+
+  pub summed-end : (f : ℕ → ℕ) → n ≤ i → total f (from i (n - i)) ≡ 0
+  unfolding total
+  summed-end f h = rw (from-none h)
+
+pub from-length : (a n : ℕ) → length (from a n) ≡ n
+unfolding from
+from-length a zero = refl
+from-length a (suc n) = ap suc (from-length (suc a) n)
+
+pub mapped-length : {B : Type 0} (f : ℕ → B) (a n : ℕ) → length (map f (from a n)) ≡ n
+mapped-length f a n = length-map (from a n) f ∙ from-length a n
+
+-- the mapped list at place i
+pub mapped-at : {B : Type 0} (f : ℕ → B) (z : B) (a n i : ℕ) → i < n → getD (map f (from a n)) i z ≡ f (a + i)
+unfolding from
+mapped-at f z a zero i h = absurd (omega arith)
+mapped-at f z a (suc n) zero h = let e : a + zero ≡ a = omega arith in rw e
+mapped-at f z a (suc n) (suc i) h = let e : a + suc i ≡ suc a + i = omega arith in mapped-at f z (suc a) n i (omega arith) ∙ rw e
 
 -- ---- written
 module _ {A : Type 0} (out : List A) (i : ℕ) where

@@ -16,6 +16,10 @@ use Rattle.arith.specs.Ints.{up, dn}
 abbrev read : ℤ → ℤ
 read z = toZ w64 (ofZ w64 z)
 
+-- An element that was read from a slice, which says its bound.
+pub read-back : (z : ℤ) → mag z < 2 ^ 63 → read z ≡ z
+read-back z h = toZ-ofZ (record { sfits = h })
+
 pub size-parts : (z : ℤ) → natAbs z ≡ up z + dn z
 unfolding up dn
 size-parts (pos n) = omega arith

@@ -1,2 +1,3 @@
 // The close-out of a contract: netting among the defaulted, lots dealt out to the others.
 mod columns;
+mod weights;
