@@ -1,16 +1,16 @@
 -- Columns with one number for each member, read from the lent tables.
-use Prim.Native.Nat.{ℕ, _*_, _≤_, _<_}
+use Prim.Native.Nat.{ℕ, _*_}
 use mathlib.Core.Bool.{Bool, cond}
 use mathlib.Core.List.{List, map}
-use lib.ListN.{length, getD}
+use lib.ListN.{getD}
 use lib.IntN.{ℤ, pos, natAbs}
 use Rattle.arith.specs.Ints.{up, dn}
 use Rattle.arith.specs.Lists.{from, total}
 use Rattle.rules.specs.Contracts.{daysOf, openOn}
 use Rattle.rules.specs.Days.{Calendar}
-use Rattle.rules.specs.Default.{byMember}
+use Rattle.rules.specs.Default.{byMember, openWeight}
 use Rattle.rules.specs.Ledger.{Tables, defaulted, lotsAt, rowPlace}
-use Rattle.rules.specs.Ranges.{contractCount, mostLotsRun}
+use Rattle.rules.specs.Ranges.{contractCount}
 use Rattle.close_out.specs.declared.columns.Part.{Part}
 use Rattle.close_out.specs.declared.columns.Part.the-variants.{DefaultedLongs, DefaultedShorts, Others}
 
@@ -31,7 +31,6 @@ openDays k d = map (λ c. cond (openOn k d c) (daysOf k c) 0) (from 0 contractCo
 unfoldable pub weightBy : List ℕ → List ℤ → ℕ → ℕ
 weightBy days lots m = total (λ c. getD days c 0 * natAbs (getD lots (rowPlace c m) (pos 0))) (from 0 contractCount)
 
--- What undamaged rows give.
-pub record RowsFit (members : ℕ) (rows : List ℤ) : Type 0 where
-  pub long : 3264 ≤ length rows
-  pub each : (c m : ℕ) → c < contractCount → m < members → natAbs (getD rows (rowPlace c m) (pos 0)) ≤ mostLotsRun
+-- Each other member's sum over open contracts of days times absolute lots.
+unfoldable pub daysWeights : Tables → List ℕ
+daysWeights t = byMember t (λ m. cond (defaulted t m) 0 (openWeight t m))

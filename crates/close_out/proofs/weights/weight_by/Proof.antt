@@ -64,7 +64,7 @@ mul-sum-2 c = let a = c .before .before .before .before .before .before .args in
     let l = c .before .before .before .before .loop in
     let net = getD (a .lots .now) (rowPlace (l .contract) (a .member)) (pos 0) in
     let e : c .size .result ≡ natAbs net = c .size .ensures ∙ ap natAbs (read-back net (c .before .size-arg .given)) in
-    omega (arith, mul-le-mul (c .before .before .before .before .before .before .pre .0 .1 (l .contract)) (rw (← e) at (c .before .before .before .before .before .before .pre .1 .1 .each (l .contract) (a .member) (omega arith) (omega arith))))
+    omega (arith, mul-le-mul (c .before .before .before .before .before .before .pre .0 .1 (l .contract)) (rw (← e) at (c .before .before .before .before .before .before .pre .1 .1 .within (l .contract) (a .member) (omega arith) (omega arith))))
 
 -- src/weights.rt:46:9
 add-sum : tie.Need-add-sum Inv-loop μ-loop
@@ -72,7 +72,7 @@ add-sum c = let a = c .before .before .before .before .before .before .args in
     let l = c .before .before .before .before .loop in
     let net = getD (a .lots .now) (rowPlace (l .contract) (a .member)) (pos 0) in
     let e : c .size .result ≡ natAbs net = c .size .ensures ∙ ap natAbs (read-back net (c .before .size-arg .given)) in
-    omega (arith, mul-le-mul (c .before .before .before .before .before .before .pre .0 .1 (l .contract)) (rw (← e) at (c .before .before .before .before .before .before .pre .1 .1 .each (l .contract) (a .member) (omega arith) (omega arith))))
+    omega (arith, mul-le-mul (c .before .before .before .before .before .before .pre .0 .1 (l .contract)) (rw (← e) at (c .before .before .before .before .before .before .pre .1 .1 .within (l .contract) (a .member) (omega arith) (omega arith))))
 
 -- src/weights.rt:47:9
 add-contract : tie.Need-add-contract Inv-loop μ-loop
@@ -88,7 +88,7 @@ loop-again c = let a = c .before .before .before .before .before .before .args i
     let l = c .before .before .before .before .loop in
     let net = getD (a .lots .now) (rowPlace (l .contract) (a .member)) (pos 0) in
     let e : c .size .result ≡ natAbs net = c .size .ensures ∙ ap natAbs (read-back net (c .before .size-arg .given)) in
-    let most = mul-le-mul (c .before .before .before .before .before .before .pre .0 .1 (l .contract)) (rw (← e) at (c .before .before .before .before .before .before .pre .1 .1 .each (l .contract) (a .member) (omega arith) (omega arith))) in
+    let most = mul-le-mul (c .before .before .before .before .before .before .pre .0 .1 (l .contract)) (rw (← e) at (c .before .before .before .before .before .before .pre .1 .1 .within (l .contract) (a .member) (omega arith) (omega arith))) in
     let f : ℕ → ℕ = λ k. getD (a .days .now) k 0 * natAbs (getD (a .lots .now) (rowPlace k (a .member)) (pos 0)) in
     let next = summed-next contractCount (l .contract) f (omega arith) in
     (omega arith, omega arith, rw e (omega (arith, l .inv .2)))

@@ -1,0 +1,91 @@
+use borrow.Author.Needs.{needs}
+use Rattle.close_out.proofs.booking.book_change.Statement.{statement}
+use Rattle.close_out.proofs.booking.book_change.Tie as tie
+use Rattle.close_out.proofs.booking.book_change.Reads as reads
+use Rattle.close_out.proofs.booking.book_change.Lts as lts
+use Rattle.tables.proofs.book_line.Reads as book-line-reads
+
+-- src/booking.rt:37:9
+returns : tie.Need-returns
+returns c = ?
+
+-- src/booking.rt:45:24
+sub-t16 : tie.Need-sub-t16
+sub-t16 c = search needs
+
+-- src/booking.rt:48:9
+book-line-requires : tie.Need-book-line-requires
+book-line-requires c κs = ?
+
+-- src/booking.rt:49:16
+add-result : tie.Need-add-result
+add-result c = search needs
+
+-- src/booking.rt:49:9
+same-length : tie.Need-same-length
+same-length c = search needs
+
+-- src/booking.rt:49:9
+same-length-2 : tie.Need-same-length-2
+same-length-2 c = search needs
+
+-- src/booking.rt:49:9
+same-length-3 : tie.Need-same-length-3
+same-length-3 c = search needs
+
+-- src/booking.rt:49:9
+same-length-4 : tie.Need-same-length-4
+same-length-4 c = search needs
+
+-- src/booking.rt:49:9
+returns-2 : tie.Need-returns-2
+returns-2 c = ?
+
+-- src/booking.rt:59:5
+book-line-requires-2 : tie.Need-book-line-requires-2
+book-line-requires-2 c κs = ?
+
+-- src/booking.rt:60:5
+add-result-2 : tie.Need-add-result-2
+add-result-2 c = search needs
+
+-- src/booking.rt:18:1
+same-length-5 : tie.Need-same-length-5
+same-length-5 c = search needs
+
+-- src/booking.rt:18:1
+same-length-6 : tie.Need-same-length-6
+same-length-6 c = search needs
+
+-- src/booking.rt:18:1
+same-length-7 : tie.Need-same-length-7
+same-length-7 c = search needs
+
+-- src/booking.rt:18:1
+same-length-8 : tie.Need-same-length-8
+same-length-8 c = search needs
+
+-- src/booking.rt:18:1
+returns-3 : tie.Need-returns-3
+returns-3 c = ?
+
+pub book-change-spec : {M : Type 1} → statement M
+book-change-spec =
+    tie.close
+    (tie.spec
+    returns
+    sub-t16
+    book-line-requires
+    add-result
+    same-length
+    same-length-2
+    same-length-3
+    same-length-4
+    returns-2
+    book-line-requires-2
+    add-result-2
+    same-length-5
+    same-length-6
+    same-length-7
+    same-length-8
+    returns-3)
