@@ -2,24 +2,26 @@
 use Prim.Native.Nat.{ℕ, zero, suc, _+_, _*_, _-_, _≤_, _<_}
 use mathlib.Core.Path.{_≡_, refl, sym, ap, _∙_}
 use mathlib.Core.Bool.{Bool, true, false, cond}
-use mathlib.Core.List.{List, [], _∷_, _++_, append-nil, append-assoc}
+use mathlib.Core.List.{List, [], _∷_, _++_, zipWith, append-nil, append-assoc}
 use native.Mathlib.Omega.{arith}
 use native.Mathlib.Nat.{add-zero, zero-add, add-suc, suc-add}
 use native.Mathlib.Numerals.{add-one}
 use lib.Dec.{eqb, ltb}
 use lib.IntN.{ℤ, pos, negsuc, negℤ, subℕ, natAbs, _-ℤ_}
-use lib.ListN.{length, length-append}
+use lib.ListN.{length, getD, drop, length-append, drop-of-length-le}
+use lib.Seq.{drop-cons}
 use borrow.Author.Tests.{eq-eqb, ne-eqb, lt-ltb, le-ltb}
 use Rattle.arith.proofs.Signed.{abs-neg}
 use Rattle.arith.specs.Sizes.{abs-plus}
-use Rattle.arith.specs.Tests.{by-bool}
+use Rattle.arith.specs.Columns.{total-next}
+use Rattle.arith.specs.Tests.{by-bool, same-or}
 use Rattle.rules.specs.declared.order.Side.the-variants.{Buy, Sell}
-use Rattle.rules.specs.Default.{changeLines}
+use Rattle.rules.specs.Default.{sumOf, changeLines}
 use Rattle.rules.specs.Ledger.{Tables, Line, booked}
 use Rattle.rules.specs.Matching.{signed}
 use Rattle.tables.proofs.Booked.{booked-none, booked-more}
 use Rattle.tables.specs.Lines.{withLine}
-use Rattle.close_out.specs.Booking.{withEach}
+use Rattle.close_out.specs.Booking.{withEach, changes}
 
 -- ---- gains less losses
 minus-same : (a b : ℕ) → a ≡ b → pos a -ℤ pos b ≡ pos 0
@@ -92,3 +94,24 @@ booked-each ls (m ∷ ms) t h =
 
 pub each-booked : (ls : List Line) (t : Tables) → 6 < length (t .head) → withEach 0 ls t ≡ booked ls t .after
 each-booked ls t h = rw (booked-none t) at (booked-each [] ls t h)
+
+pub change-most : (c p m : ℕ) (z : ℤ) → length (changeLines c p m (z ∷ [])) ≤ 1
+change-most c p m z = same-or (natAbs z) 0 (λ e. rw (change-none c p m z e) (omega arith)) (λ d. rw (change-one c p m z d) (omega arith))
+
+-- ---- columns of gains and losses, read from place m on
+module _ (gains losses : List ℕ) (m : ℕ) (here : m < length gains) (there : m < length losses) where
+  pub changes-next : changes (drop m gains) (drop m losses) ≡ (pos (getD gains m 0) -ℤ pos (getD losses m 0)) ∷ changes (drop (m + 1) gains) (drop (m + 1) losses)
+  unfolding zipWith
+  changes-next = rw (add-one, drop-cons gains m 0 here, drop-cons losses m 0 there)
+
+  pub lines-next : (c p : ℕ) → changeLines c p m (changes (drop m gains) (drop m losses))
+      ≡ changeLines c p m ((pos (getD gains m 0) -ℤ pos (getD losses m 0)) ∷ []) ++ changeLines c p (m + 1) (changes (drop (m + 1) gains) (drop (m + 1) losses))
+  lines-next c p = ap (changeLines c p m) changes-next ∙ change-cons c p m _ _ ∙ rw (add-one m)
+
+pub lines-end : (c p m : ℕ) (gains losses : List ℕ) → length gains ≤ m → changeLines c p m (changes (drop m gains) (drop m losses)) ≡ []
+unfolding zipWith changeLines
+lines-end c p m gains losses h = rw (drop-of-length-le gains h)
+
+pub sum-next : (ns : List ℕ) (m : ℕ) → m < length ns → sumOf (drop m ns) ≡ getD ns m 0 + sumOf (drop (m + 1) ns)
+unfolding sumOf
+sum-next ns m h = total-next ns m (λ n. n) 0 h

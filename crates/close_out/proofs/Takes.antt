@@ -93,3 +93,16 @@ takes-change room i c p m z t below ok f =
     same-or (natAbs z) 0
     (λ e. rw (change-none c p m z e, each-none i t) (rw (e, zero-add room) at f))
     (λ d. rw (change-one c p m z d, each-one i (record { member = m; contract = c; lots = z; price = p }) t) (takes-line room i _ t below ok f))
+
+pub less-room : (a b : ℕ) {head : List ℕ} {lots value lines : List ℤ} → a ≤ b → Bookable b head lots value lines → Bookable a head lots value lines
+less-room a b h f =
+    record { head-fit = f .head-fit; lots-fit = f .lots-fit; value-fit = f .value-fit; lines-long = f .lines-long; most-run = omega (arith, f .most-run) }
+
+line-members : (i : ℕ) (l : Line) (t : Tables) → membersIn (withLine i l t .head) ≡ membersIn (t .head)
+unfolding withLine
+line-members i l t = getD-set-other (t .head) 6 1 (lotsRun t + natAbs (l .lots)) 0 (λ e. omega arith)
+
+pub each-members : (i : ℕ) (ls : List Line) (t : Tables) → membersIn (withEach i ls t .head) ≡ membersIn (t .head)
+unfolding withEach
+each-members i [] t = refl
+each-members i (l ∷ ls) t = each-members (suc i) ls (withLine i l t) ∙ line-members i l t
