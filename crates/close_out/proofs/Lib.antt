@@ -1,3 +1,5 @@
 mod Changes
 mod Takes
 mod Running
+mod DayWeights
+mod Steps

@@ -2,3 +2,5 @@
 mod columns;
 mod weights;
 mod booking;
+mod netting;
+mod takers;

@@ -1,0 +1,71 @@
+use borrow.Author.Needs.{needs}
+use Rattle.close_out.proofs.netting.book_netting.Statement.{statement}
+use Rattle.close_out.proofs.netting.book_netting.Tie as tie
+use Rattle.close_out.proofs.netting.book_netting.Reads as reads
+use Rattle.close_out.proofs.netting.book_netting.Lts as lts
+use Rattle.close_out.proofs.netting.net_columns.Reads as net-columns-reads
+
+-- src/netting.rt:101:9
+array-borrow-prefix-given-longs : tie.Need-array-borrow-prefix-given-longs
+array-borrow-prefix-given-longs c = search needs
+
+-- src/netting.rt:101:9
+slice-aggregate-net-columns : tie.Need-slice-aggregate-net-columns
+slice-aggregate-net-columns c = ?
+
+-- src/netting.rt:102:9
+array-borrow-prefix-given-shorts : tie.Need-array-borrow-prefix-given-shorts
+array-borrow-prefix-given-shorts c = search needs
+
+-- src/netting.rt:102:9
+slice-aggregate-net-columns-2 : tie.Need-slice-aggregate-net-columns-2
+slice-aggregate-net-columns-2 c = ?
+
+-- src/netting.rt:91:5
+net-columns-requires : tie.Need-net-columns-requires
+net-columns-requires c κs = ?
+
+-- src/netting.rt:69:1
+same-length : tie.Need-same-length
+same-length c = search needs
+
+-- src/netting.rt:69:1
+same-length-2 : tie.Need-same-length-2
+same-length-2 c = search needs
+
+-- src/netting.rt:69:1
+same-length-3 : tie.Need-same-length-3
+same-length-3 c = search needs
+
+-- src/netting.rt:69:1
+same-length-4 : tie.Need-same-length-4
+same-length-4 c = search needs
+
+-- src/netting.rt:69:1
+same-length-5 : tie.Need-same-length-5
+same-length-5 c = search needs
+
+-- src/netting.rt:69:1
+same-length-6 : tie.Need-same-length-6
+same-length-6 c = search needs
+
+-- src/netting.rt:69:1
+returns : tie.Need-returns
+returns c = search needs
+
+pub book-netting-spec : {M : Type 1} → statement M
+book-netting-spec =
+    tie.close
+    (tie.spec
+    array-borrow-prefix-given-longs
+    slice-aggregate-net-columns
+    array-borrow-prefix-given-shorts
+    slice-aggregate-net-columns-2
+    net-columns-requires
+    same-length
+    same-length-2
+    same-length-3
+    same-length-4
+    same-length-5
+    same-length-6
+    returns)
