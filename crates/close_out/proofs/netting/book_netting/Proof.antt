@@ -1,3 +1,6 @@
+use mathlib.Core.Path.{_≡_, refl, sym, ap, _∙_}
+use native.Mathlib.Omega.{arith}
+use lib.ListN.{length, length-take}
 use borrow.Author.Needs.{needs}
 use Rattle.close_out.proofs.netting.book_netting.Statement.{statement}
 use Rattle.close_out.proofs.netting.book_netting.Tie as tie
@@ -7,23 +10,23 @@ use Rattle.close_out.proofs.netting.net_columns.Reads as net-columns-re
 
 -- src/netting.rt:101:9
 array-borrow-prefix-given-longs : tie.Need-array-borrow-prefix-given-longs
-array-borrow-prefix-given-longs c = search needs
+array-borrow-prefix-given-longs c = omega (arith, c .before .before .before .before .before .before .before .before .before .pre .0 .head-fit .most-members, c .before .before .before .before .before .before .before .before .before .pre .1 .2)
 
 -- src/netting.rt:101:9
 slice-aggregate-net-columns : tie.Need-slice-aggregate-net-columns
-slice-aggregate-net-columns c = ?
+slice-aggregate-net-columns c = simp length-take (omega (arith, c .before .before .before .before .before .before .before .before .before .before .pre .0 .head-fit .most-members, c .before .before .before .before .before .before .before .before .before .before .pre .1 .2))
 
 -- src/netting.rt:102:9
 array-borrow-prefix-given-shorts : tie.Need-array-borrow-prefix-given-shorts
-array-borrow-prefix-given-shorts c = search needs
+array-borrow-prefix-given-shorts c = omega (arith, c .before .before .before .before .before .before .before .before .before .before .pre .0 .head-fit .most-members, c .before .before .before .before .before .before .before .before .before .before .pre .1 .2)
 
 -- src/netting.rt:102:9
 slice-aggregate-net-columns-2 : tie.Need-slice-aggregate-net-columns-2
-slice-aggregate-net-columns-2 c = ?
+slice-aggregate-net-columns-2 c = simp length-take (omega (arith, c .before .before .before .before .before .before .before .before .before .before .before .pre .0 .head-fit .most-members, c .before .before .before .before .before .before .before .before .before .before .before .pre .1 .2))
 
 -- src/netting.rt:91:5
 net-columns-requires : tie.Need-net-columns-requires
-net-columns-requires c κs = ?
+net-columns-requires c κs = (c .before .before .before .before .before .before .before .before .before .before .before .pre .0, (c .before .before .before .before .before .before .before .before .before .before .before .pre .1, (simp length-take (omega (arith, c .before .before .before .before .before .before .before .before .before .before .before .pre .0 .head-fit .most-members, c .before .before .before .before .before .before .before .before .before .before .before .pre .1 .2)), simp length-take (omega (arith, c .before .before .before .before .before .before .before .before .before .before .before .pre .0 .head-fit .most-members, c .before .before .before .before .before .before .before .before .before .before .before .pre .1 .2)))))
 
 -- src/netting.rt:69:1
 same-length : tie.Need-same-length

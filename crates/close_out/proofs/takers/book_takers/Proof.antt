@@ -1,3 +1,7 @@
+use mathlib.Core.Path.{_≡_, refl, sym, ap, _∙_}
+use native.Mathlib.Omega.{arith}
+use lib.ListN.{length, length-take}
+use Rattle.close_out.proofs.Steps.{zeros-front}
 use borrow.Author.Needs.{needs}
 use Rattle.close_out.proofs.takers.book_takers.Statement.{statement}
 use Rattle.close_out.proofs.takers.book_takers.Tie as tie
@@ -11,7 +15,7 @@ array-borrow-prefix-taken c = search needs
 
 -- src/takers.rt:97:9
 slice-aggregate-deal-columns : tie.Need-slice-aggregate-deal-columns
-slice-aggregate-deal-columns c = ?
+slice-aggregate-deal-columns c = simp length-take (omega (arith, c .before .before .before .before .before .before .before .pre .0 .1 .few))
 
 -- src/takers.rt:98:9
 array-share-prefix-nothing : tie.Need-array-share-prefix-nothing
@@ -19,11 +23,11 @@ array-share-prefix-nothing c = search needs
 
 -- src/takers.rt:98:9
 slice-aggregate-deal-columns-2 : tie.Need-slice-aggregate-deal-columns-2
-slice-aggregate-deal-columns-2 c = ?
+slice-aggregate-deal-columns-2 c = simp length-take (omega (arith, c .before .before .before .before .before .before .before .before .pre .0 .1 .few))
 
 -- src/takers.rt:86:5
 deal-columns-requires : tie.Need-deal-columns-requires
-deal-columns-requires c κs = ?
+deal-columns-requires c κs = (c .before .before .before .before .before .before .before .before .pre .0, (c .before .before .before .before .before .before .before .before .pre .1, (simp length-take (omega (arith, c .before .before .before .before .before .before .before .before .pre .0 .1 .few, c .before .before .before .before .before .before .before .before .pre .1 .3)), rw (← c .before .before .before .before .before .before .before .before .pre .1 .3) (zeros-front (length (c .before .before .before .before .before .before .before .before .args .weights .now)) 32 (omega (arith, c .before .before .before .before .before .before .before .before .pre .0 .1 .few))))))
 
 -- src/takers.rt:65:1
 same-length : tie.Need-same-length

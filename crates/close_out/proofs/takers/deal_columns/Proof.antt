@@ -1,3 +1,4 @@
+use Rattle.tables.specs.Fit.{membersIn}
 use mathlib.Core.Path.{_≡_, refl, sym, ap, _∙_}
 use native.Mathlib.Omega.{arith}
 use lib.ListN.{length, length-replicate}
@@ -22,9 +23,10 @@ deal-out-requires c κs = ((omega (arith, c .before .before .before .before .bef
 book-changes-requires : tie.Need-book-changes-requires
 book-changes-requires c κs = let a = c .before .before .before .before .before .before .before .before .before .before .before .before .before .before .args in
     let d = ap sumOf (c .before .before .before .before .before .before .before .before .deal-out .ensures) ∙ all-dealt (a .left) (a .weights .now) (c .before .before .before .before .before .before .before .before .before .before .before .before .before .before .pre .0 .2) in
-    let z = ap sumOf (c .before .before .before .before .before .before .before .before .before .before .before .before .before .before .pre .1 .1 .1) ∙ sum-zeros _ in
+    let n = membersIn (a .head .now) in
+    let z : sumOf (a .nothing .now) ≡ 0 = ap sumOf (c .before .before .before .before .before .before .before .before .before .before .before .before .before .before .pre .1 .1 .1) ∙ sum-zeros n in
     let wide = c .before .before .before .before .before .before .before .before .deal-out .kept .1 .1 .0 ∙ c .before .before .before .before .before .before .before .before .before .before .before .before .before .before .pre .1 .1 .0 in
-    let none = ap length (c .before .before .before .before .before .before .before .before .before .before .before .before .before .before .pre .1 .1 .1) ∙ length-replicate _ _ in
+    let none : length (a .nothing .now) ≡ n = ap length (c .before .before .before .before .before .before .before .before .before .before .before .before .before .before .pre .1 .1 .1) ∙ length-replicate n 0 in
     (less-room _ _ (omega (arith, d, z)) (c .before .before .before .before .before .before .before .before .before .before .before .before .before .before .pre .0 .0), ((omega (arith, wide, c .before .before .before .before .before .before .before .before .before .before .before .before .before .before .pre .1 .0 .2, c .before .before .before .before .before .before .before .before .before .before .before .before .before .before .pre .1 .0 .3), c .before .before .before .before .before .before .before .before .before .before .before .before .before .before .pre .1 .0 .0, c .before .before .before .before .before .before .before .before .before .before .before .before .before .before .pre .1 .0 .1), (wide, none ∙ sym wide)))
 
 -- src/takers.rt:39:9
@@ -58,9 +60,10 @@ returns c = let a = c .before .before .before .before .before .before .before .b
 book-changes-requires-2 : tie.Need-book-changes-requires-2
 book-changes-requires-2 c κs = let a = c .before .before .before .before .before .before .before .before .before .before .before .before .before .before .args in
     let d = ap sumOf (c .before .before .before .before .before .before .before .before .deal-out .ensures) ∙ all-dealt (a .left) (a .weights .now) (c .before .before .before .before .before .before .before .before .before .before .before .before .before .before .pre .0 .2) in
-    let z = ap sumOf (c .before .before .before .before .before .before .before .before .before .before .before .before .before .before .pre .1 .1 .1) ∙ sum-zeros _ in
+    let n = membersIn (a .head .now) in
+    let z : sumOf (a .nothing .now) ≡ 0 = ap sumOf (c .before .before .before .before .before .before .before .before .before .before .before .before .before .before .pre .1 .1 .1) ∙ sum-zeros n in
     let wide = c .before .before .before .before .before .before .before .before .deal-out .kept .1 .1 .0 ∙ c .before .before .before .before .before .before .before .before .before .before .before .before .before .before .pre .1 .1 .0 in
-    let none = ap length (c .before .before .before .before .before .before .before .before .before .before .before .before .before .before .pre .1 .1 .1) ∙ length-replicate _ _ in
+    let none : length (a .nothing .now) ≡ n = ap length (c .before .before .before .before .before .before .before .before .before .before .before .before .before .before .pre .1 .1 .1) ∙ length-replicate n 0 in
     (less-room _ _ (omega (arith, d, z)) (c .before .before .before .before .before .before .before .before .before .before .before .before .before .before .pre .0 .0), ((omega (arith, none, c .before .before .before .before .before .before .before .before .before .before .before .before .before .before .pre .1 .0 .2, c .before .before .before .before .before .before .before .before .before .before .before .before .before .before .pre .1 .0 .3), c .before .before .before .before .before .before .before .before .before .before .before .before .before .before .pre .1 .0 .0, c .before .before .before .before .before .before .before .before .before .before .before .before .before .before .pre .1 .0 .1), (none, wide ∙ sym none)))
 
 -- src/takers.rt:16:1
