@@ -2,4 +2,5 @@ mod Changes
 mod Takes
 mod Running
 mod DayWeights
-mod Steps
+mod StepColumns
+mod Runs

@@ -1,5 +1,6 @@
 -- Lines of a close-out, and tables with several lines booked one after the other.
-use Prim.Native.Nat.{ℕ, suc, _+_, _*_, _≤_}
+use Prim.Native.Nat.{ℕ, suc, _+_, _*_, _≤_, _<_}
+use mathlib.Core.Path.{_≡_}
 use mathlib.Core.Bool.{cond}
 use mathlib.Core.List.{List, [], _∷_, _++_, map, zipWith}
 use lib.Dec.{ltb}
@@ -10,6 +11,7 @@ use Rattle.rules.specs.Ledger.{Tables, Line, linesLength}
 use Rattle.rules.specs.Ranges.{mostPrice, mostLotsRun}
 use Rattle.tables.specs.Fit.{HeadFit, RowsFit, membersIn, lotsRunIn}
 use Rattle.tables.specs.Lines.{withLine}
+use Rattle.dealing.specs.Levels.{mostWeight, Column}
 
 -- Lines booked one after the other, the first as line i.
 unfoldable pub withEach : ℕ → List Line → Tables → Tables
@@ -37,3 +39,17 @@ pub record Bookable (room : ℕ) (head : List ℕ) (lots value lines : List ℤ)
   pub value-fit : RowsFit (membersIn head) (mostPrice * lotsRunIn head) value
   pub lines-long : linesLength ≤ length lines
   pub most-run : lotsRunIn head + room ≤ mostLotsRun
+
+unfoldable pub stepLines : ℕ → ℕ → ℕ → ℕ → List ℕ → List ℕ → List ℕ → List Line
+stepLines c p q l longs shorts weights =
+    nettingLines c p q longs shorts ++ (defaultedLines c p q longs shorts ++ takerLines c p (sumOf (less longs (givenUp q longs))) l weights)
+
+-- Columns of a close-out: q lots are netted, l are left, and there are weights to deal them out by.
+pub record Dealable (q l members : ℕ) (longs shorts weights : List ℕ) : Type 0 where
+  pub longs-length : length longs ≡ members
+  pub shorts-length : length shorts ≡ members
+  pub weights-length : length weights ≡ members
+  pub longs-column : Column mostWeight longs
+  pub weights-column : Column mostWeight weights
+  pub left : l ≡ sumOf (less longs (givenUp q longs)) + sumOf (less shorts (givenUp q shorts))
+  pub takers : 0 < l → 0 < sumOf weights

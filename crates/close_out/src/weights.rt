@@ -9,12 +9,17 @@ ghost use lib.ListN.{length, getD};
 ghost use Rattle.arith.specs.Lists.{from};
 ghost use Rattle.calendar.specs.Bounds.{FirstYear};
 ghost use Rattle.rules.specs.Contracts.{daysOf, openOn};
-ghost use Rattle.rules.specs.Ranges.{contractCount, mostMembers, mostLotsRun};
-ghost use Rattle.dealing.specs.Levels.{mostDays};
+ghost use Rattle.rules.specs.Ranges.{contractCount, mostMembers, mostLotsRun, mostRatio};
+ghost use Rattle.rules.specs.Default.{lotsLeft, weights};
+ghost use Rattle.dealing.specs.Levels.{mostDays, mostWeight, Column};
 ghost use Rattle.rules.specs.Ledger.{Tables, withHead, withRows, marksFrom};
 ghost use Rattle.tables.specs.Fit.{HeadFit, RowsFit, membersIn};
 ghost use Rattle.close_out.specs.Columns.{openDays, weightBy, daysWeights};
+use crate::columns::Part;
+use crate::columns::read_column;
 use crate::columns::size;
+use dealing::sum_of;
+use rules::CloseOutTerms;
 use rules::DayNo;
 use rules::layout::CONTRACTS;
 use rules::layout::DAY;
@@ -23,6 +28,8 @@ use rules::layout::HOLIDAYS;
 use rules::layout::HOLIDAY_COUNT;
 use rules::layout::MARKS;
 use rules::layout::ROW_WIDTH;
+
+const PER_MILLE: u64 = 1000;
 
 fn days_if_open(first_year: u64, holidays: &[u64], day: DayNo, contract: u64) -> u64
     requires { ⌜ FirstYear «first_year» × (contract < contractCount) ⌝ }
@@ -85,4 +92,19 @@ pub fn weigh_by_days(head: &[u64], lots: &[i64], weights: &mut [u64])
         &mut days[..],
     );
     weigh(head, lots, &days[..], weights);
+}
+
+// By days if 1000 L ≥ ratio times the others' lots here; else by these.
+pub fn find_weights(head: &[u64], lots: &[i64], e: CloseOutTerms, left: u64, column: &mut [u64])
+    requires { ⌜ HeadFit (now head) × RowsFit (membersIn (now head)) mostLotsRun (now lots) × (length (now column) ≡ membersIn (now head)) ⌝ }
+    requires { ⌜ (e .contract < contractCount) × (e .ratio ≤ mostRatio) × (left ≤ mostMembers * mostLotsRun) ⌝ }
+    ensures { λ _. ⌜ ((t : Tables) (v : List ℤ) → lotsLeft (withHead (now (head .entry)) (withRows (now (lots .entry)) v t)) (e .contract) ≡ left → now (column .exit) ≡ weights (withHead (now (head .entry)) (withRows (now (lots .entry)) v t)) e) ⌝ }
+    ensures { λ _. ⌜ Column mostWeight (now (column .exit)) ⌝ }
+{
+    let ratio = e.ratio;
+    read_column(Part::Others, head, lots, e.contract, &mut *column);
+    if PER_MILLE * left < ratio * sum_of(&column[..]) {
+        return;
+    }
+    weigh_by_days(head, lots, column);
 }

@@ -1,4 +1,4 @@
-use Rattle.close_out.proofs.Steps.{netting-count, netting-tables, netting-room, left-is, given-fits}
+use Rattle.close_out.proofs.StepColumns.{netting-count, netting-tables, netting-room, left-is, given-fits}
 use mathlib.Core.Path.{_≡_, refl, sym, ap, _∙_}
 use native.Mathlib.Omega.{arith}
 use lib.ListN.{length}

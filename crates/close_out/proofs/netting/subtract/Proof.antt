@@ -6,7 +6,7 @@ use native.Mathlib.Omega.{arith}
 use lib.ListN.{length, getD, take, drop, length-set}
 use Rattle.arith.specs.Columns.{written-next, written-end}
 use Rattle.rules.specs.Default.{less}
-use Rattle.close_out.proofs.Steps.{less-end, still-at, still-after, left-next}
+use Rattle.close_out.proofs.StepColumns.{less-end, still-at, still-after, left-next}
 use Rattle.close_out.proofs.netting.subtract.Statement.{statement}
 use Rattle.close_out.proofs.netting.subtract.Tie as tie
 use Rattle.close_out.proofs.netting.subtract.Reads as reads

@@ -1,7 +1,7 @@
 use mathlib.Core.Path.{_≡_, refl, sym, ap, _∙_}
 use native.Mathlib.Omega.{arith}
 use lib.ListN.{length, length-take}
-use Rattle.close_out.proofs.Steps.{zeros-front}
+use Rattle.close_out.proofs.StepColumns.{zeros-front}
 use borrow.Author.Needs.{needs}
 use Rattle.close_out.proofs.takers.book_takers.Statement.{statement}
 use Rattle.close_out.proofs.takers.book_takers.Tie as tie

@@ -1,0 +1,122 @@
+use borrow.Author.Needs.{needs}
+use Rattle.close_out.proofs.apply.Statement.{statement}
+use Rattle.close_out.proofs.apply.Tie as tie
+use Rattle.close_out.proofs.apply.Reads as reads
+use Rattle.close_out.proofs.apply.Lts as lts
+use Rattle.close_out.proofs.close_out_lots.Reads as close-out-lots-reads
+use Rattle.tables.proofs.is_contract_open.Reads as is-contract-open-reads
+
+-- src/lib.rt:100:9
+is-contract-open-requires : tie.Need-is-contract-open-requires
+is-contract-open-requires c κs = search needs
+
+-- src/lib.rt:101:9
+same-length : tie.Need-same-length
+same-length c = search needs
+
+-- src/lib.rt:101:9
+returns : tie.Need-returns
+returns c = ?
+
+-- src/lib.rt:103:24
+mul-price : tie.Need-mul-price
+mul-price c = search needs
+
+-- src/lib.rt:103:24
+add-price : tie.Need-add-price
+add-price c = search needs
+
+-- src/lib.rt:103:17
+mul-price-2 : tie.Need-mul-price-2
+mul-price-2 c = search needs
+
+-- src/lib.rt:103:17
+shared-slice-read-price : tie.Need-shared-slice-read-price
+shared-slice-read-price c = search needs
+
+-- src/lib.rt:105:9
+same-length-2 : tie.Need-same-length-2
+same-length-2 c = search needs
+
+-- src/lib.rt:105:9
+returns-2 : tie.Need-returns-2
+returns-2 c = ?
+
+-- src/lib.rt:107:19
+slice-read-members : tie.Need-slice-read-members
+slice-read-members c = search needs
+
+-- src/lib.rt:118:9
+array-borrow-prefix-longs : tie.Need-array-borrow-prefix-longs
+array-borrow-prefix-longs c = search needs
+
+-- src/lib.rt:118:9
+slice-aggregate-close-out-lots : tie.Need-slice-aggregate-close-out-lots
+slice-aggregate-close-out-lots c = ?
+
+-- src/lib.rt:119:9
+array-borrow-prefix-shorts : tie.Need-array-borrow-prefix-shorts
+array-borrow-prefix-shorts c = search needs
+
+-- src/lib.rt:119:9
+slice-aggregate-close-out-lots-2 : tie.Need-slice-aggregate-close-out-lots-2
+slice-aggregate-close-out-lots-2 c = ?
+
+-- src/lib.rt:120:9
+array-borrow-prefix-weights : tie.Need-array-borrow-prefix-weights
+array-borrow-prefix-weights c = search needs
+
+-- src/lib.rt:120:9
+slice-aggregate-close-out-lots-3 : tie.Need-slice-aggregate-close-out-lots-3
+slice-aggregate-close-out-lots-3 c = ?
+
+-- src/lib.rt:111:5
+close-out-lots-requires : tie.Need-close-out-lots-requires
+close-out-lots-requires c κs = ?
+
+-- src/lib.rt:86:1
+same-length-3 : tie.Need-same-length-3
+same-length-3 c = search needs
+
+-- src/lib.rt:86:1
+same-length-4 : tie.Need-same-length-4
+same-length-4 c = search needs
+
+-- src/lib.rt:86:1
+same-length-5 : tie.Need-same-length-5
+same-length-5 c = search needs
+
+-- src/lib.rt:86:1
+same-length-6 : tie.Need-same-length-6
+same-length-6 c = search needs
+
+-- src/lib.rt:86:1
+returns-3 : tie.Need-returns-3
+returns-3 c = ?
+
+pub apply-spec : {M : Type 1} → statement M
+apply-spec =
+    tie.close
+    (tie.spec
+    is-contract-open-requires
+    same-length
+    returns
+    mul-price
+    add-price
+    mul-price-2
+    shared-slice-read-price
+    same-length-2
+    returns-2
+    slice-read-members
+    array-borrow-prefix-longs
+    slice-aggregate-close-out-lots
+    array-borrow-prefix-shorts
+    slice-aggregate-close-out-lots-2
+    array-borrow-prefix-weights
+    slice-aggregate-close-out-lots-3
+    close-out-lots-requires
+    same-length-3
+    same-length-4
+    same-length-5
+    same-length-6
+    returns-3)
