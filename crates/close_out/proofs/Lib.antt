@@ -4,3 +4,4 @@ mod Running
 mod DayWeights
 mod StepColumns
 mod Runs
+mod StepBooking

@@ -18,7 +18,7 @@ use Rattle.close_out.proofs.Takes.{Sound, Takes, less-room, takes-chang
 abbrev pub put : List ℕ → List ℤ → List ℤ → List ℤ → Tables → Tables
 put head lots value lines t = withHead head (withRows lots value (withLines lines t))
 
-blank : Tables
+pub blank : Tables
 blank = record { head = []; prices = []; lots = []; value = []; book = []; lines = [] }
 
 module _ (c p i : ℕ) (gains losses : List ℕ) (start : Tables → Tables) where
