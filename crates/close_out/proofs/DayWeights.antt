@@ -45,7 +45,7 @@ cond-times : (b : Bool) (x y : ℕ) → cond b x 0 * y ≡ cond b (x * y) 0
 cond-times true x y = refl
 cond-times false x y = zero-mul y
 
-open-weight : (t : Tables) (m : ℕ) → weightBy (openDays (calendar t) (day t)) (t .lots) m ≡ openWeight t m
+pub open-weight : (t : Tables) (m : ℕ) → weightBy (openDays (calendar t) (day t)) (t .lots) m ≡ openWeight t m
 unfolding weightBy openWeight
 open-weight t m =
     let k = calendar t in

@@ -5,3 +5,4 @@ mod DayWeights
 mod StepColumns
 mod Runs
 mod StepBooking
+mod ColumnFits
