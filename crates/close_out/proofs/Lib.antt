@@ -6,3 +6,4 @@ mod StepColumns
 mod Runs
 mod StepBooking
 mod ColumnFits
+mod Verdicts

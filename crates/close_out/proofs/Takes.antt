@@ -64,7 +64,7 @@ pub record Sound (t : Tables) (l : Line) : Type 0 where
 worth-less : (run : ℕ) (l : Line) → l .price ≤ mostPrice → natAbs (lineValue l) ≤ mostPrice * natAbs (l .lots)
 worth-less run l h = rw (abs-times (l .lots) (pos (l .price))) (omega (arith, mul-le-mul-left (natAbs (l .lots)) h))
 
-rows-wider : (n a b : ℕ) (rows : List ℤ) → a ≤ b → RowsFit n a rows → RowsFit n b rows
+pub rows-wider : (n a b : ℕ) (rows : List ℤ) → a ≤ b → RowsFit n a rows → RowsFit n b rows
 rows-wider n a b rows h f = record { long = f .long; within = λ c m p q. omega (arith, f .within c m p q) }
 
 pub takes-line : (room i : ℕ) (l : Line) (t : Tables) → i < leastLines → Sound t l → Takes (natAbs (l .lots) + room) t → Takes room (withLine i l t)
