@@ -68,6 +68,12 @@ columns-apart t c = mapped-apart (λ m. cond (defaulted t m) (dn (lotsAt t c m))
 apart-less : (xs ys xs′ ys′ : List ℕ) → ((i : ℕ) → getD xs′ i 0 ≤ getD xs i 0) → ((i : ℕ) → getD ys′ i 0 ≤ getD ys i 0) → Apart xs ys → Apart xs′ ys′
 apart-less xs ys xs′ ys′ f g a i = omega (arith, f i, g i, a i)
 
+least-left : (q a b : ℕ) → q ≡ min a b → min q a ≡ q
+least-left q a b e = omega arith
+
+least-right : (q a b : ℕ) → q ≡ min a b → min q b ≡ q
+least-right q a b e = omega arith
+
 -- ---- the lines in the code's terms
 spec-lines : (t : Tables) (e : CloseOutTerms) → closeOutLines t e
     ≡ stepLines (e .contract) (ggf t (e .contract)) (smallerTotal t (e .contract)) (lotsLeft t (e .contract)) (defaultedLongs t (e .contract)) (defaultedShorts t (e .contract)) (weights t e)
@@ -95,7 +101,10 @@ module _ (t : Tables) (e : CloseOutTerms) (longs shorts : List ℕ) (el : longs 
   smaller-is = rw (dl, ds, ← nl, ← ns) (sym nq)
 
   left-of : sumOf (less longs (givenUp q longs)) + sumOf (less shorts (givenUp q shorts)) ≡ l
-  left-of = omega (arith, left-sum q longs, left-sum q shorts)
+  left-of =
+      let ll : sumOf (less longs (givenUp q longs)) ≡ long - q = left-sum q longs ∙ rw (← nl, least-left q long short nq) in
+      let ls : sumOf (less shorts (givenUp q shorts)) ≡ short - q = left-sum q shorts ∙ rw (← ns, least-right q long short nq) in
+      rw (ll, ls) (sym nr)
 
   pub left-is : lotsLeft t c ≡ l
   unfolding lotsLeft longsLeft shortsLeft nettedLongs nettedShorts
@@ -111,7 +120,7 @@ module _ (t : Tables) (e : CloseOutTerms) (longs shorts : List ℕ) (el : longs 
       let gl = givenUp q longs in
       change-run c p 0 (changes gs gl)
       ∙ apart-run gs gl (given-length q shorts ∙ sym (given-length q longs ∙ wide)) (apart-less shorts longs gs gl (given-le q shorts) (given-le q longs) apart)
-      ∙ omega (arith, given-sum q shorts, given-sum q longs)
+      ∙ rw (given-sum q shorts, given-sum q longs, ← nl, ← ns, least-left q long short nq, least-right q long short nq)
 
   defaulted-run : (p : ℕ) → lineRun (defaultedLines c p q longs shorts) ≡ l
   unfolding defaultedLines
@@ -122,6 +131,13 @@ module _ (t : Tables) (e : CloseOutTerms) (longs shorts : List ℕ) (el : longs 
       ∙ apart-run ls ll (less-length shorts (givenUp q shorts) (given-length q shorts) ∙ sym (less-length longs (givenUp q longs) (given-length q longs) ∙ wide))
       (apart-less shorts longs ls ll (less-le shorts (givenUp q shorts)) (less-le longs (givenUp q longs)) apart)
       ∙ omega (arith, left-of)
+
+  takers-there : (ws : List ℕ) → ltb 0 l && eqb (sumOf ws) 0 ≡ false → 0 < l → 0 < sumOf ws
+  takers-there ws h k = le-or-lt 1 (sumOf ws) (λ p. p) (λ p. never (rw (lt-ltb 0 l k, eq-eqb (sumOf ws) 0 (omega arith)) at h))
+
+  pub dealable : (ws : List ℕ) → ltb 0 l && eqb (sumOf ws) 0 ≡ false → length longs ≡ members t → length ws ≡ members t → Column mostWeight longs → Column mostWeight ws → Dealable q l (members t) longs shorts ws
+  dealable ws h a b f g =
+      record { longs-length = a; shorts-length = sym wide ∙ a; weights-length = b; longs-column = f; weights-column = g; left = sym left-of; takers = takers-there ws h }
 
   module _ (price : ℕ) (priced : ggf t c ≡ price) (ws : List ℕ) (ew : ws ≡ weights t e) where
     lines-are : closeOutLines t e ≡ stepLines c price q l longs shorts ws
@@ -135,32 +151,31 @@ module _ (t : Tables) (e : CloseOutTerms) (longs shorts : List ℕ) (el : longs 
         let ts = takerLines c price (sumOf (less longs (givenUp q longs))) l ws in
         rw lines-are (omega (arith, run-append ns′ (fs ++ ts), run-append fs ts, netting-run price, defaulted-run price, takers-run c price (sumOf (less longs (givenUp q longs))) l ws h))
 
-    module _ (open : isOpen t c ≡ true) (some : 0 < price) where
+    booked-is : 6 < length (t .head) → (n : ℕ) (t′ : Tables) → n ≡ length (stepLines c price q l longs shorts ws) → t′ ≡ withEach 0 (stepLines c price q l longs shorts ws) t
+        → record { answer = Accepted n; after = t′ } ≡ closeOutBooked t e
+    unfolding closeOutBooked booked
+    booked-is six n t′ en et = rw (en, et, each-booked (stepLines c price q l longs shorts ws) t six, lines-are)
+
+    module _ (opened : isOpen t c ≡ true) (some : 0 < price) where
       no-price : eqb (ggf t c) 0 ≡ false
       no-price = rw priced (ne-eqb price 0 (λ z. omega arith))
 
       pub no-lots : long + short ≡ 0 → record { answer = NoDefaultedLots; after = t } ≡ closeOutSpec t e
       unfolding closeOutSpec
-      no-lots h = rw (open, no-price, lots-are, eq-eqb (long + short) 0 h)
+      no-lots h = rw (opened, no-price, lots-are, eq-eqb (long + short) 0 h)
 
       module _ (there : long + short ≡ 0 → ⊥) where
         pub no-taker : ltb 0 l && eqb (sumOf ws) 0 ≡ true → record { answer = NoTaker; after = t } ≡ closeOutSpec t e
         unfolding closeOutSpec
-        no-taker h = rw (open, no-price, lots-are, ne-eqb (long + short) 0 there, left-is, ← ew, h)
-
-        takers-there : ltb 0 l && eqb (sumOf ws) 0 ≡ false → 0 < l → 0 < sumOf ws
-        takers-there h k = le-or-lt 1 (sumOf ws) (λ p. p) (λ p. never (sym (rw (lt-ltb 0 l k, eq-eqb (sumOf ws) 0 (omega arith)) at h)))
+        no-taker h = rw (opened, no-price, lots-are, ne-eqb (long + short) 0 there, left-is, ← ew, h)
 
         pub passed : ltb 0 l && eqb (sumOf ws) 0 ≡ false → mostLotsRun < lotsRun t + ((q + q) + (l + l)) → record { answer = TotalPassed; after = t } ≡ closeOutSpec t e
         unfolding closeOutSpec
-        passed h k = rw (open, no-price, lots-are, ne-eqb (long + short) 0 there, left-is, ← ew, h, run-is (takers-there h), lt-ltb mostLotsRun (lotsRun t + ((q + q) + (l + l))) k)
+        passed h k = rw (opened, no-price, lots-are, ne-eqb (long + short) 0 there, left-is, ← ew, h, run-is (takers-there ws h), lt-ltb mostLotsRun (lotsRun t + ((q + q) + (l + l))) k)
 
         pub booked-so : ltb 0 l && eqb (sumOf ws) 0 ≡ false → lotsRun t + ((q + q) + (l + l)) ≤ mostLotsRun → 6 < length (t .head) → (n : ℕ) (t′ : Tables)
             → n ≡ length (stepLines c price q l longs shorts ws) → t′ ≡ withEach 0 (stepLines c price q l longs shorts ws) t → record { answer = Accepted n; after = t′ } ≡ closeOutSpec t e
-        unfolding closeOutSpec closeOutBooked booked
+        unfolding closeOutSpec
         booked-so h k six n t′ en et =
-            rw (open, no-price, lots-are, ne-eqb (long + short) 0 there, left-is, ← ew, h, run-is (takers-there h), le-ltb mostLotsRun (lotsRun t + ((q + q) + (l + l))) k, en, et, each-booked (stepLines c price q l longs shorts ws) t six, lines-are)
-
-        pub dealable : ltb 0 l && eqb (sumOf ws) 0 ≡ false → length longs ≡ members t → length ws ≡ members t → Column mostWeight longs → Column mostWeight ws → Dealable q l (members t) longs shorts ws
-        dealable h a b f g =
-            record { longs-length = a; shorts-length = sym wide ∙ a; weights-length = b; longs-column = f; weights-column = g; left = sym left-of; takers = takers-there h }
+            booked-is six n t′ en et
+            ∙ rw (opened, no-price, lots-are, ne-eqb (long + short) 0 there, left-is, ← ew, h, run-is (takers-there ws h), le-ltb mostLotsRun (lotsRun t + ((q + q) + (l + l))) k)

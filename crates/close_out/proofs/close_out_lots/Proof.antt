@@ -1,3 +1,12 @@
+use Prim.Native.Nat.{ℕ, _+_, _-_, _≤_, _<_}
+use mathlib.Core.Path.{_≡_, refl, sym, ap, _∙_}
+use native.Mathlib.Omega.{arith}
+use Rattle.rules.specs.Ledger.{withLines}
+use Rattle.close_out.specs.declared.columns.Part.the-variants.{DefaultedLongs, DefaultedShorts}
+use Rattle.rules.specs.Ranges.{mostLotsRun}
+use Rattle.close_out.proofs.Takes.{less-room, rows-wider}
+use Rattle.close_out.proofs.Running.{put, blank}
+use Rattle.close_out.proofs.Verdicts.{Read, read-fits, left-is, no-lots, no-taker, passed, booked-so, dealable}
 use borrow.Author.Needs.{needs}
 use Rattle.close_out.proofs.close_out_lots.Statement.{statement}
 use Rattle.close_out.proofs.close_out_lots.Tie as tie
@@ -19,15 +28,21 @@ read-column-requires-2 c κs = search needs
 
 -- src/lib.rt:56:9
 sum-of-requires : tie.Need-sum-of-requires
-sum-of-requires c κs = ?
+sum-of-requires c κs = read-fits DefaultedLongs _ _ _ _ _ _ (c .before .before .before .before .before .before .before .before .before .before .before .before .before .before .before .before .before .pre .0 .0) (c .before .before .before .before .before .before .before .before .before .before .before .before .before .before .before .before .before .pre .0 .1) (c .before .before .before .before .before .before .before .before .before .read-column .ensures) .fits
 
 -- src/lib.rt:57:9
 sum-of-requires-2 : tie.Need-sum-of-requires-2
-sum-of-requires-2 c κs = ?
+sum-of-requires-2 c κs = read-fits DefaultedShorts _ _ _ _ _ _ (c .before .before .before .before .before .before .before .before .before .before .before .before .before .before .before .before .before .before .before .pre .0 .0) (c .before .before .before .before .before .before .before .before .before .before .before .before .before .before .before .before .before .before .before .pre .0 .1) (c .before .before .before .before .before .read-column2 .ensures) .fits
 
 -- src/lib.rt:58:8
 add-if1 : tie.Need-add-if1
-add-if1 c = ?
+add-if1 c = let a = c .before .before .before .before .before .before .before .before .before .before .before .before .before .before .before .before .before .before .before .before .args in
+    let f = c .before .before .before .before .before .before .before .before .before .before .before .before .before .before .before .before .before .before .before .before .pre .0 .0 in
+    let rl = read-fits DefaultedLongs _ _ _ _ (a .e .contract) _ f (c .before .before .before .before .before .before .before .before .before .before .before .before .before .before .before .before .before .before .before .before .pre .0 .1) (c .before .before .before .before .before .before .before .before .before .before .before .before .read-column .ensures) in
+    let rs = read-fits DefaultedShorts _ _ _ _ (a .e .contract) _ f (c .before .before .before .before .before .before .before .before .before .before .before .before .before .before .before .before .before .before .before .before .pre .0 .1) (c .before .before .before .before .before .before .read-column2 .ensures) in
+    let bl : c .before .before .sum-of .result ≤ 160000000 = rw (c .before .before .sum-of .ensures) (rl .most) in
+    let bs : c .sum-of2 .result ≤ 160000000 = rw (c .sum-of2 .ensures) (rs .most) in
+    omega (arith, bl, bs)
 
 -- src/lib.rt:59:9
 same-length : tie.Need-same-length
@@ -47,7 +62,11 @@ same-length-4 c = search needs
 
 -- src/lib.rt:59:9
 returns : tie.Need-returns
-returns c = ?
+returns c = let a = c .before .before .before .before .before .before .before .before .before .before .before .before .before .before .before .before .before .before .before .before .before .args in
+    let f = c .before .before .before .before .before .before .before .before .before .before .before .before .before .before .before .before .before .before .before .before .before .pre .0 .0 in
+    let rl = read-fits DefaultedLongs _ _ _ _ (a .e .contract) _ f (c .before .before .before .before .before .before .before .before .before .before .before .before .before .before .before .before .before .before .before .before .before .pre .0 .1) (c .before .before .before .before .before .before .before .before .before .before .before .before .before .read-column .ensures) in
+    let rs = read-fits DefaultedShorts _ _ _ _ (a .e .contract) _ f (c .before .before .before .before .before .before .before .before .before .before .before .before .before .before .before .before .before .before .before .before .before .pre .0 .1) (c .before .before .before .before .before .before .before .read-column2 .ensures) in
+    λ t o p. no-lots (put (a .head .now) (a .lots .now) (a .value .now) (a .lines .now) t) (a .e) _ _ (c .before .before .before .before .before .before .before .before .before .before .before .before .before .read-column .ensures (withLines (a .lines .now) t) (a .value .now)) (c .before .before .before .before .before .before .before .read-column2 .ensures (withLines (a .lines .now) t) (a .value .now)) (rl .long ∙ sym (rs .long)) _ _ (c .before .before .before .sum-of .ensures) (c .before .sum-of2 .ensures) _ refl _ refl (a .price .0) p _ refl o (c .before .before .before .before .before .before .before .before .before .before .before .before .before .before .before .before .before .before .before .before .before .pre .0 .4) (c .if1 .taken)
 
 -- src/lib.rt:61:9
 smaller-requires : tie.Need-smaller-requires
@@ -67,7 +86,13 @@ add-left c = search needs
 
 -- src/lib.rt:63:5
 find-weights-requires : tie.Need-find-weights-requires
-find-weights-requires c κs = ?
+find-weights-requires c κs = let a = c .before .before .before .before .before .before .before .before .before .before .before .before .before .before .before .before .before .before .before .before .before .before .before .before .before .args in
+    let f = c .before .before .before .before .before .before .before .before .before .before .before .before .before .before .before .before .before .before .before .before .before .before .before .before .before .pre .0 .0 in
+    let rl = read-fits DefaultedLongs _ _ _ _ (a .e .contract) _ f (c .before .before .before .before .before .before .before .before .before .before .before .before .before .before .before .before .before .before .before .before .before .before .before .before .before .pre .0 .1) (c .before .before .before .before .before .before .before .before .before .before .before .before .before .before .before .before .before .read-column .ensures) in
+    let rs = read-fits DefaultedShorts _ _ _ _ (a .e .contract) _ f (c .before .before .before .before .before .before .before .before .before .before .before .before .before .before .before .before .before .before .before .before .before .before .before .before .before .pre .0 .1) (c .before .before .before .before .before .before .before .before .before .before .before .read-column2 .ensures) in
+    let bl : c .before .before .before .before .before .before .before .sum-of .result ≤ 160000000 = rw (c .before .before .before .before .before .before .before .sum-of .ensures) (rl .most) in
+    let bs : c .before .before .before .before .before .sum-of2 .result ≤ 160000000 = rw (c .before .before .before .before .before .sum-of2 .ensures) (rs .most) in
+    ((f .head-fit, rows-wider _ _ mostLotsRun _ (f .head-fit .most-run) (f .lots-fit), c .before .before .before .before .before .before .before .before .before .before .before .before .before .before .before .before .before .before .before .before .before .before .before .before .before .pre .1 .2), (c .before .before .before .before .before .before .before .before .before .before .before .before .before .before .before .before .before .before .before .before .before .before .before .before .before .pre .0 .1, c .before .before .before .before .before .before .before .before .before .before .before .before .before .before .before .before .before .before .before .before .before .before .before .before .before .pre .0 .2, omega (arith, c .before .before .before .smaller .ensures)))
 
 -- src/lib.rt:64:22
 sum-of-requires-3 : tie.Need-sum-of-requires-3
@@ -95,27 +120,56 @@ same-length-9 c = search needs
 
 -- src/lib.rt:65:9
 returns-2 : tie.Need-returns-2
-returns-2 c = ?
+returns-2 c = let a = c .before .before .before .before .before .before .before .before .before .before .before .before .before .before .before .before .before .before .before .before .before .before .before .before .before .before .before .before .before .before .before .args in
+    let f = c .before .before .before .before .before .before .before .before .before .before .before .before .before .before .before .before .before .before .before .before .before .before .before .before .before .before .before .before .before .before .before .pre .0 .0 in
+    let rl = read-fits DefaultedLongs _ _ _ _ (a .e .contract) _ f (c .before .before .before .before .before .before .before .before .before .before .before .before .before .before .before .before .before .before .before .before .before .before .before .before .before .before .before .before .before .before .before .pre .0 .1) (c .before .before .before .before .before .before .before .before .before .before .before .before .before .before .before .before .before .before .before .before .before .before .before .read-column .ensures) in
+    let rs = read-fits DefaultedShorts _ _ _ _ (a .e .contract) _ f (c .before .before .before .before .before .before .before .before .before .before .before .before .before .before .before .before .before .before .before .before .before .before .before .before .before .before .before .before .before .before .before .pre .0 .1) (c .before .before .before .before .before .before .before .before .before .before .before .before .before .before .before .before .before .read-column2 .ensures) in
+    λ t o p. let k = c .before .before .before .before .before .find-weights .ensures .0 (withLines (a .lines .now) t) (a .value .now) (left-is (put (a .head .now) (a .lots .now) (a .value .now) (a .lines .now) t) (a .e) _ _ (c .before .before .before .before .before .before .before .before .before .before .before .before .before .before .before .before .before .before .before .before .before .before .before .read-column .ensures (withLines (a .lines .now) t) (a .value .now)) (c .before .before .before .before .before .before .before .before .before .before .before .before .before .before .before .before .before .read-column2 .ensures (withLines (a .lines .now) t) (a .value .now)) (rl .long ∙ sym (rs .long)) _ _ (c .before .before .before .before .before .before .before .before .before .before .before .before .before .sum-of .ensures) (c .before .before .before .before .before .before .before .before .before .before .before .sum-of2 .ensures) _ (c .before .before .before .before .before .before .before .before .before .smaller .ensures) _ refl) in
+    no-taker (put (a .head .now) (a .lots .now) (a .value .now) (a .lines .now) t) (a .e) _ _ (c .before .before .before .before .before .before .before .before .before .before .before .before .before .before .before .before .before .before .before .before .before .before .before .read-column .ensures (withLines (a .lines .now) t) (a .value .now)) (c .before .before .before .before .before .before .before .before .before .before .before .before .before .before .before .before .before .read-column2 .ensures (withLines (a .lines .now) t) (a .value .now)) (rl .long ∙ sym (rs .long)) _ _ (c .before .before .before .before .before .before .before .before .before .before .before .before .before .sum-of .ensures) (c .before .before .before .before .before .before .before .before .before .before .before .sum-of2 .ensures) _ (c .before .before .before .before .before .before .before .before .before .smaller .ensures) _ refl (a .price .0) p _ k o (c .before .before .before .before .before .before .before .before .before .before .before .before .before .before .before .before .before .before .before .before .before .before .before .before .before .before .before .before .before .before .before .pre .0 .4) (c .before .before .before .before .before .before .before .before .before .before .if1 .left) (rw (c .before .sum-of3 .ensures) at (c .if2 .taken))
 
 -- src/lib.rt:67:24
 slice-read-if3 : tie.Need-slice-read-if3
-slice-read-if3 c = ?
+slice-read-if3 c = omega (arith, c .before .before .before .before .before .before .before .before .before .before .before .before .before .before .before .before .before .before .before .before .before .before .before .before .before .before .before .before .before .before .before .before .pre .0 .0 .head-fit .long)
 
 -- src/lib.rt:67:43
 add-if3 : tie.Need-add-if3
-add-if3 c = ?
+add-if3 c = let a = c .before .before .before .before .before .before .before .before .before .before .before .before .before .before .before .before .before .before .before .before .before .before .before .before .before .before .before .before .before .before .before .before .args in
+    let f = c .before .before .before .before .before .before .before .before .before .before .before .before .before .before .before .before .before .before .before .before .before .before .before .before .before .before .before .before .before .before .before .before .pre .0 .0 in
+    let rl = read-fits DefaultedLongs _ _ _ _ (a .e .contract) _ f (c .before .before .before .before .before .before .before .before .before .before .before .before .before .before .before .before .before .before .before .before .before .before .before .before .before .before .before .before .before .before .before .before .pre .0 .1) (c .before .before .before .before .before .before .before .before .before .before .before .before .before .before .before .before .before .before .before .before .before .before .before .before .read-column .ensures) in
+    let rs = read-fits DefaultedShorts _ _ _ _ (a .e .contract) _ f (c .before .before .before .before .before .before .before .before .before .before .before .before .before .before .before .before .before .before .before .before .before .before .before .before .before .before .before .before .before .before .before .before .pre .0 .1) (c .before .before .before .before .before .before .before .before .before .before .before .before .before .before .before .before .before .before .read-column2 .ensures) in
+    let bl : c .before .before .before .before .before .before .before .before .before .before .before .before .before .before .sum-of .result ≤ 160000000 = rw (c .before .before .before .before .before .before .before .before .before .before .before .before .before .before .sum-of .ensures) (rl .most) in
+    let bs : c .before .before .before .before .before .before .before .before .before .before .before .before .sum-of2 .result ≤ 160000000 = rw (c .before .before .before .before .before .before .before .before .before .before .before .before .sum-of2 .ensures) (rs .most) in
+    omega (arith, bl, c .before .before .before .before .before .before .before .before .before .before .smaller .ensures)
 
 -- src/lib.rt:67:63
 add-if3-2 : tie.Need-add-if3-2
-add-if3-2 c = ?
+add-if3-2 c = let a = c .before .before .before .before .before .before .before .before .before .before .before .before .before .before .before .before .before .before .before .before .before .before .before .before .before .before .before .before .before .before .before .before .args in
+    let f = c .before .before .before .before .before .before .before .before .before .before .before .before .before .before .before .before .before .before .before .before .before .before .before .before .before .before .before .before .before .before .before .before .pre .0 .0 in
+    let rl = read-fits DefaultedLongs _ _ _ _ (a .e .contract) _ f (c .before .before .before .before .before .before .before .before .before .before .before .before .before .before .before .before .before .before .before .before .before .before .before .before .before .before .before .before .before .before .before .before .pre .0 .1) (c .before .before .before .before .before .before .before .before .before .before .before .before .before .before .before .before .before .before .before .before .before .before .before .before .read-column .ensures) in
+    let rs = read-fits DefaultedShorts _ _ _ _ (a .e .contract) _ f (c .before .before .before .before .before .before .before .before .before .before .before .before .before .before .before .before .before .before .before .before .before .before .before .before .before .before .before .before .before .before .before .before .pre .0 .1) (c .before .before .before .before .before .before .before .before .before .before .before .before .before .before .before .before .before .before .read-column2 .ensures) in
+    let bl : c .before .before .before .before .before .before .before .before .before .before .before .before .before .before .sum-of .result ≤ 160000000 = rw (c .before .before .before .before .before .before .before .before .before .before .before .before .before .before .sum-of .ensures) (rl .most) in
+    let bs : c .before .before .before .before .before .before .before .before .before .before .before .before .sum-of2 .result ≤ 160000000 = rw (c .before .before .before .before .before .before .before .before .before .before .before .before .sum-of2 .ensures) (rs .most) in
+    omega (arith, bl, bs)
 
 -- src/lib.rt:67:42
 add-if3-3 : tie.Need-add-if3-3
-add-if3-3 c = ?
+add-if3-3 c = let a = c .before .before .before .before .before .before .before .before .before .before .before .before .before .before .before .before .before .before .before .before .before .before .before .before .before .before .before .before .before .before .before .before .args in
+    let f = c .before .before .before .before .before .before .before .before .before .before .before .before .before .before .before .before .before .before .before .before .before .before .before .before .before .before .before .before .before .before .before .before .pre .0 .0 in
+    let rl = read-fits DefaultedLongs _ _ _ _ (a .e .contract) _ f (c .before .before .before .before .before .before .before .before .before .before .before .before .before .before .before .before .before .before .before .before .before .before .before .before .before .before .before .before .before .before .before .before .pre .0 .1) (c .before .before .before .before .before .before .before .before .before .before .before .before .before .before .before .before .before .before .before .before .before .before .before .before .read-column .ensures) in
+    let rs = read-fits DefaultedShorts _ _ _ _ (a .e .contract) _ f (c .before .before .before .before .before .before .before .before .before .before .before .before .before .before .before .before .before .before .before .before .before .before .before .before .before .before .before .before .before .before .before .before .pre .0 .1) (c .before .before .before .before .before .before .before .before .before .before .before .before .before .before .before .before .before .before .read-column2 .ensures) in
+    let bl : c .before .before .before .before .before .before .before .before .before .before .before .before .before .before .sum-of .result ≤ 160000000 = rw (c .before .before .before .before .before .before .before .before .before .before .before .before .before .before .sum-of .ensures) (rl .most) in
+    let bs : c .before .before .before .before .before .before .before .before .before .before .before .before .sum-of2 .result ≤ 160000000 = rw (c .before .before .before .before .before .before .before .before .before .before .before .before .sum-of2 .ensures) (rs .most) in
+    omega (arith, bl, bs, c .before .before .before .before .before .before .before .before .before .before .smaller .ensures)
 
 -- src/lib.rt:67:24
 add-if3-4 : tie.Need-add-if3-4
-add-if3-4 c = ?
+add-if3-4 c = let a = c .before .before .before .before .before .before .before .before .before .before .before .before .before .before .before .before .before .before .before .before .before .before .before .before .before .before .before .before .before .before .before .before .args in
+    let f = c .before .before .before .before .before .before .before .before .before .before .before .before .before .before .before .before .before .before .before .before .before .before .before .before .before .before .before .before .before .before .before .before .pre .0 .0 in
+    let rl = read-fits DefaultedLongs _ _ _ _ (a .e .contract) _ f (c .before .before .before .before .before .before .before .before .before .before .before .before .before .before .before .before .before .before .before .before .before .before .before .before .before .before .before .before .before .before .before .before .pre .0 .1) (c .before .before .before .before .before .before .before .before .before .before .before .before .before .before .before .before .before .before .before .before .before .before .before .before .read-column .ensures) in
+    let rs = read-fits DefaultedShorts _ _ _ _ (a .e .contract) _ f (c .before .before .before .before .before .before .before .before .before .before .before .before .before .before .before .before .before .before .before .before .before .before .before .before .before .before .before .before .before .before .before .before .pre .0 .1) (c .before .before .before .before .before .before .before .before .before .before .before .before .before .before .before .before .before .before .read-column2 .ensures) in
+    let bl : c .before .before .before .before .before .before .before .before .before .before .before .before .before .before .sum-of .result ≤ 160000000 = rw (c .before .before .before .before .before .before .before .before .before .before .before .before .before .before .sum-of .ensures) (rl .most) in
+    let bs : c .before .before .before .before .before .before .before .before .before .before .before .before .sum-of2 .result ≤ 160000000 = rw (c .before .before .before .before .before .before .before .before .before .before .before .before .sum-of2 .ensures) (rs .most) in
+    omega (arith, bl, bs, c .before .before .before .before .before .before .before .before .before .before .smaller .ensures, f .head-fit .most-run)
 
 -- src/lib.rt:68:9
 same-length-10 : tie.Need-same-length-10
@@ -139,11 +193,22 @@ same-length-14 c = search needs
 
 -- src/lib.rt:68:9
 returns-3 : tie.Need-returns-3
-returns-3 c = ?
+returns-3 c = let a = c .before .before .before .before .before .before .before .before .before .before .before .before .before .before .before .before .before .before .before .before .before .before .before .before .before .before .before .before .before .before .before .before .before .args in
+    let f = c .before .before .before .before .before .before .before .before .before .before .before .before .before .before .before .before .before .before .before .before .before .before .before .before .before .before .before .before .before .before .before .before .before .pre .0 .0 in
+    let rl = read-fits DefaultedLongs _ _ _ _ (a .e .contract) _ f (c .before .before .before .before .before .before .before .before .before .before .before .before .before .before .before .before .before .before .before .before .before .before .before .before .before .before .before .before .before .before .before .before .before .pre .0 .1) (c .before .before .before .before .before .before .before .before .before .before .before .before .before .before .before .before .before .before .before .before .before .before .before .before .before .read-column .ensures) in
+    let rs = read-fits DefaultedShorts _ _ _ _ (a .e .contract) _ f (c .before .before .before .before .before .before .before .before .before .before .before .before .before .before .before .before .before .before .before .before .before .before .before .before .before .before .before .before .before .before .before .before .before .pre .0 .1) (c .before .before .before .before .before .before .before .before .before .before .before .before .before .before .before .before .before .before .before .read-column2 .ensures) in
+    λ t o p. let k = c .before .before .before .before .before .before .before .find-weights .ensures .0 (withLines (a .lines .now) t) (a .value .now) (left-is (put (a .head .now) (a .lots .now) (a .value .now) (a .lines .now) t) (a .e) _ _ (c .before .before .before .before .before .before .before .before .before .before .before .before .before .before .before .before .before .before .before .before .before .before .before .before .before .read-column .ensures (withLines (a .lines .now) t) (a .value .now)) (c .before .before .before .before .before .before .before .before .before .before .before .before .before .before .before .before .before .before .before .read-column2 .ensures (withLines (a .lines .now) t) (a .value .now)) (rl .long ∙ sym (rs .long)) _ _ (c .before .before .before .before .before .before .before .before .before .before .before .before .before .before .before .sum-of .ensures) (c .before .before .before .before .before .before .before .before .before .before .before .before .before .sum-of2 .ensures) _ (c .before .before .before .before .before .before .before .before .before .before .before .smaller .ensures) _ refl) in
+    passed (put (a .head .now) (a .lots .now) (a .value .now) (a .lines .now) t) (a .e) _ _ (c .before .before .before .before .before .before .before .before .before .before .before .before .before .before .before .before .before .before .before .before .before .before .before .before .before .read-column .ensures (withLines (a .lines .now) t) (a .value .now)) (c .before .before .before .before .before .before .before .before .before .before .before .before .before .before .before .before .before .before .before .read-column2 .ensures (withLines (a .lines .now) t) (a .value .now)) (rl .long ∙ sym (rs .long)) _ _ (c .before .before .before .before .before .before .before .before .before .before .before .before .before .before .before .sum-of .ensures) (c .before .before .before .before .before .before .before .before .before .before .before .before .before .sum-of2 .ensures) _ (c .before .before .before .before .before .before .before .before .before .before .before .smaller .ensures) _ refl (a .price .0) p _ k o (c .before .before .before .before .before .before .before .before .before .before .before .before .before .before .before .before .before .before .before .before .before .before .before .before .before .before .before .before .before .before .before .before .before .pre .0 .4) (c .before .before .before .before .before .before .before .before .before .before .before .before .if1 .left) (rw (c .before .before .before .sum-of3 .ensures) at (c .before .before .if2 .left)) (c .if3 .taken)
 
 -- src/lib.rt:70:9
 book-steps-requires : tie.Need-book-steps-requires
-book-steps-requires c κs = ?
+book-steps-requires c κs = let a = c .before .before .before .before .before .before .before .before .before .before .before .before .before .before .before .before .before .before .before .before .before .before .before .before .before .before .before .before .before .before .before .before .before .before .before .before .before .before .before .before .args in
+    let f = c .before .before .before .before .before .before .before .before .before .before .before .before .before .before .before .before .before .before .before .before .before .before .before .before .before .before .before .before .before .before .before .before .before .before .before .before .before .before .before .before .pre .0 .0 in
+    let rl = read-fits DefaultedLongs _ _ _ _ (a .e .contract) _ f (c .before .before .before .before .before .before .before .before .before .before .before .before .before .before .before .before .before .before .before .before .before .before .before .before .before .before .before .before .before .before .before .before .before .before .before .before .before .before .before .before .pre .0 .1) (c .before .before .before .before .before .before .before .before .before .before .before .before .before .before .before .before .before .before .before .before .before .before .before .before .before .before .before .before .before .before .before .before .read-column .ensures) in
+    let rs = read-fits DefaultedShorts _ _ _ _ (a .e .contract) _ f (c .before .before .before .before .before .before .before .before .before .before .before .before .before .before .before .before .before .before .before .before .before .before .before .before .before .before .before .before .before .before .before .before .before .before .before .before .before .before .before .before .pre .0 .1) (c .before .before .before .before .before .before .before .before .before .before .before .before .before .before .before .before .before .before .before .before .before .before .before .before .before .before .read-column2 .ensures) in
+    let t = blank in
+    ((record { head-fit = f .head-fit; lots-fit = f .lots-fit; value-fit = f .value-fit; lines-long = f .lines-long; most-run = c .before .before .before .before .before .before .before .if3 .left }, c .before .before .before .before .before .before .before .before .before .before .before .before .before .before .before .before .before .before .before .before .before .before .before .before .before .before .before .before .before .before .before .before .before .before .before .before .before .before .before .before .pre .0 .1, c .before .before .before .before .before .before .before .before .before .before .before .before .before .before .before .before .before .before .before .before .before .before .before .before .before .before .before .before .before .before .before .before .before .before .before .before .before .before .before .before .pre .0 .3),
+    dealable (put (a .head .now) (a .lots .now) (a .value .now) (a .lines .now) t) (a .e) _ _ (c .before .before .before .before .before .before .before .before .before .before .before .before .before .before .before .before .before .before .before .before .before .before .before .before .before .before .before .before .before .before .before .before .read-column .ensures (withLines (a .lines .now) t) (a .value .now)) (c .before .before .before .before .before .before .before .before .before .before .before .before .before .before .before .before .before .before .before .before .before .before .before .before .before .before .read-column2 .ensures (withLines (a .lines .now) t) (a .value .now)) (rl .long ∙ sym (rs .long)) _ _ (c .before .before .before .before .before .before .before .before .before .before .before .before .before .before .before .before .before .before .before .before .before .before .sum-of .ensures) (c .before .before .before .before .before .before .before .before .before .before .before .before .before .before .before .before .before .before .before .before .sum-of2 .ensures) _ (c .before .before .before .before .before .before .before .before .before .before .before .before .before .before .before .before .before .before .smaller .ensures) _ refl _ (rw (c .before .before .before .before .before .before .before .before .before .before .sum-of3 .ensures) at (c .before .before .before .before .before .before .before .before .before .if2 .left)) (rl .long) (c .before .before .before .before .before .before .before .before .before .before .before .before .before .before .find-weights .kept .1 .1 .1 .1 .0 ∙ c .before .before .before .before .before .before .before .before .before .before .before .before .before .before .before .before .before .before .before .before .before .before .before .before .before .before .before .before .before .before .before .before .before .before .before .before .before .before .before .before .pre .1 .2) (rl .fits) (c .before .before .before .before .before .before .before .before .before .before .before .before .before .before .find-weights .ensures .1))
 
 -- src/lib.rt:36:1
 same-length-15 : tie.Need-same-length-15
@@ -163,11 +228,11 @@ same-length-18 c = search needs
 
 -- src/lib.rt:36:1
 same-length-19 : tie.Need-same-length-19
-same-length-19 c = ?
+same-length-19 c = c .before .before .before .before .before .before .before .before .before .book-steps .kept .1 .1 .1 .1 .1 .1 .1 .1 .0 ∙ c .before .before .before .before .before .before .before .before .before .before .before .before .before .before .before .before .before .before .before .before .before .before .before .before .before .before .before .before .before .before .before .before .before .before .before .before .before .before .before .before .before .before .read-column .kept .1 .1 .1 .1 .0
 
 -- src/lib.rt:36:1
 same-length-20 : tie.Need-same-length-20
-same-length-20 c = ?
+same-length-20 c = c .before .before .before .before .before .before .before .before .before .book-steps .kept .1 .1 .1 .1 .1 .1 .1 .1 .1 .0 ∙ c .before .before .before .before .before .before .before .before .before .before .before .before .before .before .before .before .before .before .before .before .before .before .before .before .before .before .before .before .before .before .before .before .before .before .before .before .read-column2 .kept .1 .1 .1 .1 .0
 
 -- src/lib.rt:36:1
 same-length-21 : tie.Need-same-length-21
@@ -175,7 +240,12 @@ same-length-21 c = search needs
 
 -- src/lib.rt:36:1
 returns-4 : tie.Need-returns-4
-returns-4 c = ?
+returns-4 c = let a = c .before .before .before .before .before .before .before .before .before .before .before .before .before .before .before .before .before .before .before .before .before .before .before .before .before .before .before .before .before .before .before .before .before .before .before .before .before .before .before .before .before .before .before .before .before .before .before .before .before .before .args in
+    let f = c .before .before .before .before .before .before .before .before .before .before .before .before .before .before .before .before .before .before .before .before .before .before .before .before .before .before .before .before .before .before .before .before .before .before .before .before .before .before .before .before .before .before .before .before .before .before .before .before .before .before .pre .0 .0 in
+    let rl = read-fits DefaultedLongs _ _ _ _ (a .e .contract) _ f (c .before .before .before .before .before .before .before .before .before .before .before .before .before .before .before .before .before .before .before .before .before .before .before .before .before .before .before .before .before .before .before .before .before .before .before .before .before .before .before .before .before .before .before .before .before .before .before .before .before .before .pre .0 .1) (c .before .before .before .before .before .before .before .before .before .before .before .before .before .before .before .before .before .before .before .before .before .before .before .before .before .before .before .before .before .before .before .before .before .before .before .before .before .before .before .before .before .before .read-column .ensures) in
+    let rs = read-fits DefaultedShorts _ _ _ _ (a .e .contract) _ f (c .before .before .before .before .before .before .before .before .before .before .before .before .before .before .before .before .before .before .before .before .before .before .before .before .before .before .before .before .before .before .before .before .before .before .before .before .before .before .before .before .before .before .before .before .before .before .before .before .before .before .pre .0 .1) (c .before .before .before .before .before .before .before .before .before .before .before .before .before .before .before .before .before .before .before .before .before .before .before .before .before .before .before .before .before .before .before .before .before .before .before .before .read-column2 .ensures) in
+    λ t o p. let k = c .before .before .before .before .before .before .before .before .before .before .before .before .before .before .before .before .before .before .before .before .before .before .before .before .find-weights .ensures .0 (withLines (a .lines .now) t) (a .value .now) (left-is (put (a .head .now) (a .lots .now) (a .value .now) (a .lines .now) t) (a .e) _ _ (c .before .before .before .before .before .before .before .before .before .before .before .before .before .before .before .before .before .before .before .before .before .before .before .before .before .before .before .before .before .before .before .before .before .before .before .before .before .before .before .before .before .before .read-column .ensures (withLines (a .lines .now) t) (a .value .now)) (c .before .before .before .before .before .before .before .before .before .before .before .before .before .before .before .before .before .before .before .before .before .before .before .before .before .before .before .before .before .before .before .before .before .before .before .before .read-column2 .ensures (withLines (a .lines .now) t) (a .value .now)) (rl .long ∙ sym (rs .long)) _ _ (c .before .before .before .before .before .before .before .before .before .before .before .before .before .before .before .before .before .before .before .before .before .before .before .before .before .before .before .before .before .before .before .before .sum-of .ensures) (c .before .before .before .before .before .before .before .before .before .before .before .before .before .before .before .before .before .before .before .before .before .before .before .before .before .before .before .before .before .before .sum-of2 .ensures) _ (c .before .before .before .before .before .before .before .before .before .before .before .before .before .before .before .before .before .before .before .before .before .before .before .before .before .before .before .before .smaller .ensures) _ refl) in
+    booked-so (put (a .head .now) (a .lots .now) (a .value .now) (a .lines .now) t) (a .e) _ _ (c .before .before .before .before .before .before .before .before .before .before .before .before .before .before .before .before .before .before .before .before .before .before .before .before .before .before .before .before .before .before .before .before .before .before .before .before .before .before .before .before .before .before .read-column .ensures (withLines (a .lines .now) t) (a .value .now)) (c .before .before .before .before .before .before .before .before .before .before .before .before .before .before .before .before .before .before .before .before .before .before .before .before .before .before .before .before .before .before .before .before .before .before .before .before .read-column2 .ensures (withLines (a .lines .now) t) (a .value .now)) (rl .long ∙ sym (rs .long)) _ _ (c .before .before .before .before .before .before .before .before .before .before .before .before .before .before .before .before .before .before .before .before .before .before .before .before .before .before .before .before .before .before .before .before .sum-of .ensures) (c .before .before .before .before .before .before .before .before .before .before .before .before .before .before .before .before .before .before .before .before .before .before .before .before .before .before .before .before .before .before .sum-of2 .ensures) _ (c .before .before .before .before .before .before .before .before .before .before .before .before .before .before .before .before .before .before .before .before .before .before .before .before .before .before .before .before .smaller .ensures) _ refl (a .price .0) p _ k o (c .before .before .before .before .before .before .before .before .before .before .before .before .before .before .before .before .before .before .before .before .before .before .before .before .before .before .before .before .before .before .before .before .before .before .before .before .before .before .before .before .before .before .before .before .before .before .before .before .before .before .pre .0 .4) (c .before .before .before .before .before .before .before .before .before .before .before .before .before .before .before .before .before .before .before .before .before .before .before .before .before .before .before .before .before .if1 .left) (rw (c .before .before .before .before .before .before .before .before .before .before .before .before .before .before .before .before .before .before .before .before .sum-of3 .ensures) at (c .before .before .before .before .before .before .before .before .before .before .before .before .before .before .before .before .before .before .before .if2 .left)) (c .before .before .before .before .before .before .before .before .before .before .before .before .before .before .before .before .before .if3 .left) (omega (arith, f .head-fit .long)) _ _ (c .before .before .before .before .before .before .before .before .before .book-steps .ensures .0) (c .before .before .before .before .before .before .before .before .before .book-steps .ensures .1 t)
 
 pub close-out-lots-spec : {M : Type 1} → statement M
 close-out-lots-spec =
