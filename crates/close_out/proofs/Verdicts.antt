@@ -11,7 +11,7 @@ use borrow.Author.Tests.{eq-eqb, ne-eqb, lt-ltb, le-ltb}
 use Rattle.arith.specs.Ints.{up, dn}
 use Rattle.arith.specs.Lists.{from}
 use Rattle.arith.specs.Tests.{le-or-lt, never}
-use Rattle.rules.specs.declared.answer.Answer.the-variants.{Accepted, NoDefaultedLots, NoTaker, TotalPassed}
+use Rattle.rules.specs.declared.answer.Answer.the-variants.{Accepted, ContractNotOpen, NoReferencePrice, NoDefaultedLots, NoTaker, TotalPassed}
 use Rattle.rules.specs.declared.event.CloseOutTerms.{CloseOutTerms}
 use Rattle.rules.specs.Default.{sumOf, givenUp, less, defaultedLongs, defaultedShorts, smallerTotal, nettedLongs, nettedShorts, nettingChanges, longsLeft, shortsLeft, lotsLeft, weights, taken, defaultedChanges, takerChanges, closeOutLines, closeOutBooked}
 use Rattle.rules.specs.Ledger.{Tables, members, lotsRun, defaulted, lotsAt, isOpen, ggf, lineRun, booked, withHead, withRows}
@@ -179,3 +179,12 @@ module _ (t : Tables) (e : CloseOutTerms) (longs shorts : List ℕ) (el : longs 
         booked-so h k six n t′ en et =
             booked-is six n t′ en et
             ∙ rw (opened, no-price, lots-are, ne-eqb (long + short) 0 there, left-is, ← ew, h, run-is (takers-there ws h), le-ltb mostLotsRun (lotsRun t + ((q + q) + (l + l))) k)
+
+-- ---- the causes that need no lots
+pub not-open : (t : Tables) (e : CloseOutTerms) → isOpen t (e .contract) ≡ false → record { answer = ContractNotOpen (e .contract); after = t } ≡ closeOutSpec t e
+unfolding closeOutSpec
+not-open t e h = rw h
+
+pub no-reference : (t : Tables) (e : CloseOutTerms) → isOpen t (e .contract) ≡ true → ggf t (e .contract) ≡ 0 → record { answer = NoReferencePrice; after = t } ≡ closeOutSpec t e
+unfolding closeOutSpec
+no-reference t e h z = rw (h, eq-eqb (ggf t (e .contract)) 0 z)

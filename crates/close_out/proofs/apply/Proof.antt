@@ -1,3 +1,12 @@
+use Prim.Native.Nat.{_+_, _*_, _≤_}
+use mathlib.Core.Path.{_≡_, refl, sym, ap, _∙_}
+use native.Mathlib.Omega.{arith}
+use native.Mathlib.Nat.{add-zero}
+use lib.ListN.{length, getD, length-take}
+use borrow.Author.Tests.{not-true, not-false}
+use Rattle.rules.specs.Ledger.{withPrices, withRows, withLines}
+use Rattle.close_out.proofs.Running.{put}
+use Rattle.close_out.proofs.Verdicts.{not-open, no-reference}
 use borrow.Author.Needs.{needs}
 use Rattle.close_out.proofs.apply.Statement.{statement}
 use Rattle.close_out.proofs.apply.Tie as tie
@@ -16,7 +25,9 @@ same-length c = search needs
 
 -- src/lib.rt:101:9
 returns : tie.Need-returns
-returns c = ?
+returns c = let a = c .before .before .before .before .before .args in
+    λ t. not-open (withPrices (a .prices .now) (put (a .head .now) (a .lots .now) (a .value .now) (a .lines .now) t)) (a .e)
+    (sym (c .before .is-contract-open .ensures (withPrices (a .prices .now) (withRows (a .lots .now) (a .value .now) (withLines (a .lines .now) t)))) ∙ not-true _ (c .if1 .taken))
 
 -- src/lib.rt:103:24
 mul-price : tie.Need-mul-price
@@ -40,7 +51,10 @@ same-length-2 c = search needs
 
 -- src/lib.rt:105:9
 returns-2 : tie.Need-returns-2
-returns-2 c = ?
+returns-2 c = let a = c .before .before .before .before .before .before .before .args in
+    let same : getD (a .prices .now) (a .e .contract * 5 + 0) 0 ≡ getD (a .prices .now) (a .e .contract * 5) 0 = ap (λ i. getD (a .prices .now) i 0) (add-zero (a .e .contract * 5)) in
+    λ t. no-reference (withPrices (a .prices .now) (put (a .head .now) (a .lots .now) (a .value .now) (a .lines .now) t)) (a .e)
+    (sym (c .before .before .before .is-contract-open .ensures (withPrices (a .prices .now) (withRows (a .lots .now) (a .value .now) (withLines (a .lines .now) t)))) ∙ not-false _ (c .before .before .if1 .left)) (sym same ∙ c .if2 .taken)
 
 -- src/lib.rt:107:19
 slice-read-members : tie.Need-slice-read-members
@@ -52,7 +66,7 @@ array-borrow-prefix-longs c = search needs
 
 -- src/lib.rt:118:9
 slice-aggregate-close-out-lots : tie.Need-slice-aggregate-close-out-lots
-slice-aggregate-close-out-lots c = ?
+slice-aggregate-close-out-lots c = simp length-take (omega (arith, c .before .before .before .before .before .before .before .before .before .before .before .before .before .pre .0 .0 .head-fit .most-members))
 
 -- src/lib.rt:119:9
 array-borrow-prefix-shorts : tie.Need-array-borrow-prefix-shorts
@@ -60,7 +74,7 @@ array-borrow-prefix-shorts c = search needs
 
 -- src/lib.rt:119:9
 slice-aggregate-close-out-lots-2 : tie.Need-slice-aggregate-close-out-lots-2
-slice-aggregate-close-out-lots-2 c = ?
+slice-aggregate-close-out-lots-2 c = simp length-take (omega (arith, c .before .before .before .before .before .before .before .before .before .before .before .before .before .before .pre .0 .0 .head-fit .most-members))
 
 -- src/lib.rt:120:9
 array-borrow-prefix-weights : tie.Need-array-borrow-prefix-weights
@@ -68,11 +82,15 @@ array-borrow-prefix-weights c = search needs
 
 -- src/lib.rt:120:9
 slice-aggregate-close-out-lots-3 : tie.Need-slice-aggregate-close-out-lots-3
-slice-aggregate-close-out-lots-3 c = ?
+slice-aggregate-close-out-lots-3 c = simp length-take (omega (arith, c .before .before .before .before .before .before .before .before .before .before .before .before .before .before .before .pre .0 .0 .head-fit .most-members))
 
 -- src/lib.rt:111:5
 close-out-lots-requires : tie.Need-close-out-lots-requires
-close-out-lots-requires c κs = ?
+close-out-lots-requires c κs = let a = c .before .before .before .before .before .before .before .before .before .before .before .before .before .before .before .args in
+    let same : getD (a .prices .now) (a .e .contract * 5 + 0) 0 ≡ getD (a .prices .now) (a .e .contract * 5) 0 = ap (λ i. getD (a .prices .now) i 0) (add-zero (a .e .contract * 5)) in
+    let few = c .before .before .before .before .before .before .before .before .before .before .before .before .before .before .before .pre .0 .0 .head-fit .most-members in
+    ((c .before .before .before .before .before .before .before .before .before .before .before .before .before .before .before .pre .0 .0, c .before .before .before .before .before .before .before .before .before .before .before .before .before .before .before .pre .1 .0, c .before .before .before .before .before .before .before .before .before .before .before .before .before .before .before .pre .1 .1, omega (arith, same, c .before .before .before .before .before .before .before .before .before .before .before .before .before .before .before .pre .0 .1 .contract-fit (a .e .contract) (c .before .before .before .before .before .before .before .before .before .before .before .before .before .before .before .pre .1 .0) .most-ggf), omega (arith, c .before .before .before .before .before .before .before .before .if2 .left)),
+    (simp length-take (omega (arith, few)), simp length-take (omega (arith, few)), simp length-take (omega (arith, few))))
 
 -- src/lib.rt:86:1
 same-length-3 : tie.Need-same-length-3
@@ -92,7 +110,10 @@ same-length-6 c = search needs
 
 -- src/lib.rt:86:1
 returns-3 : tie.Need-returns-3
-returns-3 c = ?
+returns-3 c = let a = c .before .before .before .before .before .before .before .before .before .before .before .before .before .before .before .before .before .before .before .before .before .before .before .before .args in
+    let same : getD (a .prices .now) (a .e .contract * 5 + 0) 0 ≡ getD (a .prices .now) (a .e .contract * 5) 0 = ap (λ i. getD (a .prices .now) i 0) (add-zero (a .e .contract * 5)) in
+    λ t. c .before .before .before .before .before .before .before .before .close-out-lots .ensures (withPrices (a .prices .now) t)
+    (sym (c .before .before .before .before .before .before .before .before .before .before .before .before .before .before .before .before .before .before .before .before .is-contract-open .ensures (withPrices (a .prices .now) (withRows (a .lots .now) (a .value .now) (withLines (a .lines .now) t)))) ∙ not-false _ (c .before .before .before .before .before .before .before .before .before .before .before .before .before .before .before .before .before .before .before .if1 .left)) (sym same)
 
 pub apply-spec : {M : Type 1} → statement M
 apply-spec =
