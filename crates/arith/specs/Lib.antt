@@ -11,6 +11,3 @@ pub mod Among
 pub mod Terms
 pub mod Sizes
 pub mod EachBlock
-pub mod Columns
-pub mod Totals
-pub mod Negatives

@@ -1,21 +1,21 @@
 -- Columns read from undamaged tables: their lengths and bounds, and the weights they decide. Assumes nothing.
-use Prim.Native.Nat.{ℕ, zero, suc, _+_, _*_, _-_, _≤_, _<_, min}
-use mathlib.Core.Path.{_≡_, refl, sym, ap, _∙_}
+use Prim.Native.Nat.{ℕ, _*_, _-_, _≤_, _<_}
+use mathlib.Core.Path.{_≡_}
 use mathlib.Core.Bool.{Bool, true, false, cond}
-use mathlib.Core.List.{List, [], _∷_, map}
+use mathlib.Core.List.{List, map}
 use native.Mathlib.Omega.{arith}
 use native.Mathlib.Nat.{zero-add, mul-le-mul}
 use lib.IntN.{ℤ, pos, negsuc, natAbs}
 use lib.ListN.{length, getD, List·getD-eq-default}
 use borrow.Author.Tests.{le-leb, lt-leb}
-use Rattle.arith.specs.Columns.{mapped-length, mapped-at}
+use Rattle.arith.proofs.Columns.{mapped-length, mapped-at}
 use Rattle.arith.specs.Ints.{up, dn}
-use Rattle.arith.specs.Lists.{from, total}
+use Rattle.arith.specs.Lists.{from}
 use Rattle.arith.specs.Tests.{le-or-lt}
-use Rattle.arith.specs.Totals.{total-most}
+use Rattle.arith.proofs.Totals.{total-most}
 use Rattle.rules.specs.declared.event.CloseOutTerms.{CloseOutTerms}
-use Rattle.rules.specs.Default.{sumOf, defaultedLongs, defaultedShorts, othersLots, lotsLeft, weights, openWeight}
-use Rattle.rules.specs.Ledger.{Tables, members, defaulted, lotsAt, calendar, day, rowPlace}
+use Rattle.rules.specs.Default.{sumOf, othersLots, lotsLeft, weights, openWeight}
+use Rattle.rules.specs.Ledger.{Tables, members, defaulted, lotsAt, calendar, day}
 use Rattle.rules.specs.Ranges.{contractCount, mostMembers, mostLotsRun}
 use Rattle.rules.proofs.Netting.{sum-most}
 use Rattle.tables.specs.Fit.{RowsFit}

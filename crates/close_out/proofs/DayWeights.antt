@@ -1,22 +1,21 @@
 -- Weights by days: a total over all contracts, of which those open have days, is the total over the open contracts. Assumes nothing.
-use Prim.Native.Nat.{ℕ, _+_, _*_, _≤_, _<_}
+use Prim.Native.Nat.{ℕ, _*_, _≤_, _<_}
 use mathlib.Core.Path.{_≡_, refl, sym, ap, _∙_}
 use mathlib.Core.Bool.{Bool, true, false, cond}
 use mathlib.Core.List.{List, [], _∷_, map}
 use native.Mathlib.Omega.{arith}
 use native.Mathlib.Nat.{zero-mul, zero-add}
-use lib.Dec.{eqb}
-use lib.IntN.{ℤ, pos, natAbs}
+use lib.IntN.{natAbs}
 use lib.ListN.{length, getD, List·getD-eq-default}
-use Rattle.arith.specs.Columns.{mapped-length, mapped-at}
+use Rattle.arith.proofs.Columns.{mapped-length, mapped-at}
 use Rattle.arith.specs.Lists.{from, total}
 use Rattle.arith.specs.Tests.{le-or-lt}
-use Rattle.arith.specs.Totals.{total-same}
+use Rattle.arith.proofs.Totals.{total-same}
 use Rattle.rules.proofs.OpenContracts.{open-total, days-most}
 use Rattle.rules.specs.Contracts.{daysOf, openOn}
 use Rattle.rules.specs.Days.{Calendar}
 use Rattle.rules.specs.Default.{openWeight}
-use Rattle.rules.specs.Ledger.{Tables, calendar, day, members, defaulted, lotsAt, marksFrom, rowPlace}
+use Rattle.rules.specs.Ledger.{Tables, calendar, day, members, defaulted, lotsAt}
 use Rattle.rules.specs.Ranges.{contractCount}
 use Rattle.dealing.specs.Levels.{mostDays}
 use Rattle.close_out.specs.Columns.{openDays, weightBy, daysWeights}

@@ -1,9 +1,8 @@
 -- Changes of members booked one after the other: what holds when those before member m are booked. Assumes nothing.
-use Prim.Native.Nat.{ℕ, suc, _+_, _-_, _≤_, _<_}
-use mathlib.Core.Path.{_≡_, refl, sym, ap, subst, _∙_}
+use Prim.Native.Nat.{ℕ, _+_, _-_, _≤_, _<_}
+use mathlib.Core.Path.{_≡_, sym, ap, subst, _∙_}
 use mathlib.Core.List.{List, [], _∷_, _++_}
 use native.Mathlib.Omega.{arith}
-use native.Mathlib.Nat.{add-assoc, add-zero}
 use lib.IntN.{ℤ, pos, natAbs, _-ℤ_}
 use lib.ListN.{length, getD, drop, length-append}
 use Rattle.rules.specs.Default.{sumOf, changeLines}
@@ -11,8 +10,8 @@ use Rattle.rules.specs.Ledger.{Tables, Line, withHead, withRows, withLines}
 use Rattle.rules.specs.Ranges.{contractCount, mostPrice, leastLines}
 use Rattle.tables.specs.Fit.{membersIn}
 use Rattle.close_out.specs.Booking.{withEach, changes, Bookable}
-use Rattle.close_out.proofs.Changes.{minus-size, change-most, each-append, each-none, lines-next, lines-end, sum-next}
-use Rattle.close_out.proofs.Takes.{Sound, Takes, less-room, takes-change, each-members}
+use Rattle.close_out.proofs.Changes.{minus-size, change-most, each-append, lines-next, sum-next}
+use Rattle.close_out.proofs.Takes.{Takes, less-room, takes-change, each-members}
 
 -- The lent tables put into others.
 abbrev pub put : List ℕ → List ℤ → List ℤ → List ℤ → Tables → Tables

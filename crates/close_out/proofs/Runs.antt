@@ -1,18 +1,18 @@
 -- How many lots the lines of a close-out run, and what room they take. Assumes nothing.
 use Prim.Native.Nat.{ℕ, zero, suc, _+_, _-_, _≤_, _<_, min}
-use mathlib.Core.Path.{_≡_, refl, sym, ap, subst, _∙_}
+use mathlib.Core.Path.{_≡_, refl, sym, _∙_}
 use mathlib.Core.Bool.{Bool, true, false, cond}
 use mathlib.Core.List.{List, [], _∷_, _++_, map, zipWith}
 use native.Mathlib.Omega.{arith}
-use native.Mathlib.Nat.{add-zero, zero-add, add-assoc, suc-add, add-suc}
-use lib.Dec.{ltb, eqb}
+use native.Mathlib.Nat.{zero-add, add-assoc}
+use lib.Dec.{ltb}
 use lib.IntN.{ℤ, pos, negℤ, natAbs, _-ℤ_, +ℤ-idl}
 use lib.ListN.{length, getD, replicate, length-append}
 use borrow.Author.Tests.{ne-eqb}
 use Rattle.arith.proofs.Signed.{abs-neg}
 use Rattle.arith.specs.Lists.{total}
-use Rattle.arith.specs.Tests.{same-or, by-bool}
-use Rattle.arith.specs.Totals.{total-append}
+use Rattle.arith.specs.Tests.{same-or}
+use Rattle.arith.proofs.Totals.{total-append}
 use Rattle.rules.specs.Default.{sumOf, givenUp, less, changeLines, dealtOut, rounds}
 use Rattle.rules.specs.Ledger.{Tables, Line, members, lineRun}
 use Rattle.rules.specs.Ranges.{contractCount, mostPrice, leastLines}
@@ -20,7 +20,7 @@ use Rattle.rules.proofs.Netting.{sum-cons, sum-none, sum-zeros, given-sum, give
 use Rattle.dealing.proofs.Dealt.{all-dealt}
 use Rattle.close_out.specs.Booking.{withEach, changes, takerLines}
 use Rattle.close_out.proofs.Changes.{minus-size, change-most, change-cons, each-append}
-use Rattle.close_out.proofs.Takes.{Takes, Sound, takes-change, each-members}
+use Rattle.close_out.proofs.Takes.{Takes, takes-change, each-members}
 
 -- ---- what is left
 less-sum : (xs ys : List ℕ) → length ys ≡ length xs → ((i : ℕ) → getD ys i 0 ≤ getD xs i 0) → sumOf (less xs ys) + sumOf ys ≡ sumOf xs

@@ -1,16 +1,16 @@
 -- The three steps booked one after the other: the room each has, and that together they are the lines of the close-out. Assumes nothing.
-use Prim.Native.Nat.{ℕ, zero, suc, _+_, _*_, _-_, _≤_, _<_, min}
+use Prim.Native.Nat.{ℕ, zero, suc, _+_, _-_, _≤_, _<_}
 use mathlib.Core.Path.{_≡_, refl, sym, ap, subst, _∙_}
 use mathlib.Core.List.{List, [], _∷_, _++_, zipWith, append-nil, append-assoc}
 use native.Mathlib.Omega.{arith}
 use native.Mathlib.Nat.{zero-add}
-use lib.IntN.{ℤ, pos, natAbs, _-ℤ_}
+use lib.IntN.{ℤ, pos, _-ℤ_}
 use lib.ListN.{length, getD, length-append}
-use Rattle.arith.specs.Lists.{total}
+use Rattle.arith.specs.Overs.{zip-length}
 use Rattle.rules.specs.Default.{sumOf, givenUp, less, changeLines}
 use Rattle.rules.specs.Ledger.{Tables, Line, members}
 use Rattle.rules.specs.Ranges.{contractCount, mostPrice, leastLines, mostMembers}
-use Rattle.rules.proofs.Netting.{given-length, given-le}
+use Rattle.rules.proofs.Netting.{given-length}
 use Rattle.tables.specs.Fit.{membersIn}
 use Rattle.dealing.specs.Levels.{mostWeight, Column}
 use Rattle.close_out.specs.Booking.{withEach, changes, nettingLines, defaultedLines, takerLines, stepLines, Bookable, Dealable}
@@ -21,18 +21,10 @@ use Rattle.close_out.proofs.StepColumns.{netting-room}
 use Rattle.close_out.proofs.Runs.{change-length, most-run, no-takers, takes-lines}
 
 changes-length : (xs ys : List ℕ) → length xs ≡ length ys → length (changes xs ys) ≡ length xs
-unfolding zipWith
-changes-length [] [] e = refl
-changes-length [] (y ∷ ys) e = refl
-changes-length (x ∷ xs) [] e = sym e
-changes-length (x ∷ xs) (y ∷ ys) e = ap suc (changes-length xs ys (omega arith))
+changes-length xs ys e = zip-length (λ s l. pos s -ℤ pos l) xs ys e
 
 pub less-length : (xs ys : List ℕ) → length ys ≡ length xs → length (less xs ys) ≡ length xs
-unfolding zipWith
-less-length [] [] e = refl
-less-length [] (y ∷ ys) e = refl
-less-length (x ∷ xs) [] e = e
-less-length (x ∷ xs) (y ∷ ys) e = ap suc (less-length xs ys (omega arith))
+less-length xs ys e = zip-length (λ x y. x - y) xs ys (sym e)
 
 pub less-le : (xs ys : List ℕ) (i : ℕ) → getD (less xs ys) i 0 ≤ getD xs i 0
 unfolding zipWith
@@ -158,9 +150,10 @@ module _ (c p q l : ℕ) (longs shorts ws : List ℕ) (hc : c < contractCount) (
           → (r ≡ length (stepLines c p q l longs shorts ws)) × ((t : Tables) → put head3 lots3 value3 lines3 t ≡ withEach 0 (stepLines c p q l longs shorts ws) (put head lots value lines t))
       finish long e head3 lots3 value3 lines3 r er same3 =
           let takers = takerLines c p long l ws in
-          let all = steps-are long e in
-          (er ∙ ap (λ n. n + length takers) counted ∙ sym (length-append (netting ++ defaulted) takers) ∙ ap length all,
-          λ t. same3 t ∙ rw (together t, counted) (sym (rw (zero-add (length (netting ++ defaulted))) at (each-append 0 (netting ++ defaulted) takers (put head lots value lines t))) ∙ ap (λ ls. withEach 0 ls (put head lots value lines t)) all))
+          let all = steps-are long e in (
+            er ∙ ap (λ n. n + length takers) counted ∙ sym (length-append (netting ++ defaulted) takers) ∙ ap length all,
+            λ t. same3 t ∙ rw (together t, counted) (sym (rw (zero-add (length (netting ++ defaulted))) at (each-append 0 (netting ++ defaulted) takers (put head lots value lines t))) ∙ ap (λ ls. withEach 0 ls (put head lots value lines t)) all),
+          )
 
       pub done : l ≡ 0 → (second ≡ length (stepLines c p q l longs shorts ws)) × ((t : Tables) → put head2 lots2 value2 lines2 t ≡ withEach 0 (stepLines c p q l longs shorts ws) (put head lots value lines t))
       done z =

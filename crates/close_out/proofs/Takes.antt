@@ -1,20 +1,20 @@
 -- Tables that can take lines still can, with less room, after one. Assumes nothing.
-use Prim.Native.Nat.{ℕ, zero, suc, _+_, _*_, _-_, _≤_, _<_}
-use mathlib.Core.Path.{_≡_, refl, sym, ap, subst, _∙_}
+use Prim.Native.Nat.{ℕ, suc, _+_, _*_, _-_, _≤_, _<_}
+use mathlib.Core.Path.{_≡_, refl, _∙_}
 use mathlib.Core.List.{List, [], _∷_}
 use native.Mathlib.Omega.{arith}
 use native.Mathlib.Nat.{zero-add, mul-le-mul-left}
-use lib.IntN.{ℤ, pos, natAbs, _*ℤ_}
-use lib.ListN.{length, getD, set, take, drop, length-set}
+use lib.IntN.{ℤ, pos, natAbs}
+use lib.ListN.{getD, take, length-set}
 use lib.Seq.{getD-set-same, getD-set-other, drop-set-lt}
 use Rattle.arith.specs.Overs.{over-length}
 use Rattle.arith.specs.Sizes.{abs-times}
 use Rattle.arith.specs.Tests.{same-or}
 use Rattle.rules.specs.Default.{changeLines}
-use Rattle.rules.specs.Ledger.{Tables, Line, withHead, withRows, withLines, withLotsRun, lotsRun, members, linePlaces, lineLots, lineValue}
+use Rattle.rules.specs.Ledger.{Tables, Line, withLotsRun, lotsRun, members, linePlaces, lineLots, lineValue}
 use Rattle.rules.specs.Ranges.{contractCount, mostPrice, mostLotsRun, leastLines}
 use Rattle.tables.proofs.Booked.{rows-fit-line}
-use Rattle.tables.specs.Fit.{HeadFit, MemberFit, RowsFit, membersIn, lotsRunIn}
+use Rattle.tables.specs.Fit.{HeadFit, RowsFit, membersIn, lotsRunIn}
 use Rattle.tables.specs.Lines.{withLine}
 use Rattle.close_out.specs.Booking.{withEach, Bookable}
 use Rattle.close_out.proofs.Changes.{change-none, change-one, each-none, each-one}

@@ -17,7 +17,6 @@ pub enum Part {
     Others,
 }
 
-
 fn long_lots(net: i64) -> u64
     ensures { λ r. ⌜ r ≡ up net ⌝ }
 {

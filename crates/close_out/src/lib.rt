@@ -51,8 +51,20 @@ fn close_out_lots(
         ≡ closeOutSpec (withHead (now (head .entry)) (withRows (now (lots .entry)) (now (value .entry)) (withLines (now (lines .entry)) t))) e) ⌝ }
 {
     let contract = e.contract;
-    read_column(Part::DefaultedLongs, &head[..], &lots[..], contract, &mut *longs);
-    read_column(Part::DefaultedShorts, &head[..], &lots[..], contract, &mut *shorts);
+    read_column(
+        Part::DefaultedLongs,
+        &head[..],
+        &lots[..],
+        contract,
+        &mut *longs,
+    );
+    read_column(
+        Part::DefaultedShorts,
+        &head[..],
+        &lots[..],
+        contract,
+        &mut *shorts,
+    );
     let long = sum_of(&longs[..]);
     let short = sum_of(&shorts[..]);
     if long + short == 0 {

@@ -60,5 +60,16 @@ pub fn book_steps(
         return second;
     }
     let long = sum_of(&longs[..]);
-    book_takers(head, lots, value, lines, second, contract, price, long, left, weights)
+    book_takers(
+        head,
+        lots,
+        value,
+        lines,
+        second,
+        contract,
+        price,
+        long,
+        left,
+        weights,
+    )
 }

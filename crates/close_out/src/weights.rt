@@ -24,8 +24,8 @@ use rules::DayNo;
 use rules::layout::CONTRACTS;
 use rules::layout::DAY;
 use rules::layout::FIRST_YEAR;
-use rules::layout::HOLIDAYS;
 use rules::layout::HOLIDAY_COUNT;
+use rules::layout::HOLIDAYS;
 use rules::layout::MARKS;
 use rules::layout::ROW_WIDTH;
 
@@ -74,7 +74,11 @@ fn weigh(head: &[u64], lots: &[i64], days: &[u64], weights: &mut [u64])
 {
     let mut i: usize = 0;
     while i < weights.len() {
-        weights[i] = if head[MARKS + i] == 1 { 0 } else { weight_by(days, lots, i) };
+        weights[i] = if head[MARKS + i] == 1 {
+            0
+        } else {
+            weight_by(days, lots, i)
+        };
         i += 1;
     }
 }

@@ -1,16 +1,16 @@
 -- Totals over the open contracts, and how many days a contract delivers at most. Assumes nothing.
-use Prim.Native.Nat.{ℕ, zero, suc, _+_, _*_, _-_, _/_, _%_, _≤_, _<_}
+use Prim.Native.Nat.{ℕ, zero, suc, _+_, _*_, _-_, _/_, _%_, _≤_}
 use mathlib.Core.Path.{_≡_, refl, sym, ap, _∙_}
-use mathlib.Core.Bool.{Bool, true, false, cond, _&&_, _||_}
-use mathlib.Core.List.{List, [], _∷_, _++_}
+use mathlib.Core.Bool.{Bool, true, false, cond, _||_}
+use mathlib.Core.List.{List, [], _∷_}
 use native.Mathlib.Omega.{arith}
 use native.Mathlib.Nat.{add-suc, add-zero}
 use lib.Dec.{eqb}
 use lib.ListN.{take}
 use borrow.Author.Tests.{eqb-true}
 use Rattle.arith.specs.Lists.{any, kept, total, from}
-use Rattle.arith.specs.Tests.{by-bool, true-or, never, any-append, or-false}
-use Rattle.arith.specs.Totals.{Rising, rising-from, rising-kept, rising-take, listed, total-append, total-plus, total-same, total-listed}
+use Rattle.arith.specs.Tests.{true-or, never, any-append}
+use Rattle.arith.proofs.Totals.{Rising, rising-from, rising-kept, rising-take, listed, total-append, total-plus, total-same, total-listed}
 use Rattle.rules.specs.declared.contract.ContractKind.{ContractKind}
 use Rattle.rules.specs.declared.contract.ContractKind.the-variants.{Year, Quarter, Month}
 use Rattle.rules.specs.Ranges.{contractCount}

@@ -1,114 +1,89 @@
-use Prim.Native.Nat.{_+_, _*_, _≤_}
-use mathlib.Core.Path.{_≡_, refl, sym, ap, _∙_}
+use Prim.Native.Nat.{_+_, _*_}
+use mathlib.Core.Path.{_≡_, sym, ap, _∙_}
 use native.Mathlib.Omega.{arith}
 use native.Mathlib.Nat.{add-zero}
-use lib.ListN.{length, getD, length-take}
+use lib.ListN.{getD, length-take}
 use borrow.Author.Tests.{not-true, not-false}
+use borrow.Author.Needs.{needs}
 use Rattle.rules.specs.Ledger.{withPrices, withRows, withLines}
 use Rattle.close_out.proofs.Running.{put}
 use Rattle.close_out.proofs.Verdicts.{not-open, no-reference}
-use borrow.Author.Needs.{needs}
 use Rattle.close_out.proofs.apply.Statement.{statement}
 use Rattle.close_out.proofs.apply.Tie as tie
-use Rattle.close_out.proofs.apply.Reads as reads
-use Rattle.close_out.proofs.apply.Lts as lts
-use Rattle.close_out.proofs.close_out_lots.Reads as close-out-lots-reads
-use Rattle.tables.proofs.is_contract_open.Reads as is-contract-open-reads
 
--- src/lib.rt:100:9
 is-contract-open-requires : tie.Need-is-contract-open-requires
 is-contract-open-requires c κs = search needs
 
--- src/lib.rt:101:9
 same-length : tie.Need-same-length
 same-length c = search needs
 
--- src/lib.rt:101:9
 returns : tie.Need-returns
 returns c = let a = c .before .before .before .before .before .args in
     λ t. not-open (withPrices (a .prices .now) (put (a .head .now) (a .lots .now) (a .value .now) (a .lines .now) t)) (a .e)
     (sym (c .before .is-contract-open .ensures (withPrices (a .prices .now) (withRows (a .lots .now) (a .value .now) (withLines (a .lines .now) t)))) ∙ not-true _ (c .if1 .taken))
 
--- src/lib.rt:103:24
 mul-price : tie.Need-mul-price
 mul-price c = search needs
 
--- src/lib.rt:103:24
 add-price : tie.Need-add-price
 add-price c = search needs
 
--- src/lib.rt:103:17
 mul-price-2 : tie.Need-mul-price-2
 mul-price-2 c = search needs
 
--- src/lib.rt:103:17
 shared-slice-read-price : tie.Need-shared-slice-read-price
 shared-slice-read-price c = search needs
 
--- src/lib.rt:105:9
 same-length-2 : tie.Need-same-length-2
 same-length-2 c = search needs
 
--- src/lib.rt:105:9
 returns-2 : tie.Need-returns-2
 returns-2 c = let a = c .before .before .before .before .before .before .before .args in
     let same : getD (a .prices .now) (a .e .contract * 5 + 0) 0 ≡ getD (a .prices .now) (a .e .contract * 5) 0 = ap (λ i. getD (a .prices .now) i 0) (add-zero (a .e .contract * 5)) in
     λ t. no-reference (withPrices (a .prices .now) (put (a .head .now) (a .lots .now) (a .value .now) (a .lines .now) t)) (a .e)
     (sym (c .before .before .before .is-contract-open .ensures (withPrices (a .prices .now) (withRows (a .lots .now) (a .value .now) (withLines (a .lines .now) t)))) ∙ not-false _ (c .before .before .if1 .left)) (sym same ∙ c .if2 .taken)
 
--- src/lib.rt:107:19
 slice-read-members : tie.Need-slice-read-members
 slice-read-members c = search needs
 
--- src/lib.rt:118:9
 array-borrow-prefix-longs : tie.Need-array-borrow-prefix-longs
 array-borrow-prefix-longs c = search needs
 
--- src/lib.rt:118:9
 slice-aggregate-close-out-lots : tie.Need-slice-aggregate-close-out-lots
 slice-aggregate-close-out-lots c = simp length-take (omega (arith, c .before .before .before .before .before .before .before .before .before .before .before .before .before .pre .0 .0 .head-fit .most-members))
 
--- src/lib.rt:119:9
 array-borrow-prefix-shorts : tie.Need-array-borrow-prefix-shorts
 array-borrow-prefix-shorts c = search needs
 
--- src/lib.rt:119:9
 slice-aggregate-close-out-lots-2 : tie.Need-slice-aggregate-close-out-lots-2
 slice-aggregate-close-out-lots-2 c = simp length-take (omega (arith, c .before .before .before .before .before .before .before .before .before .before .before .before .before .before .pre .0 .0 .head-fit .most-members))
 
--- src/lib.rt:120:9
 array-borrow-prefix-weights : tie.Need-array-borrow-prefix-weights
 array-borrow-prefix-weights c = search needs
 
--- src/lib.rt:120:9
 slice-aggregate-close-out-lots-3 : tie.Need-slice-aggregate-close-out-lots-3
 slice-aggregate-close-out-lots-3 c = simp length-take (omega (arith, c .before .before .before .before .before .before .before .before .before .before .before .before .before .before .before .pre .0 .0 .head-fit .most-members))
 
--- src/lib.rt:111:5
 close-out-lots-requires : tie.Need-close-out-lots-requires
 close-out-lots-requires c κs = let a = c .before .before .before .before .before .before .before .before .before .before .before .before .before .before .before .args in
     let same : getD (a .prices .now) (a .e .contract * 5 + 0) 0 ≡ getD (a .prices .now) (a .e .contract * 5) 0 = ap (λ i. getD (a .prices .now) i 0) (add-zero (a .e .contract * 5)) in
-    let few = c .before .before .before .before .before .before .before .before .before .before .before .before .before .before .before .pre .0 .0 .head-fit .most-members in
-    ((c .before .before .before .before .before .before .before .before .before .before .before .before .before .before .before .pre .0 .0, c .before .before .before .before .before .before .before .before .before .before .before .before .before .before .before .pre .1 .0, c .before .before .before .before .before .before .before .before .before .before .before .before .before .before .before .pre .1 .1, omega (arith, same, c .before .before .before .before .before .before .before .before .before .before .before .before .before .before .before .pre .0 .1 .contract-fit (a .e .contract) (c .before .before .before .before .before .before .before .before .before .before .before .before .before .before .before .pre .1 .0) .most-ggf), omega (arith, c .before .before .before .before .before .before .before .before .if2 .left)),
-    (simp length-take (omega (arith, few)), simp length-take (omega (arith, few)), simp length-take (omega (arith, few))))
+    let few = c .before .before .before .before .before .before .before .before .before .before .before .before .before .before .before .pre .0 .0 .head-fit .most-members in (
+      (c .before .before .before .before .before .before .before .before .before .before .before .before .before .before .before .pre .0 .0, c .before .before .before .before .before .before .before .before .before .before .before .before .before .before .before .pre .1 .0, c .before .before .before .before .before .before .before .before .before .before .before .before .before .before .before .pre .1 .1, omega (arith, same, c .before .before .before .before .before .before .before .before .before .before .before .before .before .before .before .pre .0 .1 .contract-fit (a .e .contract) (c .before .before .before .before .before .before .before .before .before .before .before .before .before .before .before .pre .1 .0) .most-ggf), omega (arith, c .before .before .before .before .before .before .before .before .if2 .left)),
+      (simp length-take (omega (arith, few)), simp length-take (omega (arith, few)), simp length-take (omega (arith, few))),
+    )
 
--- src/lib.rt:86:1
 same-length-3 : tie.Need-same-length-3
 same-length-3 c = search needs
 
--- src/lib.rt:86:1
 same-length-4 : tie.Need-same-length-4
 same-length-4 c = search needs
 
--- src/lib.rt:86:1
 same-length-5 : tie.Need-same-length-5
 same-length-5 c = search needs
 
--- src/lib.rt:86:1
 same-length-6 : tie.Need-same-length-6
 same-length-6 c = search needs
 
--- src/lib.rt:86:1
 returns-3 : tie.Need-returns-3
 returns-3 c = let a = c .before .before .before .before .before .before .before .before .before .before .before .before .before .before .before .before .before .before .before .before .before .before .before .before .args in
     let same : getD (a .prices .now) (a .e .contract * 5 + 0) 0 ≡ getD (a .prices .now) (a .e .contract * 5) 0 = ap (λ i. getD (a .prices .now) i 0) (add-zero (a .e .contract * 5)) in

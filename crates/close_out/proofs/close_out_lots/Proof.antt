@@ -1,40 +1,28 @@
-use Prim.Native.Nat.{ℕ, _+_, _-_, _≤_, _<_}
-use mathlib.Core.Path.{_≡_, refl, sym, ap, _∙_}
+use Prim.Native.Nat.{_-_, _≤_}
+use mathlib.Core.Path.{refl, sym, _∙_}
 use native.Mathlib.Omega.{arith}
-use Rattle.rules.specs.Ledger.{withLines}
-use Rattle.close_out.specs.declared.columns.Part.the-variants.{DefaultedLongs, DefaultedShorts}
-use Rattle.rules.specs.Ranges.{mostLotsRun}
-use Rattle.close_out.proofs.Takes.{less-room, rows-wider}
-use Rattle.close_out.proofs.Running.{put, blank}
-use Rattle.close_out.proofs.Verdicts.{Read, read-fits, left-is, no-lots, no-taker, passed, booked-so, dealable}
 use borrow.Author.Needs.{needs}
+use Rattle.rules.specs.Ledger.{withLines}
+use Rattle.rules.specs.Ranges.{mostLotsRun}
+use Rattle.close_out.specs.declared.columns.Part.the-variants.{DefaultedLongs, DefaultedShorts}
+use Rattle.close_out.proofs.Takes.{rows-wider}
+use Rattle.close_out.proofs.Running.{put, blank}
+use Rattle.close_out.proofs.Verdicts.{read-fits, left-is, no-lots, no-taker, passed, booked-so, dealable}
 use Rattle.close_out.proofs.close_out_lots.Statement.{statement}
 use Rattle.close_out.proofs.close_out_lots.Tie as tie
-use Rattle.close_out.proofs.close_out_lots.Reads as reads
-use Rattle.close_out.proofs.close_out_lots.Lts as lts
-use Rattle.close_out.proofs.columns.read_column.Reads as read-column-reads
-use Rattle.close_out.proofs.steps.book_steps.Reads as book-steps-reads
-use Rattle.close_out.proofs.weights.find_weights.Reads as find-weights-reads
-use Rattle.dealing.proofs.smaller.Reads as smaller-reads
-use Rattle.dealing.proofs.sum_of.Reads as sum-of-reads
 
--- src/lib.rt:54:5
 read-column-requires : tie.Need-read-column-requires
 read-column-requires c κs = search needs
 
--- src/lib.rt:55:5
 read-column-requires-2 : tie.Need-read-column-requires-2
 read-column-requires-2 c κs = search needs
 
--- src/lib.rt:56:9
 sum-of-requires : tie.Need-sum-of-requires
 sum-of-requires c κs = read-fits DefaultedLongs _ _ _ _ _ _ (c .before .before .before .before .before .before .before .before .before .before .before .before .before .before .before .before .before .pre .0 .0) (c .before .before .before .before .before .before .before .before .before .before .before .before .before .before .before .before .before .pre .0 .1) (c .before .before .before .before .before .before .before .before .before .read-column .ensures) .fits
 
--- src/lib.rt:57:9
 sum-of-requires-2 : tie.Need-sum-of-requires-2
 sum-of-requires-2 c κs = read-fits DefaultedShorts _ _ _ _ _ _ (c .before .before .before .before .before .before .before .before .before .before .before .before .before .before .before .before .before .before .before .pre .0 .0) (c .before .before .before .before .before .before .before .before .before .before .before .before .before .before .before .before .before .before .before .pre .0 .1) (c .before .before .before .before .before .read-column2 .ensures) .fits
 
--- src/lib.rt:58:8
 add-if1 : tie.Need-add-if1
 add-if1 c = let a = c .before .before .before .before .before .before .before .before .before .before .before .before .before .before .before .before .before .before .before .before .args in
     let f = c .before .before .before .before .before .before .before .before .before .before .before .before .before .before .before .before .before .before .before .before .pre .0 .0 in
@@ -44,23 +32,18 @@ add-if1 c = let a = c .before .before .before .before .before .before .before .b
     let bs : c .sum-of2 .result ≤ 160000000 = rw (c .sum-of2 .ensures) (rs .most) in
     omega (arith, bl, bs)
 
--- src/lib.rt:59:9
 same-length : tie.Need-same-length
 same-length c = search needs
 
--- src/lib.rt:59:9
 same-length-2 : tie.Need-same-length-2
 same-length-2 c = search needs
 
--- src/lib.rt:59:9
 same-length-3 : tie.Need-same-length-3
 same-length-3 c = search needs
 
--- src/lib.rt:59:9
 same-length-4 : tie.Need-same-length-4
 same-length-4 c = search needs
 
--- src/lib.rt:59:9
 returns : tie.Need-returns
 returns c = let a = c .before .before .before .before .before .before .before .before .before .before .before .before .before .before .before .before .before .before .before .before .before .args in
     let f = c .before .before .before .before .before .before .before .before .before .before .before .before .before .before .before .before .before .before .before .before .before .pre .0 .0 in
@@ -68,23 +51,18 @@ returns c = let a = c .before .before .before .before .before .before .before .b
     let rs = read-fits DefaultedShorts _ _ _ _ (a .e .contract) _ f (c .before .before .before .before .before .before .before .before .before .before .before .before .before .before .before .before .before .before .before .before .before .pre .0 .1) (c .before .before .before .before .before .before .before .read-column2 .ensures) in
     λ t o p. no-lots (put (a .head .now) (a .lots .now) (a .value .now) (a .lines .now) t) (a .e) _ _ (c .before .before .before .before .before .before .before .before .before .before .before .before .before .read-column .ensures (withLines (a .lines .now) t) (a .value .now)) (c .before .before .before .before .before .before .before .read-column2 .ensures (withLines (a .lines .now) t) (a .value .now)) (rl .long ∙ sym (rs .long)) _ _ (c .before .before .before .sum-of .ensures) (c .before .sum-of2 .ensures) _ refl _ refl (a .price .0) p _ refl o (c .before .before .before .before .before .before .before .before .before .before .before .before .before .before .before .before .before .before .before .before .before .pre .0 .4) (c .if1 .taken)
 
--- src/lib.rt:61:9
 smaller-requires : tie.Need-smaller-requires
 smaller-requires c κs = search needs
 
--- src/lib.rt:62:17
 sub-left : tie.Need-sub-left
 sub-left c = search needs
 
--- src/lib.rt:62:35
 sub-left-2 : tie.Need-sub-left-2
 sub-left-2 c = search needs
 
--- src/lib.rt:62:16
 add-left : tie.Need-add-left
 add-left c = search needs
 
--- src/lib.rt:63:5
 find-weights-requires : tie.Need-find-weights-requires
 find-weights-requires c κs = let a = c .before .before .before .before .before .before .before .before .before .before .before .before .before .before .before .before .before .before .before .before .before .before .before .before .before .args in
     let f = c .before .before .before .before .before .before .before .before .before .before .before .before .before .before .before .before .before .before .before .before .before .before .before .before .before .pre .0 .0 in
@@ -94,31 +72,24 @@ find-weights-requires c κs = let a = c .before .before .before .before .before 
     let bs : c .before .before .before .before .before .sum-of2 .result ≤ 160000000 = rw (c .before .before .before .before .before .sum-of2 .ensures) (rs .most) in
     ((f .head-fit, rows-wider _ _ mostLotsRun _ (f .head-fit .most-run) (f .lots-fit), c .before .before .before .before .before .before .before .before .before .before .before .before .before .before .before .before .before .before .before .before .before .before .before .before .before .pre .1 .2), (c .before .before .before .before .before .before .before .before .before .before .before .before .before .before .before .before .before .before .before .before .before .before .before .before .before .pre .0 .1, c .before .before .before .before .before .before .before .before .before .before .before .before .before .before .before .before .before .before .before .before .before .before .before .before .before .pre .0 .2, omega (arith, c .before .before .before .smaller .ensures)))
 
--- src/lib.rt:64:22
 sum-of-requires-3 : tie.Need-sum-of-requires-3
 sum-of-requires-3 c κs = search needs
 
--- src/lib.rt:65:9
 same-length-5 : tie.Need-same-length-5
 same-length-5 c = search needs
 
--- src/lib.rt:65:9
 same-length-6 : tie.Need-same-length-6
 same-length-6 c = search needs
 
--- src/lib.rt:65:9
 same-length-7 : tie.Need-same-length-7
 same-length-7 c = search needs
 
--- src/lib.rt:65:9
 same-length-8 : tie.Need-same-length-8
 same-length-8 c = search needs
 
--- src/lib.rt:65:9
 same-length-9 : tie.Need-same-length-9
 same-length-9 c = search needs
 
--- src/lib.rt:65:9
 returns-2 : tie.Need-returns-2
 returns-2 c = let a = c .before .before .before .before .before .before .before .before .before .before .before .before .before .before .before .before .before .before .before .before .before .before .before .before .before .before .before .before .before .before .before .args in
     let f = c .before .before .before .before .before .before .before .before .before .before .before .before .before .before .before .before .before .before .before .before .before .before .before .before .before .before .before .before .before .before .before .pre .0 .0 in
@@ -127,11 +98,9 @@ returns-2 c = let a = c .before .before .before .before .before .before .before 
     λ t o p. let k = c .before .before .before .before .before .find-weights .ensures .0 (withLines (a .lines .now) t) (a .value .now) (left-is (put (a .head .now) (a .lots .now) (a .value .now) (a .lines .now) t) (a .e) _ _ (c .before .before .before .before .before .before .before .before .before .before .before .before .before .before .before .before .before .before .before .before .before .before .before .read-column .ensures (withLines (a .lines .now) t) (a .value .now)) (c .before .before .before .before .before .before .before .before .before .before .before .before .before .before .before .before .before .read-column2 .ensures (withLines (a .lines .now) t) (a .value .now)) (rl .long ∙ sym (rs .long)) _ _ (c .before .before .before .before .before .before .before .before .before .before .before .before .before .sum-of .ensures) (c .before .before .before .before .before .before .before .before .before .before .before .sum-of2 .ensures) _ (c .before .before .before .before .before .before .before .before .before .smaller .ensures) _ refl) in
     no-taker (put (a .head .now) (a .lots .now) (a .value .now) (a .lines .now) t) (a .e) _ _ (c .before .before .before .before .before .before .before .before .before .before .before .before .before .before .before .before .before .before .before .before .before .before .before .read-column .ensures (withLines (a .lines .now) t) (a .value .now)) (c .before .before .before .before .before .before .before .before .before .before .before .before .before .before .before .before .before .read-column2 .ensures (withLines (a .lines .now) t) (a .value .now)) (rl .long ∙ sym (rs .long)) _ _ (c .before .before .before .before .before .before .before .before .before .before .before .before .before .sum-of .ensures) (c .before .before .before .before .before .before .before .before .before .before .before .sum-of2 .ensures) _ (c .before .before .before .before .before .before .before .before .before .smaller .ensures) _ refl (a .price .0) p _ k o (c .before .before .before .before .before .before .before .before .before .before .before .before .before .before .before .before .before .before .before .before .before .before .before .before .before .before .before .before .before .before .before .pre .0 .4) (c .before .before .before .before .before .before .before .before .before .before .if1 .left) (rw (c .before .sum-of3 .ensures) at (c .if2 .taken))
 
--- src/lib.rt:67:24
 slice-read-if3 : tie.Need-slice-read-if3
 slice-read-if3 c = omega (arith, c .before .before .before .before .before .before .before .before .before .before .before .before .before .before .before .before .before .before .before .before .before .before .before .before .before .before .before .before .before .before .before .before .pre .0 .0 .head-fit .long)
 
--- src/lib.rt:67:43
 add-if3 : tie.Need-add-if3
 add-if3 c = let a = c .before .before .before .before .before .before .before .before .before .before .before .before .before .before .before .before .before .before .before .before .before .before .before .before .before .before .before .before .before .before .before .before .args in
     let f = c .before .before .before .before .before .before .before .before .before .before .before .before .before .before .before .before .before .before .before .before .before .before .before .before .before .before .before .before .before .before .before .before .pre .0 .0 in
@@ -141,7 +110,6 @@ add-if3 c = let a = c .before .before .before .before .before .before .before .b
     let bs : c .before .before .before .before .before .before .before .before .before .before .before .before .sum-of2 .result ≤ 160000000 = rw (c .before .before .before .before .before .before .before .before .before .before .before .before .sum-of2 .ensures) (rs .most) in
     omega (arith, bl, c .before .before .before .before .before .before .before .before .before .before .smaller .ensures)
 
--- src/lib.rt:67:63
 add-if3-2 : tie.Need-add-if3-2
 add-if3-2 c = let a = c .before .before .before .before .before .before .before .before .before .before .before .before .before .before .before .before .before .before .before .before .before .before .before .before .before .before .before .before .before .before .before .before .args in
     let f = c .before .before .before .before .before .before .before .before .before .before .before .before .before .before .before .before .before .before .before .before .before .before .before .before .before .before .before .before .before .before .before .before .pre .0 .0 in
@@ -151,7 +119,6 @@ add-if3-2 c = let a = c .before .before .before .before .before .before .before 
     let bs : c .before .before .before .before .before .before .before .before .before .before .before .before .sum-of2 .result ≤ 160000000 = rw (c .before .before .before .before .before .before .before .before .before .before .before .before .sum-of2 .ensures) (rs .most) in
     omega (arith, bl, bs)
 
--- src/lib.rt:67:42
 add-if3-3 : tie.Need-add-if3-3
 add-if3-3 c = let a = c .before .before .before .before .before .before .before .before .before .before .before .before .before .before .before .before .before .before .before .before .before .before .before .before .before .before .before .before .before .before .before .before .args in
     let f = c .before .before .before .before .before .before .before .before .before .before .before .before .before .before .before .before .before .before .before .before .before .before .before .before .before .before .before .before .before .before .before .before .pre .0 .0 in
@@ -161,7 +128,6 @@ add-if3-3 c = let a = c .before .before .before .before .before .before .before 
     let bs : c .before .before .before .before .before .before .before .before .before .before .before .before .sum-of2 .result ≤ 160000000 = rw (c .before .before .before .before .before .before .before .before .before .before .before .before .sum-of2 .ensures) (rs .most) in
     omega (arith, bl, bs, c .before .before .before .before .before .before .before .before .before .before .smaller .ensures)
 
--- src/lib.rt:67:24
 add-if3-4 : tie.Need-add-if3-4
 add-if3-4 c = let a = c .before .before .before .before .before .before .before .before .before .before .before .before .before .before .before .before .before .before .before .before .before .before .before .before .before .before .before .before .before .before .before .before .args in
     let f = c .before .before .before .before .before .before .before .before .before .before .before .before .before .before .before .before .before .before .before .before .before .before .before .before .before .before .before .before .before .before .before .before .pre .0 .0 in
@@ -171,27 +137,21 @@ add-if3-4 c = let a = c .before .before .before .before .before .before .before 
     let bs : c .before .before .before .before .before .before .before .before .before .before .before .before .sum-of2 .result ≤ 160000000 = rw (c .before .before .before .before .before .before .before .before .before .before .before .before .sum-of2 .ensures) (rs .most) in
     omega (arith, bl, bs, c .before .before .before .before .before .before .before .before .before .before .smaller .ensures, f .head-fit .most-run)
 
--- src/lib.rt:68:9
 same-length-10 : tie.Need-same-length-10
 same-length-10 c = search needs
 
--- src/lib.rt:68:9
 same-length-11 : tie.Need-same-length-11
 same-length-11 c = search needs
 
--- src/lib.rt:68:9
 same-length-12 : tie.Need-same-length-12
 same-length-12 c = search needs
 
--- src/lib.rt:68:9
 same-length-13 : tie.Need-same-length-13
 same-length-13 c = search needs
 
--- src/lib.rt:68:9
 same-length-14 : tie.Need-same-length-14
 same-length-14 c = search needs
 
--- src/lib.rt:68:9
 returns-3 : tie.Need-returns-3
 returns-3 c = let a = c .before .before .before .before .before .before .before .before .before .before .before .before .before .before .before .before .before .before .before .before .before .before .before .before .before .before .before .before .before .before .before .before .before .args in
     let f = c .before .before .before .before .before .before .before .before .before .before .before .before .before .before .before .before .before .before .before .before .before .before .before .before .before .before .before .before .before .before .before .before .before .pre .0 .0 in
@@ -200,45 +160,37 @@ returns-3 c = let a = c .before .before .before .before .before .before .before 
     λ t o p. let k = c .before .before .before .before .before .before .before .find-weights .ensures .0 (withLines (a .lines .now) t) (a .value .now) (left-is (put (a .head .now) (a .lots .now) (a .value .now) (a .lines .now) t) (a .e) _ _ (c .before .before .before .before .before .before .before .before .before .before .before .before .before .before .before .before .before .before .before .before .before .before .before .before .before .read-column .ensures (withLines (a .lines .now) t) (a .value .now)) (c .before .before .before .before .before .before .before .before .before .before .before .before .before .before .before .before .before .before .before .read-column2 .ensures (withLines (a .lines .now) t) (a .value .now)) (rl .long ∙ sym (rs .long)) _ _ (c .before .before .before .before .before .before .before .before .before .before .before .before .before .before .before .sum-of .ensures) (c .before .before .before .before .before .before .before .before .before .before .before .before .before .sum-of2 .ensures) _ (c .before .before .before .before .before .before .before .before .before .before .before .smaller .ensures) _ refl) in
     passed (put (a .head .now) (a .lots .now) (a .value .now) (a .lines .now) t) (a .e) _ _ (c .before .before .before .before .before .before .before .before .before .before .before .before .before .before .before .before .before .before .before .before .before .before .before .before .before .read-column .ensures (withLines (a .lines .now) t) (a .value .now)) (c .before .before .before .before .before .before .before .before .before .before .before .before .before .before .before .before .before .before .before .read-column2 .ensures (withLines (a .lines .now) t) (a .value .now)) (rl .long ∙ sym (rs .long)) _ _ (c .before .before .before .before .before .before .before .before .before .before .before .before .before .before .before .sum-of .ensures) (c .before .before .before .before .before .before .before .before .before .before .before .before .before .sum-of2 .ensures) _ (c .before .before .before .before .before .before .before .before .before .before .before .smaller .ensures) _ refl (a .price .0) p _ k o (c .before .before .before .before .before .before .before .before .before .before .before .before .before .before .before .before .before .before .before .before .before .before .before .before .before .before .before .before .before .before .before .before .before .pre .0 .4) (c .before .before .before .before .before .before .before .before .before .before .before .before .if1 .left) (rw (c .before .before .before .sum-of3 .ensures) at (c .before .before .if2 .left)) (c .if3 .taken)
 
--- src/lib.rt:70:9
 book-steps-requires : tie.Need-book-steps-requires
 book-steps-requires c κs = let a = c .before .before .before .before .before .before .before .before .before .before .before .before .before .before .before .before .before .before .before .before .before .before .before .before .before .before .before .before .before .before .before .before .before .before .before .before .before .before .before .before .args in
     let f = c .before .before .before .before .before .before .before .before .before .before .before .before .before .before .before .before .before .before .before .before .before .before .before .before .before .before .before .before .before .before .before .before .before .before .before .before .before .before .before .before .pre .0 .0 in
     let rl = read-fits DefaultedLongs _ _ _ _ (a .e .contract) _ f (c .before .before .before .before .before .before .before .before .before .before .before .before .before .before .before .before .before .before .before .before .before .before .before .before .before .before .before .before .before .before .before .before .before .before .before .before .before .before .before .before .pre .0 .1) (c .before .before .before .before .before .before .before .before .before .before .before .before .before .before .before .before .before .before .before .before .before .before .before .before .before .before .before .before .before .before .before .before .read-column .ensures) in
     let rs = read-fits DefaultedShorts _ _ _ _ (a .e .contract) _ f (c .before .before .before .before .before .before .before .before .before .before .before .before .before .before .before .before .before .before .before .before .before .before .before .before .before .before .before .before .before .before .before .before .before .before .before .before .before .before .before .before .pre .0 .1) (c .before .before .before .before .before .before .before .before .before .before .before .before .before .before .before .before .before .before .before .before .before .before .before .before .before .before .read-column2 .ensures) in
-    let t = blank in
-    ((record { head-fit = f .head-fit; lots-fit = f .lots-fit; value-fit = f .value-fit; lines-long = f .lines-long; most-run = c .before .before .before .before .before .before .before .if3 .left }, c .before .before .before .before .before .before .before .before .before .before .before .before .before .before .before .before .before .before .before .before .before .before .before .before .before .before .before .before .before .before .before .before .before .before .before .before .before .before .before .before .pre .0 .1, c .before .before .before .before .before .before .before .before .before .before .before .before .before .before .before .before .before .before .before .before .before .before .before .before .before .before .before .before .before .before .before .before .before .before .before .before .before .before .before .before .pre .0 .3),
-    dealable (put (a .head .now) (a .lots .now) (a .value .now) (a .lines .now) t) (a .e) _ _ (c .before .before .before .before .before .before .before .before .before .before .before .before .before .before .before .before .before .before .before .before .before .before .before .before .before .before .before .before .before .before .before .before .read-column .ensures (withLines (a .lines .now) t) (a .value .now)) (c .before .before .before .before .before .before .before .before .before .before .before .before .before .before .before .before .before .before .before .before .before .before .before .before .before .before .read-column2 .ensures (withLines (a .lines .now) t) (a .value .now)) (rl .long ∙ sym (rs .long)) _ _ (c .before .before .before .before .before .before .before .before .before .before .before .before .before .before .before .before .before .before .before .before .before .before .sum-of .ensures) (c .before .before .before .before .before .before .before .before .before .before .before .before .before .before .before .before .before .before .before .before .sum-of2 .ensures) _ (c .before .before .before .before .before .before .before .before .before .before .before .before .before .before .before .before .before .before .smaller .ensures) _ refl _ (rw (c .before .before .before .before .before .before .before .before .before .before .sum-of3 .ensures) at (c .before .before .before .before .before .before .before .before .before .if2 .left)) (rl .long) (c .before .before .before .before .before .before .before .before .before .before .before .before .before .before .find-weights .kept .1 .1 .1 .1 .0 ∙ c .before .before .before .before .before .before .before .before .before .before .before .before .before .before .before .before .before .before .before .before .before .before .before .before .before .before .before .before .before .before .before .before .before .before .before .before .before .before .before .before .pre .1 .2) (rl .fits) (c .before .before .before .before .before .before .before .before .before .before .before .before .before .before .find-weights .ensures .1))
+    let t = blank in (
+      (record { head-fit = f .head-fit; lots-fit = f .lots-fit; value-fit = f .value-fit; lines-long = f .lines-long; most-run = c .before .before .before .before .before .before .before .if3 .left }, c .before .before .before .before .before .before .before .before .before .before .before .before .before .before .before .before .before .before .before .before .before .before .before .before .before .before .before .before .before .before .before .before .before .before .before .before .before .before .before .before .pre .0 .1, c .before .before .before .before .before .before .before .before .before .before .before .before .before .before .before .before .before .before .before .before .before .before .before .before .before .before .before .before .before .before .before .before .before .before .before .before .before .before .before .before .pre .0 .3),
+      dealable (put (a .head .now) (a .lots .now) (a .value .now) (a .lines .now) t) (a .e) _ _ (c .before .before .before .before .before .before .before .before .before .before .before .before .before .before .before .before .before .before .before .before .before .before .before .before .before .before .before .before .before .before .before .before .read-column .ensures (withLines (a .lines .now) t) (a .value .now)) (c .before .before .before .before .before .before .before .before .before .before .before .before .before .before .before .before .before .before .before .before .before .before .before .before .before .before .read-column2 .ensures (withLines (a .lines .now) t) (a .value .now)) (rl .long ∙ sym (rs .long)) _ _ (c .before .before .before .before .before .before .before .before .before .before .before .before .before .before .before .before .before .before .before .before .before .before .sum-of .ensures) (c .before .before .before .before .before .before .before .before .before .before .before .before .before .before .before .before .before .before .before .before .sum-of2 .ensures) _ (c .before .before .before .before .before .before .before .before .before .before .before .before .before .before .before .before .before .before .smaller .ensures) _ refl _ (rw (c .before .before .before .before .before .before .before .before .before .before .sum-of3 .ensures) at (c .before .before .before .before .before .before .before .before .before .if2 .left)) (rl .long) (c .before .before .before .before .before .before .before .before .before .before .before .before .before .before .find-weights .kept .1 .1 .1 .1 .0 ∙ c .before .before .before .before .before .before .before .before .before .before .before .before .before .before .before .before .before .before .before .before .before .before .before .before .before .before .before .before .before .before .before .before .before .before .before .before .before .before .before .before .pre .1 .2) (rl .fits) (c .before .before .before .before .before .before .before .before .before .before .before .before .before .before .find-weights .ensures .1),
+    )
 
--- src/lib.rt:36:1
 same-length-15 : tie.Need-same-length-15
 same-length-15 c = search needs
 
--- src/lib.rt:36:1
 same-length-16 : tie.Need-same-length-16
 same-length-16 c = search needs
 
--- src/lib.rt:36:1
 same-length-17 : tie.Need-same-length-17
 same-length-17 c = search needs
 
--- src/lib.rt:36:1
 same-length-18 : tie.Need-same-length-18
 same-length-18 c = search needs
 
--- src/lib.rt:36:1
 same-length-19 : tie.Need-same-length-19
 same-length-19 c = c .before .before .before .before .before .before .before .before .before .book-steps .kept .1 .1 .1 .1 .1 .1 .1 .1 .0 ∙ c .before .before .before .before .before .before .before .before .before .before .before .before .before .before .before .before .before .before .before .before .before .before .before .before .before .before .before .before .before .before .before .before .before .before .before .before .before .before .before .before .before .before .read-column .kept .1 .1 .1 .1 .0
 
--- src/lib.rt:36:1
 same-length-20 : tie.Need-same-length-20
 same-length-20 c = c .before .before .before .before .before .before .before .before .before .book-steps .kept .1 .1 .1 .1 .1 .1 .1 .1 .1 .0 ∙ c .before .before .before .before .before .before .before .before .before .before .before .before .before .before .before .before .before .before .before .before .before .before .before .before .before .before .before .before .before .before .before .before .before .before .before .before .read-column2 .kept .1 .1 .1 .1 .0
 
--- src/lib.rt:36:1
 same-length-21 : tie.Need-same-length-21
 same-length-21 c = search needs
 
--- src/lib.rt:36:1
 returns-4 : tie.Need-returns-4
 returns-4 c = let a = c .before .before .before .before .before .before .before .before .before .before .before .before .before .before .before .before .before .before .before .before .before .before .before .before .before .before .before .before .before .before .before .before .before .before .before .before .before .before .before .before .before .before .before .before .before .before .before .before .before .before .args in
     let f = c .before .before .before .before .before .before .before .before .before .before .before .before .before .before .before .before .before .before .before .before .before .before .before .before .before .before .before .before .before .before .before .before .before .before .before .before .before .before .before .before .before .before .before .before .before .before .before .before .before .before .pre .0 .0 in

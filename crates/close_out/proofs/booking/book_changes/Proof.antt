@@ -1,19 +1,13 @@
-use borrow.Author.Needs.{needs}
-use Prim.Native.Nat.{ℕ, _+_, _-_}
+use Prim.Native.Nat.{_-_}
 use mathlib.Core.Path.{_≡_, refl, sym, ap, _∙_}
 use native.Mathlib.Omega.{arith}
-use native.Mathlib.Nat.{add-zero}
-use lib.ListN.{length, getD}
-use Rattle.rules.specs.Default.{changeLines}
-use Rattle.close_out.specs.Booking.{withEach, changes}
+use lib.ListN.{length}
+use borrow.Author.Needs.{needs}
 use Rattle.close_out.proofs.Changes.{lines-end, sum-next, each-none}
 use Rattle.close_out.proofs.Takes.{less-room}
 use Rattle.close_out.proofs.Running.{put, Running, running-next}
 use Rattle.close_out.proofs.booking.book_changes.Statement.{statement}
 use Rattle.close_out.proofs.booking.book_changes.Tie as tie
-use Rattle.close_out.proofs.booking.book_changes.Reads as reads
-use Rattle.close_out.proofs.booking.book_changes.Lts as lts
-use Rattle.close_out.proofs.booking.book_change.Reads as book-change-reads
 
 abbrev Inv-loop : tie.InvT-loop
 Inv-loop head₀ lots₀ value₀ lines₀ i contract price gains losses at₀ member₀ head lots value lines at member = Running contract (price .0) i gains losses (put head₀ lots₀ value₀ lines₀) head lots value lines at member
@@ -22,27 +16,21 @@ Inv-loop head₀ lots₀ value₀ lines₀ i contract price gains losses at₀ m
 abbrev μ-loop : tie.MeasureT-loop
 μ-loop head₀ lots₀ value₀ lines₀ i contract price gains losses at₀ member₀ head lots value lines at member = length gains - member
 
--- src/booking.rt:84:5
 loop-holds : tie.Need-loop-holds Inv-loop μ-loop
 loop-holds c = (record { within = omega arith; few = omega arith; members = c .before .before .before .pre .1 .1 .0; takes = c .before .before .before .pre .0; count = refl; same = λ t. refl }, refl, refl, refl, refl)
 
--- src/booking.rt:94:13
 mul-book-change : tie.Need-mul-book-change Inv-loop μ-loop
 mul-book-change c = search needs
 
--- src/booking.rt:94:13
 shared-slice-read-book-change : tie.Need-shared-slice-read-book-change Inv-loop μ-loop
 shared-slice-read-book-change c = search needs
 
--- src/booking.rt:95:13
 mul-book-change-2 : tie.Need-mul-book-change-2 Inv-loop μ-loop
 mul-book-change-2 c = search needs
 
--- src/booking.rt:95:13
 shared-slice-read-book-change-2 : tie.Need-shared-slice-read-book-change-2 Inv-loop μ-loop
 shared-slice-read-book-change-2 c = omega (arith, c .before .before .before .before .before .before .before .before .before .before .before .pre .1 .1 .1)
 
--- src/booking.rt:85:9
 book-change-requires : tie.Need-book-change-requires Inv-loop μ-loop
 book-change-requires c κs = let a = c .before .before .before .before .before .before .before .before .before .before .before .args in
     let l = c .before .before .before .before .before .before .before .loop in
@@ -50,40 +38,36 @@ book-change-requires c κs = let a = c .before .before .before .before .before .
     let s = sum-next (a .losses .now) (l .member) (omega (arith, c .before .before .before .before .before .before .before .before .before .before .before .pre .1 .1 .1)) in
     (less-room _ _ (omega arith) (l .inv .0 .takes), (omega (arith, l .inv .0 .few, c .before .before .before .before .before .before .before .before .before .before .before .pre .1 .0 .0), c .before .before .before .before .before .before .before .before .before .before .before .pre .1 .0 .1, c .before .before .before .before .before .before .before .before .before .before .before .pre .1 .0 .2, omega (arith, l .inv .0 .members)))
 
--- src/booking.rt:97:9
 add-member : tie.Need-add-member Inv-loop μ-loop
 add-member c = search needs
 
--- src/booking.rt:84:5
 loop-less : tie.Need-loop-less Inv-loop μ-loop
 loop-less c = search needs
 
--- src/booking.rt:84:5
 loop-again : tie.Need-loop-again Inv-loop μ-loop
 loop-again c = let a = c .before .before .before .before .before .before .before .before .before .before .before .before .before .before .before .before .before .args in
     let l = c .before .before .before .before .before .before .before .before .before .before .before .before .before .loop in
-    let k = c .before .before .before .before .before .book-change .kept in
-    (running-next (a .contract) (a .price .0) (a .i) (a .gains .now) (a .losses .now) _ (c .before .before .before .before .before .before .before .before .before .before .before .before .before .before .before .before .before .pre .1 .1 .1) (c .before .before .before .before .before .before .before .before .before .before .before .before .before .before .before .before .before .pre .1 .0 .1) (c .before .before .before .before .before .before .before .before .before .before .before .before .before .before .before .before .before .pre .1 .0 .2) (c .before .before .before .before .before .before .before .before .before .before .before .before .before .before .before .before .before .pre .1 .0 .0)
-    (l .head) (l .lots) (l .value) (l .lines) (l .at) (l .member) (l .inv .0) (c .before .before .before .before .before .before .before .before .before .before .before .before .loop-test .taken) _ _ _ _ _ (c .before .before .before .before .before .book-change .ensures .1) (c .before .before .before .before .before .book-change .ensures .0),
-    k .0 ∙ l .inv .1, k .1 .0 ∙ l .inv .2, k .1 .1 .0 ∙ l .inv .3, k .1 .1 .1 .0 ∙ l .inv .4)
+    let k = c .before .before .before .before .before .book-change .kept in (
+      running-next (a .contract) (a .price .0) (a .i) (a .gains .now) (a .losses .now) _ (c .before .before .before .before .before .before .before .before .before .before .before .before .before .before .before .before .before .pre .1 .1 .1) (c .before .before .before .before .before .before .before .before .before .before .before .before .before .before .before .before .before .pre .1 .0 .1) (c .before .before .before .before .before .before .before .before .before .before .before .before .before .before .before .before .before .pre .1 .0 .2) (c .before .before .before .before .before .before .before .before .before .before .before .before .before .before .before .before .before .pre .1 .0 .0)
+          (l .head) (l .lots) (l .value) (l .lines) (l .at) (l .member) (l .inv .0) (c .before .before .before .before .before .before .before .before .before .before .before .before .loop-test .taken) _ _ _ _ _ (c .before .before .before .before .before .book-change .ensures .1) (c .before .before .before .before .before .book-change .ensures .0),
+      k .0 ∙ l .inv .1,
+      k .1 .0 ∙ l .inv .2,
+      k .1 .1 .0 ∙ l .inv .3,
+      k .1 .1 .1 .0 ∙ l .inv .4,
+    )
 
--- src/booking.rt:64:1
 same-length : tie.Need-same-length Inv-loop μ-loop
 same-length c = c .before .loop .inv .1
 
--- src/booking.rt:64:1
 same-length-2 : tie.Need-same-length-2 Inv-loop μ-loop
 same-length-2 c = c .before .loop .inv .2
 
--- src/booking.rt:64:1
 same-length-3 : tie.Need-same-length-3 Inv-loop μ-loop
 same-length-3 c = c .before .loop .inv .3
 
--- src/booking.rt:64:1
 same-length-4 : tie.Need-same-length-4 Inv-loop μ-loop
 same-length-4 c = c .before .loop .inv .4
 
--- src/booking.rt:64:1
 returns : tie.Need-returns Inv-loop μ-loop
 returns c = let a = c .before .before .before .before .before .args in
     let l = c .before .loop in

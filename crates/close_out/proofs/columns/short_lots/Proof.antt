@@ -1,28 +1,20 @@
-use borrow.Author.Needs.{needs}
 use mathlib.Core.Path.{sym}
-use Rattle.arith.specs.Negatives.{flip-fits, flip-cast, flip-more, flip-size, dn-above}
+use Rattle.arith.proofs.Negatives.{flip-fits, flip-cast, flip-more, flip-size, dn-above}
 use Rattle.close_out.proofs.columns.short_lots.Statement.{statement}
 use Rattle.close_out.proofs.columns.short_lots.Tie as tie
-use Rattle.close_out.proofs.columns.short_lots.Reads as reads
-use Rattle.close_out.proofs.columns.short_lots.Lts as lts
 
--- src/columns.rt:27:20
 sub-size : tie.Need-sub-size
 sub-size c = flip-fits (c .before .args .net) (c .before .fits .net) (c .if1 .taken)
 
--- src/columns.rt:28:16
 cast-result : tie.Need-cast-result
 cast-result c = flip-cast (c .before .args .net) (c .before .fits .net) (c .if1 .taken)
 
--- src/columns.rt:28:16
 add-result : tie.Need-add-result
 add-result c = flip-more (c .before .args .net) (c .before .fits .net) (c .if1 .taken)
 
--- src/columns.rt:28:9
 returns : tie.Need-returns
 returns c = flip-size (c .before .args .net) (c .before .fits .net) (c .if1 .taken)
 
--- src/columns.rt:23:1
 returns-2 : tie.Need-returns-2
 returns-2 c = sym (dn-above (c .before .args .net) (c .before .fits .net) (c .if1 .left))
 

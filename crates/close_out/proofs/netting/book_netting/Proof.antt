@@ -1,58 +1,42 @@
-use mathlib.Core.Path.{_≡_, refl, sym, ap, _∙_}
 use native.Mathlib.Omega.{arith}
-use lib.ListN.{length, length-take}
+use lib.ListN.{length-take}
 use borrow.Author.Needs.{needs}
 use Rattle.close_out.proofs.netting.book_netting.Statement.{statement}
 use Rattle.close_out.proofs.netting.book_netting.Tie as tie
-use Rattle.close_out.proofs.netting.book_netting.Reads as reads
-use Rattle.close_out.proofs.netting.book_netting.Lts as lts
-use Rattle.close_out.proofs.netting.net_columns.Reads as net-columns-reads
 
--- src/netting.rt:101:9
 array-borrow-prefix-given-longs : tie.Need-array-borrow-prefix-given-longs
 array-borrow-prefix-given-longs c = omega (arith, c .before .before .before .before .before .before .before .before .before .pre .0 .head-fit .most-members, c .before .before .before .before .before .before .before .before .before .pre .1 .2)
 
--- src/netting.rt:101:9
 slice-aggregate-net-columns : tie.Need-slice-aggregate-net-columns
 slice-aggregate-net-columns c = simp length-take (omega (arith, c .before .before .before .before .before .before .before .before .before .before .pre .0 .head-fit .most-members, c .before .before .before .before .before .before .before .before .before .before .pre .1 .2))
 
--- src/netting.rt:102:9
 array-borrow-prefix-given-shorts : tie.Need-array-borrow-prefix-given-shorts
 array-borrow-prefix-given-shorts c = omega (arith, c .before .before .before .before .before .before .before .before .before .before .pre .0 .head-fit .most-members, c .before .before .before .before .before .before .before .before .before .before .pre .1 .2)
 
--- src/netting.rt:102:9
 slice-aggregate-net-columns-2 : tie.Need-slice-aggregate-net-columns-2
 slice-aggregate-net-columns-2 c = simp length-take (omega (arith, c .before .before .before .before .before .before .before .before .before .before .before .pre .0 .head-fit .most-members, c .before .before .before .before .before .before .before .before .before .before .before .pre .1 .2))
 
--- src/netting.rt:91:5
 net-columns-requires : tie.Need-net-columns-requires
 net-columns-requires c κs = (c .before .before .before .before .before .before .before .before .before .before .before .pre .0, (c .before .before .before .before .before .before .before .before .before .before .before .pre .1, (simp length-take (omega (arith, c .before .before .before .before .before .before .before .before .before .before .before .pre .0 .head-fit .most-members, c .before .before .before .before .before .before .before .before .before .before .before .pre .1 .2)), simp length-take (omega (arith, c .before .before .before .before .before .before .before .before .before .before .before .pre .0 .head-fit .most-members, c .before .before .before .before .before .before .before .before .before .before .before .pre .1 .2)))))
 
--- src/netting.rt:69:1
 same-length : tie.Need-same-length
 same-length c = search needs
 
--- src/netting.rt:69:1
 same-length-2 : tie.Need-same-length-2
 same-length-2 c = search needs
 
--- src/netting.rt:69:1
 same-length-3 : tie.Need-same-length-3
 same-length-3 c = search needs
 
--- src/netting.rt:69:1
 same-length-4 : tie.Need-same-length-4
 same-length-4 c = search needs
 
--- src/netting.rt:69:1
 same-length-5 : tie.Need-same-length-5
 same-length-5 c = search needs
 
--- src/netting.rt:69:1
 same-length-6 : tie.Need-same-length-6
 same-length-6 c = search needs
 
--- src/netting.rt:69:1
 returns : tie.Need-returns
 returns c = search needs
 

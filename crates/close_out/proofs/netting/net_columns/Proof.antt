@@ -1,29 +1,17 @@
-use Rattle.close_out.proofs.StepColumns.{netting-count, netting-tables, netting-room, left-is, given-fits}
-use mathlib.Core.Path.{_≡_, refl, sym, ap, _∙_}
+use mathlib.Core.Path.{sym, _∙_}
 use native.Mathlib.Omega.{arith}
-use lib.ListN.{length}
-use Rattle.rules.specs.Default.{sumOf, givenUp}
-use Rattle.rules.proofs.Netting.{given-sum, given-length, given-le}
-use Rattle.close_out.specs.Booking.{nettingLines}
-use Rattle.close_out.proofs.Takes.{less-room}
 use borrow.Author.Needs.{needs}
+use Rattle.close_out.proofs.StepColumns.{netting-count, netting-tables, netting-room, left-is, given-fits}
+use Rattle.close_out.proofs.Takes.{less-room}
 use Rattle.close_out.proofs.netting.net_columns.Statement.{statement}
 use Rattle.close_out.proofs.netting.net_columns.Tie as tie
-use Rattle.close_out.proofs.netting.net_columns.Reads as reads
-use Rattle.close_out.proofs.netting.net_columns.Lts as lts
-use Rattle.close_out.proofs.booking.book_changes.Reads as book-changes-reads
-use Rattle.close_out.proofs.netting.subtract.Reads as subtract-reads
-use Rattle.dealing.proofs.give_up.Reads as give-up-reads
 
--- src/netting.rt:50:5
 give-up-requires : tie.Need-give-up-requires
 give-up-requires c κs = c .before .before .before .before .before .before .before .pre .1 .1 .0 ∙ sym (c .before .before .before .before .before .before .before .pre .1 .0 .2)
 
--- src/netting.rt:51:5
 give-up-requires-2 : tie.Need-give-up-requires-2
 give-up-requires-2 c κs = c .before .before .before .before .before .before .before .before .before .before .before .before .pre .1 .1 .1 ∙ sym (c .before .before .before .before .before .before .before .before .before .before .before .before .pre .1 .0 .3)
 
--- src/netting.rt:52:9
 book-changes-requires : tie.Need-book-changes-requires
 book-changes-requires c κs = let gl = c .before .before .before .before .before .before .before .before .before .before .before .before .before .give-up .ensures in
     let gs = c .before .before .before .before .before .before .before .before .give-up2 .ensures in
@@ -31,53 +19,43 @@ book-changes-requires c κs = let gl = c .before .before .before .before .before
     let wide = given-fits _ _ _ gs .0 ∙ c .before .before .before .before .before .before .before .before .before .before .before .before .before .before .before .before .before .before .before .before .before .pre .1 .0 .3 in
     (less-room _ _ (netting-room 0 0 _ _ _ _ _ gl gs) (c .before .before .before .before .before .before .before .before .before .before .before .before .before .before .before .before .before .before .before .before .before .pre .0), ((omega (arith, wide, c .before .before .before .before .before .before .before .before .before .before .before .before .before .before .before .before .before .before .before .before .before .pre .0 .head-fit .most-members), c .before .before .before .before .before .before .before .before .before .before .before .before .before .before .before .before .before .before .before .before .before .pre .1 .0 .0, c .before .before .before .before .before .before .before .before .before .before .before .before .before .before .before .before .before .before .before .before .before .pre .1 .0 .1), (wide, long ∙ sym wide)))
 
--- src/netting.rt:63:5
 subtract-requires : tie.Need-subtract-requires
 subtract-requires c κs = given-fits _ _ _ (c .before .before .before .before .before .before .before .before .before .before .before .before .before .before .before .before .before .before .before .before .before .give-up .ensures)
 
--- src/netting.rt:64:5
 subtract-requires-2 : tie.Need-subtract-requires-2
 subtract-requires-2 c κs = given-fits _ _ _ (c .before .before .before .before .before .before .before .before .before .before .before .before .before .before .before .before .before .before .before .before .before .give-up2 .ensures)
 
--- src/netting.rt:28:1
 same-length : tie.Need-same-length
 same-length c = search needs
 
--- src/netting.rt:28:1
 same-length-2 : tie.Need-same-length-2
 same-length-2 c = search needs
 
--- src/netting.rt:28:1
 same-length-3 : tie.Need-same-length-3
 same-length-3 c = search needs
 
--- src/netting.rt:28:1
 same-length-4 : tie.Need-same-length-4
 same-length-4 c = search needs
 
--- src/netting.rt:28:1
 same-length-5 : tie.Need-same-length-5
 same-length-5 c = search needs
 
--- src/netting.rt:28:1
 same-length-6 : tie.Need-same-length-6
 same-length-6 c = search needs
 
--- src/netting.rt:28:1
 same-length-7 : tie.Need-same-length-7
 same-length-7 c = search needs
 
--- src/netting.rt:28:1
 same-length-8 : tie.Need-same-length-8
 same-length-8 c = search needs
 
--- src/netting.rt:28:1
 returns : tie.Need-returns
 returns c = let a = c .before .before .before .before .before .before .before .before .before .before .before .before .before .before .before .before .before .before .before .before .before .before .before .before .before .before .before .before .before .before .before .before .before .before .before .before .before .args in
     let gl = c .before .before .before .before .before .before .before .before .before .before .before .before .before .before .before .before .before .before .before .before .before .before .before .before .before .before .before .before .before .give-up .ensures in
-    let gs = c .before .before .before .before .before .before .before .before .before .before .before .before .before .before .before .before .before .before .before .before .before .before .before .before .give-up2 .ensures in
-    (netting-count (a .contract) (a .price .0) _ _ _ _ _ gl gs _ (c .before .before .before .before .before .before .before .before .before .before .before .before .before .before .before .book-changes .ensures .0),
-    (left-is _ _ _ _ gl (c .before .before .before .before .before .before .before .subtract .ensures), (left-is _ _ _ _ gs (c .before .before .subtract2 .ensures), λ t. netting-tables (a .contract) (a .price .0) _ _ _ _ _ gl gs _ _ (c .before .before .before .before .before .before .before .before .before .before .before .before .before .before .before .book-changes .ensures .1 t))))
+    let gs = c .before .before .before .before .before .before .before .before .before .before .before .before .before .before .before .before .before .before .before .before .before .before .before .before .give-up2 .ensures in (
+      netting-count (a .contract) (a .price .0) _ _ _ _ _ gl gs _ (c .before .before .before .before .before .before .before .before .before .before .before .before .before .before .before .book-changes .ensures .0),
+      (left-is _ _ _ _ gl (c .before .before .before .before .before .before .before .subtract .ensures), (left-is _ _ _ _ gs (c .before .before .subtract2 .ensures), λ t. netting-tables (a .contract) (a .price .0) _ _ _ _ _ gl gs _ _ (c .before .before .before .before .before .before .before .before .before .before .before .before .before .before .before .book-changes .ensures .1 t))),
+    )
 
 pub net-columns-spec : {M : Type 1} → statement M
 net-columns-spec =

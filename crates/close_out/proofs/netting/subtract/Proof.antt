@@ -1,16 +1,14 @@
-use borrow.Author.Needs.{needs}
-use Prim.Native.Nat.{ℕ, _+_, _-_, _≤_, _<_}
-use mathlib.Core.Path.{_≡_, refl, sym, ap, _∙_}
+use Prim.Native.Nat.{_+_, _-_, _≤_}
+use mathlib.Core.Path.{_≡_, refl}
 use mathlib.Core.List.{_++_}
 use native.Mathlib.Omega.{arith}
-use lib.ListN.{length, getD, take, drop, length-set}
-use Rattle.arith.specs.Columns.{written-next, written-end}
+use lib.ListN.{length, take, drop, length-set}
+use borrow.Author.Needs.{needs}
+use Rattle.arith.proofs.Columns.{written-next, written-end}
 use Rattle.rules.specs.Default.{less}
 use Rattle.close_out.proofs.StepColumns.{less-end, still-at, still-after, left-next}
 use Rattle.close_out.proofs.netting.subtract.Statement.{statement}
 use Rattle.close_out.proofs.netting.subtract.Tie as tie
-use Rattle.close_out.proofs.netting.subtract.Reads as reads
-use Rattle.close_out.proofs.netting.subtract.Lts as lts
 
 abbrev Inv-loop : tie.InvT-loop
 Inv-loop held₀ given i₀ held i = (i ≤ length held₀) × (length held ≡ length held₀) × (drop i held ≡ drop i held₀) × (take i held ++ less (drop i held₀) (drop i given) ≡ less held₀ given)
@@ -18,58 +16,48 @@ Inv-loop held₀ given i₀ held i = (i ≤ length held₀) × (length held ≡ 
 abbrev μ-loop : tie.MeasureT-loop
 μ-loop held₀ given i₀ held i = length held₀ - i
 
--- src/netting.rt:21:5
 loop-holds : tie.Need-loop-holds Inv-loop μ-loop
 loop-holds c = (omega arith, refl, refl, refl)
 
--- src/netting.rt:22:20
 mul-left : tie.Need-mul-left Inv-loop μ-loop
 mul-left c = search needs
 
--- src/netting.rt:22:20
 slice-read-left : tie.Need-slice-read-left Inv-loop μ-loop
 slice-read-left c = search needs
 
--- src/netting.rt:22:30
 mul-left-2 : tie.Need-mul-left-2 Inv-loop μ-loop
 mul-left-2 c = search needs
 
--- src/netting.rt:22:30
 shared-slice-read-left : tie.Need-shared-slice-read-left Inv-loop μ-loop
 shared-slice-read-left c = search needs
 
--- src/netting.rt:22:20
 sub-left : tie.Need-sub-left Inv-loop μ-loop
 sub-left c = let l = c .before .before .before .loop in omega (arith, still-at (l .held) (c .before .before .before .before .args .held .now) (l .i) (l .inv .2), c .before .before .before .before .pre .1 (l .i))
 
--- src/netting.rt:23:9
 mul-held : tie.Need-mul-held Inv-loop μ-loop
 mul-held c = search needs
 
--- src/netting.rt:23:9
 slice-write-held : tie.Need-slice-write-held Inv-loop μ-loop
 slice-write-held c = search needs
 
--- src/netting.rt:24:9
 add-i : tie.Need-add-i Inv-loop μ-loop
 add-i c = search needs
 
--- src/netting.rt:21:5
 loop-less : tie.Need-loop-less Inv-loop μ-loop
 loop-less c = search needs
 
--- src/netting.rt:21:5
 loop-again : tie.Need-loop-again Inv-loop μ-loop
 loop-again c = let a = c .before .before .before .before .args in
-    let l = c .before .before .before .loop in
-    (omega arith, simp length-set (l .inv .1), still-after (l .held) (a .held .now) (l .i) (l .inv .2) _,
-    written-next (l .held) (l .i) _ _ _ (omega arith) (rw (left-next (l .held) (a .held .now) (l .i) (l .inv .2) (a .given .now) (omega arith) (omega (arith, c .before .before .before .before .pre .0))) at (l .inv .3)))
+    let l = c .before .before .before .loop in (
+      omega arith,
+      simp length-set (l .inv .1),
+      still-after (l .held) (a .held .now) (l .i) (l .inv .2) _,
+      written-next (l .held) (l .i) _ _ _ (omega arith) (rw (left-next (l .held) (a .held .now) (l .i) (l .inv .2) (a .given .now) (omega arith) (omega (arith, c .before .before .before .before .pre .0))) at (l .inv .3)),
+    )
 
--- src/netting.rt:16:1
 same-length : tie.Need-same-length Inv-loop μ-loop
 same-length c = omega arith
 
--- src/netting.rt:16:1
 returns : tie.Need-returns Inv-loop μ-loop
 returns c = written-end (c .before .loop .held) (c .before .loop .i) _ _ (omega arith) (less-end _ _ (c .before .loop .i) (omega arith)) (c .before .loop .inv .3)
 

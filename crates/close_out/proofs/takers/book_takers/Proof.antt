@@ -1,51 +1,37 @@
-use mathlib.Core.Path.{_≡_, refl, sym, ap, _∙_}
 use native.Mathlib.Omega.{arith}
 use lib.ListN.{length, length-take}
-use Rattle.close_out.proofs.StepColumns.{zeros-front}
 use borrow.Author.Needs.{needs}
+use Rattle.close_out.proofs.StepColumns.{zeros-front}
 use Rattle.close_out.proofs.takers.book_takers.Statement.{statement}
 use Rattle.close_out.proofs.takers.book_takers.Tie as tie
-use Rattle.close_out.proofs.takers.book_takers.Reads as reads
-use Rattle.close_out.proofs.takers.book_takers.Lts as lts
-use Rattle.close_out.proofs.takers.deal_columns.Reads as deal-columns-reads
 
--- src/takers.rt:97:9
 array-borrow-prefix-taken : tie.Need-array-borrow-prefix-taken
 array-borrow-prefix-taken c = search needs
 
--- src/takers.rt:97:9
 slice-aggregate-deal-columns : tie.Need-slice-aggregate-deal-columns
 slice-aggregate-deal-columns c = simp length-take (omega (arith, c .before .before .before .before .before .before .before .pre .0 .1 .few))
 
--- src/takers.rt:98:9
 array-share-prefix-nothing : tie.Need-array-share-prefix-nothing
 array-share-prefix-nothing c = search needs
 
--- src/takers.rt:98:9
 slice-aggregate-deal-columns-2 : tie.Need-slice-aggregate-deal-columns-2
 slice-aggregate-deal-columns-2 c = simp length-take (omega (arith, c .before .before .before .before .before .before .before .before .pre .0 .1 .few))
 
--- src/takers.rt:86:5
 deal-columns-requires : tie.Need-deal-columns-requires
 deal-columns-requires c κs = (c .before .before .before .before .before .before .before .before .pre .0, (c .before .before .before .before .before .before .before .before .pre .1, (simp length-take (omega (arith, c .before .before .before .before .before .before .before .before .pre .0 .1 .few, c .before .before .before .before .before .before .before .before .pre .1 .3)), rw (← c .before .before .before .before .before .before .before .before .pre .1 .3) (zeros-front (length (c .before .before .before .before .before .before .before .before .args .weights .now)) 32 (omega (arith, c .before .before .before .before .before .before .before .before .pre .0 .1 .few))))))
 
--- src/takers.rt:65:1
 same-length : tie.Need-same-length
 same-length c = search needs
 
--- src/takers.rt:65:1
 same-length-2 : tie.Need-same-length-2
 same-length-2 c = search needs
 
--- src/takers.rt:65:1
 same-length-3 : tie.Need-same-length-3
 same-length-3 c = search needs
 
--- src/takers.rt:65:1
 same-length-4 : tie.Need-same-length-4
 same-length-4 c = search needs
 
--- src/takers.rt:65:1
 returns : tie.Need-returns
 returns c = search needs
 

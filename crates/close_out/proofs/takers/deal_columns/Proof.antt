@@ -1,25 +1,19 @@
-use Rattle.tables.specs.Fit.{membersIn}
-use mathlib.Core.Path.{_≡_, refl, sym, ap, _∙_}
+use mathlib.Core.Path.{_≡_, sym, ap, _∙_}
 use native.Mathlib.Omega.{arith}
 use lib.ListN.{length, length-replicate}
+use borrow.Author.Needs.{needs}
 use Rattle.rules.specs.Default.{sumOf}
 use Rattle.rules.proofs.Netting.{sum-zeros}
+use Rattle.tables.specs.Fit.{membersIn}
 use Rattle.dealing.proofs.Dealt.{all-dealt}
 use Rattle.close_out.proofs.Takes.{less-room}
 use Rattle.close_out.proofs.StepColumns.{takers-buy, takers-sell}
-use borrow.Author.Needs.{needs}
 use Rattle.close_out.proofs.takers.deal_columns.Statement.{statement}
 use Rattle.close_out.proofs.takers.deal_columns.Tie as tie
-use Rattle.close_out.proofs.takers.deal_columns.Reads as reads
-use Rattle.close_out.proofs.takers.deal_columns.Lts as lts
-use Rattle.close_out.proofs.booking.book_changes.Reads as book-changes-reads
-use Rattle.dealing.proofs.deal_out.Reads as deal-out-reads
 
--- src/takers.rt:37:5
 deal-out-requires : tie.Need-deal-out-requires
 deal-out-requires c κs = ((omega (arith, c .before .before .before .before .before .pre .0 .0 .most-run), c .before .before .before .before .before .pre .0 .2, c .before .before .before .before .before .pre .1 .1 .0 ∙ sym (c .before .before .before .before .before .pre .1 .0 .3)), c .before .before .before .before .before .pre .0 .1)
 
--- src/takers.rt:39:9
 book-changes-requires : tie.Need-book-changes-requires
 book-changes-requires c κs = let a = c .before .before .before .before .before .before .before .before .before .before .before .before .before .before .args in
     let d = ap sumOf (c .before .before .before .before .before .before .before .before .deal-out .ensures) ∙ all-dealt (a .left) (a .weights .now) (c .before .before .before .before .before .before .before .before .before .before .before .before .before .before .pre .0 .2) in
@@ -29,34 +23,27 @@ book-changes-requires c κs = let a = c .before .before .before .before .before 
     let none : length (a .nothing .now) ≡ n = ap length (c .before .before .before .before .before .before .before .before .before .before .before .before .before .before .pre .1 .1 .1) ∙ length-replicate n 0 in
     (less-room _ _ (omega (arith, d, z)) (c .before .before .before .before .before .before .before .before .before .before .before .before .before .before .pre .0 .0), ((omega (arith, wide, c .before .before .before .before .before .before .before .before .before .before .before .before .before .before .pre .1 .0 .2, c .before .before .before .before .before .before .before .before .before .before .before .before .before .before .pre .1 .0 .3), c .before .before .before .before .before .before .before .before .before .before .before .before .before .before .pre .1 .0 .0, c .before .before .before .before .before .before .before .before .before .before .before .before .before .before .pre .1 .0 .1), (wide, none ∙ sym wide)))
 
--- src/takers.rt:39:9
 same-length : tie.Need-same-length
 same-length c = search needs
 
--- src/takers.rt:39:9
 same-length-2 : tie.Need-same-length-2
 same-length-2 c = search needs
 
--- src/takers.rt:39:9
 same-length-3 : tie.Need-same-length-3
 same-length-3 c = search needs
 
--- src/takers.rt:39:9
 same-length-4 : tie.Need-same-length-4
 same-length-4 c = search needs
 
--- src/takers.rt:39:9
 same-length-5 : tie.Need-same-length-5
 same-length-5 c = search needs
 
--- src/takers.rt:39:9
 returns : tie.Need-returns
 returns c = let a = c .before .before .before .before .before .before .before .before .before .before .before .before .before .before .before .before .before .before .before .before .args in
     let wide = c .before .before .before .before .before .before .before .before .before .before .before .before .before .before .deal-out .kept .1 .1 .0 ∙ c .before .before .before .before .before .before .before .before .before .before .before .before .before .before .before .before .before .before .before .before .pre .1 .1 .0 in
     let e = takers-buy (a .contract) (a .price .0) (a .long) (a .left) (a .weights .now) _ _ _ (c .before .before .before .before .before .before .before .before .before .before .before .before .before .before .deal-out .ensures) (c .before .before .before .before .before .before .before .before .before .before .before .before .before .before .before .before .before .before .before .before .pre .1 .1 .1) wide (c .before .before .before .before .before .before .before .before .before .before .before .if1 .taken) in
     (rw (← e) (c .before .before .before .before .before .book-changes .ensures .0), λ t. rw (← e) (c .before .before .before .before .before .book-changes .ensures .1 t))
 
--- src/takers.rt:51:5
 book-changes-requires-2 : tie.Need-book-changes-requires-2
 book-changes-requires-2 c κs = let a = c .before .before .before .before .before .before .before .before .before .before .before .before .before .before .args in
     let d = ap sumOf (c .before .before .before .before .before .before .before .before .deal-out .ensures) ∙ all-dealt (a .left) (a .weights .now) (c .before .before .before .before .before .before .before .before .before .before .before .before .before .before .pre .0 .2) in
@@ -66,27 +53,21 @@ book-changes-requires-2 c κs = let a = c .before .before .before .before .befor
     let none : length (a .nothing .now) ≡ n = ap length (c .before .before .before .before .before .before .before .before .before .before .before .before .before .before .pre .1 .1 .1) ∙ length-replicate n 0 in
     (less-room _ _ (omega (arith, d, z)) (c .before .before .before .before .before .before .before .before .before .before .before .before .before .before .pre .0 .0), ((omega (arith, none, c .before .before .before .before .before .before .before .before .before .before .before .before .before .before .pre .1 .0 .2, c .before .before .before .before .before .before .before .before .before .before .before .before .before .before .pre .1 .0 .3), c .before .before .before .before .before .before .before .before .before .before .before .before .before .before .pre .1 .0 .0, c .before .before .before .before .before .before .before .before .before .before .before .before .before .before .pre .1 .0 .1), (none, wide ∙ sym none)))
 
--- src/takers.rt:16:1
 same-length-6 : tie.Need-same-length-6
 same-length-6 c = search needs
 
--- src/takers.rt:16:1
 same-length-7 : tie.Need-same-length-7
 same-length-7 c = search needs
 
--- src/takers.rt:16:1
 same-length-8 : tie.Need-same-length-8
 same-length-8 c = search needs
 
--- src/takers.rt:16:1
 same-length-9 : tie.Need-same-length-9
 same-length-9 c = search needs
 
--- src/takers.rt:16:1
 same-length-10 : tie.Need-same-length-10
 same-length-10 c = search needs
 
--- src/takers.rt:16:1
 returns-2 : tie.Need-returns-2
 returns-2 c = let a = c .before .before .before .before .before .before .before .before .before .before .before .before .before .before .before .before .before .before .before .before .args in
     let wide = c .before .before .before .before .before .before .before .before .before .before .before .before .before .before .deal-out .kept .1 .1 .0 ∙ c .before .before .before .before .before .before .before .before .before .before .before .before .before .before .before .before .before .before .before .before .pre .1 .1 .0 in

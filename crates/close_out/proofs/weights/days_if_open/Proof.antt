@@ -2,24 +2,16 @@ use mathlib.Core.Path.{sym, _∙_}
 use borrow.Author.Needs.{needs}
 use Rattle.close_out.proofs.weights.days_if_open.Statement.{statement}
 use Rattle.close_out.proofs.weights.days_if_open.Tie as tie
-use Rattle.close_out.proofs.weights.days_if_open.Reads as reads
-use Rattle.close_out.proofs.weights.days_if_open.Lts as lts
-use Rattle.calendar.proofs.days_of.Reads as days-of-reads
-use Rattle.calendar.proofs.is_open.Reads as is-open-reads
 
--- src/weights.rt:21:8
 is-open-requires : tie.Need-is-open-requires
 is-open-requires c κs = search needs
 
--- src/weights.rt:22:9
 days-of-requires : tie.Need-days-of-requires
 days-of-requires c κs = search needs
 
--- src/weights.rt:22:9
 returns : tie.Need-returns
 returns c = rw (sym (c .before .before .is-open .ensures) ∙ c .before .if1 .taken) (c .days-of .ensures _)
 
--- src/weights.rt:17:1
 returns-2 : tie.Need-returns-2
 returns-2 c = rw (sym (c .before .is-open .ensures) ∙ c .if1 .left)
 

@@ -1,12 +1,11 @@
-use borrow.Author.Needs.{needs}
-use Prim.Native.Nat.{ℕ, _+_, _-_, _≤_, _<_}
-use mathlib.Core.Path.{_≡_, refl, sym, ap, _∙_}
+use Prim.Native.Nat.{ℕ, _+_, _-_, _≤_}
+use mathlib.Core.Path.{_≡_, refl}
 use mathlib.Core.Bool.{cond}
 use mathlib.Core.List.{_++_, map}
 use native.Mathlib.Omega.{arith}
-use native.Mathlib.Nat.{sub-zero}
-use lib.ListN.{length, getD, take, length-set}
-use Rattle.arith.specs.Columns.{mapped-next, mapped-end, written-next, written-end}
+use lib.ListN.{length, take, length-set}
+use borrow.Author.Needs.{needs}
+use Rattle.arith.proofs.Columns.{mapped-next, mapped-end, written-next, written-end}
 use Rattle.arith.specs.Lists.{from}
 use Rattle.rules.specs.Contracts.{daysOf, openOn}
 use Rattle.rules.specs.Days.{Calendar}
@@ -14,9 +13,6 @@ use Rattle.rules.specs.Ranges.{contractCount}
 use Rattle.close_out.specs.Columns.{openDays}
 use Rattle.close_out.proofs.weights.find_open_days.Statement.{statement}
 use Rattle.close_out.proofs.weights.find_open_days.Tie as tie
-use Rattle.close_out.proofs.weights.find_open_days.Reads as reads
-use Rattle.close_out.proofs.weights.find_open_days.Lts as lts
-use Rattle.close_out.proofs.weights.days_if_open.Reads as days-if-open-reads
 
 abbrev Inv-loop : tie.InvT-loop
 Inv-loop first-year holidays day days₀ contract₀ days contract = (contract ≤ contractCount) × (length days ≡ contractCount)
@@ -26,32 +22,25 @@ Inv-loop first-year holidays day days₀ contract₀ days contract = (contract �
 abbrev μ-loop : tie.MeasureT-loop
 μ-loop first-year holidays day days₀ contract₀ days contract = contractCount - contract
 
--- src/weights.rt:32:5
 loop-holds : tie.Need-loop-holds Inv-loop μ-loop
 unfolding openDays
 loop-holds c = (omega arith, c .before .before .pre .1, refl)
 
--- src/weights.rt:33:26
 days-if-open-requires : tie.Need-days-if-open-requires Inv-loop μ-loop
 days-if-open-requires c κs = search needs
 
--- src/weights.rt:33:9
 mul-days : tie.Need-mul-days Inv-loop μ-loop
 mul-days c = search needs
 
--- src/weights.rt:33:9
 slice-write-days : tie.Need-slice-write-days Inv-loop μ-loop
 slice-write-days c = search needs
 
--- src/weights.rt:34:9
 add-contract : tie.Need-add-contract Inv-loop μ-loop
 add-contract c = search needs
 
--- src/weights.rt:32:5
 loop-less : tie.Need-loop-less Inv-loop μ-loop
 loop-less c = search needs
 
--- src/weights.rt:32:5
 loop-again : tie.Need-loop-again Inv-loop μ-loop
 loop-again c = let a = c .before .before .before .before .before .args in
     let l = c .before .before .loop in
@@ -59,11 +48,9 @@ loop-again c = let a = c .before .before .before .before .before .args in
     let f : ℕ → ℕ = λ x. cond (openOn k (a .day .0) x) (daysOf k x) 0 in
     (omega arith, simp length-set (l .inv .1), rw (c .days-if-open .ensures) (written-next (l .days) (l .contract) _ _ _ (omega arith) (rw (mapped-next contractCount (l .contract) f (omega arith)) at (l .inv .2))))
 
--- src/weights.rt:27:1
 same-length : tie.Need-same-length Inv-loop μ-loop
 same-length c = omega arith
 
--- src/weights.rt:27:1
 returns : tie.Need-returns Inv-loop μ-loop
 returns c = written-end (c .before .loop .days) (c .before .loop .contract) _ _ (omega arith) (mapped-end contractCount (c .before .loop .contract) _ (omega arith)) (c .before .loop .inv .2)
 

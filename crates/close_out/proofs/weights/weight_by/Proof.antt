@@ -1,12 +1,12 @@
-use Rattle.arith.specs.Negatives.{read-back}
-use borrow.Author.Needs.{needs}
-use Prim.Native.Nat.{ℕ, _+_, _*_, _-_, _≤_, _<_}
-use mathlib.Core.Path.{_≡_, refl, sym, ap, _∙_}
+use Prim.Native.Nat.{ℕ, _+_, _*_, _-_, _≤_}
+use mathlib.Core.Path.{_≡_, ap, _∙_}
 use native.Mathlib.Omega.{arith}
-use native.Mathlib.Nat.{mul-le-mul, sub-zero}
+use native.Mathlib.Nat.{mul-le-mul}
 use lib.IntN.{pos, natAbs}
-use lib.ListN.{length, getD}
-use Rattle.arith.specs.Columns.{summed-next, summed-end}
+use lib.ListN.{getD}
+use borrow.Author.Needs.{needs}
+use Rattle.arith.proofs.Signed.{back-mag}
+use Rattle.arith.proofs.Columns.{summed-next, summed-end}
 use Rattle.arith.specs.Lists.{from, total}
 use Rattle.rules.specs.Ledger.{rowPlace}
 use Rattle.rules.specs.Ranges.{contractCount, mostLotsRun}
@@ -14,9 +14,6 @@ use Rattle.dealing.specs.Levels.{mostDays}
 use Rattle.close_out.specs.Columns.{weightBy}
 use Rattle.close_out.proofs.weights.weight_by.Statement.{statement}
 use Rattle.close_out.proofs.weights.weight_by.Tie as tie
-use Rattle.close_out.proofs.weights.weight_by.Reads as reads
-use Rattle.close_out.proofs.weights.weight_by.Lts as lts
-use Rattle.close_out.proofs.columns.size.Reads as size-reads
 
 abbrev Inv-loop : tie.InvT-loop
 Inv-loop days lots member sum₀ contract₀ sum contract = (contract ≤ contractCount) × (sum ≤ contract * (mostDays * mostLotsRun))
@@ -25,75 +22,61 @@ Inv-loop days lots member sum₀ contract₀ sum contract = (contract ≤ contra
 abbrev μ-loop : tie.MeasureT-loop
 μ-loop days lots member sum₀ contract₀ sum contract = contractCount - contract
 
--- src/weights.rt:45:5
 loop-holds : tie.Need-loop-holds Inv-loop μ-loop
 unfolding weightBy
 loop-holds c = (omega arith, omega arith, omega arith)
 
--- src/weights.rt:46:16
 mul-sum : tie.Need-mul-sum Inv-loop μ-loop
 mul-sum c = search needs
 
--- src/weights.rt:46:16
 shared-slice-read-sum : tie.Need-shared-slice-read-sum Inv-loop μ-loop
 shared-slice-read-sum c = search needs
 
--- src/weights.rt:46:43
 mul-size : tie.Need-mul-size Inv-loop μ-loop
 mul-size c = search needs
 
--- src/weights.rt:46:43
 add-size : tie.Need-add-size Inv-loop μ-loop
 add-size c = search needs
 
--- src/weights.rt:46:38
 mul-size-2 : tie.Need-mul-size-2 Inv-loop μ-loop
 mul-size-2 c = search needs
 
--- src/weights.rt:46:38
 shared-slice-copy-out-size : tie.Need-shared-slice-copy-out-size Inv-loop μ-loop
 shared-slice-copy-out-size c = search needs
 
--- src/weights.rt:46:33
 size-requires : tie.Need-size-requires Inv-loop μ-loop
 size-requires c κs = search needs
 
--- src/weights.rt:46:16
 mul-sum-2 : tie.Need-mul-sum-2 Inv-loop μ-loop
 mul-sum-2 c = let a = c .before .before .before .before .before .before .args in
     let l = c .before .before .before .before .loop in
     let net = getD (a .lots .now) (rowPlace (l .contract) (a .member)) (pos 0) in
-    let e : c .size .result ≡ natAbs net = c .size .ensures ∙ ap natAbs (read-back net (c .before .size-arg .given)) in
+    let e : c .size .result ≡ natAbs net = c .size .ensures ∙ ap natAbs (back-mag net (c .before .size-arg .given)) in
     omega (arith, mul-le-mul (c .before .before .before .before .before .before .pre .0 .1 (l .contract)) (rw (← e) at (c .before .before .before .before .before .before .pre .1 .1 .within (l .contract) (a .member) (omega arith) (omega arith))))
 
--- src/weights.rt:46:9
 add-sum : tie.Need-add-sum Inv-loop μ-loop
 add-sum c = let a = c .before .before .before .before .before .before .args in
     let l = c .before .before .before .before .loop in
     let net = getD (a .lots .now) (rowPlace (l .contract) (a .member)) (pos 0) in
-    let e : c .size .result ≡ natAbs net = c .size .ensures ∙ ap natAbs (read-back net (c .before .size-arg .given)) in
+    let e : c .size .result ≡ natAbs net = c .size .ensures ∙ ap natAbs (back-mag net (c .before .size-arg .given)) in
     omega (arith, mul-le-mul (c .before .before .before .before .before .before .pre .0 .1 (l .contract)) (rw (← e) at (c .before .before .before .before .before .before .pre .1 .1 .within (l .contract) (a .member) (omega arith) (omega arith))))
 
--- src/weights.rt:47:9
 add-contract : tie.Need-add-contract Inv-loop μ-loop
 add-contract c = search needs
 
--- src/weights.rt:45:5
 loop-less : tie.Need-loop-less Inv-loop μ-loop
 loop-less c = search needs
 
--- src/weights.rt:45:5
 loop-again : tie.Need-loop-again Inv-loop μ-loop
 loop-again c = let a = c .before .before .before .before .before .before .args in
     let l = c .before .before .before .before .loop in
     let net = getD (a .lots .now) (rowPlace (l .contract) (a .member)) (pos 0) in
-    let e : c .size .result ≡ natAbs net = c .size .ensures ∙ ap natAbs (read-back net (c .before .size-arg .given)) in
+    let e : c .size .result ≡ natAbs net = c .size .ensures ∙ ap natAbs (back-mag net (c .before .size-arg .given)) in
     let most = mul-le-mul (c .before .before .before .before .before .before .pre .0 .1 (l .contract)) (rw (← e) at (c .before .before .before .before .before .before .pre .1 .1 .within (l .contract) (a .member) (omega arith) (omega arith))) in
     let f : ℕ → ℕ = λ k. getD (a .days .now) k 0 * natAbs (getD (a .lots .now) (rowPlace k (a .member)) (pos 0)) in
     let next = summed-next contractCount (l .contract) f (omega arith) in
     (omega arith, omega arith, rw e (omega (arith, l .inv .2)))
 
--- src/weights.rt:38:1
 returns : tie.Need-returns Inv-loop μ-loop
 returns c = let a = c .before .before .before .args in
     let f : ℕ → ℕ = λ k. getD (a .days .now) k 0 * natAbs (getD (a .lots .now) (rowPlace k (a .member)) (pos 0)) in

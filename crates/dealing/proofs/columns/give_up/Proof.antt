@@ -4,7 +4,7 @@ use mathlib.Core.List.{_++_}
 use native.Mathlib.Omega.{arith}
 use lib.ListN.{length, take, drop, length-set}
 use borrow.Author.Needs.{needs}
-use Rattle.arith.specs.Columns.{written-next, written-end}
+use Rattle.arith.proofs.Columns.{written-next, written-end}
 use Rattle.rules.specs.Default.{givenUp}
 use Rattle.rules.proofs.Netting.{given-next, given-end}
 use Rattle.dealing.proofs.columns.give_up.Statement.{statement}

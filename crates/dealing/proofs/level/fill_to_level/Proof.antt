@@ -4,7 +4,7 @@ use mathlib.Core.List.{_++_, map}
 use native.Mathlib.Omega.{arith}
 use lib.ListN.{length, take, drop, length-set}
 use borrow.Author.Needs.{needs}
-use Rattle.arith.specs.Columns.{map-next, map-end, written-next, written-end}
+use Rattle.arith.proofs.Columns.{map-next, map-end, written-next, written-end}
 use Rattle.dealing.specs.Levels.{atLevel}
 use Rattle.dealing.proofs.level.fill_to_level.Statement.{statement}
 use Rattle.dealing.proofs.level.fill_to_level.Tie as tie

@@ -5,7 +5,7 @@ use native.Mathlib.Omega.{arith}
 use native.Mathlib.Nat.{mul-le-mul}
 use lib.ListN.{length, take, drop, length-set}
 use borrow.Author.Needs.{needs}
-use Rattle.arith.specs.Columns.{map-next, map-end, written-next, written-end}
+use Rattle.arith.proofs.Columns.{map-next, map-end, written-next, written-end}
 use Rattle.rules.specs.Default.{minimum, minimums}
 use Rattle.rules.proofs.Netting.{sum-most}
 use Rattle.dealing.specs.Levels.{mostWeight}

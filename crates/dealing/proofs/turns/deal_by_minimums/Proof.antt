@@ -5,7 +5,7 @@ use lib.ListN.{length, length-take, length-append}
 use lib.Seq.{take-at}
 use borrow.Author.Needs.{needs}
 use Rattle.rules.proofs.MembersInOrder.{order-length, order-below}
-use Rattle.arith.specs.Columns.{from-length}
+use Rattle.arith.proofs.Appends.{from-length}
 use Rattle.rules.proofs.Minimums.{minimums-length}
 use Rattle.dealing.proofs.Dealt.{some-members, dealt-by-round}
 use Rattle.dealing.proofs.turns.deal_by_minimums.Statement.{statement}
