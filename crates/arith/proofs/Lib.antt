@@ -8,3 +8,6 @@ pub mod Beside
 pub mod Runs
 pub mod Padded
 pub mod Widths
+pub mod Columns
+pub mod Totals
+pub mod Negatives

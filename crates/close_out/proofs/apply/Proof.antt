@@ -1,0 +1,118 @@
+use Prim.Native.Nat.{_+_, _*_}
+use mathlib.Core.Path.{_≡_, sym, ap, _∙_}
+use native.Mathlib.Omega.{arith}
+use native.Mathlib.Nat.{add-zero}
+use lib.ListN.{getD, length-take}
+use borrow.Author.Tests.{not-true, not-false}
+use borrow.Author.Needs.{needs}
+use Rattle.rules.specs.Ledger.{withPrices, withRows, withLines}
+use Rattle.close_out.proofs.Running.{put}
+use Rattle.close_out.proofs.Verdicts.{not-open, no-reference}
+use Rattle.close_out.proofs.apply.Statement.{statement}
+use Rattle.close_out.proofs.apply.Tie as tie
+
+is-contract-open-requires : tie.Need-is-contract-open-requires
+is-contract-open-requires c κs = search needs
+
+same-length : tie.Need-same-length
+same-length c = search needs
+
+returns : tie.Need-returns
+returns c = let a = c .before .before .before .before .before .args in
+    λ t. not-open (withPrices (a .prices .now) (put (a .head .now) (a .lots .now) (a .value .now) (a .lines .now) t)) (a .e)
+    (sym (c .before .is-contract-open .ensures (withPrices (a .prices .now) (withRows (a .lots .now) (a .value .now) (withLines (a .lines .now) t)))) ∙ not-true _ (c .if1 .taken))
+
+mul-price : tie.Need-mul-price
+mul-price c = search needs
+
+add-price : tie.Need-add-price
+add-price c = search needs
+
+mul-price-2 : tie.Need-mul-price-2
+mul-price-2 c = search needs
+
+shared-slice-read-price : tie.Need-shared-slice-read-price
+shared-slice-read-price c = search needs
+
+same-length-2 : tie.Need-same-length-2
+same-length-2 c = search needs
+
+returns-2 : tie.Need-returns-2
+returns-2 c = let a = c .before .before .before .before .before .before .before .args in
+    let same : getD (a .prices .now) (a .e .contract * 5 + 0) 0 ≡ getD (a .prices .now) (a .e .contract * 5) 0 = ap (λ i. getD (a .prices .now) i 0) (add-zero (a .e .contract * 5)) in
+    λ t. no-reference (withPrices (a .prices .now) (put (a .head .now) (a .lots .now) (a .value .now) (a .lines .now) t)) (a .e)
+    (sym (c .before .before .before .is-contract-open .ensures (withPrices (a .prices .now) (withRows (a .lots .now) (a .value .now) (withLines (a .lines .now) t)))) ∙ not-false _ (c .before .before .if1 .left)) (sym same ∙ c .if2 .taken)
+
+slice-read-members : tie.Need-slice-read-members
+slice-read-members c = search needs
+
+array-borrow-prefix-longs : tie.Need-array-borrow-prefix-longs
+array-borrow-prefix-longs c = search needs
+
+slice-aggregate-close-out-lots : tie.Need-slice-aggregate-close-out-lots
+slice-aggregate-close-out-lots c = simp length-take (omega (arith, c .before .before .before .before .before .before .before .before .before .before .before .before .before .pre .0 .0 .head-fit .most-members))
+
+array-borrow-prefix-shorts : tie.Need-array-borrow-prefix-shorts
+array-borrow-prefix-shorts c = search needs
+
+slice-aggregate-close-out-lots-2 : tie.Need-slice-aggregate-close-out-lots-2
+slice-aggregate-close-out-lots-2 c = simp length-take (omega (arith, c .before .before .before .before .before .before .before .before .before .before .before .before .before .before .pre .0 .0 .head-fit .most-members))
+
+array-borrow-prefix-weights : tie.Need-array-borrow-prefix-weights
+array-borrow-prefix-weights c = search needs
+
+slice-aggregate-close-out-lots-3 : tie.Need-slice-aggregate-close-out-lots-3
+slice-aggregate-close-out-lots-3 c = simp length-take (omega (arith, c .before .before .before .before .before .before .before .before .before .before .before .before .before .before .before .pre .0 .0 .head-fit .most-members))
+
+close-out-lots-requires : tie.Need-close-out-lots-requires
+close-out-lots-requires c κs = let a = c .before .before .before .before .before .before .before .before .before .before .before .before .before .before .before .args in
+    let same : getD (a .prices .now) (a .e .contract * 5 + 0) 0 ≡ getD (a .prices .now) (a .e .contract * 5) 0 = ap (λ i. getD (a .prices .now) i 0) (add-zero (a .e .contract * 5)) in
+    let few = c .before .before .before .before .before .before .before .before .before .before .before .before .before .before .before .pre .0 .0 .head-fit .most-members in (
+      (c .before .before .before .before .before .before .before .before .before .before .before .before .before .before .before .pre .0 .0, c .before .before .before .before .before .before .before .before .before .before .before .before .before .before .before .pre .1 .0, c .before .before .before .before .before .before .before .before .before .before .before .before .before .before .before .pre .1 .1, omega (arith, same, c .before .before .before .before .before .before .before .before .before .before .before .before .before .before .before .pre .0 .1 .contract-fit (a .e .contract) (c .before .before .before .before .before .before .before .before .before .before .before .before .before .before .before .pre .1 .0) .most-ggf), omega (arith, c .before .before .before .before .before .before .before .before .if2 .left)),
+      (simp length-take (omega (arith, few)), simp length-take (omega (arith, few)), simp length-take (omega (arith, few))),
+    )
+
+same-length-3 : tie.Need-same-length-3
+same-length-3 c = search needs
+
+same-length-4 : tie.Need-same-length-4
+same-length-4 c = search needs
+
+same-length-5 : tie.Need-same-length-5
+same-length-5 c = search needs
+
+same-length-6 : tie.Need-same-length-6
+same-length-6 c = search needs
+
+returns-3 : tie.Need-returns-3
+returns-3 c = let a = c .before .before .before .before .before .before .before .before .before .before .before .before .before .before .before .before .before .before .before .before .before .before .before .before .args in
+    let same : getD (a .prices .now) (a .e .contract * 5 + 0) 0 ≡ getD (a .prices .now) (a .e .contract * 5) 0 = ap (λ i. getD (a .prices .now) i 0) (add-zero (a .e .contract * 5)) in
+    λ t. c .before .before .before .before .before .before .before .before .close-out-lots .ensures (withPrices (a .prices .now) t)
+    (sym (c .before .before .before .before .before .before .before .before .before .before .before .before .before .before .before .before .before .before .before .before .is-contract-open .ensures (withPrices (a .prices .now) (withRows (a .lots .now) (a .value .now) (withLines (a .lines .now) t)))) ∙ not-false _ (c .before .before .before .before .before .before .before .before .before .before .before .before .before .before .before .before .before .before .before .if1 .left)) (sym same)
+
+pub apply-spec : {M : Type 1} → statement M
+apply-spec =
+    tie.close
+    (tie.spec
+    is-contract-open-requires
+    same-length
+    returns
+    mul-price
+    add-price
+    mul-price-2
+    shared-slice-read-price
+    same-length-2
+    returns-2
+    slice-read-members
+    array-borrow-prefix-longs
+    slice-aggregate-close-out-lots
+    array-borrow-prefix-shorts
+    slice-aggregate-close-out-lots-2
+    array-borrow-prefix-weights
+    slice-aggregate-close-out-lots-3
+    close-out-lots-requires
+    same-length-3
+    same-length-4
+    same-length-5
+    same-length-6
+    returns-3)

@@ -1,0 +1,85 @@
+use Prim.Native.Nat.{_<_}
+use mathlib.Core.Path.{sym, _∙_}
+use native.Mathlib.Omega.{arith}
+use borrow.Author.Needs.{needs}
+use Rattle.close_out.proofs.Changes.{same-none, more-bought, more-sold, each-none, each-one}
+use Rattle.close_out.proofs.booking.book_change.Statement.{statement}
+use Rattle.close_out.proofs.booking.book_change.Tie as tie
+
+returns : tie.Need-returns
+returns c = let a = c .before .before .args in
+    let none = same-none (a .contract) (a .price .0) (a .member) (a .gain) (a .loss) (c .if1 .taken) in
+    (rw none (omega arith), λ t. rw none (sym (each-none (a .i) _)))
+
+sub-t16 : tie.Need-sub-t16
+sub-t16 c = search needs
+
+book-line-requires : tie.Need-book-line-requires
+book-line-requires c κs = let f = c .before .before .before .before .before .before .before .pre .0 in
+    ((f .head-fit, record { member-below = c .before .before .before .before .before .before .before .pre .1 .3; contract-below = c .before .before .before .before .before .before .before .pre .1 .1; most-price = c .before .before .before .before .before .before .before .pre .1 .2; most-lots = omega (arith, f .most-run) }), ((f .lots-fit, f .value-fit), (c .before .before .before .before .before .before .before .pre .1 .0, f .lines-long)))
+
+add-result : tie.Need-add-result
+add-result c = search needs
+
+same-length : tie.Need-same-length
+same-length c = search needs
+
+same-length-2 : tie.Need-same-length-2
+same-length-2 c = search needs
+
+same-length-3 : tie.Need-same-length-3
+same-length-3 c = search needs
+
+same-length-4 : tie.Need-same-length-4
+same-length-4 c = search needs
+
+returns-2 : tie.Need-returns-2
+returns-2 c = let a = c .before .before .before .before .before .before .before .before .before .before .before .before .before .args in
+    let one = more-bought (a .contract) (a .price .0) (a .member) (a .gain) (a .loss) (c .before .before .before .before .before .before .before .before .before .before .if2 .taken) in
+    (rw one (omega arith), λ t. rw one (c .before .before .before .before .before .book-line .ensures t ∙ sym (each-one (a .i) _ _)))
+
+book-line-requires-2 : tie.Need-book-line-requires-2
+book-line-requires-2 c κs = let f = c .before .before .before .before .before .before .before .pre .0 in
+    ((f .head-fit, record { member-below = c .before .before .before .before .before .before .before .pre .1 .3; contract-below = c .before .before .before .before .before .before .before .pre .1 .1; most-price = c .before .before .before .before .before .before .before .pre .1 .2; most-lots = omega (arith, f .most-run) }), ((f .lots-fit, f .value-fit), (c .before .before .before .before .before .before .before .pre .1 .0, f .lines-long)))
+
+add-result-2 : tie.Need-add-result-2
+add-result-2 c = search needs
+
+same-length-5 : tie.Need-same-length-5
+same-length-5 c = search needs
+
+same-length-6 : tie.Need-same-length-6
+same-length-6 c = search needs
+
+same-length-7 : tie.Need-same-length-7
+same-length-7 c = search needs
+
+same-length-8 : tie.Need-same-length-8
+same-length-8 c = search needs
+
+returns-3 : tie.Need-returns-3
+returns-3 c = let a = c .before .before .before .before .before .before .before .before .before .before .before .before .before .args in
+    let less : a .gain < a .loss = omega (arith, c .before .before .before .before .before .before .before .before .before .before .before .if1 .left, c .before .before .before .before .before .before .before .before .before .before .if2 .left) in
+    let one = more-sold (a .contract) (a .price .0) (a .member) (a .gain) (a .loss) less in
+    (rw one (omega arith), λ t. rw one (c .before .before .before .before .before .book-line2 .ensures t ∙ sym (each-one (a .i) _ _)))
+
+pub book-change-spec : {M : Type 1} → statement M
+book-change-spec =
+    tie.close
+    (tie.spec
+    returns
+    sub-t16
+    book-line-requires
+    add-result
+    same-length
+    same-length-2
+    same-length-3
+    same-length-4
+    returns-2
+    book-line-requires-2
+    add-result-2
+    same-length-5
+    same-length-6
+    same-length-7
+    same-length-8
+    returns-3)

@@ -1,0 +1,247 @@
+use Prim.Native.Nat.{_-_, _≤_}
+use mathlib.Core.Path.{refl, sym, _∙_}
+use native.Mathlib.Omega.{arith}
+use borrow.Author.Needs.{needs}
+use Rattle.rules.specs.Ledger.{withLines}
+use Rattle.rules.specs.Ranges.{mostLotsRun}
+use Rattle.close_out.specs.declared.columns.Part.the-variants.{DefaultedLongs, DefaultedShorts}
+use Rattle.close_out.proofs.Takes.{rows-wider}
+use Rattle.close_out.proofs.Running.{put, blank}
+use Rattle.close_out.proofs.Verdicts.{read-fits, left-is, no-lots, no-taker, passed, booked-so, dealable}
+use Rattle.close_out.proofs.close_out_lots.Statement.{statement}
+use Rattle.close_out.proofs.close_out_lots.Tie as tie
+
+read-column-requires : tie.Need-read-column-requires
+read-column-requires c κs = search needs
+
+read-column-requires-2 : tie.Need-read-column-requires-2
+read-column-requires-2 c κs = search needs
+
+sum-of-requires : tie.Need-sum-of-requires
+sum-of-requires c κs = read-fits DefaultedLongs _ _ _ _ _ _ (c .before .before .before .before .before .before .before .before .before .before .before .before .before .before .before .before .before .pre .0 .0) (c .before .before .before .before .before .before .before .before .before .before .before .before .before .before .before .before .before .pre .0 .1) (c .before .before .before .before .before .before .before .before .before .read-column .ensures) .fits
+
+sum-of-requires-2 : tie.Need-sum-of-requires-2
+sum-of-requires-2 c κs = read-fits DefaultedShorts _ _ _ _ _ _ (c .before .before .before .before .before .before .before .before .before .before .before .before .before .before .before .before .before .before .before .pre .0 .0) (c .before .before .before .before .before .before .before .before .before .before .before .before .before .before .before .before .before .before .before .pre .0 .1) (c .before .before .before .before .before .read-column2 .ensures) .fits
+
+add-if1 : tie.Need-add-if1
+add-if1 c = let a = c .before .before .before .before .before .before .before .before .before .before .before .before .before .before .before .before .before .before .before .before .args in
+    let f = c .before .before .before .before .before .before .before .before .before .before .before .before .before .before .before .before .before .before .before .before .pre .0 .0 in
+    let rl = read-fits DefaultedLongs _ _ _ _ (a .e .contract) _ f (c .before .before .before .before .before .before .before .before .before .before .before .before .before .before .before .before .before .before .before .before .pre .0 .1) (c .before .before .before .before .before .before .before .before .before .before .before .before .read-column .ensures) in
+    let rs = read-fits DefaultedShorts _ _ _ _ (a .e .contract) _ f (c .before .before .before .before .before .before .before .before .before .before .before .before .before .before .before .before .before .before .before .before .pre .0 .1) (c .before .before .before .before .before .before .read-column2 .ensures) in
+    let bl : c .before .before .sum-of .result ≤ 160000000 = rw (c .before .before .sum-of .ensures) (rl .most) in
+    let bs : c .sum-of2 .result ≤ 160000000 = rw (c .sum-of2 .ensures) (rs .most) in
+    omega (arith, bl, bs)
+
+same-length : tie.Need-same-length
+same-length c = search needs
+
+same-length-2 : tie.Need-same-length-2
+same-length-2 c = search needs
+
+same-length-3 : tie.Need-same-length-3
+same-length-3 c = search needs
+
+same-length-4 : tie.Need-same-length-4
+same-length-4 c = search needs
+
+returns : tie.Need-returns
+returns c = let a = c .before .before .before .before .before .before .before .before .before .before .before .before .before .before .before .before .before .before .before .before .before .args in
+    let f = c .before .before .before .before .before .before .before .before .before .before .before .before .before .before .before .before .before .before .before .before .before .pre .0 .0 in
+    let rl = read-fits DefaultedLongs _ _ _ _ (a .e .contract) _ f (c .before .before .before .before .before .before .before .before .before .before .before .before .before .before .before .before .before .before .before .before .before .pre .0 .1) (c .before .before .before .before .before .before .before .before .before .before .before .before .before .read-column .ensures) in
+    let rs = read-fits DefaultedShorts _ _ _ _ (a .e .contract) _ f (c .before .before .before .before .before .before .before .before .before .before .before .before .before .before .before .before .before .before .before .before .before .pre .0 .1) (c .before .before .before .before .before .before .before .read-column2 .ensures) in
+    λ t o p. no-lots (put (a .head .now) (a .lots .now) (a .value .now) (a .lines .now) t) (a .e) _ _ (c .before .before .before .before .before .before .before .before .before .before .before .before .before .read-column .ensures (withLines (a .lines .now) t) (a .value .now)) (c .before .before .before .before .before .before .before .read-column2 .ensures (withLines (a .lines .now) t) (a .value .now)) (rl .long ∙ sym (rs .long)) _ _ (c .before .before .before .sum-of .ensures) (c .before .sum-of2 .ensures) _ refl _ refl (a .price .0) p _ refl o (c .before .before .before .before .before .before .before .before .before .before .before .before .before .before .before .before .before .before .before .before .before .pre .0 .4) (c .if1 .taken)
+
+smaller-requires : tie.Need-smaller-requires
+smaller-requires c κs = search needs
+
+sub-left : tie.Need-sub-left
+sub-left c = search needs
+
+sub-left-2 : tie.Need-sub-left-2
+sub-left-2 c = search needs
+
+add-left : tie.Need-add-left
+add-left c = search needs
+
+find-weights-requires : tie.Need-find-weights-requires
+find-weights-requires c κs = let a = c .before .before .before .before .before .before .before .before .before .before .before .before .before .before .before .before .before .before .before .before .before .before .before .before .before .args in
+    let f = c .before .before .before .before .before .before .before .before .before .before .before .before .before .before .before .before .before .before .before .before .before .before .before .before .before .pre .0 .0 in
+    let rl = read-fits DefaultedLongs _ _ _ _ (a .e .contract) _ f (c .before .before .before .before .before .before .before .before .before .before .before .before .before .before .before .before .before .before .before .before .before .before .before .before .before .pre .0 .1) (c .before .before .before .before .before .before .before .before .before .before .before .before .before .before .before .before .before .read-column .ensures) in
+    let rs = read-fits DefaultedShorts _ _ _ _ (a .e .contract) _ f (c .before .before .before .before .before .before .before .before .before .before .before .before .before .before .before .before .before .before .before .before .before .before .before .before .before .pre .0 .1) (c .before .before .before .before .before .before .before .before .before .before .before .read-column2 .ensures) in
+    let bl : c .before .before .before .before .before .before .before .sum-of .result ≤ 160000000 = rw (c .before .before .before .before .before .before .before .sum-of .ensures) (rl .most) in
+    let bs : c .before .before .before .before .before .sum-of2 .result ≤ 160000000 = rw (c .before .before .before .before .before .sum-of2 .ensures) (rs .most) in
+    ((f .head-fit, rows-wider _ _ mostLotsRun _ (f .head-fit .most-run) (f .lots-fit), c .before .before .before .before .before .before .before .before .before .before .before .before .before .before .before .before .before .before .before .before .before .before .before .before .before .pre .1 .2), (c .before .before .before .before .before .before .before .before .before .before .before .before .before .before .before .before .before .before .before .before .before .before .before .before .before .pre .0 .1, c .before .before .before .before .before .before .before .before .before .before .before .before .before .before .before .before .before .before .before .before .before .before .before .before .before .pre .0 .2, omega (arith, c .before .before .before .smaller .ensures)))
+
+sum-of-requires-3 : tie.Need-sum-of-requires-3
+sum-of-requires-3 c κs = search needs
+
+same-length-5 : tie.Need-same-length-5
+same-length-5 c = search needs
+
+same-length-6 : tie.Need-same-length-6
+same-length-6 c = search needs
+
+same-length-7 : tie.Need-same-length-7
+same-length-7 c = search needs
+
+same-length-8 : tie.Need-same-length-8
+same-length-8 c = search needs
+
+same-length-9 : tie.Need-same-length-9
+same-length-9 c = search needs
+
+returns-2 : tie.Need-returns-2
+returns-2 c = let a = c .before .before .before .before .before .before .before .before .before .before .before .before .before .before .before .before .before .before .before .before .before .before .before .before .before .before .before .before .before .before .before .args in
+    let f = c .before .before .before .before .before .before .before .before .before .before .before .before .before .before .before .before .before .before .before .before .before .before .before .before .before .before .before .before .before .before .before .pre .0 .0 in
+    let rl = read-fits DefaultedLongs _ _ _ _ (a .e .contract) _ f (c .before .before .before .before .before .before .before .before .before .before .before .before .before .before .before .before .before .before .before .before .before .before .before .before .before .before .before .before .before .before .before .pre .0 .1) (c .before .before .before .before .before .before .before .before .before .before .before .before .before .before .before .before .before .before .before .before .before .before .before .read-column .ensures) in
+    let rs = read-fits DefaultedShorts _ _ _ _ (a .e .contract) _ f (c .before .before .before .before .before .before .before .before .before .before .before .before .before .before .before .before .before .before .before .before .before .before .before .before .before .before .before .before .before .before .before .pre .0 .1) (c .before .before .before .before .before .before .before .before .before .before .before .before .before .before .before .before .before .read-column2 .ensures) in
+    λ t o p. let k = c .before .before .before .before .before .find-weights .ensures .0 (withLines (a .lines .now) t) (a .value .now) (left-is (put (a .head .now) (a .lots .now) (a .value .now) (a .lines .now) t) (a .e) _ _ (c .before .before .before .before .before .before .before .before .before .before .before .before .before .before .before .before .before .before .before .before .before .before .before .read-column .ensures (withLines (a .lines .now) t) (a .value .now)) (c .before .before .before .before .before .before .before .before .before .before .before .before .before .before .before .before .before .read-column2 .ensures (withLines (a .lines .now) t) (a .value .now)) (rl .long ∙ sym (rs .long)) _ _ (c .before .before .before .before .before .before .before .before .before .before .before .before .before .sum-of .ensures) (c .before .before .before .before .before .before .before .before .before .before .before .sum-of2 .ensures) _ (c .before .before .before .before .before .before .before .before .before .smaller .ensures) _ refl) in
+    no-taker (put (a .head .now) (a .lots .now) (a .value .now) (a .lines .now) t) (a .e) _ _ (c .before .before .before .before .before .before .before .before .before .before .before .before .before .before .before .before .before .before .before .before .before .before .before .read-column .ensures (withLines (a .lines .now) t) (a .value .now)) (c .before .before .before .before .before .before .before .before .before .before .before .before .before .before .before .before .before .read-column2 .ensures (withLines (a .lines .now) t) (a .value .now)) (rl .long ∙ sym (rs .long)) _ _ (c .before .before .before .before .before .before .before .before .before .before .before .before .before .sum-of .ensures) (c .before .before .before .before .before .before .before .before .before .before .before .sum-of2 .ensures) _ (c .before .before .before .before .before .before .before .before .before .smaller .ensures) _ refl (a .price .0) p _ k o (c .before .before .before .before .before .before .before .before .before .before .before .before .before .before .before .before .before .before .before .before .before .before .before .before .before .before .before .before .before .before .before .pre .0 .4) (c .before .before .before .before .before .before .before .before .before .before .if1 .left) (rw (c .before .sum-of3 .ensures) at (c .if2 .taken))
+
+slice-read-if3 : tie.Need-slice-read-if3
+slice-read-if3 c = omega (arith, c .before .before .before .before .before .before .before .before .before .before .before .before .before .before .before .before .before .before .before .before .before .before .before .before .before .before .before .before .before .before .before .before .pre .0 .0 .head-fit .long)
+
+add-if3 : tie.Need-add-if3
+add-if3 c = let a = c .before .before .before .before .before .before .before .before .before .before .before .before .before .before .before .before .before .before .before .before .before .before .before .before .before .before .before .before .before .before .before .before .args in
+    let f = c .before .before .before .before .before .before .before .before .before .before .before .before .before .before .before .before .before .before .before .before .before .before .before .before .before .before .before .before .before .before .before .before .pre .0 .0 in
+    let rl = read-fits DefaultedLongs _ _ _ _ (a .e .contract) _ f (c .before .before .before .before .before .before .before .before .before .before .before .before .before .before .before .before .before .before .before .before .before .before .before .before .before .before .before .before .before .before .before .before .pre .0 .1) (c .before .before .before .before .before .before .before .before .before .before .before .before .before .before .before .before .before .before .before .before .before .before .before .before .read-column .ensures) in
+    let rs = read-fits DefaultedShorts _ _ _ _ (a .e .contract) _ f (c .before .before .before .before .before .before .before .before .before .before .before .before .before .before .before .before .before .before .before .before .before .before .before .before .before .before .before .before .before .before .before .before .pre .0 .1) (c .before .before .before .before .before .before .before .before .before .before .before .before .before .before .before .before .before .before .read-column2 .ensures) in
+    let bl : c .before .before .before .before .before .before .before .before .before .before .before .before .before .before .sum-of .result ≤ 160000000 = rw (c .before .before .before .before .before .before .before .before .before .before .before .before .before .before .sum-of .ensures) (rl .most) in
+    let bs : c .before .before .before .before .before .before .before .before .before .before .before .before .sum-of2 .result ≤ 160000000 = rw (c .before .before .before .before .before .before .before .before .before .before .before .before .sum-of2 .ensures) (rs .most) in
+    omega (arith, bl, c .before .before .before .before .before .before .before .before .before .before .smaller .ensures)
+
+add-if3-2 : tie.Need-add-if3-2
+add-if3-2 c = let a = c .before .before .before .before .before .before .before .before .before .before .before .before .before .before .before .before .before .before .before .before .before .before .before .before .before .before .before .before .before .before .before .before .args in
+    let f = c .before .before .before .before .before .before .before .before .before .before .before .before .before .before .before .before .before .before .before .before .before .before .before .before .before .before .before .before .before .before .before .before .pre .0 .0 in
+    let rl = read-fits DefaultedLongs _ _ _ _ (a .e .contract) _ f (c .before .before .before .before .before .before .before .before .before .before .before .before .before .before .before .before .before .before .before .before .before .before .before .before .before .before .before .before .before .before .before .before .pre .0 .1) (c .before .before .before .before .before .before .before .before .before .before .before .before .before .before .before .before .before .before .before .before .before .before .before .before .read-column .ensures) in
+    let rs = read-fits DefaultedShorts _ _ _ _ (a .e .contract) _ f (c .before .before .before .before .before .before .before .before .before .before .before .before .before .before .before .before .before .before .before .before .before .before .before .before .before .before .before .before .before .before .before .before .pre .0 .1) (c .before .before .before .before .before .before .before .before .before .before .before .before .before .before .before .before .before .before .read-column2 .ensures) in
+    let bl : c .before .before .before .before .before .before .before .before .before .before .before .before .before .before .sum-of .result ≤ 160000000 = rw (c .before .before .before .before .before .before .before .before .before .before .before .before .before .before .sum-of .ensures) (rl .most) in
+    let bs : c .before .before .before .before .before .before .before .before .before .before .before .before .sum-of2 .result ≤ 160000000 = rw (c .before .before .before .before .before .before .before .before .before .before .before .before .sum-of2 .ensures) (rs .most) in
+    omega (arith, bl, bs)
+
+add-if3-3 : tie.Need-add-if3-3
+add-if3-3 c = let a = c .before .before .before .before .before .before .before .before .before .before .before .before .before .before .before .before .before .before .before .before .before .before .before .before .before .before .before .before .before .before .before .before .args in
+    let f = c .before .before .before .before .before .before .before .before .before .before .before .before .before .before .before .before .before .before .before .before .before .before .before .before .before .before .before .before .before .before .before .before .pre .0 .0 in
+    let rl = read-fits DefaultedLongs _ _ _ _ (a .e .contract) _ f (c .before .before .before .before .before .before .before .before .before .before .before .before .before .before .before .before .before .before .before .before .before .before .before .before .before .before .before .before .before .before .before .before .pre .0 .1) (c .before .before .before .before .before .before .before .before .before .before .before .before .before .before .before .before .before .before .before .before .before .before .before .before .read-column .ensures) in
+    let rs = read-fits DefaultedShorts _ _ _ _ (a .e .contract) _ f (c .before .before .before .before .before .before .before .before .before .before .before .before .before .before .before .before .before .before .before .before .before .before .before .before .before .before .before .before .before .before .before .before .pre .0 .1) (c .before .before .before .before .before .before .before .before .before .before .before .before .before .before .before .before .before .before .read-column2 .ensures) in
+    let bl : c .before .before .before .before .before .before .before .before .before .before .before .before .before .before .sum-of .result ≤ 160000000 = rw (c .before .before .before .before .before .before .before .before .before .before .before .before .before .before .sum-of .ensures) (rl .most) in
+    let bs : c .before .before .before .before .before .before .before .before .before .before .before .before .sum-of2 .result ≤ 160000000 = rw (c .before .before .before .before .before .before .before .before .before .before .before .before .sum-of2 .ensures) (rs .most) in
+    omega (arith, bl, bs, c .before .before .before .before .before .before .before .before .before .before .smaller .ensures)
+
+add-if3-4 : tie.Need-add-if3-4
+add-if3-4 c = let a = c .before .before .before .before .before .before .before .before .before .before .before .before .before .before .before .before .before .before .before .before .before .before .before .before .before .before .before .before .before .before .before .before .args in
+    let f = c .before .before .before .before .before .before .before .before .before .before .before .before .before .before .before .before .before .before .before .before .before .before .before .before .before .before .before .before .before .before .before .before .pre .0 .0 in
+    let rl = read-fits DefaultedLongs _ _ _ _ (a .e .contract) _ f (c .before .before .before .before .before .before .before .before .before .before .before .before .before .before .before .before .before .before .before .before .before .before .before .before .before .before .before .before .before .before .before .before .pre .0 .1) (c .before .before .before .before .before .before .before .before .before .before .before .before .before .before .before .before .before .before .before .before .before .before .before .before .read-column .ensures) in
+    let rs = read-fits DefaultedShorts _ _ _ _ (a .e .contract) _ f (c .before .before .before .before .before .before .before .before .before .before .before .before .before .before .before .before .before .before .before .before .before .before .before .before .before .before .before .before .before .before .before .before .pre .0 .1) (c .before .before .before .before .before .before .before .before .before .before .before .before .before .before .before .before .before .before .read-column2 .ensures) in
+    let bl : c .before .before .before .before .before .before .before .before .before .before .before .before .before .before .sum-of .result ≤ 160000000 = rw (c .before .before .before .before .before .before .before .before .before .before .before .before .before .before .sum-of .ensures) (rl .most) in
+    let bs : c .before .before .before .before .before .before .before .before .before .before .before .before .sum-of2 .result ≤ 160000000 = rw (c .before .before .before .before .before .before .before .before .before .before .before .before .sum-of2 .ensures) (rs .most) in
+    omega (arith, bl, bs, c .before .before .before .before .before .before .before .before .before .before .smaller .ensures, f .head-fit .most-run)
+
+same-length-10 : tie.Need-same-length-10
+same-length-10 c = search needs
+
+same-length-11 : tie.Need-same-length-11
+same-length-11 c = search needs
+
+same-length-12 : tie.Need-same-length-12
+same-length-12 c = search needs
+
+same-length-13 : tie.Need-same-length-13
+same-length-13 c = search needs
+
+same-length-14 : tie.Need-same-length-14
+same-length-14 c = search needs
+
+returns-3 : tie.Need-returns-3
+returns-3 c = let a = c .before .before .before .before .before .before .before .before .before .before .before .before .before .before .before .before .before .before .before .before .before .before .before .before .before .before .before .before .before .before .before .before .before .args in
+    let f = c .before .before .before .before .before .before .before .before .before .before .before .before .before .before .before .before .before .before .before .before .before .before .before .before .before .before .before .before .before .before .before .before .before .pre .0 .0 in
+    let rl = read-fits DefaultedLongs _ _ _ _ (a .e .contract) _ f (c .before .before .before .before .before .before .before .before .before .before .before .before .before .before .before .before .before .before .before .before .before .before .before .before .before .before .before .before .before .before .before .before .before .pre .0 .1) (c .before .before .before .before .before .before .before .before .before .before .before .before .before .before .before .before .before .before .before .before .before .before .before .before .before .read-column .ensures) in
+    let rs = read-fits DefaultedShorts _ _ _ _ (a .e .contract) _ f (c .before .before .before .before .before .before .before .before .before .before .before .before .before .before .before .before .before .before .before .before .before .before .before .before .before .before .before .before .before .before .before .before .before .pre .0 .1) (c .before .before .before .before .before .before .before .before .before .before .before .before .before .before .before .before .before .before .before .read-column2 .ensures) in
+    λ t o p. let k = c .before .before .before .before .before .before .before .find-weights .ensures .0 (withLines (a .lines .now) t) (a .value .now) (left-is (put (a .head .now) (a .lots .now) (a .value .now) (a .lines .now) t) (a .e) _ _ (c .before .before .before .before .before .before .before .before .before .before .before .before .before .before .before .before .before .before .before .before .before .before .before .before .before .read-column .ensures (withLines (a .lines .now) t) (a .value .now)) (c .before .before .before .before .before .before .before .before .before .before .before .before .before .before .before .before .before .before .before .read-column2 .ensures (withLines (a .lines .now) t) (a .value .now)) (rl .long ∙ sym (rs .long)) _ _ (c .before .before .before .before .before .before .before .before .before .before .before .before .before .before .before .sum-of .ensures) (c .before .before .before .before .before .before .before .before .before .before .before .before .before .sum-of2 .ensures) _ (c .before .before .before .before .before .before .before .before .before .before .before .smaller .ensures) _ refl) in
+    passed (put (a .head .now) (a .lots .now) (a .value .now) (a .lines .now) t) (a .e) _ _ (c .before .before .before .before .before .before .before .before .before .before .before .before .before .before .before .before .before .before .before .before .before .before .before .before .before .read-column .ensures (withLines (a .lines .now) t) (a .value .now)) (c .before .before .before .before .before .before .before .before .before .before .before .before .before .before .before .before .before .before .before .read-column2 .ensures (withLines (a .lines .now) t) (a .value .now)) (rl .long ∙ sym (rs .long)) _ _ (c .before .before .before .before .before .before .before .before .before .before .before .before .before .before .before .sum-of .ensures) (c .before .before .before .before .before .before .before .before .before .before .before .before .before .sum-of2 .ensures) _ (c .before .before .before .before .before .before .before .before .before .before .before .smaller .ensures) _ refl (a .price .0) p _ k o (c .before .before .before .before .before .before .before .before .before .before .before .before .before .before .before .before .before .before .before .before .before .before .before .before .before .before .before .before .before .before .before .before .before .pre .0 .4) (c .before .before .before .before .before .before .before .before .before .before .before .before .if1 .left) (rw (c .before .before .before .sum-of3 .ensures) at (c .before .before .if2 .left)) (c .if3 .taken)
+
+book-steps-requires : tie.Need-book-steps-requires
+book-steps-requires c κs = let a = c .before .before .before .before .before .before .before .before .before .before .before .before .before .before .before .before .before .before .before .before .before .before .before .before .before .before .before .before .before .before .before .before .before .before .before .before .before .before .before .before .args in
+    let f = c .before .before .before .before .before .before .before .before .before .before .before .before .before .before .before .before .before .before .before .before .before .before .before .before .before .before .before .before .before .before .before .before .before .before .before .before .before .before .before .before .pre .0 .0 in
+    let rl = read-fits DefaultedLongs _ _ _ _ (a .e .contract) _ f (c .before .before .before .before .before .before .before .before .before .before .before .before .before .before .before .before .before .before .before .before .before .before .before .before .before .before .before .before .before .before .before .before .before .before .before .before .before .before .before .before .pre .0 .1) (c .before .before .before .before .before .before .before .before .before .before .before .before .before .before .before .before .before .before .before .before .before .before .before .before .before .before .before .before .before .before .before .before .read-column .ensures) in
+    let rs = read-fits DefaultedShorts _ _ _ _ (a .e .contract) _ f (c .before .before .before .before .before .before .before .before .before .before .before .before .before .before .before .before .before .before .before .before .before .before .before .before .before .before .before .before .before .before .before .before .before .before .before .before .before .before .before .before .pre .0 .1) (c .before .before .before .before .before .before .before .before .before .before .before .before .before .before .before .before .before .before .before .before .before .before .before .before .before .before .read-column2 .ensures) in
+    let t = blank in (
+      (record { head-fit = f .head-fit; lots-fit = f .lots-fit; value-fit = f .value-fit; lines-long = f .lines-long; most-run = c .before .before .before .before .before .before .before .if3 .left }, c .before .before .before .before .before .before .before .before .before .before .before .before .before .before .before .before .before .before .before .before .before .before .before .before .before .before .before .before .before .before .before .before .before .before .before .before .before .before .before .before .pre .0 .1, c .before .before .before .before .before .before .before .before .before .before .before .before .before .before .before .before .before .before .before .before .before .before .before .before .before .before .before .before .before .before .before .before .before .before .before .before .before .before .before .before .pre .0 .3),
+      dealable (put (a .head .now) (a .lots .now) (a .value .now) (a .lines .now) t) (a .e) _ _ (c .before .before .before .before .before .before .before .before .before .before .before .before .before .before .before .before .before .before .before .before .before .before .before .before .before .before .before .before .before .before .before .before .read-column .ensures (withLines (a .lines .now) t) (a .value .now)) (c .before .before .before .before .before .before .before .before .before .before .before .before .before .before .before .before .before .before .before .before .before .before .before .before .before .before .read-column2 .ensures (withLines (a .lines .now) t) (a .value .now)) (rl .long ∙ sym (rs .long)) _ _ (c .before .before .before .before .before .before .before .before .before .before .before .before .before .before .before .before .before .before .before .before .before .before .sum-of .ensures) (c .before .before .before .before .before .before .before .before .before .before .before .before .before .before .before .before .before .before .before .before .sum-of2 .ensures) _ (c .before .before .before .before .before .before .before .before .before .before .before .before .before .before .before .before .before .before .smaller .ensures) _ refl _ (rw (c .before .before .before .before .before .before .before .before .before .before .sum-of3 .ensures) at (c .before .before .before .before .before .before .before .before .before .if2 .left)) (rl .long) (c .before .before .before .before .before .before .before .before .before .before .before .before .before .before .find-weights .kept .1 .1 .1 .1 .0 ∙ c .before .before .before .before .before .before .before .before .before .before .before .before .before .before .before .before .before .before .before .before .before .before .before .before .before .before .before .before .before .before .before .before .before .before .before .before .before .before .before .before .pre .1 .2) (rl .fits) (c .before .before .before .before .before .before .before .before .before .before .before .before .before .before .find-weights .ensures .1),
+    )
+
+same-length-15 : tie.Need-same-length-15
+same-length-15 c = search needs
+
+same-length-16 : tie.Need-same-length-16
+same-length-16 c = search needs
+
+same-length-17 : tie.Need-same-length-17
+same-length-17 c = search needs
+
+same-length-18 : tie.Need-same-length-18
+same-length-18 c = search needs
+
+same-length-19 : tie.Need-same-length-19
+same-length-19 c = c .before .before .before .before .before .before .before .before .before .book-steps .kept .1 .1 .1 .1 .1 .1 .1 .1 .0 ∙ c .before .before .before .before .before .before .before .before .before .before .before .before .before .before .before .before .before .before .before .before .before .before .before .before .before .before .before .before .before .before .before .before .before .before .before .before .before .before .before .before .before .before .read-column .kept .1 .1 .1 .1 .0
+
+same-length-20 : tie.Need-same-length-20
+same-length-20 c = c .before .before .before .before .before .before .before .before .before .book-steps .kept .1 .1 .1 .1 .1 .1 .1 .1 .1 .0 ∙ c .before .before .before .before .before .before .before .before .before .before .before .before .before .before .before .before .before .before .before .before .before .before .before .before .before .before .before .before .before .before .before .before .before .before .before .before .read-column2 .kept .1 .1 .1 .1 .0
+
+same-length-21 : tie.Need-same-length-21
+same-length-21 c = search needs
+
+returns-4 : tie.Need-returns-4
+returns-4 c = let a = c .before .before .before .before .before .before .before .before .before .before .before .before .before .before .before .before .before .before .before .before .before .before .before .before .before .before .before .before .before .before .before .before .before .before .before .before .before .before .before .before .before .before .before .before .before .before .before .before .before .before .args in
+    let f = c .before .before .before .before .before .before .before .before .before .before .before .before .before .before .before .before .before .before .before .before .before .before .before .before .before .before .before .before .before .before .before .before .before .before .before .before .before .before .before .before .before .before .before .before .before .before .before .before .before .before .pre .0 .0 in
+    let rl = read-fits DefaultedLongs _ _ _ _ (a .e .contract) _ f (c .before .before .before .before .before .before .before .before .before .before .before .before .before .before .before .before .before .before .before .before .before .before .before .before .before .before .before .before .before .before .before .before .before .before .before .before .before .before .before .before .before .before .before .before .before .before .before .before .before .before .pre .0 .1) (c .before .before .before .before .before .before .before .before .before .before .before .before .before .before .before .before .before .before .before .before .before .before .before .before .before .before .before .before .before .before .before .before .before .before .before .before .before .before .before .before .before .before .read-column .ensures) in
+    let rs = read-fits DefaultedShorts _ _ _ _ (a .e .contract) _ f (c .before .before .before .before .before .before .before .before .before .before .before .before .before .before .before .before .before .before .before .before .before .before .before .before .before .before .before .before .before .before .before .before .before .before .before .before .before .before .before .before .before .before .before .before .before .before .before .before .before .before .pre .0 .1) (c .before .before .before .before .before .before .before .before .before .before .before .before .before .before .before .before .before .before .before .before .before .before .before .before .before .before .before .before .before .before .before .before .before .before .before .before .read-column2 .ensures) in
+    λ t o p. let k = c .before .before .before .before .before .before .before .before .before .before .before .before .before .before .before .before .before .before .before .before .before .before .before .before .find-weights .ensures .0 (withLines (a .lines .now) t) (a .value .now) (left-is (put (a .head .now) (a .lots .now) (a .value .now) (a .lines .now) t) (a .e) _ _ (c .before .before .before .before .before .before .before .before .before .before .before .before .before .before .before .before .before .before .before .before .before .before .before .before .before .before .before .before .before .before .before .before .before .before .before .before .before .before .before .before .before .before .read-column .ensures (withLines (a .lines .now) t) (a .value .now)) (c .before .before .before .before .before .before .before .before .before .before .before .before .before .before .before .before .before .before .before .before .before .before .before .before .before .before .before .before .before .before .before .before .before .before .before .before .read-column2 .ensures (withLines (a .lines .now) t) (a .value .now)) (rl .long ∙ sym (rs .long)) _ _ (c .before .before .before .before .before .before .before .before .before .before .before .before .before .before .before .before .before .before .before .before .before .before .before .before .before .before .before .before .before .before .before .before .sum-of .ensures) (c .before .before .before .before .before .before .before .before .before .before .before .before .before .before .before .before .before .before .before .before .before .before .before .before .before .before .before .before .before .before .sum-of2 .ensures) _ (c .before .before .before .before .before .before .before .before .before .before .before .before .before .before .before .before .before .before .before .before .before .before .before .before .before .before .before .before .smaller .ensures) _ refl) in
+    booked-so (put (a .head .now) (a .lots .now) (a .value .now) (a .lines .now) t) (a .e) _ _ (c .before .before .before .before .before .before .before .before .before .before .before .before .before .before .before .before .before .before .before .before .before .before .before .before .before .before .before .before .before .before .before .before .before .before .before .before .before .before .before .before .before .before .read-column .ensures (withLines (a .lines .now) t) (a .value .now)) (c .before .before .before .before .before .before .before .before .before .before .before .before .before .before .before .before .before .before .before .before .before .before .before .before .before .before .before .before .before .before .before .before .before .before .before .before .read-column2 .ensures (withLines (a .lines .now) t) (a .value .now)) (rl .long ∙ sym (rs .long)) _ _ (c .before .before .before .before .before .before .before .before .before .before .before .before .before .before .before .before .before .before .before .before .before .before .before .before .before .before .before .before .before .before .before .before .sum-of .ensures) (c .before .before .before .before .before .before .before .before .before .before .before .before .before .before .before .before .before .before .before .before .before .before .before .before .before .before .before .before .before .before .sum-of2 .ensures) _ (c .before .before .before .before .before .before .before .before .before .before .before .before .before .before .before .before .before .before .before .before .before .before .before .before .before .before .before .before .smaller .ensures) _ refl (a .price .0) p _ k o (c .before .before .before .before .before .before .before .before .before .before .before .before .before .before .before .before .before .before .before .before .before .before .before .before .before .before .before .before .before .before .before .before .before .before .before .before .before .before .before .before .before .before .before .before .before .before .before .before .before .before .pre .0 .4) (c .before .before .before .before .before .before .before .before .before .before .before .before .before .before .before .before .before .before .before .before .before .before .before .before .before .before .before .before .before .if1 .left) (rw (c .before .before .before .before .before .before .before .before .before .before .before .before .before .before .before .before .before .before .before .before .sum-of3 .ensures) at (c .before .before .before .before .before .before .before .before .before .before .before .before .before .before .before .before .before .before .before .if2 .left)) (c .before .before .before .before .before .before .before .before .before .before .before .before .before .before .before .before .before .if3 .left) (omega (arith, f .head-fit .long)) _ _ (c .before .before .before .before .before .before .before .before .before .book-steps .ensures .0) (c .before .before .before .before .before .before .before .before .before .book-steps .ensures .1 t)
+
+pub close-out-lots-spec : {M : Type 1} → statement M
+close-out-lots-spec =
+    tie.close
+    (tie.spec
+    read-column-requires
+    read-column-requires-2
+    sum-of-requires
+    sum-of-requires-2
+    add-if1
+    same-length
+    same-length-2
+    same-length-3
+    same-length-4
+    returns
+    smaller-requires
+    sub-left
+    sub-left-2
+    add-left
+    find-weights-requires
+    sum-of-requires-3
+    same-length-5
+    same-length-6
+    same-length-7
+    same-length-8
+    same-length-9
+    returns-2
+    slice-read-if3
+    add-if3
+    add-if3-2
+    add-if3-3
+    add-if3-4
+    same-length-10
+    same-length-11
+    same-length-12
+    same-length-13
+    same-length-14
+    returns-3
+    book-steps-requires
+    same-length-15
+    same-length-16
+    same-length-17
+    same-length-18
+    same-length-19
+    same-length-20
+    same-length-21
+    returns-4)

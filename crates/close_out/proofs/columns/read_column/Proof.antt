@@ -1,0 +1,100 @@
+use Prim.Native.Nat.{ℕ, _+_, _-_, _≤_}
+use mathlib.Core.Path.{_≡_, refl, ap, _∙_}
+use mathlib.Core.List.{_++_, map}
+use native.Mathlib.Omega.{arith}
+use native.Mathlib.Nat.{sub-zero}
+use lib.Dec.{eqb}
+use lib.IntN.{pos}
+use lib.ListN.{length, getD, take, length-set}
+use borrow.Author.Needs.{needs}
+use Rattle.arith.proofs.Signed.{back-mag}
+use Rattle.arith.proofs.Columns.{mapped-next, mapped-end, written-next, written-end}
+use Rattle.arith.specs.Lists.{from}
+use Rattle.rules.specs.Ledger.{marksFrom, rowPlace}
+use Rattle.close_out.specs.Columns.{lotsIn, columnOf}
+use Rattle.close_out.proofs.columns.read_column.Statement.{statement}
+use Rattle.close_out.proofs.columns.read_column.Tie as tie
+
+abbrev Inv-loop : tie.InvT-loop
+Inv-loop part head lots contract column₀ row i₀ column i = (i ≤ length column₀) × (length column ≡ length column₀)
+    × (take i column ++ map (λ m. lotsIn part (eqb (getD head (marksFrom + m) 0) 1) (getD lots (rowPlace contract m) (pos 0))) (from i (length column₀ - i))
+    ≡ map (λ m. lotsIn part (eqb (getD head (marksFrom + m) 0) 1) (getD lots (rowPlace contract m) (pos 0))) (from 0 (length column₀)))
+
+abbrev μ-loop : tie.MeasureT-loop
+μ-loop part head lots contract column₀ row i₀ column i = length column₀ - i
+
+mul-row : tie.Need-mul-row Inv-loop μ-loop
+mul-row c = search needs
+
+loop-holds : tie.Need-loop-holds Inv-loop μ-loop
+loop-holds c = (omega arith, refl, rw (sub-zero (length (c .before .before .args .column .now))))
+
+add-marked : tie.Need-add-marked Inv-loop μ-loop
+add-marked c = search needs
+
+mul-marked : tie.Need-mul-marked Inv-loop μ-loop
+mul-marked c = search needs
+
+shared-slice-read-marked : tie.Need-shared-slice-read-marked Inv-loop μ-loop
+shared-slice-read-marked c = search needs
+
+add-lots-in : tie.Need-add-lots-in Inv-loop μ-loop
+add-lots-in c = search needs
+
+mul-lots-in : tie.Need-mul-lots-in Inv-loop μ-loop
+mul-lots-in c = search needs
+
+shared-slice-copy-out-lots-in : tie.Need-shared-slice-copy-out-lots-in Inv-loop μ-loop
+shared-slice-copy-out-lots-in c = search needs
+
+lots-in-requires : tie.Need-lots-in-requires Inv-loop μ-loop
+lots-in-requires c κs = search needs
+
+mul-column : tie.Need-mul-column Inv-loop μ-loop
+mul-column c = search needs
+
+slice-write-column : tie.Need-slice-write-column Inv-loop μ-loop
+slice-write-column c = search needs
+
+add-i : tie.Need-add-i Inv-loop μ-loop
+add-i c = search needs
+
+loop-less : tie.Need-loop-less Inv-loop μ-loop
+loop-less c = search needs
+
+loop-again : tie.Need-loop-again Inv-loop μ-loop
+loop-again c = let a = c .before .before .before .before .before .before .before .args in
+    let l = c .before .before .before .before .loop in
+    let f : ℕ → ℕ = λ m. lotsIn (a .part) (eqb (getD (a .head .now) (marksFrom + m) 0) 1) (getD (a .lots .now) (rowPlace (a .contract) m) (pos 0)) in
+    let e = c .lots-in .ensures ∙ ap (lotsIn (a .part) (eqb (getD (a .head .now) (marksFrom + l .i) 0) 1)) (back-mag (getD (a .lots .now) (rowPlace (a .contract) (l .i)) (pos 0)) (c .before .lots-in-arg .given)) in
+    (omega arith, simp length-set (l .inv .1), rw e (written-next (l .column) (l .i) _ _ _ (omega arith) (rw (mapped-next (length (a .column .now)) (l .i) f (omega arith)) at (l .inv .2))))
+
+same-length : tie.Need-same-length Inv-loop μ-loop
+same-length c = omega arith
+
+returns : tie.Need-returns Inv-loop μ-loop
+unfolding columnOf
+returns c = λ t v. rw (← c .before .before .before .before .pre .1 .0) (written-end (c .before .loop .column) (c .before .loop .i) _ _ (omega arith) (mapped-end _ (c .before .loop .i) _ (omega arith)) (c .before .loop .inv .2))
+
+pub read-column-spec : {M : Type 1} → statement M
+read-column-spec =
+    tie.close
+    (tie.spec
+    Inv-loop
+    μ-loop
+    mul-row
+    loop-holds
+    add-marked
+    mul-marked
+    shared-slice-read-marked
+    add-lots-in
+    mul-lots-in
+    shared-slice-copy-out-lots-in
+    lots-in-requires
+    mul-column
+    slice-write-column
+    add-i
+    loop-less
+    loop-again
+    same-length
+    returns)

@@ -1,0 +1,23 @@
+use mathlib.Core.Path.{ap, _∙_}
+use native.Mathlib.Omega.{arith}
+use mir.Facts.{toZ-ofZ}
+use borrow.Author.Needs.{needs}
+use Rattle.arith.specs.Ints.{up, dn}
+use Rattle.arith.proofs.Negatives.{size-parts, size-most}
+use Rattle.close_out.proofs.columns.size.Statement.{statement}
+use Rattle.close_out.proofs.columns.size.Tie as tie
+
+long-lots-requires : tie.Need-long-lots-requires
+long-lots-requires c κs = search needs
+
+short-lots-requires : tie.Need-short-lots-requires
+short-lots-requires c κs = search needs
+
+add-result : tie.Need-add-result
+add-result c = let f = c .before .before .fits .net in omega (arith, size-most (c .before .before .args .net) f, c .before .long-lots .ensures ∙ ap up (toZ-ofZ f), c .short-lots .ensures ∙ ap dn (toZ-ofZ f))
+
+returns : tie.Need-returns
+returns c = let f = c .before .before .fits .net in omega (arith, size-parts (c .before .before .args .net), c .before .long-lots .ensures ∙ ap up (toZ-ofZ f), c .short-lots .ensures ∙ ap dn (toZ-ofZ f))
+
+pub size-spec : {M : Type 1} → statement M
+size-spec = tie.close (tie.spec long-lots-requires short-lots-requires add-result returns)

@@ -1,0 +1,58 @@
+use native.Mathlib.Omega.{arith}
+use lib.ListN.{length-take}
+use borrow.Author.Needs.{needs}
+use Rattle.close_out.proofs.netting.book_netting.Statement.{statement}
+use Rattle.close_out.proofs.netting.book_netting.Tie as tie
+
+array-borrow-prefix-given-longs : tie.Need-array-borrow-prefix-given-longs
+array-borrow-prefix-given-longs c = omega (arith, c .before .before .before .before .before .before .before .before .before .pre .0 .head-fit .most-members, c .before .before .before .before .before .before .before .before .before .pre .1 .2)
+
+slice-aggregate-net-columns : tie.Need-slice-aggregate-net-columns
+slice-aggregate-net-columns c = simp length-take (omega (arith, c .before .before .before .before .before .before .before .before .before .before .pre .0 .head-fit .most-members, c .before .before .before .before .before .before .before .before .before .before .pre .1 .2))
+
+array-borrow-prefix-given-shorts : tie.Need-array-borrow-prefix-given-shorts
+array-borrow-prefix-given-shorts c = omega (arith, c .before .before .before .before .before .before .before .before .before .before .pre .0 .head-fit .most-members, c .before .before .before .before .before .before .before .before .before .before .pre .1 .2)
+
+slice-aggregate-net-columns-2 : tie.Need-slice-aggregate-net-columns-2
+slice-aggregate-net-columns-2 c = simp length-take (omega (arith, c .before .before .before .before .before .before .before .before .before .before .before .pre .0 .head-fit .most-members, c .before .before .before .before .before .before .before .before .before .before .before .pre .1 .2))
+
+net-columns-requires : tie.Need-net-columns-requires
+net-columns-requires c κs = (c .before .before .before .before .before .before .before .before .before .before .before .pre .0, (c .before .before .before .before .before .before .before .before .before .before .before .pre .1, (simp length-take (omega (arith, c .before .before .before .before .before .before .before .before .before .before .before .pre .0 .head-fit .most-members, c .before .before .before .before .before .before .before .before .before .before .before .pre .1 .2)), simp length-take (omega (arith, c .before .before .before .before .before .before .before .before .before .before .before .pre .0 .head-fit .most-members, c .before .before .before .before .before .before .before .before .before .before .before .pre .1 .2)))))
+
+same-length : tie.Need-same-length
+same-length c = search needs
+
+same-length-2 : tie.Need-same-length-2
+same-length-2 c = search needs
+
+same-length-3 : tie.Need-same-length-3
+same-length-3 c = search needs
+
+same-length-4 : tie.Need-same-length-4
+same-length-4 c = search needs
+
+same-length-5 : tie.Need-same-length-5
+same-length-5 c = search needs
+
+same-length-6 : tie.Need-same-length-6
+same-length-6 c = search needs
+
+returns : tie.Need-returns
+returns c = search needs
+
+pub book-netting-spec : {M : Type 1} → statement M
+book-netting-spec =
+    tie.close
+    (tie.spec
+    array-borrow-prefix-given-longs
+    slice-aggregate-net-columns
+    array-borrow-prefix-given-shorts
+    slice-aggregate-net-columns-2
+    net-columns-requires
+    same-length
+    same-length-2
+    same-length-3
+    same-length-4
+    same-length-5
+    same-length-6
+    returns)

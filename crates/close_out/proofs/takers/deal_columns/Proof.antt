@@ -1,0 +1,95 @@
+use mathlib.Core.Path.{_≡_, sym, ap, _∙_}
+use native.Mathlib.Omega.{arith}
+use lib.ListN.{length, length-replicate}
+use borrow.Author.Needs.{needs}
+use Rattle.rules.specs.Default.{sumOf}
+use Rattle.rules.proofs.Netting.{sum-zeros}
+use Rattle.tables.specs.Fit.{membersIn}
+use Rattle.dealing.proofs.Dealt.{all-dealt}
+use Rattle.close_out.proofs.Takes.{less-room}
+use Rattle.close_out.proofs.StepColumns.{takers-buy, takers-sell}
+use Rattle.close_out.proofs.takers.deal_columns.Statement.{statement}
+use Rattle.close_out.proofs.takers.deal_columns.Tie as tie
+
+deal-out-requires : tie.Need-deal-out-requires
+deal-out-requires c κs = ((omega (arith, c .before .before .before .before .before .pre .0 .0 .most-run), c .before .before .before .before .before .pre .0 .2, c .before .before .before .before .before .pre .1 .1 .0 ∙ sym (c .before .before .before .before .before .pre .1 .0 .3)), c .before .before .before .before .before .pre .0 .1)
+
+book-changes-requires : tie.Need-book-changes-requires
+book-changes-requires c κs = let a = c .before .before .before .before .before .before .before .before .before .before .before .before .before .before .args in
+    let d = ap sumOf (c .before .before .before .before .before .before .before .before .deal-out .ensures) ∙ all-dealt (a .left) (a .weights .now) (c .before .before .before .before .before .before .before .before .before .before .before .before .before .before .pre .0 .2) in
+    let n = membersIn (a .head .now) in
+    let z : sumOf (a .nothing .now) ≡ 0 = ap sumOf (c .before .before .before .before .before .before .before .before .before .before .before .before .before .before .pre .1 .1 .1) ∙ sum-zeros n in
+    let wide = c .before .before .before .before .before .before .before .before .deal-out .kept .1 .1 .0 ∙ c .before .before .before .before .before .before .before .before .before .before .before .before .before .before .pre .1 .1 .0 in
+    let none : length (a .nothing .now) ≡ n = ap length (c .before .before .before .before .before .before .before .before .before .before .before .before .before .before .pre .1 .1 .1) ∙ length-replicate n 0 in
+    (less-room _ _ (omega (arith, d, z)) (c .before .before .before .before .before .before .before .before .before .before .before .before .before .before .pre .0 .0), ((omega (arith, wide, c .before .before .before .before .before .before .before .before .before .before .before .before .before .before .pre .1 .0 .2, c .before .before .before .before .before .before .before .before .before .before .before .before .before .before .pre .1 .0 .3), c .before .before .before .before .before .before .before .before .before .before .before .before .before .before .pre .1 .0 .0, c .before .before .before .before .before .before .before .before .before .before .before .before .before .before .pre .1 .0 .1), (wide, none ∙ sym wide)))
+
+same-length : tie.Need-same-length
+same-length c = search needs
+
+same-length-2 : tie.Need-same-length-2
+same-length-2 c = search needs
+
+same-length-3 : tie.Need-same-length-3
+same-length-3 c = search needs
+
+same-length-4 : tie.Need-same-length-4
+same-length-4 c = search needs
+
+same-length-5 : tie.Need-same-length-5
+same-length-5 c = search needs
+
+returns : tie.Need-returns
+returns c = let a = c .before .before .before .before .before .before .before .before .before .before .before .before .before .before .before .before .before .before .before .before .args in
+    let wide = c .before .before .before .before .before .before .before .before .before .before .before .before .before .before .deal-out .kept .1 .1 .0 ∙ c .before .before .before .before .before .before .before .before .before .before .before .before .before .before .before .before .before .before .before .before .pre .1 .1 .0 in
+    let e = takers-buy (a .contract) (a .price .0) (a .long) (a .left) (a .weights .now) _ _ _ (c .before .before .before .before .before .before .before .before .before .before .before .before .before .before .deal-out .ensures) (c .before .before .before .before .before .before .before .before .before .before .before .before .before .before .before .before .before .before .before .before .pre .1 .1 .1) wide (c .before .before .before .before .before .before .before .before .before .before .before .if1 .taken) in
+    (rw (← e) (c .before .before .before .before .before .book-changes .ensures .0), λ t. rw (← e) (c .before .before .before .before .before .book-changes .ensures .1 t))
+
+book-changes-requires-2 : tie.Need-book-changes-requires-2
+book-changes-requires-2 c κs = let a = c .before .before .before .before .before .before .before .before .before .before .before .before .before .before .args in
+    let d = ap sumOf (c .before .before .before .before .before .before .before .before .deal-out .ensures) ∙ all-dealt (a .left) (a .weights .now) (c .before .before .before .before .before .before .before .before .before .before .before .before .before .before .pre .0 .2) in
+    let n = membersIn (a .head .now) in
+    let z : sumOf (a .nothing .now) ≡ 0 = ap sumOf (c .before .before .before .before .before .before .before .before .before .before .before .before .before .before .pre .1 .1 .1) ∙ sum-zeros n in
+    let wide = c .before .before .before .before .before .before .before .before .deal-out .kept .1 .1 .0 ∙ c .before .before .before .before .before .before .before .before .before .before .before .before .before .before .pre .1 .1 .0 in
+    let none : length (a .nothing .now) ≡ n = ap length (c .before .before .before .before .before .before .before .before .before .before .before .before .before .before .pre .1 .1 .1) ∙ length-replicate n 0 in
+    (less-room _ _ (omega (arith, d, z)) (c .before .before .before .before .before .before .before .before .before .before .before .before .before .before .pre .0 .0), ((omega (arith, none, c .before .before .before .before .before .before .before .before .before .before .before .before .before .before .pre .1 .0 .2, c .before .before .before .before .before .before .before .before .before .before .before .before .before .before .pre .1 .0 .3), c .before .before .before .before .before .before .before .before .before .before .before .before .before .before .pre .1 .0 .0, c .before .before .before .before .before .before .before .before .before .before .before .before .before .before .pre .1 .0 .1), (none, wide ∙ sym none)))
+
+same-length-6 : tie.Need-same-length-6
+same-length-6 c = search needs
+
+same-length-7 : tie.Need-same-length-7
+same-length-7 c = search needs
+
+same-length-8 : tie.Need-same-length-8
+same-length-8 c = search needs
+
+same-length-9 : tie.Need-same-length-9
+same-length-9 c = search needs
+
+same-length-10 : tie.Need-same-length-10
+same-length-10 c = search needs
+
+returns-2 : tie.Need-returns-2
+returns-2 c = let a = c .before .before .before .before .before .before .before .before .before .before .before .before .before .before .before .before .before .before .before .before .args in
+    let wide = c .before .before .before .before .before .before .before .before .before .before .before .before .before .before .deal-out .kept .1 .1 .0 ∙ c .before .before .before .before .before .before .before .before .before .before .before .before .before .before .before .before .before .before .before .before .pre .1 .1 .0 in
+    let e = takers-sell (a .contract) (a .price .0) (a .long) (a .left) (a .weights .now) _ _ _ (c .before .before .before .before .before .before .before .before .before .before .before .before .before .before .deal-out .ensures) (c .before .before .before .before .before .before .before .before .before .before .before .before .before .before .before .before .before .before .before .before .pre .1 .1 .1) wide (c .before .before .before .before .before .before .before .before .before .before .before .if1 .left) in
+    (rw (← e) (c .before .before .before .before .before .book-changes2 .ensures .0), λ t. rw (← e) (c .before .before .before .before .before .book-changes2 .ensures .1 t))
+
+pub deal-columns-spec : {M : Type 1} → statement M
+deal-columns-spec =
+    tie.close
+    (tie.spec
+    deal-out-requires
+    book-changes-requires
+    same-length
+    same-length-2
+    same-length-3
+    same-length-4
+    same-length-5
+    returns
+    book-changes-requires-2
+    same-length-6
+    same-length-7
+    same-length-8
+    same-length-9
+    same-length-10
+    returns-2)

@@ -1,0 +1,72 @@
+use Prim.Native.Nat.{_*_, _≤_}
+use mathlib.Core.Path.{_∙_}
+use mathlib.Core.List.{[]}
+use native.Mathlib.Omega.{arith}
+use native.Mathlib.Nat.{mul-le-mul}
+use borrow.Author.Needs.{needs}
+use Rattle.rules.specs.Ledger.{withHead, withRows}
+use Rattle.rules.specs.Ranges.{mostMembers}
+use Rattle.dealing.specs.Levels.{mostWeight}
+use Rattle.close_out.specs.declared.columns.Part.the-variants.{Others}
+use Rattle.close_out.proofs.Running.{blank}
+use Rattle.close_out.proofs.ColumnFits.{column-fits, days-column, weights-here, weights-days, sum-fits}
+use Rattle.close_out.proofs.weights.find_weights.Statement.{statement}
+use Rattle.close_out.proofs.weights.find_weights.Tie as tie
+
+read-column-requires : tie.Need-read-column-requires
+read-column-requires c κs = search needs
+
+mul-if1 : tie.Need-mul-if1
+mul-if1 c = search needs
+
+sum-of-requires : tie.Need-sum-of-requires
+sum-of-requires c κs = let a = c .before .before .before .before .before .before .before .args in
+    rw (c .before .before .before .read-column .ensures blank []) (column-fits (withHead (a .head .now) (withRows (a .lots .now) [] blank)) (c .before .before .before .before .before .before .before .pre .0 .0 .most-members) (c .before .before .before .before .before .before .before .pre .0 .1) Others (a .e .contract) (c .before .before .before .before .before .before .before .pre .1 .0))
+
+mul-if1-2 : tie.Need-mul-if1-2
+mul-if1-2 c = let a = c .before .before .before .before .before .before .before .before .args in
+    let t = withHead (a .head .now) (withRows (a .lots .now) [] blank) in
+    let most : c .sum-of .result ≤ mostMembers * mostWeight = rw (c .sum-of .ensures, c .before .before .before .before .read-column .ensures blank []) (sum-fits _ (column-fits t (c .before .before .before .before .before .before .before .before .pre .0 .0 .most-members) (c .before .before .before .before .before .before .before .before .pre .0 .1) Others (a .e .contract) (c .before .before .before .before .before .before .before .before .pre .1 .0))) in
+    omega (arith, mul-le-mul (c .before .before .before .before .before .before .before .before .pre .1 .1) most)
+
+same-length : tie.Need-same-length
+same-length c = search needs
+
+returns : tie.Need-returns
+returns c = let a = c .before .before .before .before .before .before .before .before .before .args in
+    let r = c .before .before .before .before .before .read-column .ensures in
+    let s = withHead (a .head .now) (withRows (a .lots .now) [] blank) in (
+      λ t v k. let u = withHead (a .head .now) (withRows (a .lots .now) v t) in
+          r t v ∙ weights-here u (a .e) (a .left) k (rw (← r t v, ← c .before .sum-of .ensures) (c .if1 .taken)),
+      rw (r blank []) (column-fits s (c .before .before .before .before .before .before .before .before .before .pre .0 .0 .most-members) (c .before .before .before .before .before .before .before .before .before .pre .0 .1) Others (a .e .contract) (c .before .before .before .before .before .before .before .before .before .pre .1 .0)),
+    )
+
+weigh-by-days-requires : tie.Need-weigh-by-days-requires
+weigh-by-days-requires c κs = search needs
+
+same-length-2 : tie.Need-same-length-2
+same-length-2 c = search needs
+
+returns-2 : tie.Need-returns-2
+returns-2 c = let a = c .before .before .before .before .before .before .before .before .before .before .before .before .before .args in
+    let r = c .before .before .before .before .before .before .before .before .before .read-column .ensures in
+    let w = c .before .before .weigh-by-days .ensures in
+    let s = withHead (a .head .now) (withRows (a .lots .now) [] blank) in (
+      λ t v k. let u = withHead (a .head .now) (withRows (a .lots .now) v t) in
+          w t v ∙ weights-days u (a .e) (a .left) k (rw (← r t v, ← c .before .before .before .before .before .sum-of .ensures) (c .before .before .before .before .if1 .left)),
+      rw (w blank []) (days-column s (c .before .before .before .before .before .before .before .before .before .before .before .before .before .pre .0 .0 .most-members) (c .before .before .before .before .before .before .before .before .before .before .before .before .before .pre .0 .1)),
+    )
+
+pub find-weights-spec : {M : Type 1} → statement M
+find-weights-spec =
+    tie.close
+    (tie.spec
+    read-column-requires
+    mul-if1
+    sum-of-requires
+    mul-if1-2
+    same-length
+    returns
+    weigh-by-days-requires
+    same-length-2
+    returns-2)

@@ -1,0 +1,70 @@
+use Prim.Native.Nat.{_+_, _-_}
+use mathlib.Core.Path.{_≡_, ap, _∙_}
+use native.Mathlib.Omega.{arith}
+use lib.ListN.{length, getD}
+use borrow.Author.Needs.{needs}
+use Rattle.rules.specs.Ledger.{withHead, withRows}
+use Rattle.close_out.proofs.DayWeights.{open-days-length, open-days-most, weights-by-days}
+use Rattle.close_out.proofs.weights.weigh_by_days.Statement.{statement}
+use Rattle.close_out.proofs.weights.weigh_by_days.Tie as tie
+
+shared-slice-read-end : tie.Need-shared-slice-read-end
+shared-slice-read-end c = search needs
+
+add-end : tie.Need-add-end
+add-end c = search needs
+
+shared-slice-read-find-open-days : tie.Need-shared-slice-read-find-open-days
+shared-slice-read-find-open-days c = search needs
+
+sub-find-open-days : tie.Need-sub-find-open-days
+sub-find-open-days c = search needs
+
+part-find-open-days-start : tie.Need-part-find-open-days-start
+part-find-open-days-start c = search needs
+
+part-find-open-days-end : tie.Need-part-find-open-days-end
+part-find-open-days-end c = search needs
+
+shared-slice-read-t15 : tie.Need-shared-slice-read-t15
+shared-slice-read-t15 c = search needs
+
+slice-aggregate-find-open-days : tie.Need-slice-aggregate-find-open-days
+slice-aggregate-find-open-days c = search needs
+
+find-open-days-requires : tie.Need-find-open-days-requires
+find-open-days-requires c κs = search needs
+
+slice-aggregate-weigh : tie.Need-slice-aggregate-weigh
+slice-aggregate-weigh c = search needs
+
+weigh-requires : tie.Need-weigh-requires
+weigh-requires c κs = let d = c .before .before .before .find-open-days .ensures in
+    (c .before .before .before .before .before .before .before .before .before .before .before .pre, (ap length d ∙ open-days-length _ _, λ i. rw d (open-days-most _ _ i)))
+
+same-length : tie.Need-same-length
+same-length c = search needs
+
+returns : tie.Need-returns
+returns c = let a = c .before .before .before .before .before .before .before .before .before .before .before .before .before .before .args in
+    let h = a .head .now in
+    let cut : 8 + getD h 2 0 - 8 ≡ getD h 2 0 = omega arith in
+    λ t v. c .before .before .weigh .ensures ∙ weights-by-days (withHead h (withRows (a .lots .now) v t)) _ (rw cut at (c .before .before .before .before .before .before .find-open-days .ensures))
+
+pub weigh-by-days-spec : {M : Type 1} → statement M
+weigh-by-days-spec =
+    tie.close
+    (tie.spec
+    shared-slice-read-end
+    add-end
+    shared-slice-read-find-open-days
+    sub-find-open-days
+    part-find-open-days-start
+    part-find-open-days-end
+    shared-slice-read-t15
+    slice-aggregate-find-open-days
+    find-open-days-requires
+    slice-aggregate-weigh
+    weigh-requires
+    same-length
+    returns)

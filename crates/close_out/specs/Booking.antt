@@ -1,0 +1,55 @@
+-- Lines of a close-out, and tables with several lines booked one after the other.
+use Prim.Native.Nat.{ℕ, suc, _+_, _*_, _≤_, _<_}
+use mathlib.Core.Path.{_≡_}
+use mathlib.Core.Bool.{cond}
+use mathlib.Core.List.{List, [], _∷_, _++_, map, zipWith}
+use lib.Dec.{ltb}
+use lib.IntN.{ℤ, pos, negℤ, _-ℤ_}
+use lib.ListN.{length}
+use Rattle.rules.specs.Default.{sumOf, givenUp, less, changeLines, dealtOut}
+use Rattle.rules.specs.Ledger.{Tables, Line, linesLength}
+use Rattle.rules.specs.Ranges.{mostPrice, mostLotsRun}
+use Rattle.tables.specs.Fit.{HeadFit, RowsFit, membersIn, lotsRunIn}
+use Rattle.tables.specs.Lines.{withLine}
+use Rattle.dealing.specs.Levels.{mostWeight, Column}
+
+-- Lines booked one after the other, the first as line i.
+unfoldable pub withEach : ℕ → List Line → Tables → Tables
+withEach i [] t = t
+withEach i (l ∷ ls) t = withEach (suc i) ls (withLine i l t)
+
+-- What each member gains less what it gives up.
+abbrev pub changes : List ℕ → List ℕ → List ℤ
+changes gains losses = zipWith (λ s l. pos s -ℤ pos l) gains losses
+
+-- Step 1; step 2, the defaulted; step 2, the takers; of contract c at price p, q lots netted and l left.
+unfoldable pub nettingLines : ℕ → ℕ → ℕ → List ℕ → List ℕ → List Line
+nettingLines c p q longs shorts = changeLines c p 0 (changes (givenUp q shorts) (givenUp q longs))
+
+unfoldable pub defaultedLines : ℕ → ℕ → ℕ → List ℕ → List ℕ → List Line
+defaultedLines c p q longs shorts = changeLines c p 0 (changes (less shorts (givenUp q shorts)) (less longs (givenUp q longs)))
+
+unfoldable pub takerLines : ℕ → ℕ → ℕ → ℕ → List ℕ → List Line
+takerLines c p long l weights = changeLines c p 0 (map (λ n. cond (ltb 0 long) (pos n) (negℤ (pos n))) (dealtOut l weights))
+
+-- What lent tables give to a caller that books lines of so many lots.
+pub record Bookable (room : ℕ) (head : List ℕ) (lots value lines : List ℤ) : Type 0 where
+  pub head-fit : HeadFit head
+  pub lots-fit : RowsFit (membersIn head) (lotsRunIn head) lots
+  pub value-fit : RowsFit (membersIn head) (mostPrice * lotsRunIn head) value
+  pub lines-long : linesLength ≤ length lines
+  pub most-run : lotsRunIn head + room ≤ mostLotsRun
+
+unfoldable pub stepLines : ℕ → ℕ → ℕ → ℕ → List ℕ → List ℕ → List ℕ → List Line
+stepLines c p q l longs shorts weights =
+    nettingLines c p q longs shorts ++ (defaultedLines c p q longs shorts ++ takerLines c p (sumOf (less longs (givenUp q longs))) l weights)
+
+-- Columns of a close-out: q lots are netted, l are left, and there are weights to deal them out by.
+pub record Dealable (q l members : ℕ) (longs shorts weights : List ℕ) : Type 0 where
+  pub longs-length : length longs ≡ members
+  pub shorts-length : length shorts ≡ members
+  pub weights-length : length weights ≡ members
+  pub longs-column : Column mostWeight longs
+  pub weights-column : Column mostWeight weights
+  pub left : l ≡ sumOf (less longs (givenUp q longs)) + sumOf (less shorts (givenUp q shorts))
+  pub takers : 0 < l → 0 < sumOf weights

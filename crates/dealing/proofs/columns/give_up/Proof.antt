@@ -1,0 +1,80 @@
+use Prim.Native.Nat.{_+_, _-_, _≤_}
+use mathlib.Core.Path.{_≡_, refl}
+use mathlib.Core.List.{_++_}
+use native.Mathlib.Omega.{arith}
+use lib.ListN.{length, take, drop, length-set}
+use borrow.Author.Needs.{needs}
+use Rattle.arith.proofs.Columns.{written-next, written-end}
+use Rattle.rules.specs.Default.{givenUp}
+use Rattle.rules.proofs.Netting.{given-next, given-end}
+use Rattle.dealing.proofs.columns.give_up.Statement.{statement}
+use Rattle.dealing.proofs.columns.give_up.Tie as tie
+
+abbrev Inv-loop : tie.InvT-loop
+Inv-loop lots held given₀ left₀ i₀ given left i = (i ≤ length held) × (length given ≡ length held) × (take i given ++ givenUp left (drop i held) ≡ givenUp lots held)
+
+abbrev μ-loop : tie.MeasureT-loop
+μ-loop lots held given₀ left₀ i₀ given left i = length held - i
+
+loop-holds : tie.Need-loop-holds Inv-loop μ-loop
+loop-holds c = (omega arith, c .before .before .pre, refl)
+
+mul-smaller : tie.Need-mul-smaller Inv-loop μ-loop
+mul-smaller c = search needs
+
+shared-slice-read-smaller : tie.Need-shared-slice-read-smaller Inv-loop μ-loop
+shared-slice-read-smaller c = search needs
+
+smaller-requires : tie.Need-smaller-requires Inv-loop μ-loop
+smaller-requires c κs = search needs
+
+mul-given : tie.Need-mul-given Inv-loop μ-loop
+mul-given c = search needs
+
+slice-write-given : tie.Need-slice-write-given Inv-loop μ-loop
+slice-write-given c = search needs
+
+sub-left : tie.Need-sub-left Inv-loop μ-loop
+sub-left c = omega (arith, c .smaller .ensures)
+
+add-i : tie.Need-add-i Inv-loop μ-loop
+add-i c = search needs
+
+loop-less : tie.Need-loop-less Inv-loop μ-loop
+loop-less c = search needs
+
+loop-again : tie.Need-loop-again Inv-loop μ-loop
+loop-again c = let a = c .before .before .before .before .before .before .args in
+    let l = c .before .before .before .loop in
+    let rest = given-next (l .left) (a .held .now) (l .i) (c .before .before .loop-test .taken) in (
+      omega arith,
+      simp length-set (l .inv .1),
+      rw (c .smaller .ensures)
+          (written-next (l .given) (l .i) _ _ _ (omega arith) (rw rest at (l .inv .2))),
+    )
+
+same-length : tie.Need-same-length Inv-loop μ-loop
+same-length c = omega arith
+
+returns : tie.Need-returns Inv-loop μ-loop
+returns c = let l = c .before .loop in
+    written-end (l .given) (l .i) _ _ (omega arith) (given-end (l .left) _ (l .i) (c .loop-test .left)) (l .inv .2)
+
+pub give-up-spec : {M : Type 1} → statement M
+give-up-spec =
+    tie.close
+    (tie.spec
+    Inv-loop
+    μ-loop
+    loop-holds
+    mul-smaller
+    shared-slice-read-smaller
+    smaller-requires
+    mul-given
+    slice-write-given
+    sub-left
+    add-i
+    loop-less
+    loop-again
+    same-length
+    returns)

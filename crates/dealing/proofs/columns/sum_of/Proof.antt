@@ -1,0 +1,57 @@
+use Prim.Native.Nat.{_+_, _*_, _-_, _≤_}
+use mathlib.Core.Path.{_≡_}
+use native.Mathlib.Omega.{arith}
+use lib.ListN.{length, drop}
+use borrow.Author.Needs.{needs}
+use Rattle.arith.proofs.Columns.{total-next, total-end}
+use Rattle.arith.specs.Lists.{total}
+use Rattle.rules.specs.Default.{sumOf}
+use Rattle.dealing.specs.Levels.{mostWeight}
+use Rattle.dealing.proofs.columns.sum_of.Statement.{statement}
+use Rattle.dealing.proofs.columns.sum_of.Tie as tie
+
+abbrev Inv-loop : tie.InvT-loop
+Inv-loop numbers sum₀ i₀ sum i = (i ≤ length numbers) × (sum ≤ i * mostWeight) × (sum + total (λ n. n) (drop i numbers) ≡ sumOf numbers)
+
+abbrev μ-loop : tie.MeasureT-loop
+μ-loop numbers sum₀ i₀ sum i = length numbers - i
+
+loop-holds : tie.Need-loop-holds Inv-loop μ-loop
+unfolding sumOf
+loop-holds c = (omega arith, omega arith, omega arith)
+
+mul-sum : tie.Need-mul-sum Inv-loop μ-loop
+mul-sum c = search needs
+
+shared-slice-read-sum : tie.Need-shared-slice-read-sum Inv-loop μ-loop
+shared-slice-read-sum c = search needs
+
+add-sum : tie.Need-add-sum Inv-loop μ-loop
+add-sum c = omega (arith, c .before .before .before .pre .few, c .before .before .before .pre .each (c .before .before .loop .i))
+
+add-i : tie.Need-add-i Inv-loop μ-loop
+add-i c = search needs
+
+loop-less : tie.Need-loop-less Inv-loop μ-loop
+loop-less c = search needs
+
+loop-again : tie.Need-loop-again Inv-loop μ-loop
+loop-again c = (omega arith, omega (arith, c .before .before .before .pre .each (c .before .before .loop .i)), omega (arith, total-next (c .before .before .before .args .numbers .now) (c .before .before .loop .i) (λ n. n) 0 (c .before .loop-test .taken), c .before .before .loop .inv .2))
+
+returns : tie.Need-returns Inv-loop μ-loop
+returns c = omega (arith, total-end (c .before .before .args .numbers .now) (c .before .loop .i) (λ n. n) (c .loop-test .left), c .before .loop .inv .2)
+
+pub sum-of-spec : {M : Type 1} → statement M
+sum-of-spec =
+    tie.close
+    (tie.spec
+    Inv-loop
+    μ-loop
+    loop-holds
+    mul-sum
+    shared-slice-read-sum
+    add-sum
+    add-i
+    loop-less
+    loop-again
+    returns)

@@ -1,0 +1,63 @@
+use Prim.Native.Nat.{_+_, _*_, _-_, _≤_, min}
+use mathlib.Core.Path.{_≡_}
+use native.Mathlib.Omega.{arith}
+use lib.ListN.{length, drop}
+use borrow.Author.Needs.{needs}
+use Rattle.arith.proofs.Columns.{total-next, total-end}
+use Rattle.arith.specs.Lists.{total}
+use Rattle.rules.specs.Default.{sumOf}
+use Rattle.rules.proofs.Netting.{sum-map}
+use Rattle.rules.specs.Ranges.{mostLotsRun}
+use Rattle.dealing.specs.Levels.{atLevel}
+use Rattle.dealing.proofs.level.lots_at_level.Statement.{statement}
+use Rattle.dealing.proofs.level.lots_at_level.Tie as tie
+
+abbrev Inv-loop : tie.InvT-loop
+Inv-loop level minima sum₀ i₀ sum i = (i ≤ length minima) × (sum ≤ i * mostLotsRun) × (sum + total (min level) (drop i minima) ≡ sumOf (atLevel level minima))
+
+abbrev μ-loop : tie.MeasureT-loop
+μ-loop level minima sum₀ i₀ sum i = length minima - i
+
+loop-holds : tie.Need-loop-holds Inv-loop μ-loop
+unfolding atLevel
+loop-holds c = (omega arith, omega arith, omega (arith, sum-map (min (c .before .args .level)) (c .before .args .minima .now)))
+
+mul-smaller : tie.Need-mul-smaller Inv-loop μ-loop
+mul-smaller c = search needs
+
+shared-slice-read-smaller : tie.Need-shared-slice-read-smaller Inv-loop μ-loop
+shared-slice-read-smaller c = search needs
+
+smaller-requires : tie.Need-smaller-requires Inv-loop μ-loop
+smaller-requires c κs = search needs
+
+add-sum : tie.Need-add-sum Inv-loop μ-loop
+add-sum c = omega (arith, c .smaller .ensures)
+
+add-i : tie.Need-add-i Inv-loop μ-loop
+add-i c = search needs
+
+loop-less : tie.Need-loop-less Inv-loop μ-loop
+loop-less c = search needs
+
+loop-again : tie.Need-loop-again Inv-loop μ-loop
+loop-again c = (omega arith, omega (arith, c .smaller .ensures), omega (arith, c .smaller .ensures, total-next (c .before .before .before .before .before .args .minima .now) (c .before .before .before .loop .i) (min (c .before .before .before .before .before .args .level)) 0 (c .before .before .loop-test .taken), c .before .before .before .loop .inv .2))
+
+returns : tie.Need-returns Inv-loop μ-loop
+returns c = omega (arith, total-end (c .before .before .before .args .minima .now) (c .before .loop .i) (min (c .before .before .before .args .level)) (c .loop-test .left), c .before .loop .inv .2)
+
+pub lots-at-level-spec : {M : Type 1} → statement M
+lots-at-level-spec =
+    tie.close
+    (tie.spec
+    Inv-loop
+    μ-loop
+    loop-holds
+    mul-smaller
+    shared-slice-read-smaller
+    smaller-requires
+    add-sum
+    add-i
+    loop-less
+    loop-again
+    returns)

@@ -1,0 +1,75 @@
+use Prim.Native.Nat.{_-_}
+use mathlib.Core.Path.{_≡_, sym, ap, _∙_}
+use native.Mathlib.Omega.{arith}
+use lib.ListN.{length, length-take, length-append}
+use lib.Seq.{take-at}
+use borrow.Author.Needs.{needs}
+use Rattle.rules.proofs.MembersInOrder.{order-length, order-below}
+use Rattle.arith.proofs.Appends.{from-length}
+use Rattle.rules.proofs.Minimums.{minimums-length}
+use Rattle.dealing.proofs.Dealt.{some-members, dealt-by-round}
+use Rattle.dealing.proofs.turns.deal_by_minimums.Statement.{statement}
+use Rattle.dealing.proofs.turns.deal_by_minimums.Tie as tie
+
+array-borrow-prefix-order : tie.Need-array-borrow-prefix-order
+array-borrow-prefix-order c = search needs
+
+slice-aggregate-put-in-order : tie.Need-slice-aggregate-put-in-order
+slice-aggregate-put-in-order c = simp length-take (omega arith)
+
+put-in-order-requires : tie.Need-put-in-order-requires
+put-in-order-requires c κs = (ap length (c .before .before .before .before .pre .1 .1) ∙ minimums-length _ _, simp length-take (omega arith))
+
+highest-level-requires : tie.Need-highest-level-requires
+highest-level-requires c κs = (omega arith, omega (arith, ap length (c .before .before .before .before .before .before .pre .1 .1), minimums-length (c .before .before .before .before .before .before .args .lots) (c .before .before .before .before .before .before .args .weights .now)))
+
+lots-at-level-requires : tie.Need-lots-at-level-requires
+lots-at-level-requires c κs = (omega (arith, c .highest-level .ensures .within), omega (arith, ap length (c .before .before .before .before .before .before .before .pre .1 .1), minimums-length (c .before .before .before .before .before .before .before .args .lots) (c .before .before .before .before .before .before .before .args .weights .now)))
+
+sub-left : tie.Need-sub-left
+sub-left c = omega (arith, c .lots-at-level .ensures, c .before .highest-level .ensures .enough)
+
+fill-to-level-requires : tie.Need-fill-to-level-requires
+fill-to-level-requires c κs = c .before .before .before .before .before .before .before .before .before .pre .0 .2 ∙ sym (ap length (c .before .before .before .before .before .before .before .before .before .pre .1 .1) ∙ minimums-length _ _)
+
+array-share-prefix-order : tie.Need-array-share-prefix-order
+array-share-prefix-order c = simp length-append (omega (arith, ap length (c .before .before .before .before .before .before .before .put-in-order .ensures) ∙ order-length _ _ ∙ from-length 0 (length (c .before .before .before .before .before .before .before .before .before .before .before .before .args .weights .now))))
+
+slice-aggregate-take-turns : tie.Need-slice-aggregate-take-turns
+slice-aggregate-take-turns c = let long : length (c .before .before .before .before .before .before .before .before .put-in-order .last .1 .1 .0) ≡ length (c .before .before .before .before .before .before .before .before .before .before .before .before .before .args .weights .now) = ap length (c .before .before .before .before .before .before .before .before .put-in-order .ensures) ∙ order-length _ _ ∙ from-length 0 (length (c .before .before .before .before .before .before .before .before .before .before .before .before .before .args .weights .now)) in
+    sym (ap length (take-at (c .before .before .before .before .before .before .before .before .put-in-order .last .1 .1 .0) _ _ long) ∙ long)
+
+take-turns-requires : tie.Need-take-turns-requires
+take-turns-requires c κs = let a = c .before .before .before .before .before .before .before .before .before .before .before .before .before .before .args in
+    let n = length (a .weights .now) in
+    let long : length (c .before .before .before .before .before .before .before .before .before .put-in-order .last .1 .1 .0) ≡ n = ap length (c .before .before .before .before .before .before .before .before .before .put-in-order .ensures) ∙ order-length _ _ ∙ from-length 0 n in
+    let wide : length (a .minima .now) ≡ n = ap length (c .before .before .before .before .before .before .before .before .before .before .before .before .before .before .pre .1 .1) ∙ minimums-length _ _ in
+    let back = take-at (c .before .before .before .before .before .before .before .before .before .put-in-order .last .1 .1 .0) _ n long in
+    ((ap length back ∙ long ∙ sym wide, c .before .before .before .before .fill-to-level .kept .1 .1 .0 ∙ c .before .before .before .before .before .before .before .before .before .before .before .before .before .before .pre .0 .2 ∙ sym wide), λ i. rw (back, c .before .before .before .before .before .before .before .before .before .put-in-order .ensures, wide) (order-below _ n 0 n (some-members _ (c .before .before .before .before .before .before .before .before .before .before .before .before .before .before .pre .0 .1)) (omega arith) i))
+
+same-length : tie.Need-same-length
+same-length c = search needs
+
+returns : tie.Need-returns
+returns c = let a = c .before .before .before .before .before .before .before .before .before .before .before .before .before .before .before .before .before .args in
+    let n = length (a .weights .now) in
+    let long : length (c .before .before .before .before .before .before .before .before .before .before .before .before .put-in-order .last .1 .1 .0) ≡ n = ap length (c .before .before .before .before .before .before .before .before .before .before .before .before .put-in-order .ensures) ∙ order-length _ _ ∙ from-length 0 n in
+    dealt-by-round (a .lots) (a .weights .now) (c .before .before .before .before .before .before .before .before .before .before .before .before .before .before .before .before .before .pre .0 .1) (a .minima .now) _ _ (c .before .before .before .before .before .before .before .before .before .before .highest-level .result) _ _ (c .before .before .before .before .before .before .before .before .before .before .before .before .before .before .before .before .before .pre .1 .1)
+    (take-at _ _ n long ∙ c .before .before .before .before .before .before .before .before .before .before .before .before .put-in-order .ensures) (c .before .before .before .before .before .before .before .before .before .before .highest-level .ensures) (c .before .before .before .before .before .before .before .fill-to-level .ensures) (ap (λ s. a .lots - s) (c .before .before .before .before .before .before .before .before .before .lots-at-level .ensures)) (c .before .before .take-turns .ensures)
+
+pub deal-by-minimums-spec : {M : Type 1} → statement M
+deal-by-minimums-spec =
+    tie.close
+    (tie.spec
+    array-borrow-prefix-order
+    slice-aggregate-put-in-order
+    put-in-order-requires
+    highest-level-requires
+    lots-at-level-requires
+    sub-left
+    fill-to-level-requires
+    array-share-prefix-order
+    slice-aggregate-take-turns
+    take-turns-requires
+    same-length
+    returns)
