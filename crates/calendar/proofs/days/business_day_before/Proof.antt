@@ -23,7 +23,11 @@ is-business-day-requires : tie.Need-is-business-day-requires Inv-loop μ-loop
 is-business-day-requires c κs = search needs
 
 returns : tie.Need-returns Inv-loop μ-loop
-returns c = λ y. sym (back-last _ _ _ (c .before .before .before .loop-test .taken) (sym (c .before .before .is-business-day .ensures y) ∙ c .before .if1 .taken) (c .if2 .taken)) ∙ c .before .before .before .before .loop .inv .2 y
+returns c =
+    let is-business-day = c .before .before .is-business-day in
+    let test = c .before .before .before .loop-test in
+    let loop = c .before .before .before .before .loop in
+    λ y. sym (back-last _ _ _ (test .taken) (sym (is-business-day .ensures y) ∙ c .before .if1 .taken) (c .if2 .taken)) ∙ loop .inv .2 y
 
 sub-left : tie.Need-sub-left Inv-loop μ-loop
 sub-left c = search needs
@@ -32,13 +36,20 @@ loop-less : tie.Need-loop-less Inv-loop μ-loop
 loop-less c = search needs
 
 loop-again : tie.Need-loop-again Inv-loop μ-loop
-loop-again c = (omega arith, omega arith, λ y. sym (back-more _ _ _ (c .before .before .before .loop-test .taken) (sym (c .before .before .is-business-day .ensures y) ∙ c .before .if1 .taken) (c .if2 .left)) ∙ c .before .before .before .before .loop .inv .2 y)
+loop-again c =
+    let is-business-day = c .before .before .is-business-day in
+    let test = c .before .before .before .loop-test in
+    let loop = c .before .before .before .before .loop in
+    (omega arith, omega arith, λ y. sym (back-more _ _ _ (test .taken) (sym (is-business-day .ensures y) ∙ c .before .if1 .taken) (c .if2 .left)) ∙ loop .inv .2 y)
 
 loop-less-2 : tie.Need-loop-less-2 Inv-loop μ-loop
 loop-less-2 c = search needs
 
 loop-again-2 : tie.Need-loop-again-2 Inv-loop μ-loop
-loop-again-2 c = (omega arith, omega arith, λ y. sym (back-idle _ _ _ (c .before .before .loop-test .taken) (sym (c .before .is-business-day .ensures y) ∙ c .if1 .left)) ∙ c .before .before .before .loop .inv .2 y)
+loop-again-2 c =
+    let test = c .before .before .loop-test in
+    let loop = c .before .before .before .loop in
+    (omega arith, omega arith, λ y. sym (back-idle _ _ _ (test .taken) (sym (c .before .is-business-day .ensures y) ∙ c .if1 .left)) ∙ loop .inv .2 y)
 
 returns-2 : tie.Need-returns-2 Inv-loop μ-loop
 returns-2 c = λ y. sym (back-end _ _ _ (c .loop-test .left)) ∙ c .before .loop .inv .2 y

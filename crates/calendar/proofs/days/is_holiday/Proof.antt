@@ -32,7 +32,11 @@ loop-less : tie.Need-loop-less Inv-loop μ-loop
 loop-less c = search needs
 
 loop-again : tie.Need-loop-again Inv-loop μ-loop
-loop-again c = (omega arith, any-next _ (c .before .before .before .before .args .holidays .now) 0 (c .before .before .before .loop .i) (c .before .before .before .loop .found) (c .before .before .before .loop .inv .1) (c .before .before .loop-test .taken))
+loop-again c =
+    let test = c .before .before .loop-test in
+    let loop = c .before .before .before .loop in
+    let start = c .before .before .before .before in
+    (omega arith, any-next _ (start .args .holidays .now) 0 (loop .i) (loop .found) (loop .inv .1) (test .taken))
 
 returns : tie.Need-returns Inv-loop μ-loop
 returns c = any-end _ (c .before .before .args .holidays .now) 0 (c .before .loop .i) (c .before .loop .found) (c .before .loop .inv .1) (c .loop-test .left)

@@ -37,8 +37,11 @@ loop-less c = search needs
 
 loop-again : tie.Need-loop-again Inv-loop μ-loop
 loop-again c =
-    let l = c .before .before .before .loop in
-    (omega arith, λ k s. rw (c .is-in .ensures k s) (every-next (inSpan k) (c .before .before .before .before .before .args .days .now) 0 (l .i) (l .ok) (l .inv .1 k s) (c .before .before .loop-test .taken)))
+    let test = c .before .before .loop-test in
+    let loop = c .before .before .before .loop in
+    let start = c .before .before .before .before .before in
+    let l = loop in
+    (omega arith, λ k s. rw (c .is-in .ensures k s) (every-next (inSpan k) (start .args .days .now) 0 (l .i) (l .ok) (l .inv .1 k s) (test .taken)))
 
 returns : tie.Need-returns Inv-loop μ-loop
 returns c = let l = c .before .loop in λ k s. every-end (inSpan k) (c .before .before .before .args .days .now) 0 (l .i) (l .ok) (l .inv .1 k s) (c .loop-test .left)

@@ -43,7 +43,11 @@ loop-less : tie.Need-loop-less Inv-loop μ-loop
 loop-less c = search needs
 
 loop-again : tie.Need-loop-again Inv-loop μ-loop
-loop-again c = let l = c .before .before .before .loop in (omega arith, rising-next (c .before .before .before .before .args .days .now) (l .i) (l .ok) (l .inv .1) (c .before .before .loop-test .taken))
+loop-again c =
+    let test = c .before .before .loop-test in
+    let loop = c .before .before .before .loop in
+    let start = c .before .before .before .before in
+    let l = loop in (omega arith, rising-next (start .args .days .now) (l .i) (l .ok) (l .inv .1) (test .taken))
 
 returns : tie.Need-returns Inv-loop μ-loop
 returns c = let l = c .before .loop in rising-end (c .before .before .args .days .now) (l .i) (l .ok) (l .inv .1) (c .loop-test .left)

@@ -27,8 +27,12 @@ returns-3 c = held-uneven _ (λ e. c .if3 .taken (e ∙ sym (rw (c .before .befo
 returns-4 : tie.Need-returns-4
 unfolding recordLength
 returns-4 c =
-    let count = c .before .before .before .u8-or-zero2 .ensures .0 in
-    rw count (held-whole _ (sym (c .before .before .before .before .before .u8-or-zero .ensures .0) ∙ c .before .before .before .before .if1 .left) (rw count at (c .before .before .if2 .left)) (c .if3 .left ∙ rw count at (c .before .record-length .ensures)))
+    let test2 = c .before .before .if2 in
+    let u8-or-zero2 = c .before .before .before .u8-or-zero2 in
+    let test1 = c .before .before .before .before .if1 in
+    let u8-or-zero = c .before .before .before .before .before .u8-or-zero in
+    let count = u8-or-zero2 .ensures .0 in
+    rw count (held-whole _ (sym (u8-or-zero .ensures .0) ∙ test1 .left) (rw count at (test2 .left)) (c .if3 .left ∙ rw count at (c .before .record-length .ensures)))
 
 pub legs-held-spec : {M : Type 1} → statement M
 legs-held-spec =

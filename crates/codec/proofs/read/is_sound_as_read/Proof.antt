@@ -20,11 +20,15 @@ is-proposal-sound-requires c κs = search needs
 
 returns : tie.Need-returns
 returns c =
-    let start = c .before .before .before .before .before .before in
+    let leg-count = c .before .before .leg-count in
+    let test1 = c .before .before .before .if1 in
+    let kind-number = c .before .before .before .before .kind-number in
+    let before = c .before .before .before .before .before .before in
+    let start = before in
     let a = start .args in
     let n = a .members in
     let legs = c .before .read-legs in
-    judged-proposal n (a .event) (legs .result) (sym (c .before .before .before .before .kind-number .ensures .0) ∙ c .before .before .before .if1 .taken) (c .before .before .leg-count .ensures) (c .is-proposal-sound .ensures n)
+    judged-proposal n (a .event) (legs .result) (sym (kind-number .ensures .0) ∙ test1 .taken) (leg-count .ensures) (c .is-proposal-sound .ensures n)
     ∙ (ap (λ l. eventSound n (a .event) (legRows (legCount (a .event)) l)) (legs .ensures) ∙ rows-judged n (a .bytes .now) (a .event) (start .pre))
 
 is-legless-sound-requires : tie.Need-is-legless-sound-requires

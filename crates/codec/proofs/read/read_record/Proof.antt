@@ -34,7 +34,11 @@ returns-3 c =
     read-judged _ _ few (c .before .before .before .before .before .fields-of .ensures) (c .before .before .before .event .given .1) (c .before .is-sound-as-read .ensures) (c .if2 .left)
 
 returns-4 : tie.Need-returns-4
-returns-4 c = read-unsound _ _ (asked-true (c .before .before .before .before .is-member-count-sound .ensures) (c .before .before .before .if1 .left)) (c .before .before .fields-of .ensures) (c .enum-told .given .1)
+returns-4 c =
+    let fields-of = c .before .before .fields-of in
+    let test1 = c .before .before .before .if1 in
+    let is-member-count-sound = c .before .before .before .before .is-member-count-sound in
+    read-unsound _ _ (asked-true (is-member-count-sound .ensures) (test1 .left)) (fields-of .ensures) (c .enum-told .given .1)
 
 pub read-record-spec : {M : Type 1} → statement M
 read-record-spec =

@@ -40,10 +40,20 @@ u16-at-requires c κs = search needs
 
 returns-3 : tie.Need-returns-3
 returns-3 c =
-    let side = c .before .before .before .before .before .before .before .before .before .before .u8-at .ensures .0 in
-    let kind = c .before .before .before .before .before .before .before .before .before .u8-at2 .ensures .0 in
-    rw (← side, ← kind, le-leb _ _ (c .before .before .before .before .before .before .before .before .if1 .left), le-leb _ _ (c .before .before .before .before .before .before .before .if2 .left), c .before .before .before .side-of .ensures, c .before .before .order-kind-of .ensures)
-    (rw (c .before .before .before .before .before .before .u32-at .ensures .0, c .before .before .before .before .before .u8-at3 .ensures .0, c .before .before .before .before .u8-at4 .ensures .0, c .before .u32-at2 .ensures .0, c .u16-at .ensures .0) refl)
+    let order-kind-of = c .before .before .order-kind-of in
+    let side-of = c .before .before .before .side-of in
+    let u8-at4 = c .before .before .before .before .u8-at4 in
+    let u8-at3 = c .before .before .before .before .before .u8-at3 in
+    let u32-at = c .before .before .before .before .before .before .u32-at in
+    let test2 = c .before .before .before .before .before .before .before .if2 in
+    let at-8 = c .before .before .before .before .before .before .before .before in
+    let test1 = at-8 .if1 in
+    let u8-at2 = at-8 .before .u8-at2 in
+    let u8-at = at-8 .before .before .u8-at in
+    let side = u8-at .ensures .0 in
+    let kind = u8-at2 .ensures .0 in
+    rw (← side, ← kind, le-leb _ _ (test1 .left), le-leb _ _ (test2 .left), side-of .ensures, order-kind-of .ensures)
+    (rw (u32-at .ensures .0, u8-at3 .ensures .0, u8-at4 .ensures .0, c .before .u32-at2 .ensures .0, c .u16-at .ensures .0) refl)
 
 pub submit-of-spec : {M : Type 1} → statement M
 submit-of-spec =

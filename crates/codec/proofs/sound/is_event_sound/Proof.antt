@@ -22,7 +22,10 @@ is-legless-sound-requires : tie.Need-is-legless-sound-requires
 is-legless-sound-requires c κs = search needs
 
 returns-2 : tie.Need-returns-2
-returns-2 c = let a = c .before .before .before .args in judged-legless _ (a .event) (a .legs) (λ e. c .before .if1 .left (c .before .before .kind-number .ensures .0 ∙ e)) (c .is-legless-sound .ensures)
+returns-2 c =
+    let kind-number = c .before .before .kind-number in
+    let start = c .before .before .before in
+    let a = start .args in judged-legless _ (a .event) (a .legs) (λ e. c .before .if1 .left (kind-number .ensures .0 ∙ e)) (c .is-legless-sound .ensures)
 
 pub is-event-sound-spec : {M : Type 1} → statement M
 is-event-sound-spec =

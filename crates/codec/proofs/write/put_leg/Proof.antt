@@ -27,8 +27,12 @@ same-length c = search needs
 returns : tie.Need-returns
 unfolding u16Bytes u32Bytes
 returns c =
-    over-next _ _ _ _ _ _ _ (over-next _ _ _ _ _ _ _ (c .before .before .before .before .before .before .before .before .before .before .put-u32 .ensures) (c .before .before .before .before .before .before .put-u16 .ensures) refl (omega arith))
-    (c .before .before .put-u322 .ensures) refl (omega arith)
+    let put-u322 = c .before .before .put-u322 in
+    let put-u16 = c .before .before .before .before .before .before .put-u16 in
+    let at-10 = c .before .before .before .before .before .before .before .before .before .before in
+    let put-u32 = at-10 .put-u32 in
+    over-next _ _ _ _ _ _ _ (over-next _ _ _ _ _ _ _ (put-u32 .ensures) (put-u16 .ensures) refl (omega arith))
+    (put-u322 .ensures) refl (omega arith)
 
 pub put-leg-spec : {M : Type 1} → statement M
 put-leg-spec =

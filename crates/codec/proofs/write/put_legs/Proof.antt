@@ -38,10 +38,16 @@ loop-less c = search needs
 
 loop-again : tie.Need-loop-again Inv-loop μ-loop
 loop-again c =
-    let l = c .before .before .before .before .before .before .before .loop in
-    let put = rw (c .before .before .before .before .leg-place .ensures) at (c .before .before .put-leg .ensures) in
-    let leg = c .before .before .before .leg-of .ensures in
-    (omega arith, omega arith, blocks-next legBytes 10 leg-wide (legRow (c .before .before .before .before .before .before .before .before .before .args .legs)) 2 (l .i) _ _ _ _ leg (l .inv .2) put (omega arith))
+    let put-leg = c .before .before .put-leg in
+    let leg-of = c .before .before .before .leg-of in
+    let leg-place = c .before .before .before .before .leg-place in
+    let loop = c .before .before .before .before .before .before .before .loop in
+    let at-9 = c .before .before .before .before .before .before .before .before .before in
+    let start = at-9 in
+    let l = loop in
+    let put = rw (leg-place .ensures) at (put-leg .ensures) in
+    let leg = leg-of .ensures in
+    (omega arith, omega arith, blocks-next legBytes 10 leg-wide (legRow (start .args .legs)) 2 (l .i) _ _ _ _ leg (l .inv .2) put (omega arith))
 
 same-length : tie.Need-same-length Inv-loop μ-loop
 same-length c = search needs

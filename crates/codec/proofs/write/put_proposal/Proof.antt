@@ -17,7 +17,12 @@ same-length c = search needs
 
 returns : tie.Need-returns
 unfolding fieldBytes
-returns c = let room = c .before .before .before .before .before .before .before .before .before .pre in over-next 1 _ _ _ _ _ _ (c .before .before .before .before .before .before .put-u8 .ensures) (c .before .before .put-legs .ensures) refl (omega arith)
+returns c =
+    let put-legs = c .before .before .put-legs in
+    let put-u8 = c .before .before .before .before .before .before .put-u8 in
+    let at-9 = c .before .before .before .before .before .before .before .before .before in
+    let start = at-9 in
+    let room = start .pre in over-next 1 _ _ _ _ _ _ (put-u8 .ensures) (put-legs .ensures) refl (omega arith)
 
 pub put-proposal-spec : {M : Type 1} → statement M
 put-proposal-spec = tie.close (tie.spec put-u8-requires put-legs-requires same-length returns)

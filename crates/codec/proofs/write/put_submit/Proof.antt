@@ -40,6 +40,8 @@ same-length c = search needs
 returns : tie.Need-returns
 unfolding fieldBytes u16Bytes u32Bytes
 returns c =
+    let at-31 = c .before .before .before .before .before .before .before .before .before .before .before .before .before .before .before .before .before .before .before .before .before .before .before .before .before .before .before .before .before .before .before in
+    let start = at-31 in
     let lots = c .before .before in
     let price = lots .before .before .before .before in
     let kind = price .before .before .before .before in
@@ -47,7 +49,7 @@ returns c =
     let contract = side .before .before .before .before .before in
     let member = contract .before .before .before .before in
     let time = member .before .before .before .before in
-    let room = c .before .before .before .before .before .before .before .before .before .before .before .before .before .before .before .before .before .before .before .before .before .before .before .before .before .before .before .before .before .before .before .pre .0 in
+    let room = start .pre .0 in
     rw (← side .before .side-number .ensures .0, ← kind .before .order-kind-number .ensures .0)
     (over-next 1 _ _ _ _ _ _ (over-next 1 _ _ _ _ _ _ (over-next 1 _ _ _ _ _ _ (over-next 1 _ _ _ _ _ _ (over-next 1 _ _ _ _ _ _ (over-next 1 _ _ _ _ _ _
     (time .put-u32 .ensures) (member .put-u8 .ensures) refl (omega arith))

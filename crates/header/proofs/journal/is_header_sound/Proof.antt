@@ -31,8 +31,12 @@ are-limits-sound-requires c κs =
 
 returns-3 : tie.Need-returns-3
 returns-3 c =
-    let members = asked-true (c .before .before .before .before .before .is-member-count-sound .ensures) (c .before .before .before .before .if2 .left) in
-    rw (c .before .are-days-sound .ensures, c .are-limits-sound .ensures) (header-judged (headerFrom (c .before .before .before .before .before .before .before .before .args .h)) members (length-firsts _ _))
+    let test2 = c .before .before .before .before .if2 in
+    let is-member-count-sound = c .before .before .before .before .before .is-member-count-sound in
+    let at-8 = c .before .before .before .before .before .before .before .before in
+    let start = at-8 in
+    let members = asked-true (is-member-count-sound .ensures) (test2 .left) in
+    rw (c .before .are-days-sound .ensures, c .are-limits-sound .ensures) (header-judged (headerFrom (start .args .h)) members (length-firsts _ _))
 
 pub is-header-sound-spec : {M : Type 1} → statement M
 is-header-sound-spec =

@@ -28,7 +28,11 @@ limits-at-requires c κs = omega arith
 
 returns : tie.Need-returns
 unfolding headerOf
-returns c = rw (c .before .before .before .u16-at .ensures .0, c .before .before .u16-at2 .ensures .0, c .before .holidays-at .ensures, c .limits-at .ensures, c .before .before .before .before .before .pre .0 .1, c .before .before .before .before .before .pre .0 .2, length-u16s) refl
+returns c =
+    let u16-at2 = c .before .before .u16-at2 in
+    let u16-at = c .before .before .before .u16-at in
+    let start = c .before .before .before .before .before in
+    rw (u16-at .ensures .0, u16-at2 .ensures .0, c .before .holidays-at .ensures, c .limits-at .ensures, start .pre .0 .1, start .pre .0 .2, length-u16s) refl
 
 pub fields-at-spec : {M : Type 1} → statement M
 fields-at-spec =

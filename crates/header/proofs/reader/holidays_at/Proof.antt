@@ -42,7 +42,10 @@ loop-less : tie.Need-loop-less Inv-loop μ-loop
 loop-less c = search needs
 
 loop-again : tie.Need-loop-again Inv-loop μ-loop
-loop-again c = (omega arith, column-filled (λ j. u16At (c .before .before .before .before .args .bytes .now) (11 + 2 * j)) 120 (c .before .before .loop .i) (omega arith) (c .u16-at .ensures .0) (c .before .before .loop .inv .1))
+loop-again c =
+    let loop = c .before .before .loop in
+    let start = c .before .before .before .before in
+    (omega arith, column-filled (λ j. u16At (start .args .bytes .now) (11 + 2 * j)) 120 (loop .i) (omega arith) (c .u16-at .ensures .0) (loop .inv .1))
 
 returns : tie.Need-returns Inv-loop μ-loop
 unfolding u16sAt

@@ -42,7 +42,10 @@ loop-less : tie.Need-loop-less Inv-loop μ-loop
 loop-less c = search needs
 
 loop-again : tie.Need-loop-again Inv-loop μ-loop
-loop-again c = (omega arith, column-filled (λ j. u32At (c .before .before .before .before .args .bytes .now) (c .before .before .before .before .args .at + 4 * j)) 32 (c .before .before .loop .i) (omega arith) (c .u32-at .ensures .0) (c .before .before .loop .inv .1))
+loop-again c =
+    let loop = c .before .before .loop in
+    let start = c .before .before .before .before in
+    (omega arith, column-filled (λ j. u32At (start .args .bytes .now) (start .args .at + 4 * j)) 32 (loop .i) (omega arith) (c .u32-at .ensures .0) (loop .inv .1))
 
 returns : tie.Need-returns Inv-loop μ-loop
 unfolding u32sAt

@@ -39,9 +39,21 @@ same-length c = search needs
 
 returns : tie.Need-returns
 unfolding headerBytes u16Bytes
-returns c = let room = c .before .before .before .before .before .before .before .before .before .before .before .before .before .before .before .before .before .before .before .before .before .before .before .before .before .before .before .before .before .before .before .pre .2 in
-    rw (length-firsts (c .before .before .before .before .before .before .before .before .before .before .before .before .before .before .before .before .before .before .before .before .before .before .before .before .before .before .before .before .before .before .before .args .h .«holiday_count»))
-    (over-then _ _ _ _ _ _ (over-then _ _ _ _ _ _ (over-then _ _ _ _ _ _ (over-then _ _ _ _ _ _ (over-then _ _ _ _ _ _ (over-then _ _ _ _ _ _ (c .before .before .before .before .before .before .before .before .before .before .before .before .before .before .before .before .before .before .before .before .before .before .before .before .before .before .put-letters .ensures) (c .before .before .before .before .before .before .before .before .before .before .before .before .before .before .before .before .before .before .before .before .before .before .put-u16 .ensures) refl (omega arith)) (c .before .before .before .before .before .before .before .before .before .before .before .before .before .before .before .before .before .before .put-u162 .ensures) refl (omega arith)) (c .before .before .before .before .before .before .before .before .before .before .before .before .before .before .put-u8 .ensures) refl (omega arith)) (c .before .before .before .before .before .before .before .before .before .before .put-u82 .ensures) refl (omega arith)) (c .before .before .before .before .before .before .put-holidays .ensures) refl (omega arith)) (c .before .before .put-limits .ensures) (omega (arith, length-holidays (c .before .before .before .before .before .before .before .before .before .before .before .before .before .before .before .before .before .before .before .before .before .before .before .before .before .before .before .before .before .before .before .args .h))) (omega arith))
+returns c =
+    let put-limits = c .before .before .put-limits in
+    let put-holidays = c .before .before .before .before .before .before .put-holidays in
+    let at-10 = c .before .before .before .before .before .before .before .before .before .before in
+    let put-u82 = at-10 .put-u82 in
+    let put-u8 = at-10 .before .before .before .before .put-u8 in
+    let at-18 = at-10 .before .before .before .before .before .before .before .before in
+    let put-u162 = at-18 .put-u162 in
+    let put-u16 = at-18 .before .before .before .before .put-u16 in
+    let at-26 = at-18 .before .before .before .before .before .before .before .before in
+    let put-letters = at-26 .put-letters in
+    let start = at-26 .before .before .before .before .before in
+    let room = start .pre .2 in
+    rw (length-firsts (start .args .h .«holiday_count»))
+    (over-then _ _ _ _ _ _ (over-then _ _ _ _ _ _ (over-then _ _ _ _ _ _ (over-then _ _ _ _ _ _ (over-then _ _ _ _ _ _ (over-then _ _ _ _ _ _ (put-letters .ensures) (put-u16 .ensures) refl (omega arith)) (put-u162 .ensures) refl (omega arith)) (put-u8 .ensures) refl (omega arith)) (put-u82 .ensures) refl (omega arith)) (put-holidays .ensures) refl (omega arith)) (put-limits .ensures) (omega (arith, length-holidays (start .args .h))) (omega arith))
 
 pub put-header-spec : {M : Type 1} → statement M
 put-header-spec =

@@ -43,7 +43,11 @@ loop-less : tie.Need-loop-less Inv-loop μ-loop
 loop-less c = search needs
 
 loop-again : tie.Need-loop-again Inv-loop μ-loop
-loop-again c = (omega arith, omega arith, blocks-next u16Bytes 2 u16-wide (λ j. getD (c .before .before .before .before .before .before .before .args .t2) j 0) 11 (c .before .before .before .before .before .loop .i) _ _ _ _ refl (c .before .before .before .before .before .loop .inv .2) (c .before .before .put-u16 .ensures) (omega arith))
+loop-again c =
+    let put-u16 = c .before .before .put-u16 in
+    let loop = c .before .before .before .before .before .loop in
+    let start = c .before .before .before .before .before .before .before in
+    (omega arith, omega arith, blocks-next u16Bytes 2 u16-wide (λ j. getD (start .args .t2) j 0) 11 (loop .i) _ _ _ _ refl (loop .inv .2) (put-u16 .ensures) (omega arith))
 
 same-length : tie.Need-same-length Inv-loop μ-loop
 same-length c = search needs

@@ -43,7 +43,11 @@ loop-less : tie.Need-loop-less Inv-loop μ-loop
 loop-less c = search needs
 
 loop-again : tie.Need-loop-again Inv-loop μ-loop
-loop-again c = (omega arith, omega arith, blocks-next u32Bytes 4 u32-wide (λ j. getD (c .before .before .before .before .before .before .before .args .t3) j 0) (c .before .before .before .before .before .before .before .args .at) (c .before .before .before .before .before .loop .i) _ _ _ _ refl (c .before .before .before .before .before .loop .inv .2) (c .before .before .put-u32 .ensures) (omega arith))
+loop-again c =
+    let put-u32 = c .before .before .put-u32 in
+    let loop = c .before .before .before .before .before .loop in
+    let start = c .before .before .before .before .before .before .before in
+    (omega arith, omega arith, blocks-next u32Bytes 4 u32-wide (λ j. getD (start .args .t3) j 0) (start .args .at) (loop .i) _ _ _ _ refl (loop .inv .2) (put-u32 .ensures) (omega arith))
 
 same-length : tie.Need-same-length Inv-loop μ-loop
 same-length c = search needs
