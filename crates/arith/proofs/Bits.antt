@@ -1,6 +1,6 @@
 -- The bits of signed numbers, of an or, and of a wrapped difference. Assumes nothing.
 use mathlib.Core.Path.{_≡_, refl, sym, ap, _∙_}
-use mathlib.Core.Bool.{Bool, true, false, _&&_}
+use mathlib.Core.Bool.{Bool, true, false, _&&_, and-assoc}
 use Prim.Native.Nat.{ℕ, suc, _+_, _*_, _-_, _/_, _%_, _<_, _≤_, _^_}
 use native.Mathlib.Omega.{arith}
 use borrow.Author.Tests.{le-leb, lt-leb, lt-ltb, le-ltb, leb-true, ltb-true, leb-false}
@@ -75,6 +75,11 @@ window-is (negsuc n) w h l =
 -- The or of such sums, one more number tested.
 pub or-window : (k seen r half : ℕ) (x : ℤ) → (k ≤ 62) × (half ≡ 2 ^ k / 2) → mag x < 2 ^ 63 → r ≡ (bitsOf x + half) % 2 ^ 64 → ltb (bitOr seen r) (2 ^ k) ≡ ltb seen (2 ^ k) && inWindow (2 ^ k) x
 or-window k seen r half x h fits e = rw (or-below k seen r, e, h .1, window-is x (2 ^ k) fits (pow-mono (h .0)))
+
+pub or-windows : (k seen r s half : ℕ) (x y : ℤ) → (k ≤ 62) × (half ≡ 2 ^ k / 2) → mag x < 2 ^ 63 → r ≡ (bitsOf x + half) % 2 ^ 64 → mag y < 2 ^ 63 → s ≡ (bitsOf y + half) % 2 ^ 64
+    → ltb (bitOr (bitOr seen r) s) (2 ^ k) ≡ ltb seen (2 ^ k) && (inWindow (2 ^ k) x && inWindow (2 ^ k) y)
+or-windows k seen r s half x y h x-fits x-is y-fits y-is =
+    rw (or-window k (bitOr seen r) s half y h y-fits y-is, or-window k seen r half x h x-fits x-is) (and-assoc (ltb seen (2 ^ k)) (inWindow (2 ^ k) x) (inWindow (2 ^ k) y))
 
 pub none-below : (k : ℕ) → ltb 0 (2 ^ k) ≡ true
 none-below k = lt-ltb 0 (2 ^ k) (pow-pos k)

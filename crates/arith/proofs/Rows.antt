@@ -56,6 +56,12 @@ module _ {A : Type 0} (p : A → Bool) where
         rw (take-more n row, next-column n w m rest)
         (and-swap (every p (take n row)) (p (getD row n z)) (everyBlock w (λ row. every p (take n row)) m rest) (everyBlock w (λ row. p (getD row n z)) m rest))
 
+-- Two tests of each block.
+pub blocks-both : {A : Type 0} (p q : List A → Bool) (w m : ℕ) (l : List A) → everyBlock w (λ b. p b && q b) m l ≡ everyBlock w p m l && everyBlock w q m l
+unfolding everyBlock
+blocks-both p q w zero l = refl
+blocks-both p q w (suc m) l = rw (blocks-both p q w m (drop w l)) (and-swap (p (take w l)) (q (take w l)) (everyBlock w p m (drop w l)) (everyBlock w q m (drop w l)))
+
 -- A place of a block, in the whole list.
 pub place-at : {A : Type 0} (l : List A) (z : A) (w c n : ℕ) → n < w → getD (take w (drop (c * w) l)) n z ≡ getD l (c * w + n) z
 place-at l z w c n h = getD-take w (drop (c * w) l) n z h ∙ getD-drop (c * w) l n z

@@ -54,20 +54,9 @@ module _ (p : ℕ → Bool) (n i : ℕ) (ok all : Bool) (known : ok && every p (
   unfolding every
   each-end h = sym (and-true ok) ∙ rw (from-end i n h) at known
 
--- the same where each that was passed passes: no flag is kept
-module _ (p : ℕ → Bool) (n i : ℕ) (all : Bool) (known : every p (from i (n - i)) ≡ all) where
-  more : i < n → p i && every p (from (i + 1) (n - (i + 1))) ≡ all
-  more h = rw (← every-cons p i (from (i + 1) (n - (i + 1))), ← from-next i n h) known
-
-  pub pass-next : i < n → p i ≡ true → every p (from (i + 1) (n - (i + 1))) ≡ all
-  pass-next h e = rw e at (more h)
-
-  pub pass-stop : i < n → p i ≡ false → false ≡ all
-  pass-stop h e = rw e at (more h)
-
-  pub pass-end : n ≤ i → true ≡ all
-  unfolding every
-  pass-end h = rw (from-end i n h) at known
+  -- one does not pass
+  pub each-stop : i < n → p i ≡ false → all ≡ false
+  each-stop h e = sym (rw (e, and-false ok) at (each-next h))
 
 -- ---- blocks of w places
 module _ {A : Type 0} (w : ℕ) (p : List A → Bool) (m : ℕ) (l : List A) (i : ℕ) (ok all : Bool) (known : ok && everyBlock w p (m - i) (drop (i * w) l) ≡ all) where

@@ -1,6 +1,6 @@
 -- The book's test place by place, as the code makes it, is the rules' test of its orders. Assumes nothing.
 use mathlib.Core.Path.{_≡_, refl}
-use mathlib.Core.Bool.{Bool, true, false, _&&_, and-assoc}
+use mathlib.Core.Bool.{Bool, true, false, _&&_, and-assoc, and-comm}
 use mathlib.Core.List.{List, [], _∷_, map, map-map}
 use Prim.Native.Nat.{ℕ, _≤_}
 use native.Mathlib.Omega.{arith}
@@ -11,7 +11,6 @@ use Rattle.arith.proofs.Scans.{every-same, every-both, every-map}
 use Rattle.rules.specs.Days.{Calendar, spanStart, dayAfterSpan, inSpan}
 use Rattle.rules.specs.CalendarLaws.{month-le}
 use Rattle.rules.specs.Ledger.{Tables, calendar, members, acceptedSubmits, orderCount, orderAt, sideAt, orders}
-use Rattle.rules.specs.Records.{contractSound, priceSound, lotsSound, timeSound}
 use Rattle.rules.specs.Refusals.{distinct, orderSound, sidesSound, bookSound}
 use Rattle.calendar.specs.declared.months.Span.{Span}
 use Rattle.calendar.specs.Spans.{IsSpan}
@@ -22,22 +21,12 @@ pub span-rises : (s : Span) (k : Calendar) → IsSpan s k → s .start .0 ≤ s 
 unfolding spanStart dayAfterSpan
 span-rises s k h = rw (h .starts, h .ends) (month-le _ _ (omega arith))
 
--- The side is tested fourth in the code, first in the rules.
-side-first : (n m c s p l d t : Bool) → n && allOf (m ∷ c ∷ s ∷ p ∷ l ∷ d ∷ t ∷ []) ≡ s && allOf (n ∷ m ∷ c ∷ p ∷ l ∷ d ∷ t ∷ [])
-unfolding allOf
-side-first n m c true p l d t = refl
-side-first true true true false p l d t = refl
-side-first true true false false p l d t = refl
-side-first true false c false p l d t = refl
-side-first false m c false p l d t = refl
-
 module _ (t : Tables) (s : Span) (span : IsSpan s (calendar t)) where
   place-is : (i : ℕ) → placeSound (acceptedSubmits t) (members t) (s .start .0) (s .end .0) (t .book) i ≡ leb (sideAt (t .book) i) 1 && orderSound t (orderAt (t .book) i)
-  unfolding restSound orderSound inSpan
+  unfolding restSound orderSound inSpan allOf
   place-is i =
       let o = orderAt (t .book) i in
-      rw (up-to (o .price .0) 1000000, up-to (o .lots .0) 100, span .starts, span .ends)
-      (side-first (ltb (o .number) (acceptedSubmits t)) (ltb (o .member) (members t)) (contractSound (o .contract)) (leb (sideAt (t .book) i) 1) (priceSound (o .price .0)) (lotsSound (o .lots .0)) (inSpan (calendar t) (o .day .0)) (timeSound (o .time)))
+      rw (up-to (o .price .0) 1000000, up-to (o .lots .0) 100, up-to (sideAt (t .book) i) 1, span .starts, span .ends) (and-comm _ (leb (sideAt (t .book) i) 1))
 
   pub book-is : placesSound (acceptedSubmits t) (members t) (s .start .0) (s .end .0) (t .book) (orderCount t) && distinct (map (numberAt (t .book)) (from 0 (orderCount t))) ≡ bookSound t
   unfolding bookSound sidesSound orders allOf placesSound

@@ -1,6 +1,6 @@
 -- Windows within a bound, and the rows of n members column by column. Assumes nothing.
 use mathlib.Core.Path.{_≡_, sym}
-use mathlib.Core.Bool.{Bool, true, _&&_}
+use mathlib.Core.Bool.{Bool, true, _&&_, and-assoc}
 use mathlib.Core.List.{List}
 use Prim.Native.Nat.{ℕ, _+_, _*_, _-_, _/_, _^_, _≤_, _<_}
 use native.Mathlib.Omega.{arith}
@@ -30,6 +30,12 @@ zero-in w h = lt-ltb (0 + w / 2) w (omega arith)
 pub row-more : (k n : ℕ) (l : List ℤ) → everyRow (inWindow (2 ^ k)) (n + 1) l ≡ everyRow (inWindow (2 ^ k)) n l && everyColumn (inWindow (2 ^ k)) n l
 unfolding everyRow everyColumn
 row-more k n l = rw (add-one n) (next-column (inWindow (2 ^ k)) (pos 0) (zero-in (2 ^ k) (pow-pos k)) n 32 102 l)
+
+pub row-two-more : (k n : ℕ) (l : List ℤ) → everyRow (inWindow (2 ^ k)) (n + 2) l ≡ everyRow (inWindow (2 ^ k)) n l && (everyColumn (inWindow (2 ^ k)) n l && everyColumn (inWindow (2 ^ k)) (n + 1) l)
+row-two-more k n l =
+    let p = inWindow (2 ^ k) in
+    let two : n + 2 ≡ n + 1 + 1 = omega arith in
+    rw (two, row-more k (n + 1) l, row-more k n l) (and-assoc (everyRow p n l) (everyColumn p n l) (everyColumn p (n + 1) l))
 
 pub row-whole : (p : ℤ → Bool) (l : List ℤ) → every p (take 3264 l) ≡ everyRow p 32 l
 unfolding everyRow

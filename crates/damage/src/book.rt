@@ -20,7 +20,7 @@ use rules::ranges;
 // The bit that a number has which fell below 0 and wrapped.
 const TOP_BIT: u64 = 0x8000_0000_0000_0000;
 
-// An order's places but its number. Each is read only where those before it are sound, so the compiler keeps the
+// An order's places but its number and side. Each is read only where those before it are sound, so the compiler keeps the
 // branches, which take less time here than flags.
 fn is_rest_sound(book: &[u64], i: usize, members: u64, span: Span) -> bool
     requires { ⌜ (i < mostOrders) × (bookLength ≤ length (now book)) × (span .start .0 ≤ span .end .0) ⌝ }
@@ -31,9 +31,6 @@ fn is_rest_sound(book: &[u64], i: usize, members: u64, span: Span) -> bool
         return false;
     }
     if ranges::LAST_CONTRACT < book[at + layout::ORDER_CONTRACT] {
-        return false;
-    }
-    if 1 < book[at + layout::ORDER_SIDE] {
         return false;
     }
     if !is_between(book[at + layout::ORDER_PRICE], 1, ranges::MOST_PRICE + 1) {
@@ -77,25 +74,32 @@ fn is_none_repeated(book: &[u64], count: usize) -> bool
     ok
 }
 
-// Each order's places, and that no two share a number: where the numbers rise, this one pass tells.
+// Each order's places, and that no two share a number: where the numbers rise, this one pass tells. Of all sides the or
+// is tested, since 2 is a power of two.
 fn are_orders_sound(book: &[u64], count: usize, accepted: u64, members: u64, span: Span) -> bool
     requires { ⌜ (count ≤ mostOrders) × (accepted ≤ mostAcceptedSubmits) × (bookLength ≤ length (now book)) × (span .start .0 ≤ span .end .0) ⌝ }
     ensures { λ r. ⌜ r ≡ placesSound accepted members (span .start .0) (span .end .0) (now (book .entry)) count && distinct (map (numberAt (now (book .entry))) (from 0 count)) ⌝ }
 {
+    let mut sides: u64 = 0;
     let mut falls: u64 = 0;
     let mut least: u64 = 0;
     let mut i: usize = 0;
     while i < count {
-        let number = book[i * layout::ORDER_WIDTH];
+        let at = i * layout::ORDER_WIDTH;
+        let number = book[at];
         if accepted <= number {
             return false;
         }
         if !is_rest_sound(book, i, members, span) {
             return false;
         }
+        sides = sides | book[at + layout::ORDER_SIDE];
         falls = falls | std::num::wrapping_sub_u64(number, least);
         least = number + 1;
         i += 1;
+    }
+    if 2 <= sides {
+        return false;
     }
     if falls < TOP_BIT {
         return true;

@@ -1,5 +1,6 @@
 // The rows: net lots and value by contract and member.
 ghost use mathlib.Core.Path.{_≡_};
+ghost use mathlib.Core.Bool.{_&&_};
 ghost use Prim.Native.Nat.{ℕ, _+_, _*_, _/_, _%_, _^_, _≤_, _<_};
 ghost use lib.Dec.{leb, ltb};
 ghost use lib.ListN.{length};
@@ -99,15 +100,35 @@ fn or_of_column(rows: &[i64], member: usize, half: u64) -> u64
     seen
 }
 
+// The same for the places of two members side by side, which the compiler takes at once.
+fn or_of_pair(rows: &[i64], member: usize, half: u64) -> u64
+    requires { ⌜ (rowsLength ≤ length (now rows)) × (member + 1 < mostMembers) ⌝ }
+    ensures { λ r. ⌜ ((k : ℕ) → IsHalf half k → ltb r (2 ^ k) ≡ everyColumn (inWindow (2 ^ k)) member (now (rows .entry)) && everyColumn (inWindow (2 ^ k)) (member + 1) (now (rows .entry))) ⌝ }
+{
+    let mut seen: u64 = 0;
+    let mut contract: usize = 0;
+    while contract < layout::CONTRACTS {
+        let at = contract * layout::ROW_WIDTH + member;
+        let x = rows[at];
+        let y = rows[at + 1];
+        seen = seen | raised(x, half) | raised(y, half);
+        contract += 1;
+    }
+    seen
+}
+
 fn or_of_columns(rows: &[i64], n: usize, half: u64) -> u64
     requires { ⌜ (rowsLength ≤ length (now rows)) × (n ≤ mostMembers) ⌝ }
     ensures { λ r. ⌜ ((k : ℕ) → IsHalf half k → ltb r (2 ^ k) ≡ everyRow (inWindow (2 ^ k)) n (now (rows .entry))) ⌝ }
 {
     let mut seen: u64 = 0;
     let mut member: usize = 0;
-    while member < n {
+    while member + 1 < n {
+        seen = seen | or_of_pair(rows, member, half);
+        member += 2;
+    }
+    if member < n {
         seen = seen | or_of_column(rows, member, half);
-        member += 1;
     }
     seen
 }

@@ -1,5 +1,4 @@
 use borrow.Author.Needs.{needs}
-use Rattle.arith.specs.Tests.{asked-true, asked-false}
 use native.Mathlib.Omega.{arith}
 use native.Mathlib.Nat.{sub-zero}
 use mathlib.Core.Path.{_≡_, sym, _∙_}
@@ -9,28 +8,30 @@ use Prim.Native.Nat.{_-_, _≤_, _^_}
 use lib.Dec.{ltb}
 use borrow.Author.Tests.{lt-ltb, le-ltb}
 use Rattle.arith.specs.Lists.{every, from}
+use Rattle.arith.specs.Tests.{asked-true, asked-false}
 use Rattle.arith.proofs.Bits.{or-below, falls}
-use Rattle.arith.proofs.Scans.{pass-next, pass-stop, pass-end}
+use Rattle.arith.proofs.Scans.{each-next, each-stop, each-end}
+use Rattle.rules.specs.Ledger.{sideAt}
 use Rattle.damage.specs.Orders.{numberAt, placeSound, placesSound}
 use Rattle.damage.proofs.Numbers.{risesFrom, rises-next, rises-end, rises-distinct}
 use Rattle.damage.proofs.book.are_orders_sound.Statement.{statement}
 use Rattle.damage.proofs.book.are_orders_sound.Tie as tie
 
 abbrev Inv-loop : tie.InvT-loop
-Inv-loop book count accepted members span falls₀ least₀ i₀ falls least i = (i ≤ count) × (least ≤ accepted) × (every (placeSound accepted members (span .start .0) (span .end .0) book) (from i (count - i)) ≡ placesSound accepted members (span .start .0) (span .end .0) book count) × (ltb falls (2 ^ 63) && risesFrom least (map (numberAt book) (from i (count - i))) ≡ risesFrom 0 (map (numberAt book) (from 0 count)))
+Inv-loop book count accepted members span sides₀ falls₀ least₀ i₀ sides falls least i = (i ≤ count) × (least ≤ accepted) × (ltb sides 2 && every (placeSound accepted members (span .start .0) (span .end .0) book) (from i (count - i)) ≡ placesSound accepted members (span .start .0) (span .end .0) book count) × (ltb falls (2 ^ 63) && risesFrom least (map (numberAt book) (from i (count - i))) ≡ risesFrom 0 (map (numberAt book) (from 0 count)))
 
 abbrev μ-loop : tie.MeasureT-loop
-μ-loop book count accepted members span falls₀ least₀ i₀ falls least i = count - i
+μ-loop book count accepted members span sides₀ falls₀ least₀ i₀ sides falls least i = count - i
 
 loop-holds : tie.Need-loop-holds Inv-loop μ-loop
 unfolding placesSound
 loop-holds c = let a = c .before .args in (omega arith, omega arith, rw (sub-zero (a .count)), rw (sub-zero (a .count)))
 
+mul-at : tie.Need-mul-at Inv-loop μ-loop
+mul-at c = search needs
+
 mul-number : tie.Need-mul-number Inv-loop μ-loop
 mul-number c = search needs
-
-mul-number-2 : tie.Need-mul-number-2 Inv-loop μ-loop
-mul-number-2 c = search needs
 
 shared-slice-read-number : tie.Need-shared-slice-read-number Inv-loop μ-loop
 shared-slice-read-number c = search needs
@@ -40,8 +41,7 @@ returns c =
     let a = c .before .before .before .before .before .args in
     let l = c .before .before .before .loop in
     let sound = placeSound (a .accepted) (a .members) (a .span .start .0) (a .span .end .0) (a .book .now) in
-    let stop = pass-stop sound (a .count) (l .i) _ (l .inv .2) (c .before .before .loop-test .taken) (rw (le-ltb _ _ (c .if1 .taken))) in
-    rw (sym stop)
+    rw (each-stop sound (a .count) (l .i) (ltb (l .sides) 2) _ (l .inv .2) (c .before .before .loop-test .taken) (rw (le-ltb _ _ (c .if1 .taken))))
 
 is-rest-sound-requires : tie.Need-is-rest-sound-requires Inv-loop μ-loop
 is-rest-sound-requires c κs = search needs
@@ -51,9 +51,16 @@ returns-2 c =
     let a = c .before .before .before .before .before .before .before .args in
     let l = c .before .before .before .before .before .loop in
     let sound = placeSound (a .accepted) (a .members) (a .span .start .0) (a .span .end .0) (a .book .now) in
-    let rest = asked-false (c .before .is-rest-sound .ensures) (c .if2 .taken) in
-    let stop = pass-stop sound (a .count) (l .i) _ (l .inv .2) (c .before .before .before .before .loop-test .taken) (rw (lt-ltb _ _ (c .before .before .if1 .left), rest)) in
-    rw (sym stop)
+    rw (each-stop sound (a .count) (l .i) (ltb (l .sides) 2) _ (l .inv .2) (c .before .before .before .before .loop-test .taken) (rw (lt-ltb _ _ (c .before .before .if1 .left), asked-false (c .before .is-rest-sound .ensures) (c .if2 .taken))))
+
+add-sides : tie.Need-add-sides Inv-loop μ-loop
+add-sides c = search needs
+
+mul-sides : tie.Need-mul-sides Inv-loop μ-loop
+mul-sides c = search needs
+
+shared-slice-read-sides : tie.Need-shared-slice-read-sides Inv-loop μ-loop
+shared-slice-read-sides c = search needs
 
 wrapping-sub-u64-requires : tie.Need-wrapping-sub-u64-requires Inv-loop μ-loop
 wrapping-sub-u64-requires c κs = search needs
@@ -69,39 +76,48 @@ loop-less c = search needs
 
 loop-again : tie.Need-loop-again Inv-loop μ-loop
 loop-again c =
-    let a = c .before .before .before .before .before .before .before .before .args in
-    let l = c .before .before .before .before .before .before .loop in
+    let a = c .before .before .before .before .before .before .before .before .before .args in
+    let l = c .before .before .before .before .before .before .before .loop in
     let f = numberAt (a .book .now) in
     let sound = placeSound (a .accepted) (a .members) (a .span .start .0) (a .span .end .0) (a .book .now) in
-    let rest = asked-true (c .before .before .is-rest-sound .ensures) (c .before .if2 .left) in
+    let side = sideAt (a .book .now) (l .i) in
+    let here : sound (l .i) ≡ ltb side 2 = rw (lt-ltb _ _ (c .before .before .before .before .if1 .left), asked-true (c .before .before .before .is-rest-sound .ensures) (c .before .before .if2 .left)) in
     let s = c .wrapping-sub-u64 .result in
     let rises = falls (f (l .i)) (l .least) s (omega arith) (omega arith) (c .wrapping-sub-u64 .ensures) (omega (arith, c .wrapping-sub-u64 .ok)) in (
       omega arith,
       omega arith,
-      pass-next sound (a .count) (l .i) _ (l .inv .2) (c .before .before .before .before .before .loop-test .taken) (rw (lt-ltb _ _ (c .before .before .before .if1 .left), rest)),
-      rw (or-below 63 (l .falls) s, rises) (rises-next f (a .count) (l .i) (l .least) (ltb (l .falls) (2 ^ 63)) _ (l .inv .3) (c .before .before .before .before .before .loop-test .taken)),
+      rw (or-below 1 (l .sides) side, sym here) (each-next sound (a .count) (l .i) (ltb (l .sides) 2) _ (l .inv .2) (c .before .before .before .before .before .before .loop-test .taken)),
+      rw (or-below 63 (l .falls) s, rises) (rises-next f (a .count) (l .i) (l .least) (ltb (l .falls) (2 ^ 63)) _ (l .inv .3) (c .before .before .before .before .before .before .loop-test .taken)),
     )
 
 returns-3 : tie.Need-returns-3 Inv-loop μ-loop
 returns-3 c =
     let a = c .before .before .before .before .args in
     let l = c .before .before .loop in
-    let f = numberAt (a .book .now) in
     let sound = placeSound (a .accepted) (a .members) (a .span .start .0) (a .span .end .0) (a .book .now) in
-    let all = pass-end sound (a .count) (l .i) _ (l .inv .2) (c .before .loop-test .left) in
-    let rise = rises-end f (a .count) (l .i) (l .least) (ltb (l .falls) (2 ^ 63)) _ (l .inv .3) (c .before .loop-test .left) in
-    rw (sym all, rises-distinct 0 (map f (from 0 (a .count))) (sym rise ∙ lt-ltb _ _ (c .if3 .taken)))
-
-is-none-repeated-requires : tie.Need-is-none-repeated-requires Inv-loop μ-loop
-is-none-repeated-requires c κs = search needs
+    let all = each-end sound (a .count) (l .i) (ltb (l .sides) 2) _ (l .inv .2) (c .before .loop-test .left) in
+    rw (sym all, le-ltb _ _ (c .if3 .taken))
 
 returns-4 : tie.Need-returns-4 Inv-loop μ-loop
 returns-4 c =
     let a = c .before .before .before .before .before .args in
     let l = c .before .before .before .loop in
+    let f = numberAt (a .book .now) in
     let sound = placeSound (a .accepted) (a .members) (a .span .start .0) (a .span .end .0) (a .book .now) in
-    let all = pass-end sound (a .count) (l .i) _ (l .inv .2) (c .before .before .loop-test .left) in
-    rw (sym all) (c .is-none-repeated .ensures)
+    let all = each-end sound (a .count) (l .i) (ltb (l .sides) 2) _ (l .inv .2) (c .before .before .loop-test .left) in
+    let rise = rises-end f (a .count) (l .i) (l .least) (ltb (l .falls) (2 ^ 63)) _ (l .inv .3) (c .before .before .loop-test .left) in
+    rw (sym all, lt-ltb _ _ (c .before .if3 .left), rises-distinct 0 (map f (from 0 (a .count))) (sym rise ∙ lt-ltb _ _ (c .if4 .taken)))
+
+is-none-repeated-requires : tie.Need-is-none-repeated-requires Inv-loop μ-loop
+is-none-repeated-requires c κs = search needs
+
+returns-5 : tie.Need-returns-5 Inv-loop μ-loop
+returns-5 c =
+    let a = c .before .before .before .before .before .before .args in
+    let l = c .before .before .before .before .loop in
+    let sound = placeSound (a .accepted) (a .members) (a .span .start .0) (a .span .end .0) (a .book .now) in
+    let all = each-end sound (a .count) (l .i) (ltb (l .sides) 2) _ (l .inv .2) (c .before .before .before .loop-test .left) in
+    rw (sym all, lt-ltb _ _ (c .before .before .if3 .left)) (c .is-none-repeated .ensures)
 
 pub are-orders-sound-spec : {M : Type 1} → statement M
 are-orders-sound-spec =
@@ -110,17 +126,21 @@ are-orders-sound-spec =
     Inv-loop
     μ-loop
     loop-holds
+    mul-at
     mul-number
-    mul-number-2
     shared-slice-read-number
     returns
     is-rest-sound-requires
     returns-2
+    add-sides
+    mul-sides
+    shared-slice-read-sides
     wrapping-sub-u64-requires
     add-least
     add-i
     loop-less
     loop-again
     returns-3
+    returns-4
     is-none-repeated-requires
-    returns-4)
+    returns-5)

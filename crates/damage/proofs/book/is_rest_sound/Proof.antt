@@ -1,9 +1,8 @@
 use mathlib.Core.Path.{sym}
-use borrow.Author.Tests.{lt-ltb, le-leb, not-false}
+use borrow.Author.Tests.{lt-ltb, le-leb}
 use Rattle.arith.specs.Lists.{allOf}
-use Rattle.arith.specs.Tests.{and-true, asked-true, asked-false}
+use Rattle.arith.specs.Tests.{and-true, tests, asked-true, asked-false}
 use Rattle.damage.specs.Orders.{restSound}
-use Rattle.arith.specs.Tests.{tests}
 use borrow.Author.Needs.{needs}
 use Rattle.damage.proofs.book.is_rest_sound.Statement.{statement}
 use Rattle.damage.proofs.book.is_rest_sound.Tie as tie
@@ -37,19 +36,6 @@ returns-2 : tie.Need-returns-2
 unfolding restSound allOf
 returns-2 c = search tests
 
-add-if3 : tie.Need-add-if3
-add-if3 c = search needs
-
-mul-if3 : tie.Need-mul-if3
-mul-if3 c = search needs
-
-shared-slice-read-if3 : tie.Need-shared-slice-read-if3
-shared-slice-read-if3 c = search needs
-
-returns-3 : tie.Need-returns-3
-unfolding restSound allOf
-returns-3 c = search tests
-
 add-is-between : tie.Need-add-is-between
 add-is-between c = search needs
 
@@ -65,9 +51,9 @@ add-is-between-2 c = search needs
 is-between-requires : tie.Need-is-between-requires
 is-between-requires c κs = search needs
 
-returns-4 : tie.Need-returns-4
+returns-3 : tie.Need-returns-3
 unfolding restSound allOf
-returns-4 c = rw (asked-false (c .before .is-between .ensures) (c .if4 .taken)) (search tests)
+returns-3 c = rw (asked-false (c .before .is-between .ensures) (c .if3 .taken)) (search tests)
 
 add-is-between-3 : tie.Need-add-is-between-3
 add-is-between-3 c = search needs
@@ -84,9 +70,9 @@ add-is-between-4 c = search needs
 is-between-requires-2 : tie.Need-is-between-requires-2
 is-between-requires-2 c κs = search needs
 
-returns-5 : tie.Need-returns-5
+returns-4 : tie.Need-returns-4
 unfolding restSound allOf
-returns-5 c = rw (asked-true (c .before .before .before .before .is-between .ensures) (c .before .before .before .if4 .left), asked-false (c .before .is-between2 .ensures) (c .if5 .taken)) (search tests)
+returns-4 c = rw (asked-true (c .before .before .before .before .is-between .ensures) (c .before .before .before .if3 .left), asked-false (c .before .is-between2 .ensures) (c .if4 .taken)) (search tests)
 
 add-is-between-5 : tie.Need-add-is-between-5
 add-is-between-5 c = search needs
@@ -100,9 +86,9 @@ shared-slice-read-is-between-3 c = search needs
 is-between-requires-3 : tie.Need-is-between-requires-3
 is-between-requires-3 c κs = search needs
 
-returns-6 : tie.Need-returns-6
+returns-5 : tie.Need-returns-5
 unfolding restSound allOf
-returns-6 c = rw (asked-true (c .before .before .before .before .before .before .before .is-between .ensures) (c .before .before .before .before .before .before .if4 .left), asked-true (c .before .before .before .before .is-between2 .ensures) (c .before .before .before .if5 .left), asked-false (c .before .is-between3 .ensures) (c .if6 .taken)) (search tests)
+returns-5 c = rw (asked-true (c .before .before .before .before .before .before .before .is-between .ensures) (c .before .before .before .before .before .before .if3 .left), asked-true (c .before .before .before .before .is-between2 .ensures) (c .before .before .before .if4 .left), asked-false (c .before .is-between3 .ensures) (c .if5 .taken)) (search tests)
 
 add-result : tie.Need-add-result
 add-result c = search needs
@@ -113,13 +99,13 @@ mul-result c = search needs
 shared-slice-read-result : tie.Need-shared-slice-read-result
 shared-slice-read-result c = search needs
 
-returns-7 : tie.Need-returns-7
+returns-6 : tie.Need-returns-6
 unfolding restSound allOf
-returns-7 c =
-    let between = not-false (c .before .before .before .before .before .before .before .before .is-between .result) (c .before .before .before .before .before .before .before .if4 .left) in
-    let between-2 = not-false (c .before .before .before .before .before .is-between2 .result) (c .before .before .before .before .if5 .left) in
-    let between-3 = not-false (c .before .before .is-between3 .result) (c .before .if6 .left) in
-    rw (lt-ltb _ _ (c .before .before .before .before .before .before .before .before .before .before .before .before .before .before .if1 .left), le-leb _ _ (c .before .before .before .before .before .before .before .before .before .before .before .before .if2 .left), le-leb _ _ (c .before .before .before .before .before .before .before .before .before .before .if3 .left), ← (c .before .before .before .before .before .before .before .before .is-between .ensures), between, ← (c .before .before .before .before .before .is-between2 .ensures), between-2, ← (c .before .before .is-between3 .ensures), between-3) (sym (and-true _))
+returns-6 c =
+    let price = asked-true (c .before .before .before .before .before .before .before .before .is-between .ensures) (c .before .before .before .before .before .before .before .if3 .left) in
+    let lots = asked-true (c .before .before .before .before .before .is-between2 .ensures) (c .before .before .before .before .if4 .left) in
+    let day = asked-true (c .before .before .is-between3 .ensures) (c .before .if5 .left) in
+    rw (lt-ltb _ _ (c .before .before .before .before .before .before .before .before .before .before .before .before .if1 .left), le-leb _ _ (c .before .before .before .before .before .before .before .before .before .before .if2 .left), price, lots, day) (sym (and-true _))
 
 pub is-rest-sound-spec : {M : Type 1} → statement M
 is-rest-sound-spec =
@@ -134,28 +120,24 @@ is-rest-sound-spec =
     mul-if2
     shared-slice-read-if2
     returns-2
-    add-if3
-    mul-if3
-    shared-slice-read-if3
-    returns-3
     add-is-between
     mul-is-between
     shared-slice-read-is-between
     add-is-between-2
     is-between-requires
-    returns-4
+    returns-3
     add-is-between-3
     mul-is-between-2
     shared-slice-read-is-between-2
     add-is-between-4
     is-between-requires-2
-    returns-5
+    returns-4
     add-is-between-5
     mul-is-between-3
     shared-slice-read-is-between-3
     is-between-requires-3
-    returns-6
+    returns-5
     add-result
     mul-result
     shared-slice-read-result
-    returns-7)
+    returns-6)

@@ -1,13 +1,13 @@
 use borrow.Author.Needs.{needs}
 use native.Mathlib.Omega.{arith}
 use mathlib.Core.Path.{_≡_, sym}
-use Prim.Native.Nat.{ℕ, _-_, _≤_, _^_}
+use Prim.Native.Nat.{ℕ, _+_, _-_, _≤_, _^_}
 use lib.Dec.{ltb}
 use Rattle.arith.specs.Bits.{inWindow}
 use Rattle.arith.proofs.Bits.{or-below, none-below}
 use Rattle.rules.specs.Refusals.{everyRow}
 use Rattle.damage.specs.Windows.{IsHalf}
-use Rattle.damage.proofs.Columns.{row-none, row-more}
+use Rattle.damage.proofs.Columns.{row-none, row-more, row-two-more}
 use Rattle.damage.proofs.rows.or_of_columns.Statement.{statement}
 use Rattle.damage.proofs.rows.or_of_columns.Tie as tie
 
@@ -20,8 +20,11 @@ abbrev μ-loop : tie.MeasureT-loop
 loop-holds : tie.Need-loop-holds Inv-loop μ-loop
 loop-holds c = (omega arith, λ k h. rw (none-below k) (sym (row-none (inWindow (2 ^ k)) (c .args .rows .now))))
 
-or-of-column-requires : tie.Need-or-of-column-requires Inv-loop μ-loop
-or-of-column-requires c κs = search needs
+add-loop : tie.Need-add-loop Inv-loop μ-loop
+add-loop c = search needs
+
+or-of-pair-requires : tie.Need-or-of-pair-requires Inv-loop μ-loop
+or-of-pair-requires c κs = search needs
 
 add-member : tie.Need-add-member Inv-loop μ-loop
 add-member c = search needs
@@ -34,13 +37,23 @@ loop-again c =
     let a = c .before .before .before .args in
     let l = c .before .before .loop in (
       omega arith,
-      λ k h. rw (or-below k (l .seen) (c .or-of-column .result), c .or-of-column .ensures k h, l .inv .1 k h) (sym (row-more k (l .member) (a .rows .now))),
+      λ k h. rw (or-below k (l .seen) (c .or-of-pair .result), c .or-of-pair .ensures k h, l .inv .1 k h) (sym (row-two-more k (l .member) (a .rows .now))),
     )
+
+or-of-column-requires : tie.Need-or-of-column-requires Inv-loop μ-loop
+or-of-column-requires c κs = search needs
 
 returns : tie.Need-returns Inv-loop μ-loop
 returns c =
-    let l = c .before .loop in
-    let all : l .member ≡ c .before .before .args .n = omega arith in
+    let a = c .before .before .before .before .args in
+    let l = c .before .before .before .loop in
+    let all : l .member + 1 ≡ a .n = omega arith in
+    λ k h. rw (or-below k (l .seen) (c .or-of-column .result), c .or-of-column .ensures k h, l .inv .1 k h, ← all) (sym (row-more k (l .member) (a .rows .now)))
+
+returns-2 : tie.Need-returns-2 Inv-loop μ-loop
+returns-2 c =
+    let l = c .before .before .loop in
+    let all : l .member ≡ c .before .before .before .args .n = omega arith in
     rw (← all) (l .inv .1)
 
 pub or-of-columns-spec : {M : Type 1} → statement M
@@ -50,8 +63,11 @@ or-of-columns-spec =
     Inv-loop
     μ-loop
     loop-holds
-    or-of-column-requires
+    add-loop
+    or-of-pair-requires
     add-member
     loop-less
     loop-again
-    returns)
+    or-of-column-requires
+    returns
+    returns-2)

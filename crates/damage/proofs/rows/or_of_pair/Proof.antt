@@ -1,0 +1,114 @@
+use borrow.Author.Needs.{needs}
+use native.Mathlib.Omega.{arith}
+use mathlib.Core.Path.{_≡_, _∙_}
+use mathlib.Core.Bool.{Bool, _&&_}
+use Prim.Native.Nat.{ℕ, _+_, _*_, _-_, _≤_, _^_}
+use lib.Dec.{ltb}
+use lib.IntN.{ℤ, pos}
+use lib.ListN.{getD, drop}
+use Rattle.arith.specs.Bits.{inWindow}
+use Rattle.arith.specs.Lists.{everyBlock}
+use Rattle.arith.proofs.Bits.{or-windows, none-below}
+use Rattle.arith.proofs.Signed.{back-mag}
+use Rattle.arith.proofs.Scans.{block-next, block-end}
+use Rattle.arith.proofs.Rows.{place-at, blocks-both}
+use Rattle.damage.specs.Windows.{everyColumn, IsHalf}
+use mathlib.Core.List.{List}
+use Rattle.damage.proofs.rows.or_of_pair.Statement.{statement}
+use Rattle.damage.proofs.rows.or_of_pair.Tie as tie
+
+-- Both places of a row are in the window.
+abbrev bothIn : ℕ → ℕ → List ℤ → Bool
+bothIn w member b = inWindow w (getD b member (pos 0)) && inWindow w (getD b (member + 1) (pos 0))
+
+abbrev Inv-loop : tie.InvT-loop
+Inv-loop rows member half seen₀ contract₀ seen contract = (contract ≤ 102) × ((k : ℕ) → IsHalf half k → ltb seen (2 ^ k) && everyBlock 32 (bothIn (2 ^ k) member) (102 - contract) (drop (contract * 32) rows) ≡ everyBlock 32 (bothIn (2 ^ k) member) 102 rows)
+
+abbrev μ-loop : tie.MeasureT-loop
+μ-loop rows member half seen₀ contract₀ seen contract = 102 - contract
+
+loop-holds : tie.Need-loop-holds Inv-loop μ-loop
+loop-holds c = (omega arith, λ k h. rw (none-below k))
+
+mul-at : tie.Need-mul-at Inv-loop μ-loop
+mul-at c = search needs
+
+add-at : tie.Need-add-at Inv-loop μ-loop
+add-at c = search needs
+
+mul-x : tie.Need-mul-x Inv-loop μ-loop
+mul-x c = search needs
+
+shared-slice-copy-out-x : tie.Need-shared-slice-copy-out-x Inv-loop μ-loop
+shared-slice-copy-out-x c = search needs
+
+add-y : tie.Need-add-y Inv-loop μ-loop
+add-y c = search needs
+
+mul-y : tie.Need-mul-y Inv-loop μ-loop
+mul-y c = search needs
+
+shared-slice-copy-out-y : tie.Need-shared-slice-copy-out-y Inv-loop μ-loop
+shared-slice-copy-out-y c = search needs
+
+raised-requires : tie.Need-raised-requires Inv-loop μ-loop
+raised-requires c κs = search needs
+
+raised-requires-2 : tie.Need-raised-requires-2 Inv-loop μ-loop
+raised-requires-2 c κs = search needs
+
+add-contract : tie.Need-add-contract Inv-loop μ-loop
+add-contract c = search needs
+
+loop-less : tie.Need-loop-less Inv-loop μ-loop
+loop-less c = search needs
+
+loop-again : tie.Need-loop-again Inv-loop μ-loop
+loop-again c =
+    let a = c .before .before .before .before .before .before .args in
+    let l = c .before .before .before .before .before .loop in
+    let rows = a .rows .now in
+    let place = l .contract * 32 + a .member in
+    let x = getD rows place (pos 0) in
+    let y = getD rows (place + 1) (pos 0) in
+    let next : place + 1 ≡ l .contract * 32 + (a .member + 1) = omega arith in
+    let first = c .before .raised in
+    let second = c .raised2 in
+    let x-fits = c .before .before .before .x .given in
+    let y-fits = c .before .before .y .given in
+    let x-is = rw (back-mag x x-fits) at (first .ensures) in
+    let y-is = rw (back-mag y y-fits) at (second .ensures) in (
+      omega arith,
+      λ k h. rw (or-windows k (l .seen) (first .result) (second .result) (a .half) x y h x-fits x-is y-fits y-is, next, ← place-at rows (pos 0) 32 (l .contract) (a .member) (omega arith), ← place-at rows (pos 0) 32 (l .contract) (a .member + 1) (omega arith))
+          (block-next 32 (bothIn (2 ^ k) (a .member)) 102 rows (l .contract) (ltb (l .seen) (2 ^ k)) (everyBlock 32 (bothIn (2 ^ k) (a .member)) 102 rows) (l .inv .1 k h) (c .before .before .before .before .loop-test .taken)),
+    )
+
+returns : tie.Need-returns Inv-loop μ-loop
+unfolding everyColumn
+returns c =
+    let a = c .before .before .args in
+    let l = c .before .loop in
+    let rows = a .rows .now in
+    λ k h. block-end 32 (bothIn (2 ^ k) (a .member)) 102 rows (l .contract) (ltb (l .seen) (2 ^ k)) (everyBlock 32 (bothIn (2 ^ k) (a .member)) 102 rows) (l .inv .1 k h) (c .loop-test .left)
+    ∙ blocks-both (λ b. inWindow (2 ^ k) (getD b (a .member) (pos 0))) (λ b. inWindow (2 ^ k) (getD b (a .member + 1) (pos 0))) 32 102 rows
+
+pub or-of-pair-spec : {M : Type 1} → statement M
+or-of-pair-spec =
+    tie.close
+    (tie.spec
+    Inv-loop
+    μ-loop
+    loop-holds
+    mul-at
+    add-at
+    mul-x
+    shared-slice-copy-out-x
+    add-y
+    mul-y
+    shared-slice-copy-out-y
+    raised-requires
+    raised-requires-2
+    add-contract
+    loop-less
+    loop-again
+    returns)
