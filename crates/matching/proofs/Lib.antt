@@ -1,0 +1,2 @@
+pub mod Priority
+pub mod Columns

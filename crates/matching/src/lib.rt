@@ -1,0 +1,14 @@
+// An incoming order meets the book.
+ghost use mathlib.Core.Path.{_≡_};
+ghost use Rattle.rules.specs.Matching.{meetsPrice};
+use rules::Side;
+
+// Whether the resting price q meets the incoming price p.
+pub fn does_meet(side: Side, p: u64, q: u64) -> bool
+    ensures { λ r. ⌜ r ≡ meetsPrice side p q ⌝ }
+{
+    match side {
+        Side::Buy => q <= p,
+        Side::Sell => p <= q,
+    }
+}
