@@ -1,2 +1,3 @@
 pub mod Priority
 pub mod Columns
+pub mod Running

@@ -99,7 +99,7 @@ module _ (p : Order → Bool) where
 -- ---- by the ranks of what is left
 module _ (o : Order) where
   -- no order that is left has a rank below v
-  all-above : (v : ℕ) (left : List ℕ) (os : List Order) → length left ≡ length os → All Ranked os → ((j : ℕ) → j < length os → v ≤ getD (ranksOf o left os) j 0)
+  pub all-above : (v : ℕ) (left : List ℕ) (os : List Order) → length left ≡ length os → All Ranked os → ((j : ℕ) → j < length os → v ≤ getD (ranksOf o left os) j 0)
       → All (λ y. opposes o y ≡ true → (v ≤ rankOf y) × Ranked y) (leftOver left os)
   unfolding leftOver ranksOf rankIn rankOf opposes
   all-above v [] [] e h f = tt
@@ -168,3 +168,13 @@ module _ (o : Order) where
       (λ u. let t = sym (same-opposes q r) ∙ u in
       ordered (getD rs i z) r (getD qs i 0) q (there .0) t (all-place Ranked z rs (h .1) i (omega (arith, l .below, ranks-length qs rs (omega arith)))) (h .0)
       ∙ lt-ltb (rankOf (getD rs i z)) (rankOf r) (rw (rank, there .2, rank-live q r t (omega arith)) at (l .before 0 (omega arith)))))
+
+  none-opposes : (os : List Order) → All (λ y. opposes o y ≡ true → (noRank ≤ rankOf y) × Ranked y) os → best (opposes o) os ≡ none
+  unfolding best
+  none-opposes [] h = refl
+  none-opposes (y ∷ os) h = true-or (opposes o y) (λ e. absurd (omega (arith, h .0 e .0, rank-below y (h .0 e .1)))) (λ e. rw e (none-opposes os (h .1)))
+
+  -- and where no rank is left there is none
+  pub best-none : (left : List ℕ) (os : List Order) → length left ≡ length os → All Ranked os → ((j : ℕ) → j < length os → noRank ≤ getD (ranksOf o left os) j 0)
+      → best (opposes o) (leftOver left os) ≡ none
+  best-none left os e h f = none-opposes (leftOver left os) (all-above noRank left os e h f)

@@ -1,2 +1,3 @@
 pub mod Left
 pub mod Ranks
+pub mod Deals
