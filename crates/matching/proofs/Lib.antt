@@ -1,3 +1,4 @@
 pub mod Priority
 pub mod Columns
 pub mod Running
+pub mod Measures
