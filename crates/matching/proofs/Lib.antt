@@ -1,4 +1,6 @@
-pub mod Priority
-pub mod Columns
+pub mod Best
+pub mod Used
 pub mod Running
 pub mod Measures
+pub mod Passes
+pub mod Scanning

@@ -13,12 +13,14 @@ use Rattle.arith.specs.Alls.{All, all-place, all-map}
 use Rattle.arith.specs.Tests.{by-bool, by-eqb, true-or, le-or-lt}
 use Rattle.rules.specs.declared.order.Order.{Order}
 use Rattle.rules.specs.Matching.{best, opposes, meets, withLots, used, Deal, Matched, stopped, afterDeal, matching, matched}
-use Rattle.matching.specs.declared.Counterparty.{Counterparty}
+use Rattle.matching.specs.declared.deals.Counterparty.{Counterparty}
 use Rattle.matching.specs.Left.{leftOver}
-use Rattle.matching.specs.Ranks.{Ranked, rankOf, noRank, rankIn, ranksOf, Lowest, crosses, crossing}
-use Rattle.matching.proofs.Priority.{best-lowest, ranks-length, ranks-at, live, rank-live, rank-below, meets-far}
-use Rattle.matching.proofs.Columns.{Distinct}
-use Rattle.matching.proofs.Running.{Running, Ended, ended-full, ended-far, ended-none, running-deal, running-start, lotsOf, count-fewer}
+use Rattle.matching.specs.Ranks.{Ranked, rankOf, noRank, rankIn, ranksOf, Lowest, crossing}
+use Rattle.matching.specs.Crossing.{crosses}
+use Rattle.matching.specs.Matching.{Ended}
+use Rattle.matching.proofs.Best.{best-lowest, ranks-length, ranks-at, live, rank-live, rank-below, meets-far}
+use Rattle.matching.proofs.Used.{Distinct}
+use Rattle.matching.proofs.Running.{Running, ended-full, ended-far, ended-none, running-deal, running-start, count-fewer}
 
 -- ---- the lowest rank of a list, if there is one
 pub data Found (ranks : List ℕ) : Type 0 where

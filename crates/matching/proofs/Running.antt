@@ -14,12 +14,13 @@ use Rattle.arith.specs.Alls.{All, all-place}
 use Rattle.arith.specs.Tests.{by-eqb, true-or, le-or-lt}
 use Rattle.rules.specs.declared.order.Order.{Order}
 use Rattle.rules.specs.Matching.{best, opposes, meets, withLots, used, Deal, Matched, stopped, afterDeal, matching, matched}
-use Rattle.matching.specs.declared.Counterparty.{Counterparty}
+use Rattle.matching.specs.declared.deals.Counterparty.{Counterparty}
 use Rattle.matching.specs.Left.{leftOver}
-use Rattle.matching.specs.Ranks.{Ranked, rankOf, noRank, rankIn, ranksOf, Lowest}
+use Rattle.matching.specs.Ranks.{Ranked, rankOf, noRank, rankIn, ranksOf, lotsOf, Lowest}
 use Rattle.matching.specs.Deals.{counterparty, counterpartyOf}
-use Rattle.matching.proofs.Priority.{best-lowest, best-none, ranks-length, ranks-at, live, rank-live}
-use Rattle.matching.proofs.Columns.{Distinct, used-left, stops-empty, stops-none, stops-far, deals-best}
+use Rattle.matching.specs.Matching.{Ended}
+use Rattle.matching.proofs.Best.{best-lowest, best-none, ranks-length, ranks-at, live, rank-live}
+use Rattle.matching.proofs.Used.{Distinct, used-left, stops-empty, stops-none, stops-far, deals-best}
 
 -- ---- the column of lots left
 some-left : ℕ → Bool
@@ -68,12 +69,6 @@ pub record Running (o : Order) (os : List Order) (left ranks : List ℕ) (x : �
   pub deals : map counterpartyOf (matched o os .deals) ≡ ds ++ map counterpartyOf (matching fuel (withLots x o) (leftOver left os) .deals)
   pub lots : matched o os .left ≡ matching fuel (withLots x o) (leftOver left os) .left
   pub resting : matched o os .resting ≡ matching fuel (withLots x o) (leftOver left os) .resting
-
--- Where it ends.
-pub record Ended (o : Order) (os : List Order) (left : List ℕ) (x : ℕ) (ds : List Counterparty) : Type 0 where
-  pub deals : map counterpartyOf (matched o os .deals) ≡ ds
-  pub lots : matched o os .left ≡ x
-  pub resting : matched o os .resting ≡ leftOver left os
 
 module _ (o : Order) (os : List Order) (left ranks : List ℕ) (x : ℕ) (ds : List Counterparty) (r : Running o os left ranks x ds) where
   ends : matching (r .fuel) (withLots x o) (leftOver left os) ≡ stopped (withLots x o) (leftOver left os) → Ended o os left x ds
@@ -140,9 +135,6 @@ module _ (o : Order) (os : List Order) (left ranks : List ℕ) (x : ℕ) (ds : L
             }
 
 -- ---- the start: nothing is used yet
-abbrev pub lotsOf : Order → ℕ
-lotsOf o = o .lots .0
-
 pub left-all : (os : List Order) → All (λ o. 0 < lotsOf o) os → leftOver (map lotsOf os) os ≡ os
 unfolding leftOver
 left-all [] h = refl

@@ -6,7 +6,7 @@ use Rattle.arith.specs.Lists.{from}
 use Rattle.rules.specs.declared.order.Order.{Order}
 use Rattle.rules.specs.Ledger.{Line}
 use Rattle.rules.specs.Matching.{Deal, signed, otherSide}
-use Rattle.matching.specs.declared.Counterparty.{Counterparty}
+use Rattle.matching.specs.declared.deals.Counterparty.{Counterparty}
 
 abbrev pub counterparty : Order → ℕ → Counterparty
 counterparty r q = record { member = r .member; price = r .price; lots = record { 0 = q } }

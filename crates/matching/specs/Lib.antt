@@ -1,3 +1,5 @@
 pub mod Left
+pub mod Crossing
 pub mod Ranks
 pub mod Deals
+pub mod Matching

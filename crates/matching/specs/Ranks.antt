@@ -1,14 +1,15 @@
 -- Priority as one number: of the orders that an incoming one may meet, the first has the lowest rank.
 use Prim.Native.Nat.{ℕ, _+_, _*_, _-_, _≤_, _<_}
 use mathlib.Core.Bool.{Bool, cond, _&&_}
-use mathlib.Core.List.{List, [], _∷_}
+use mathlib.Core.List.{List, [], _∷_, map}
 use lib.Dec.{ltb}
 use lib.ListN.{length, getD}
 use Rattle.rules.specs.declared.order.Order.{Order}
 use Rattle.rules.specs.declared.order.Side.{Side}
 use Rattle.rules.specs.declared.order.Side.the-variants.{Buy, Sell}
 use Rattle.rules.specs.Ranges.{mostPrice}
-use Rattle.rules.specs.Matching.{opposes, meets}
+use Rattle.rules.specs.Matching.{opposes}
+use Rattle.matching.specs.Crossing.{crosses}
 
 -- Order numbers are below it.
 abbrev pub numbersEnd : ℕ
@@ -40,6 +41,13 @@ ranksOf o [] os = []
 ranksOf o (q ∷ qs) [] = []
 ranksOf o (q ∷ qs) (r ∷ rs) = rankIn o q r ∷ ranksOf o qs rs
 
+abbrev pub lotsOf : Order → ℕ
+lotsOf r = r .lots .0
+
+-- The ranks while nothing is used.
+abbrev pub firstRank : Order → List Order → List ℕ
+firstRank o os = ranksOf o (map lotsOf os) os
+
 -- The place of the lowest rank.
 pub record Lowest (ranks : List ℕ) (i : ℕ) : Type 0 where
   pub below : i < length ranks
@@ -47,10 +55,7 @@ pub record Lowest (ranks : List ℕ) (i : ℕ) : Type 0 where
   pub before : (j : ℕ) → j < i → getD ranks i 0 < getD ranks j 0
   pub behind : (j : ℕ) → j < length ranks → getD ranks i 0 ≤ getD ranks j 0
 
--- The lots that cross: those left of the orders that the incoming one could meet at its price.
-abbrev pub crosses : Order → Order → Bool
-crosses o r = opposes o r && meets o r
-
+-- The lots that cross where so many are left.
 unfoldable pub crossing : Order → List ℕ → List Order → ℕ
 crossing o [] os = 0
 crossing o (q ∷ qs) [] = 0

@@ -1,23 +1,14 @@
-// An incoming order meets the book.
-ghost use mathlib.Core.Path.{_≡_};
-ghost use Rattle.rules.specs.Matching.{meetsPrice};
-use rules::Kurus;
-use rules::Lots;
-use rules::Side;
+// An incoming order meets the orders of the book.
+mod columns;
+mod crossing;
+mod deals;
+mod levels;
+mod priority;
 
-// The other party of a deal, with the resting price and the deal's lots.
-pub struct Counterparty {
-    pub member: u64,
-    pub price: Kurus,
-    pub lots: Lots,
-}
-
-// Whether the resting price q meets the incoming price p.
-pub fn does_meet(side: Side, p: u64, q: u64) -> bool
-    ensures { λ r. ⌜ r ≡ meetsPrice side p q ⌝ }
-{
-    match side {
-        Side::Buy => q <= p,
-        Side::Sell => p <= q,
-    }
-}
+pub use columns::write_columns;
+pub use crossing::Crossing;
+pub use crossing::measure;
+pub use deals::Counterparty;
+pub use deals::deal_at;
+pub use levels::Matched;
+pub use levels::match_orders;

@@ -16,7 +16,7 @@ use Rattle.rules.specs.Matching.{best, better, opposes, meets, withLots, used, 
 use Rattle.rules.specs.Refusals.{distinct}
 use Rattle.matching.specs.Left.{leftOver}
 use Rattle.matching.specs.Ranks.{Ranked, rankOf, noRank, rankIn, ranksOf, Lowest}
-use Rattle.matching.proofs.Priority.{best-lowest, ranks-at, live, rank-below}
+use Rattle.matching.proofs.Best.{best-lowest, ranks-at, live, rank-below}
 
 -- ---- numbers that no two orders share
 abbrev pub Distinct : List Order → Type 0

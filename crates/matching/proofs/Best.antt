@@ -58,13 +58,16 @@ precedes-rank a b e f g =
     rank-order (a .price .0) (b .price .0) (a .number) (b .number) (f .price) (g .price) (f .number) (g .number) (a .side)
     ∙ ap (λ s. ltb (priceRank (a .side) (a .price .0) * numbersEnd + a .number) (priceRank s (b .price .0) * numbersEnd + b .number)) e
 
+pub price-below : (r : Order) → Ranked r → (priceRank (r .side) (r .price .0) ≤ mostPrice) × (r .number < numbersEnd)
+price-below r f = go (r .side)
+  where
+    go : (s : Side) → (priceRank s (r .price .0) ≤ mostPrice) × (r .number < numbersEnd)
+    go Buy = (omega arith, f .number)
+    go Sell = (f .price, f .number)
+
 pub rank-below : (r : Order) → Ranked r → rankOf r < noRank
 unfolding rankOf
-rank-below r f = go (r .side)
-  where
-    go : (s : Side) → priceRank s (r .price .0) * numbersEnd + r .number < noRank
-    go Buy = omega (arith, f .price, f .number)
-    go Sell = omega (arith, f .price, f .number)
+rank-below r f = omega (arith, price-below r f)
 
 -- A price that does not meet stays so for every order of a higher rank.
 module _ (p q m n v : ℕ) (hp : p ≤ mostPrice) (hq : q ≤ mostPrice) (hm : m < numbersEnd) (hn : n < numbersEnd) where

@@ -1,0 +1,94 @@
+-- One more order of a pass over the book. Assumes nothing.
+use mathlib.Core.Path.{_≡_, refl, sym, ap, _∙_}
+use mathlib.Core.Bool.{Bool, true, cond}
+use mathlib.Core.List.{List, [], _∷_, _++_, map}
+use Prim.Native.Nat.{ℕ, zero, suc, _+_, _*_, _≤_, _<_}
+use native.Mathlib.Omega.{arith}
+use native.Mathlib.Nat.{zero-add, add-zero}
+use native.Mathlib.Numerals.{add-one}
+use lib.ListN.{length, getD, length-map}
+use Rattle.arith.specs.Lists.{from, total}
+use Rattle.arith.specs.Tests.{by-bool}
+use Rattle.arith.specs.Alls.{All}
+use Rattle.arith.proofs.Appends.{from-more, from-length, map-append, map-at, from-at}
+use Rattle.rules.specs.declared.order.Order.{Order}
+use Rattle.rules.specs.Ledger.{orderAt}
+use Rattle.matching.specs.Ranks.{lotsOf, rankIn, ranksOf, firstRank}
+use Rattle.rules.specs.Ranges.{mostLots}
+use Rattle.matching.specs.Crossing.{isOwn, crosses, ownLots, crossingLots, ownIn, crossingIn}
+use Rattle.matching.specs.Matching.{firstOrders}
+use Rattle.matching.proofs.Best.{ranks-at}
+
+total-append : {A : Type 0} (f : A → ℕ) (l m : List A) → total f (l ++ m) ≡ total f l + total f m
+unfolding total
+total-append f [] m = sym (zero-add (total f m))
+total-append f (x ∷ l) m = omega (arith, total-append f l m)
+
+total-one : {A : Type 0} (f : A → ℕ) (x : A) → total f (x ∷ []) ≡ f x
+unfolding total
+total-one f x = add-zero (f x)
+
+module _ (b : List ℕ) where
+  orders-more : (i : ℕ) → firstOrders (i + 1) b ≡ firstOrders i b ++ (orderAt b i ∷ [])
+  orders-more i = rw (add-one i, from-more 0 i, map-append (orderAt b) (from 0 i) ((0 + i) ∷ []), zero-add i)
+
+  pub orders-length : (n : ℕ) → length (firstOrders n b) ≡ n
+  orders-length n = length-map (from 0 n) (orderAt b) ∙ from-length 0 n
+
+  pub order-here : (n i : ℕ) (z : Order) → i < n → getD (firstOrders n b) i z ≡ orderAt b i
+  order-here n i z h = map-at (orderAt b) (from 0 n) i 0 z (omega (arith, from-length 0 n)) ∙ ap (orderAt b) (from-at 0 n i 0 h ∙ zero-add i)
+
+  -- what holds of the order at each place holds of each order
+  pub all-orders : (P : Order → Type 0) (n : ℕ) → ((i : ℕ) → i < n → P (orderAt b i)) → All P (firstOrders n b)
+  unfolding from
+  all-orders P n f = go n 0 (λ i _ h. f i (omega arith))
+    where
+      go : (m a : ℕ) → ((i : ℕ) → a ≤ i → i < a + m → P (orderAt b i)) → All P (map (orderAt b) (from a m))
+      go zero a g = tt
+      go (suc m) a g = (g a (omega arith) (omega arith), go m (suc a) (λ i h k. g i (omega arith) (omega arith)))
+
+  module _ (f : Order → ℕ) (i sum : ℕ) (known : sum ≡ total f (firstOrders i b)) where
+    pub total-next : sum + f (orderAt b i) ≡ total f (firstOrders (i + 1) b)
+    total-next = rw (orders-more i, total-append f (firstOrders i b) (orderAt b i ∷ []), total-one f (orderAt b i), known)
+
+  -- the columns while nothing is used
+  module _ (o : Order) (n i : ℕ) (h : i < n) where
+    pub lots-here : getD (map lotsOf (firstOrders n b)) i 0 ≡ orderAt b i .lots .0
+    lots-here = map-at lotsOf (firstOrders n b) i (orderAt b i) 0 (omega (arith, orders-length n)) ∙ ap lotsOf (order-here n i (orderAt b i) h)
+
+    pub rank-here : getD (firstRank o (firstOrders n b)) i 0 ≡ rankIn o (orderAt b i .lots .0) (orderAt b i)
+    rank-here =
+        ranks-at o (orderAt b i) (map lotsOf (firstOrders n b)) (firstOrders n b) i (length-map (firstOrders n b) lotsOf) (omega (arith, orders-length n))
+        ∙ rw (lots-here, order-here n i (orderAt b i) h)
+
+-- ---- what an incoming order finds among the first i orders
+pub own-most : (o r : Order) → ownLots o r ≤ r .lots .0
+unfolding ownLots
+own-most o r = by-bool (λ t. cond t (r .lots .0) 0 ≤ r .lots .0) (isOwn o r) (λ _. omega arith) (λ _. omega arith)
+
+pub crossing-most : (o r : Order) → crossingLots o r ≤ r .lots .0
+unfolding crossingLots
+crossing-most o r = by-bool (λ t. cond t (r .lots .0) 0 ≤ r .lots .0) (crosses o r) (λ _. omega arith) (λ _. omega arith)
+
+pub record Measuring (o : Order) (b : List ℕ) (i own lots : ℕ) : Type 0 where
+  pub own-lots : own ≡ ownIn o (firstOrders i b)
+  pub crossing-lots : lots ≡ crossingIn o (firstOrders i b)
+  pub own-few : own ≤ i * mostLots
+  pub crossing-few : lots ≤ i * mostLots
+
+pub measuring-start : (o : Order) (b : List ℕ) → Measuring o b 0 0 0
+unfolding ownIn crossingIn total from
+measuring-start o b = record { own-lots = refl; crossing-lots = refl; own-few = omega arith; crossing-few = omega arith }
+
+pub measuring-next : (o : Order) (b : List ℕ) (i own lots : ℕ) → Measuring o b i own lots → (r : Order) → r ≡ orderAt b i → orderAt b i .lots .0 ≤ mostLots
+    → (x y : ℕ) → x ≡ ownLots o r → y ≡ crossingLots o r → Measuring o b (i + 1) (own + x) (lots + y)
+unfolding ownIn crossingIn
+measuring-next o b i own lots m r e f x y p q =
+    let here = p ∙ ap (ownLots o) e in
+    let there = q ∙ ap (crossingLots o) e in
+    record {
+      own-lots = rw here (total-next b (ownLots o) i own (m .own-lots));
+      crossing-lots = rw there (total-next b (crossingLots o) i lots (m .crossing-lots));
+      own-few = omega (arith, m .own-few, own-most o (orderAt b i));
+      crossing-few = omega (arith, m .crossing-few, crossing-most o (orderAt b i));
+    }

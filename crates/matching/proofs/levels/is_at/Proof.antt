@@ -1,0 +1,21 @@
+use borrow.Author.Needs.{needs}
+use Rattle.matching.proofs.levels.is_at.Statement.{statement}
+use Rattle.matching.proofs.levels.is_at.Tie as tie
+use Rattle.matching.proofs.levels.is_at.Reads as reads
+use Rattle.matching.proofs.levels.is_at.Lts as lts
+use Rattle.tables.proofs.order_at.Reads as order-at-reads
+
+-- src/levels.rt:71:9
+returns : tie.Need-returns
+returns c = ?
+
+-- src/levels.rt:73:5
+order-at-requires : tie.Need-order-at-requires
+order-at-requires c κs = search needs
+
+-- src/levels.rt:66:1
+returns-2 : tie.Need-returns-2
+returns-2 c = ?
+
+pub is-at-spec : {M : Type 1} → statement M
+is-at-spec = tie.close (tie.spec returns order-at-requires returns-2)
