@@ -4,3 +4,4 @@ pub mod Running
 pub mod Measures
 pub mod Passes
 pub mod Scanning
+pub mod Going

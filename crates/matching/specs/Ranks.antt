@@ -1,5 +1,6 @@
 -- Priority as one number: of the orders that an incoming one may meet, the first has the lowest rank.
 use Prim.Native.Nat.{ℕ, _+_, _*_, _-_, _≤_, _<_}
+use mathlib.Core.Path.{_≡_}
 use mathlib.Core.Bool.{Bool, cond, _&&_}
 use mathlib.Core.List.{List, [], _∷_, map}
 use lib.Dec.{ltb}
@@ -54,6 +55,12 @@ pub record Lowest (ranks : List ℕ) (i : ℕ) : Type 0 where
   pub some : getD ranks i 0 < noRank
   pub before : (j : ℕ) → j < i → getD ranks i 0 < getD ranks j 0
   pub behind : (j : ℕ) → j < length ranks → getD ranks i 0 ≤ getD ranks j 0
+
+-- The place of the lowest rank, or the end where there is none.
+pub record LowestOf (ranks : List ℕ) (i : ℕ) : Type 0 where
+  pub most : i ≤ length ranks
+  pub lowest : i < length ranks → Lowest ranks i
+  pub none : i ≡ length ranks → (j : ℕ) → j < length ranks → noRank ≤ getD ranks j 0
 
 -- The lots that cross where so many are left.
 unfoldable pub crossing : Order → List ℕ → List Order → ℕ

@@ -8,7 +8,7 @@ ghost use lib.ListN.{length, getD, set};
 ghost use Rattle.arith.specs.Lists.{from};
 ghost use Rattle.rules.specs.Ranges.{mostOrders};
 ghost use Rattle.rules.specs.Ledger.{bookLength, orderAt};
-ghost use Rattle.matching.specs.Ranks.{Ranked, Lowest, noRank, lotsOf, rankIn, ranksOf, firstRank};
+ghost use Rattle.matching.specs.Ranks.{Ranked, LowestOf, noRank, lotsOf, rankIn, ranksOf, firstRank};
 use crate::priority::does_oppose;
 use crate::priority::rank_of;
 use rules::Order;
@@ -45,8 +45,7 @@ pub fn write_columns(book: &[u64], o: Order, left: &mut [u64], ranks: &mut [u64]
 
 // The place of the lowest rank, or the end where there is none.
 pub fn lowest_of(ranks: &[u64]) -> usize
-    ensures { λ r. ⌜ (r ≤ length (now (ranks .entry))) × (r < length (now (ranks .entry)) → Lowest (now (ranks .entry)) r) ⌝ }
-    ensures { λ r. ⌜ (r ≡ length (now (ranks .entry)) → (j : ℕ) → j < length (now (ranks .entry)) → noRank ≤ getD (now (ranks .entry)) j 0) ⌝ }
+    ensures { λ r. ⌜ LowestOf (now (ranks .entry)) r ⌝ }
 {
     let mut lowest = NO_RANK;
     let mut place = ranks.len();

@@ -43,7 +43,7 @@ loop-again c =
 
 -- src/columns.rt:47:1
 returns : tie.Need-returns Inv-loop μ-loop
-returns c = ((scanned-most _ _ _ _ (c .before .loop .inv) (omega arith), scanned-lowest _ _ _ _ (c .before .loop .inv) (omega arith)), scanned-none _ _ _ _ (c .before .loop .inv) (omega arith))
+returns c = record { most = scanned-most _ _ _ _ (c .before .loop .inv) (omega arith); lowest = scanned-lowest _ _ _ _ (c .before .loop .inv) (omega arith); none = scanned-none _ _ _ _ (c .before .loop .inv) (omega arith) }
 
 pub lowest-of-spec : {M : Type 1} → statement M
 lowest-of-spec =

@@ -1,3 +1,9 @@
+use Prim.Native.Nat.{_-_, _*_, min}
+use lib.ListN.{getD}
+use mathlib.Core.Path.{refl, sym, ap, _∙_}
+use Prim.Native.Nat.{_-_, _*_}
+use Rattle.arith.specs.Lists.{over}
+use Rattle.matching.specs.Deals.{counterparty, dealPlaces}
 use borrow.Author.Needs.{needs}
 use Rattle.matching.proofs.levels.deal.Statement.{statement}
 use Rattle.matching.proofs.levels.deal.Tie as tie
@@ -50,7 +56,18 @@ same-length-3 c = search needs
 
 -- src/levels.rt:37:1
 returns : tie.Need-returns
-returns c = ?
+returns c =
+    let a = c .before .before .before .before .before .before .before .before .before .before .before .before .before .before .before .before .before .before .args in
+    let lots = min (a .wanted) (getD (a .left .now) (a .i) 0) in
+    record {
+      still-wanted = ap (λ n. a .wanted - n) (c .before .before .before .before .before .before .before .before .before .before .before .least .ensures);
+      left-after = rw (← (c .before .before .before .before .before .before .before .before .before .before .before .least .ensures)) (c .before .before .before .before .before .before .before .before .use-lots .ensures .0);
+      ranks-after = rw (← (c .before .before .before .before .before .before .before .before .before .before .before .least .ensures)) (c .before .before .before .before .before .before .before .before .use-lots .ensures .1);
+      deals-after =
+          c .before .before .put-deal .ensures
+          ∙ ap (λ q. over (a .k * 3) (dealPlaces (counterparty (c .before .before .before .before .before .before .before .before .before .before .before .before .before .order-at .result) q)) (a .deals .now)) (c .before .before .before .before .before .before .before .before .before .before .before .least .ensures)
+          ∙ ap (λ r. over (a .k * 3) (dealPlaces (counterparty r lots)) (a .deals .now)) (c .before .before .before .before .before .before .before .before .before .before .before .before .before .order-at .ensures);
+    }
 
 pub deal-spec : {M : Type 1} → statement M
 deal-spec =
