@@ -4,7 +4,7 @@ ghost use mathlib.Core.List.{List};
 ghost use lib.IntN.{ℤ};
 ghost use Rattle.rules.specs.Answers.{told};
 ghost use Rattle.rules.specs.Refusals.{makeSpec};
-ghost use Rattle.tables.specs.Lent.{lent};
+ghost use Rattle.rules.specs.Ledger.{lent};
 ghost use Rattle.host.specs.Sent.{sent, damageNumber};
 use rules::Answer;
 

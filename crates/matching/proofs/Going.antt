@@ -22,11 +22,13 @@ use Rattle.rules.specs.Matching.{opposes, meetsPrice, meets}
 use Rattle.matching.specs.declared.deals.Counterparty.{Counterparty}
 use Rattle.matching.specs.Ranks.{Ranked, rankOf, noRank, rankIn, ranksOf, Lowest, LowestOf}
 use Rattle.matching.specs.Deals.{counterparty, dealWidth, dealPlaces, dealAt, dealsIn}
-use Rattle.matching.specs.Matching.{firstOrders, DealMade, Matchable, Ended}
+use Rattle.matching.specs.Matching.{DealMade, Matchable, Ended}
+use Rattle.tables.specs.Fit.{ordersIn}
 use Rattle.matching.proofs.Best.{ranks-length, ranks-at, live, rank-live}
 use Rattle.matching.proofs.Used.{Distinct, distinct-numbers}
 use Rattle.matching.proofs.Running.{Running, running-start, running-deal, ended-full, ended-far, ended-none}
-use Rattle.matching.proofs.Passes.{orders-length, order-here, all-orders}
+use Rattle.tables.proofs.Left.{orders-length}
+use Rattle.matching.proofs.Passes.{order-here, all-orders}
 
 -- ---- one more deal in the column
 map-below : {B : Type 0} (f g : ℕ → B) (a n : ℕ) → ((i : ℕ) → i < a + n → f i ≡ g i) → map f (from a n) ≡ map g (from a n)
@@ -65,11 +67,11 @@ rank-gone o r = rw (and-false (opposes o r))
 
 -- ---- at the head of a loop: n orders, and m places for deals
 pub record Going (o : Order) (book : List ℕ) (n m : ℕ) (left ranks deals : List ℕ) (wanted k : ℕ) : Type 0 where
-  pub ranked : All Ranked (firstOrders n book)
-  pub numbers : Distinct (firstOrders n book)
+  pub ranked : All Ranked (ordersIn n book)
+  pub numbers : Distinct (ordersIn n book)
   pub long : bookLength ≤ length book
   pub most-orders : n ≤ mostOrders
-  pub running : Running o (firstOrders n book) left ranks wanted (dealsIn k deals)
+  pub running : Running o (ordersIn n book) left ranks wanted (dealsIn k deals)
   pub some : 0 < wanted
   pub few : k + wanted ≤ mostLots
   pub left-length : length left ≡ n
@@ -80,7 +82,7 @@ pub record Going (o : Order) (book : List ℕ) (n m : ℕ) (left ranks deals : L
 pub going-start : (o : Order) (book left ranks deals : List ℕ) → Matchable o book left ranks → mostLots * dealWidth ≤ length deals → Going o book (length left) (length deals) left ranks deals (o .lots .0) 0
 unfolding dealsIn from
 going-start o book left ranks deals m room =
-    let os = firstOrders (length left) book in
+    let os = ordersIn (length left) book in
     let start = running-start o os (all-orders book (λ r. 0 < r .lots .0) (length left) (m .has-lots)) in
     record {
       ranked = all-orders book Ranked (length left) (m .ranked);
@@ -105,7 +107,7 @@ pub record Next (o : Order) (book ranks : List ℕ) (n best level : ℕ) : Type 
 
 module _ (o : Order) (book : List ℕ) (n m : ℕ) (left ranks deals : List ℕ) (wanted k : ℕ) (g : Going o book n m left ranks deals wanted k) where
   abbrev os : List Order
-  os = firstOrders n book
+  os = ordersIn n book
 
   -- no order is left
   pub ended-empty : (best : ℕ) → LowestOf ranks best → n ≤ best → Ended o os left wanted (dealsIn k deals)

@@ -10,13 +10,14 @@ use lib.ListN.{length, getD, length-map}
 use Rattle.arith.specs.Lists.{from, total}
 use Rattle.arith.specs.Tests.{by-bool}
 use Rattle.arith.specs.Alls.{All}
-use Rattle.arith.proofs.Appends.{from-more, from-length, map-append, map-at, from-at}
+use Rattle.arith.proofs.Appends.{from-length, map-at, from-at}
+use Rattle.tables.proofs.Left.{orders-more, orders-length}
 use Rattle.rules.specs.declared.order.Order.{Order}
 use Rattle.rules.specs.Ledger.{orderAt}
 use Rattle.matching.specs.Ranks.{lotsOf, rankIn, ranksOf, firstRank}
 use Rattle.rules.specs.Ranges.{mostLots}
 use Rattle.matching.specs.Crossing.{isOwn, crosses, ownLots, crossingLots, ownIn, crossingIn}
-use Rattle.matching.specs.Matching.{firstOrders}
+use Rattle.tables.specs.Fit.{ordersIn}
 use Rattle.matching.proofs.Best.{ranks-at}
 
 total-append : {A : Type 0} (f : A → ℕ) (l m : List A) → total f (l ++ m) ≡ total f l + total f m
@@ -29,17 +30,11 @@ unfolding total
 total-one f x = add-zero (f x)
 
 module _ (b : List ℕ) where
-  orders-more : (i : ℕ) → firstOrders (i + 1) b ≡ firstOrders i b ++ (orderAt b i ∷ [])
-  orders-more i = rw (add-one i, from-more 0 i, map-append (orderAt b) (from 0 i) ((0 + i) ∷ []), zero-add i)
-
-  pub orders-length : (n : ℕ) → length (firstOrders n b) ≡ n
-  orders-length n = length-map (from 0 n) (orderAt b) ∙ from-length 0 n
-
-  pub order-here : (n i : ℕ) (z : Order) → i < n → getD (firstOrders n b) i z ≡ orderAt b i
+  pub order-here : (n i : ℕ) (z : Order) → i < n → getD (ordersIn n b) i z ≡ orderAt b i
   order-here n i z h = map-at (orderAt b) (from 0 n) i 0 z (omega (arith, from-length 0 n)) ∙ ap (orderAt b) (from-at 0 n i 0 h ∙ zero-add i)
 
   -- what holds of the order at each place holds of each order
-  pub all-orders : (P : Order → Type 0) (n : ℕ) → ((i : ℕ) → i < n → P (orderAt b i)) → All P (firstOrders n b)
+  pub all-orders : (P : Order → Type 0) (n : ℕ) → ((i : ℕ) → i < n → P (orderAt b i)) → All P (ordersIn n b)
   unfolding from
   all-orders P n f = go n 0 (λ i _ h. f i (omega arith))
     where
@@ -47,18 +42,18 @@ module _ (b : List ℕ) where
       go zero a g = tt
       go (suc m) a g = (g a (omega arith) (omega arith), go m (suc a) (λ i h k. g i (omega arith) (omega arith)))
 
-  module _ (f : Order → ℕ) (i sum : ℕ) (known : sum ≡ total f (firstOrders i b)) where
-    pub total-next : sum + f (orderAt b i) ≡ total f (firstOrders (i + 1) b)
-    total-next = rw (orders-more i, total-append f (firstOrders i b) (orderAt b i ∷ []), total-one f (orderAt b i), known)
+  module _ (f : Order → ℕ) (i sum : ℕ) (known : sum ≡ total f (ordersIn i b)) where
+    pub total-next : sum + f (orderAt b i) ≡ total f (ordersIn (i + 1) b)
+    total-next = rw (orders-more b i, total-append f (ordersIn i b) (orderAt b i ∷ []), total-one f (orderAt b i), known)
 
   -- the columns while nothing is used
   module _ (o : Order) (n i : ℕ) (h : i < n) where
-    pub lots-here : getD (map lotsOf (firstOrders n b)) i 0 ≡ orderAt b i .lots .0
-    lots-here = map-at lotsOf (firstOrders n b) i (orderAt b i) 0 (omega (arith, orders-length n)) ∙ ap lotsOf (order-here n i (orderAt b i) h)
+    pub lots-here : getD (map lotsOf (ordersIn n b)) i 0 ≡ orderAt b i .lots .0
+    lots-here = map-at lotsOf (ordersIn n b) i (orderAt b i) 0 (omega (arith, orders-length b n)) ∙ ap lotsOf (order-here n i (orderAt b i) h)
 
-    pub rank-here : getD (firstRank o (firstOrders n b)) i 0 ≡ rankIn o (orderAt b i .lots .0) (orderAt b i)
+    pub rank-here : getD (firstRank o (ordersIn n b)) i 0 ≡ rankIn o (orderAt b i .lots .0) (orderAt b i)
     rank-here =
-        ranks-at o (orderAt b i) (map lotsOf (firstOrders n b)) (firstOrders n b) i (length-map (firstOrders n b) lotsOf) (omega (arith, orders-length n))
+        ranks-at o (orderAt b i) (map lotsOf (ordersIn n b)) (ordersIn n b) i (length-map (ordersIn n b) lotsOf) (omega (arith, orders-length b n))
         ∙ rw (lots-here, order-here n i (orderAt b i) h)
 
 -- ---- what an incoming order finds among the first i orders
@@ -71,8 +66,8 @@ unfolding crossingLots
 crossing-most o r = by-bool (λ t. cond t (r .lots .0) 0 ≤ r .lots .0) (crosses o r) (λ _. omega arith) (λ _. omega arith)
 
 pub record Measuring (o : Order) (b : List ℕ) (i own lots : ℕ) : Type 0 where
-  pub own-lots : own ≡ ownIn o (firstOrders i b)
-  pub crossing-lots : lots ≡ crossingIn o (firstOrders i b)
+  pub own-lots : own ≡ ownIn o (ordersIn i b)
+  pub crossing-lots : lots ≡ crossingIn o (ordersIn i b)
   pub own-few : own ≤ i * mostLots
   pub crossing-few : lots ≤ i * mostLots
 

@@ -15,7 +15,7 @@ use Rattle.arith.specs.Tests.{by-eqb, true-or, le-or-lt}
 use Rattle.rules.specs.declared.order.Order.{Order}
 use Rattle.rules.specs.Matching.{best, opposes, meets, withLots, used, Deal, Matched, stopped, afterDeal, matching, matched}
 use Rattle.matching.specs.declared.deals.Counterparty.{Counterparty}
-use Rattle.matching.specs.Left.{leftOver}
+use Rattle.tables.specs.Left.{leftOver}
 use Rattle.matching.specs.Ranks.{Ranked, rankOf, noRank, rankIn, ranksOf, lotsOf, Lowest}
 use Rattle.matching.specs.Deals.{counterparty, counterpartyOf}
 use Rattle.matching.specs.Matching.{Ended}

@@ -14,7 +14,7 @@ use Rattle.arith.specs.Tests.{by-bool, by-eqb, true-or, le-or-lt, and-left, and
 use Rattle.rules.specs.declared.order.Order.{Order}
 use Rattle.rules.specs.Matching.{best, better, opposes, meets, withLots, used, Matched, stopped, afterDeal, matching}
 use Rattle.rules.specs.Refusals.{distinct}
-use Rattle.matching.specs.Left.{leftOver}
+use Rattle.tables.specs.Left.{leftOver}
 use Rattle.matching.specs.Ranks.{Ranked, rankOf, noRank, rankIn, ranksOf, Lowest}
 use Rattle.matching.proofs.Best.{best-lowest, ranks-at, live, rank-below}
 

@@ -1,4 +1,3 @@
-pub mod Left
 pub mod Crossing
 pub mod Ranks
 pub mod Deals

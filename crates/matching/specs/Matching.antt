@@ -5,20 +5,17 @@ use mathlib.Core.Bool.{cond, true}
 use mathlib.Core.List.{List, map}
 use lib.Dec.{eqb}
 use lib.ListN.{length, getD, set}
-use Rattle.arith.specs.Lists.{from, over}
+use Rattle.arith.specs.Lists.{over}
 use Rattle.rules.specs.declared.order.Order.{Order}
 use Rattle.rules.specs.Ranges.{mostLots, mostOrders}
 use Rattle.rules.specs.Ledger.{bookLength, orderAt}
 use Rattle.rules.specs.Matching.{matched}
 use Rattle.rules.specs.Refusals.{distinct}
 use Rattle.matching.specs.declared.deals.Counterparty.{Counterparty}
-use Rattle.matching.specs.Left.{leftOver}
+use Rattle.tables.specs.Fit.{ordersIn}
+use Rattle.tables.specs.Left.{leftOver}
 use Rattle.matching.specs.Ranks.{Ranked, noRank, lotsOf, firstRank}
 use Rattle.matching.specs.Deals.{counterparty, counterpartyOf, dealWidth, dealPlaces}
-
--- The orders of the first n places of a book.
-abbrev pub firstOrders : ℕ → List ℕ → List Order
-firstOrders n book = map (orderAt book) (from 0 n)
 
 -- Deal k is with the order at i, for what is wanted or what is left of it; then so much is still wanted.
 pub record DealMade (book : List ℕ) (k i wanted : ℕ) (left ranks deals : List ℕ) (still : ℕ) (left′ ranks′ deals′ : List ℕ) : Type 0 where
@@ -35,9 +32,9 @@ pub record Matchable (o : Order) (book left ranks : List ℕ) : Type 0 where
   pub most-orders : length left ≤ mostOrders
   pub ranked : (i : ℕ) → i < length left → Ranked (orderAt book i)
   pub has-lots : (i : ℕ) → i < length left → 1 ≤ orderAt book i .lots .0
-  pub numbers-distinct : distinct (map (λ r. r .number) (firstOrders (length left) book)) ≡ true
-  pub all-left : left ≡ map lotsOf (firstOrders (length left) book)
-  pub all-ranked : ranks ≡ firstRank o (firstOrders (length left) book)
+  pub numbers-distinct : distinct (map (λ r. r .number) (ordersIn (length left) book)) ≡ true
+  pub all-left : left ≡ map lotsOf (ordersIn (length left) book)
+  pub all-ranked : ranks ≡ firstRank o (ordersIn (length left) book)
 
 -- Where matching ends: its deals, what is left of the incoming order, and what is left of the others.
 pub record Ended (o : Order) (os : List Order) (left : List ℕ) (x : ℕ) (ds : List Counterparty) : Type 0 where

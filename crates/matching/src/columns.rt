@@ -5,7 +5,7 @@ ghost use mathlib.Core.List.{map};
 ghost use Prim.Native.Nat.{ℕ, _-_, _≤_, _<_};
 ghost use lib.Dec.{eqb};
 ghost use lib.ListN.{length, getD, set};
-ghost use Rattle.arith.specs.Lists.{from};
+ghost use Rattle.tables.specs.Fit.{ordersIn};
 ghost use Rattle.rules.specs.Ranges.{mostOrders};
 ghost use Rattle.rules.specs.Ledger.{bookLength, orderAt};
 ghost use Rattle.matching.specs.Ranks.{Ranked, LowestOf, noRank, lotsOf, rankIn, ranksOf, firstRank};
@@ -31,8 +31,8 @@ fn rank_in(o: Order, r: Order) -> u64
 pub fn write_columns(book: &[u64], o: Order, left: &mut [u64], ranks: &mut [u64])
     requires { ⌜ (length (now left) ≤ mostOrders) × (length (now ranks) ≡ length (now left)) × (bookLength ≤ length (now book)) ⌝ }
     requires { ⌜ ((i : ℕ) → i < length (now left) → Ranked (orderAt (now book) i) × (0 < orderAt (now book) i .lots .0)) ⌝ }
-    ensures { λ _. ⌜ now (left .exit) ≡ map lotsOf (map (orderAt (now (book .entry))) (from 0 (length (now (left .entry))))) ⌝ }
-    ensures { λ _. ⌜ now (ranks .exit) ≡ firstRank o (map (orderAt (now (book .entry))) (from 0 (length (now (left .entry))))) ⌝ }
+    ensures { λ _. ⌜ now (left .exit) ≡ map lotsOf (ordersIn (length (now (left .entry))) (now (book .entry))) ⌝ }
+    ensures { λ _. ⌜ now (ranks .exit) ≡ firstRank o (ordersIn (length (now (left .entry))) (now (book .entry))) ⌝ }
 {
     let mut i: usize = 0;
     while i < left.len() {

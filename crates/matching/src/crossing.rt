@@ -1,9 +1,8 @@
 // What an incoming order finds in the book, measured in one pass before anything is written.
 ghost use mathlib.Core.Path.{_≡_};
-ghost use mathlib.Core.List.{map};
 ghost use Prim.Native.Nat.{ℕ, _≤_, _<_};
 ghost use lib.ListN.{length};
-ghost use Rattle.arith.specs.Lists.{from};
+ghost use Rattle.tables.specs.Fit.{ordersIn};
 ghost use Rattle.rules.specs.Ranges.{mostLots, mostOrders};
 ghost use Rattle.rules.specs.Ledger.{bookLength, orderAt};
 ghost use Rattle.matching.specs.Crossing.{ownLots, crossingLots, ownIn, crossingIn};
@@ -42,8 +41,8 @@ fn crossing_lots(o: Order, r: Order) -> u64
 pub fn measure(book: &[u64], count: usize, o: Order) -> Crossing
     requires { ⌜ (count ≤ mostOrders) × (bookLength ≤ length (now book)) ⌝ }
     requires { ⌜ ((i : ℕ) → i < count → orderAt (now book) i .lots .0 ≤ mostLots) ⌝ }
-    ensures { λ r. ⌜ r .own ≡ ownIn o (map (orderAt (now (book .entry))) (from 0 count)) ⌝ }
-    ensures { λ r. ⌜ r .lots ≡ crossingIn o (map (orderAt (now (book .entry))) (from 0 count)) ⌝ }
+    ensures { λ r. ⌜ r .own ≡ ownIn o (ordersIn count (now (book .entry))) ⌝ }
+    ensures { λ r. ⌜ r .lots ≡ crossingIn o (ordersIn count (now (book .entry))) ⌝ }
 {
     let mut own: u64 = 0;
     let mut lots: u64 = 0;

@@ -5,9 +5,9 @@ ghost use Prim.Native.Nat.{ℕ, _*_, _≤_, _<_, min};
 ghost use lib.ListN.{length, getD};
 ghost use Rattle.rules.specs.Ranges.{mostLots, mostOrders};
 ghost use Rattle.rules.specs.Ledger.{bookLength, orderAt};
-ghost use Rattle.matching.specs.Ranks.{Ranked};
+ghost use Rattle.tables.specs.Fit.{ordersIn};
 ghost use Rattle.matching.specs.Deals.{dealWidth, dealsIn};
-ghost use Rattle.matching.specs.Matching.{DealMade, Matchable, Ended, firstOrders};
+ghost use Rattle.matching.specs.Matching.{DealMade, Matchable, Ended};
 use crate::columns::lowest_of;
 use crate::columns::use_lots;
 use crate::deals::Counterparty;
@@ -82,7 +82,7 @@ pub fn match_orders(
     deals: &mut [u64],
 ) -> Matched
     requires { ⌜ Matchable o (now book) (now left) (now ranks) × (mostLots * dealWidth ≤ length (now deals)) ⌝ }
-    ensures { λ r. ⌜ Ended o (firstOrders (length (now (left .entry))) (now (book .entry))) (now (left .exit)) (r .left) (dealsIn (r .deals) (now (deals .exit))) ⌝ }
+    ensures { λ r. ⌜ Ended o (ordersIn (length (now (left .entry))) (now (book .entry))) (now (left .exit)) (r .left) (dealsIn (r .deals) (now (deals .exit))) ⌝ }
     ensures { λ r. ⌜ r .deals ≤ mostLots ⌝ }
 {
     let count = left.len();

@@ -26,6 +26,10 @@ pub record Tables : Type 0 where
   pub book : List ℕ
   pub lines : List ℤ
 
+-- The lent lists as this record.
+abbrev pub lent : List ℕ → List ℕ → List ℤ → List ℤ → List ℕ → List ℤ → Tables
+lent head prices lots value book lines = record { head = head; prices = prices; lots = lots; value = value; book = book; lines = lines }
+
 -- A table with one of its lists changed.
 abbrev pub withHead : List ℕ → Tables → Tables
 withHead l t = record { head = l; prices = t .prices; lots = t .lots; value = t .value; book = t .book; lines = t .lines }

@@ -1,9 +1,7 @@
-pub mod Signed
-pub mod Scans
-pub mod Numbers
 pub mod Tests
-pub mod Books
 pub mod Sound
-pub mod Writes
-pub mod Removal
+pub mod Left
+pub mod Amounts
 pub mod Booked
+pub mod Fits
+pub mod Heads

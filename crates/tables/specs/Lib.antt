@@ -1,4 +1,4 @@
-pub mod Lent
-pub mod Orders
+pub mod Fit
+pub mod Left
 pub mod Lines
-pub mod Spans
+pub mod Headers

@@ -1,23 +1,26 @@
--- A deal line, and the orders that leave a book.
-use Prim.Native.Nat.{ℕ}
-use mathlib.Core.Bool.{Bool, not, _&&_}
-use mathlib.Core.List.{List, map}
-use lib.Dec.{eqb}
-use Rattle.arith.specs.Lists.{kept, from}
-use Rattle.rules.specs.declared.order.Order.{Order}
-use Rattle.rules.specs.declared.order.Side.{Side}
-use Rattle.rules.specs.Ledger.{Line, orderAt}
+-- A deal line as code hands it over, and the tables with one more line booked.
+use Prim.Native.Nat.{ℕ, _+_, _*_, _≤_, _<_}
+use mathlib.Core.List.{List, [], _∷_}
+use lib.IntN.{natAbs}
+use Rattle.arith.specs.Lists.{over}
+use Rattle.rules.specs.Ranges.{contractCount, mostPrice, mostLotsRun}
+use Rattle.rules.specs.Ledger.{Tables, Line, withHead, withRows, withLines, withLotsRun, lotsRun, lineWidth, linePlaces, lineLots, lineValue, posted}
 use Rattle.rules.specs.Matching.{signed}
-use Rattle.tables.specs.declared.orders.Leaving.{Leaving}
-use Rattle.tables.specs.declared.orders.Leaving.the-variants.{Numbered, OfMember}
+use Rattle.tables.specs.declared.lines.DealLine.{DealLine}
+use Rattle.tables.specs.Fit.{membersIn, lotsRunIn}
 
-abbrev pub dealLine : ℕ → ℕ → Side → ℕ → ℕ → Line
-dealLine member contract side lots price = record { member = member; contract = contract; lots = signed side lots; price = price }
+abbrev pub lineOf : DealLine → Line
+lineOf l = record { member = l .member; contract = l .contract; lots = signed (l .side) (l .lots .0); price = l .price .0 }
 
-abbrev pub leaves : Leaving → Order → Bool
-leaves (Numbered n m) o = eqb (o .number) n && eqb (o .member) m
-leaves (OfMember m) o = eqb (o .member) m
+-- A line of one of the ledger's members and contracts whose lots the lots run can still take.
+pub record LineFit (head : List ℕ) (l : DealLine) : Type 0 where
+  pub member-below : l .member < membersIn head
+  pub contract-below : l .contract < contractCount
+  pub most-price : l .price .0 ≤ mostPrice
+  pub most-lots : lotsRunIn head + l .lots .0 ≤ mostLotsRun
 
--- The orders of the first n places that stay.
-unfoldable pub stays : Leaving → ℕ → List ℕ → List Order
-stays w n book = kept (λ o. not (leaves w o)) (map (orderAt book) (from 0 n))
+-- Line i printed, added to its row and counted in the lots run.
+unfoldable pub withLine : ℕ → Line → Tables → Tables
+withLine i l t =
+    withLines (over (i * lineWidth) (linePlaces l) (t .lines))
+    (withRows (posted lineLots (l ∷ []) (t .lots)) (posted lineValue (l ∷ []) (t .value)) (withHead (withLotsRun (lotsRun t + natAbs (l .lots)) (t .head)) t))

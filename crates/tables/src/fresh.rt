@@ -6,7 +6,8 @@ ghost use lib.ListN.{length, replicate};
 ghost use lib.IntN.{ℤ, pos};
 ghost use Rattle.arith.specs.Lists.{over};
 ghost use Rattle.rules.specs.Ledger.{fresh, freshHead, freshPrices, freshRows};
-ghost use Rattle.tables.specs.Lent.{lent, header};
+ghost use Rattle.rules.specs.Ledger.{lent};
+ghost use Rattle.tables.specs.Headers.{header};
 use rules::DayNo;
 
 const CONTRACTS: usize = 102;

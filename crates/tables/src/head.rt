@@ -1,93 +1,24 @@
-// The head: the header's fields, day, time, counts and what is kept for each member.
+// The head: its day, and its time with what is counted in the present second.
 ghost use mathlib.Core.Path.{_≡_};
-ghost use mathlib.Core.List.{List};
-ghost use Prim.Native.Nat.{ℕ, _+_, _≤_};
-ghost use lib.ListN.{length, getD};
-ghost use lib.IntN.{ℤ};
-ghost use Rattle.arith.specs.Lists.{every, from};
-ghost use Rattle.rules.specs.Ledger.{isOpen, timed};
-ghost use Rattle.rules.specs.Refusals.{memberSound, headSound};
-ghost use Rattle.calendar.specs.Bounds.{FirstYear};
-ghost use Rattle.tables.specs.Lent.{lent};
-use crate::days::is_calendar_sound;
-use crate::days::is_day_sound;
+ghost use Prim.Native.Nat.{_≤_, _<_};
+ghost use lib.ListN.{length};
+ghost use Rattle.rules.specs.Ranges.{contractCount, mostMembers};
+ghost use Rattle.rules.specs.Ledger.{Tables, withHead, headLength, isOpen, timed};
+ghost use Rattle.tables.specs.Fit.{HeadFit, membersIn};
 use crate::fresh::clear_at;
 use rules::DayNo;
-
-const FIRST_YEAR: usize = 0;
-
-const MEMBERS: usize = 1;
-
-const HOLIDAY_COUNT: usize = 2;
-
-const DAY: usize = 3;
-
-const TIME: usize = 4;
-
-const ACCEPTED: usize = 5;
-
-const LOTS_RUN: usize = 6;
-
-const ORDER_COUNT: usize = 7;
-
-const HOLIDAYS: usize = 8;
-
-const LIMITS: usize = 128;
-
-const MARKS: usize = 160;
-
-const SUBMITS: usize = 192;
-
-// Each member's limit, mark and count in the present second.
-fn are_members_sound(head: &[u64], members: u64) -> bool
-    requires { ⌜ (224 ≤ length (now head)) × (members ≤ 32) ⌝ }
-    ensures { λ r. ⌜ ((p : List ℕ) (l v : List ℤ) (b : List ℕ) (n : List ℤ) → r ≡ every (memberSound (lent (now (head .entry)) p l v b n)) (from 0 members)) ⌝ }
-{
-    let count = members as usize;
-    let mut ok = true;
-    let mut m: usize = 0;
-    while m < count {
-        ok = ok
-            & ((head[LIMITS + m] <= 100000) & (head[MARKS + m] <= 1) & (head[SUBMITS + m] <= 5));
-        m += 1;
-    }
-    ok
-}
-
-// Every count is tested before it is used.
-pub fn is_head_sound(head: &[u64]) -> bool
-    requires { ⌜ 224 ≤ length (now head) ⌝ }
-    ensures { λ r. ⌜ ((p : List ℕ) (l v : List ℤ) (b : List ℕ) (n : List ℤ) → r ≡ headSound (lent (now (head .entry)) p l v b n)) ⌝ }
-{
-    let first_year = head[FIRST_YEAR];
-    let members = head[MEMBERS];
-    let count = head[HOLIDAY_COUNT];
-    if 120 < count {
-        return false;
-    }
-    let end = HOLIDAYS + count as usize;
-    let holidays = &head[HOLIDAYS..end];
-    if !is_calendar_sound(first_year, holidays) {
-        return false;
-    }
-    if members < 1 {
-        return false;
-    }
-    if 32 < members {
-        return false;
-    }
-    let day = is_day_sound(first_year, holidays, DayNo(head[DAY]));
-    let counts = (head[TIME] <= 86399)
-        & (head[ACCEPTED] <= 4000000000)
-        & (head[LOTS_RUN] <= 5000000)
-        & (head[ORDER_COUNT] <= 256);
-    day & counts & are_members_sound(head, members)
-}
+use rules::layout::DAY;
+use rules::layout::FIRST_YEAR;
+use rules::layout::HOLIDAY_COUNT;
+use rules::layout::HOLIDAYS;
+use rules::layout::MEMBERS;
+use rules::layout::SUBMITS;
+use rules::layout::TIME;
 
 // Whether a contract is open on the ledger's day.
 pub fn is_contract_open(head: &[u64], contract: u64) -> bool
-    requires { ⌜ (224 ≤ length (now head)) × FirstYear (getD (now head) 0 0) × (getD (now head) 2 0 ≤ 120) × (contract ≤ 101) ⌝ }
-    ensures { λ r. ⌜ ((p : List ℕ) (l v : List ℤ) (b : List ℕ) (n : List ℤ) → r ≡ isOpen (lent (now (head .entry)) p l v b n) contract) ⌝ }
+    requires { ⌜ HeadFit (now head) × (contract < contractCount) ⌝ }
+    ensures { λ r. ⌜ ((t : Tables) → r ≡ isOpen (withHead (now (head .entry)) t) contract) ⌝ }
 {
     let end = HOLIDAYS + head[HOLIDAY_COUNT] as usize;
     calendar::is_open(
@@ -100,8 +31,8 @@ pub fn is_contract_open(head: &[u64], contract: u64) -> bool
 
 // An accepted record's time; in a later second nobody has submitted yet.
 pub fn set_time(head: &mut [u64], time: u64)
-    requires { ⌜ (224 ≤ length (now head)) × (getD (now head) 1 0 ≤ 32) ⌝ }
-    ensures { λ _. ⌜ ((p : List ℕ) (l v : List ℤ) (b : List ℕ) (n : List ℤ) → lent (now (head .exit)) p l v b n ≡ timed time (lent (now (head .entry)) p l v b n)) ⌝ }
+    requires { ⌜ (headLength ≤ length (now head)) × (membersIn (now head) ≤ mostMembers) ⌝ }
+    ensures { λ _. ⌜ ((t : Tables) → withHead (now (head .exit)) t ≡ timed time (withHead (now (head .entry)) t)) ⌝ }
 {
     if time <= head[TIME] {
         return;

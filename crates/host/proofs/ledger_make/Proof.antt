@@ -1,4 +1,4 @@
-use Rattle.tables.specs.Lent.{lent}
+use Rattle.rules.specs.Ledger.{lent}
 use Rattle.host.proofs.Told.{made}
 use borrow.Author.Needs.{needs}
 use Rattle.host.proofs.ledger_make.Statement.{statement}

@@ -7,8 +7,9 @@ use native.Mathlib.Omega.{arith}
 use Rattle.arith.proofs.Writes.{front-next, front-end}
 use Rattle.matching.specs.Ranks.{lotsOf, firstRank, rankIn}
 use Rattle.matching.proofs.Best.{ranks-length}
-use Rattle.matching.specs.Matching.{firstOrders}
-use Rattle.matching.proofs.Passes.{orders-length, lots-here, rank-here}
+use Rattle.tables.specs.Fit.{ordersIn}
+use Rattle.tables.proofs.Left.{orders-length}
+use Rattle.matching.proofs.Passes.{lots-here, rank-here}
 use Rattle.matching.proofs.columns.write_columns.Statement.{statement}
 use Rattle.matching.proofs.columns.write_columns.Tie as tie
 use Rattle.matching.proofs.columns.write_columns.Reads as reads
@@ -17,7 +18,7 @@ use Rattle.matching.proofs.columns.rank_in.Reads as rank-in-reads
 use Rattle.tables.proofs.order_at.Reads as order-at-reads
 
 abbrev Inv-loop : tie.InvT-loop
-Inv-loop book o left₀ ranks₀ i₀ left ranks i = (length left ≡ length left₀) × (length ranks ≡ length ranks₀) × (i ≤ length left₀) × (left ≡ take i (map lotsOf (firstOrders (length left₀) book)) ++ drop i left₀) × (ranks ≡ take i (firstRank o (firstOrders (length left₀) book)) ++ drop i ranks₀)
+Inv-loop book o left₀ ranks₀ i₀ left ranks i = (length left ≡ length left₀) × (length ranks ≡ length ranks₀) × (i ≤ length left₀) × (left ≡ take i (map lotsOf (ordersIn (length left₀) book)) ++ drop i left₀) × (ranks ≡ take i (firstRank o (ordersIn (length left₀) book)) ++ drop i ranks₀)
 
 abbrev μ-loop : tie.MeasureT-loop
 μ-loop book o left₀ ranks₀ i₀ left ranks i = length left₀ - i
@@ -64,7 +65,7 @@ loop-again c =
     let a = c .before .before .before .before .before .before .before .args in
     let l = c .before .before .before .loop in
     let n = length (a .left .now) in
-    let os = firstOrders n (a .book .now) in
+    let os = ordersIn n (a .book .now) in
     let h : l .i < n = omega arith in
     let ranks = ranks-length (a .o) (map lotsOf os) os (length-map os lotsOf) in
     let lots : c .before .order-at .result .lots .0 ≡ getD (map lotsOf os) (l .i) 0 = ap (λ r. r .lots .0) (c .before .order-at .ensures) ∙ sym (lots-here (a .book .now) (a .o) n (l .i) h) in
@@ -92,7 +93,7 @@ returns c =
     let a = c .before .before .before .before .before .args in
     let l = c .before .loop in
     let n = length (a .left .now) in
-    let os = firstOrders n (a .book .now) in
+    let os = ordersIn n (a .book .now) in
     let h : n ≤ l .i = omega arith in
     (
       l .inv .3 ∙ front-end (l .i) (map lotsOf os) (a .left .now) (omega (arith, length-map os lotsOf, orders-length (a .book .now) n)) h,

@@ -1,84 +1,119 @@
+use native.Mathlib.Nat.{add-zero}
+use Prim.Native.Nat.{_*_}
 use borrow.Author.Needs.{needs}
 use Rattle.tables.proofs.book.order_at.Statement.{statement}
 use Rattle.tables.proofs.book.order_at.Tie as tie
+use Rattle.tables.proofs.book.order_at.Reads as reads
+use Rattle.tables.proofs.book.order_at.Lts as lts
+use Rattle.tables.proofs.book.side_of.Reads as side-of-reads
 
+-- src/book.rt:58:14
 mul-at : tie.Need-mul-at
 mul-at c = search needs
 
+-- src/book.rt:59:29
 add-side-of : tie.Need-add-side-of
 add-side-of c = search needs
 
+-- src/book.rt:59:24
 mul-side-of : tie.Need-mul-side-of
 mul-side-of c = search needs
 
+-- src/book.rt:59:24
 shared-slice-read-side-of : tie.Need-shared-slice-read-side-of
 shared-slice-read-side-of c = search needs
 
+-- src/book.rt:59:9
 side-of-requires : tie.Need-side-of-requires
 side-of-requires c κs = search needs
 
-mul-t5 : tie.Need-mul-t5
-mul-t5 c = search needs
+-- src/book.rt:61:22
+add-t5 : tie.Need-add-t5
+add-t5 c = search needs
 
+-- src/book.rt:61:17
+mul-t6 : tie.Need-mul-t6
+mul-t6 c = search needs
+
+-- src/book.rt:61:17
 shared-slice-read-t8 : tie.Need-shared-slice-read-t8
 shared-slice-read-t8 c = search needs
 
-add-t6 : tie.Need-add-t6
-add-t6 c = search needs
+-- src/book.rt:62:22
+add-t10 : tie.Need-add-t10
+add-t10 c = search needs
 
-mul-t10 : tie.Need-mul-t10
-mul-t10 c = search needs
+-- src/book.rt:62:17
+mul-t11 : tie.Need-mul-t11
+mul-t11 c = search needs
 
-shared-slice-read-t12 : tie.Need-shared-slice-read-t12
-shared-slice-read-t12 c = search needs
+-- src/book.rt:62:17
+shared-slice-read-t13 : tie.Need-shared-slice-read-t13
+shared-slice-read-t13 c = search needs
 
-add-t13 : tie.Need-add-t13
-add-t13 c = search needs
+-- src/book.rt:63:24
+add-t14 : tie.Need-add-t14
+add-t14 c = search needs
 
-mul-t14 : tie.Need-mul-t14
-mul-t14 c = search needs
+-- src/book.rt:63:19
+mul-t15 : tie.Need-mul-t15
+mul-t15 c = search needs
 
-shared-slice-read-t16 : tie.Need-shared-slice-read-t16
-shared-slice-read-t16 c = search needs
+-- src/book.rt:63:19
+shared-slice-read-t17 : tie.Need-shared-slice-read-t17
+shared-slice-read-t17 c = search needs
 
-add-t17 : tie.Need-add-t17
-add-t17 c = search needs
+-- src/book.rt:65:27
+add-t18 : tie.Need-add-t18
+add-t18 c = search needs
 
-mul-t18 : tie.Need-mul-t18
-mul-t18 c = search needs
+-- src/book.rt:65:22
+mul-t19 : tie.Need-mul-t19
+mul-t19 c = search needs
 
-shared-slice-read-t20 : tie.Need-shared-slice-read-t20
-shared-slice-read-t20 c = search needs
+-- src/book.rt:65:22
+shared-slice-read-t21 : tie.Need-shared-slice-read-t21
+shared-slice-read-t21 c = search needs
 
-add-t22 : tie.Need-add-t22
-add-t22 c = search needs
+-- src/book.rt:66:25
+add-t23 : tie.Need-add-t23
+add-t23 c = search needs
 
-mul-t23 : tie.Need-mul-t23
-mul-t23 c = search needs
+-- src/book.rt:66:20
+mul-t24 : tie.Need-mul-t24
+mul-t24 c = search needs
 
-shared-slice-read-t25 : tie.Need-shared-slice-read-t25
-shared-slice-read-t25 c = search needs
+-- src/book.rt:66:20
+shared-slice-read-t26 : tie.Need-shared-slice-read-t26
+shared-slice-read-t26 c = search needs
 
-add-t27 : tie.Need-add-t27
-add-t27 c = search needs
+-- src/book.rt:67:25
+add-t28 : tie.Need-add-t28
+add-t28 c = search needs
 
-mul-t28 : tie.Need-mul-t28
-mul-t28 c = search needs
+-- src/book.rt:67:20
+mul-t29 : tie.Need-mul-t29
+mul-t29 c = search needs
 
-shared-slice-read-t30 : tie.Need-shared-slice-read-t30
-shared-slice-read-t30 c = search needs
+-- src/book.rt:67:20
+shared-slice-read-t31 : tie.Need-shared-slice-read-t31
+shared-slice-read-t31 c = search needs
 
-add-t32 : tie.Need-add-t32
-add-t32 c = search needs
+-- src/book.rt:68:20
+add-t33 : tie.Need-add-t33
+add-t33 c = search needs
 
-mul-t33 : tie.Need-mul-t33
-mul-t33 c = search needs
+-- src/book.rt:68:15
+mul-t34 : tie.Need-mul-t34
+mul-t34 c = search needs
 
-shared-slice-read-t35 : tie.Need-shared-slice-read-t35
-shared-slice-read-t35 c = search needs
+-- src/book.rt:68:15
+shared-slice-read-t36 : tie.Need-shared-slice-read-t36
+shared-slice-read-t36 c = search needs
 
+-- src/book.rt:54:1
 returns : tie.Need-returns
-returns c = rw (c .before .before .before .before .before .before .before .side-of .ensures)
+returns c = rw (← c .before .before .before .before .before .before .before .side-of .ensures, add-zero (c .before .before .before .before .before .before .before .before .before .before .args .i * 8))
 
 pub order-at-spec : {M : Type 1} → statement M
 order-at-spec =
@@ -89,24 +124,25 @@ order-at-spec =
     mul-side-of
     shared-slice-read-side-of
     side-of-requires
-    mul-t5
+    add-t5
+    mul-t6
     shared-slice-read-t8
-    add-t6
-    mul-t10
-    shared-slice-read-t12
-    add-t13
-    mul-t14
-    shared-slice-read-t16
-    add-t17
-    mul-t18
-    shared-slice-read-t20
-    add-t22
-    mul-t23
-    shared-slice-read-t25
-    add-t27
-    mul-t28
-    shared-slice-read-t30
-    add-t32
-    mul-t33
-    shared-slice-read-t35
+    add-t10
+    mul-t11
+    shared-slice-read-t13
+    add-t14
+    mul-t15
+    shared-slice-read-t17
+    add-t18
+    mul-t19
+    shared-slice-read-t21
+    add-t23
+    mul-t24
+    shared-slice-read-t26
+    add-t28
+    mul-t29
+    shared-slice-read-t31
+    add-t33
+    mul-t34
+    shared-slice-read-t36
     returns)

@@ -1,4 +1,4 @@
-use Rattle.tables.proofs.Writes.{filled}
+use Rattle.arith.proofs.Writes.{filled}
 use borrow.Author.Needs.{needs}
 use Rattle.tables.proofs.fresh.clear_at.Statement.{statement}
 use Rattle.tables.proofs.fresh.clear_at.Tie as tie

@@ -4,7 +4,7 @@ use mathlib.Core.Path.{_≡_, refl, _∙_}
 use mathlib.Core.List.{_++_}
 use Prim.Native.Nat.{_-_, _≤_}
 use lib.ListN.{length, take, drop, length-set}
-use Rattle.tables.proofs.Writes.{front-next, front-end}
+use Rattle.arith.proofs.Writes.{front-next, front-end}
 use Rattle.tables.proofs.fresh.copy.Statement.{statement}
 use Rattle.tables.proofs.fresh.copy.Tie as tie
 

@@ -1,7 +1,7 @@
 use native.Mathlib.Omega.{arith}
 use Prim.Native.Nat.{_+_, _-_}
 use lib.ListN.{length}
-use Rattle.tables.proofs.Writes.{came-back}
+use Rattle.arith.proofs.Writes.{came-back}
 use borrow.Author.Needs.{needs}
 use Rattle.tables.proofs.fresh.write_at.Statement.{statement}
 use Rattle.tables.proofs.fresh.write_at.Tie as tie

@@ -1,7 +1,7 @@
 use native.Mathlib.Omega.{arith}
 use mathlib.Core.List.{[], _∷_}
 use lib.ListN.{length-set}
-use Rattle.tables.proofs.Writes.{stored}
+use Rattle.arith.proofs.Writes.{stored}
 use borrow.Author.Needs.{needs}
 use Rattle.tables.proofs.fresh.write_numbers.Statement.{statement}
 use Rattle.tables.proofs.fresh.write_numbers.Tie as tie

@@ -7,7 +7,7 @@ use Prim.Native.Nat.{ℕ, _*_, _-_, _≤_}
 use lib.ListN.{length, take, drop, length-set, length-take}
 use Rattle.arith.specs.Lists.{inEachBlock}
 use Rattle.rules.specs.Ledger.{freshPrices}
-use Rattle.tables.proofs.Writes.{stored, over-all, block-written}
+use Rattle.arith.proofs.Writes.{stored, over-all, block-written}
 use Rattle.tables.proofs.fresh.write_prices.Statement.{statement}
 use Rattle.tables.proofs.fresh.write_prices.Tie as tie
 

@@ -8,7 +8,7 @@ use lib.ListN.{length, take, drop, replicate, length-replicate}
 use Rattle.arith.specs.Lists.{over, inEachBlock}
 use Rattle.arith.specs.Overs.{over-length}
 use Rattle.rules.specs.Ledger.{freshRows}
-use Rattle.tables.proofs.Writes.{filled, over-front, block-written}
+use Rattle.arith.proofs.Writes.{filled, over-front, block-written}
 use Rattle.tables.proofs.fresh.write_rows.Statement.{statement}
 use Rattle.tables.proofs.fresh.write_rows.Tie as tie
 

@@ -33,7 +33,7 @@ is-open-requires c κs = search needs
 
 returns : tie.Need-returns
 unfolding isOpen
-returns c = let h = c .before .before .before .before .before .before .args .head .now in let cut : 8 + getD h 2 0 - 8 ≡ getD h 2 0 = omega arith in λ p l v b n. rw cut at (c .is-open .ensures)
+returns c = let h = c .before .before .before .before .before .before .args .head .now in let cut : 8 + getD h 2 0 - 8 ≡ getD h 2 0 = omega arith in λ t. rw cut at (c .is-open .ensures)
 
 pub is-contract-open-spec : {M : Type 1} → statement M
 is-contract-open-spec =

@@ -10,7 +10,7 @@ slice-read-if1 c = search needs
 
 returns : tie.Need-returns
 unfolding timed
-returns c = λ p l v b n. rw (le-ltb (getD (c .before .before .before .args .head .now) 4 0) (c .before .before .before .args .time) (c .if1 .taken))
+returns c = λ t. rw (le-ltb (getD (c .before .before .before .args .head .now) 4 0) (c .before .before .before .args .time) (c .if1 .taken))
 
 slice-read-members : tie.Need-slice-read-members
 slice-read-members c = search needs
@@ -26,7 +26,7 @@ same-length c = search needs
 
 returns-2 : tie.Need-returns-2
 unfolding timed withoutSubmits
-returns-2 c = λ p l v b n. rw (c .before .before .clear-at .ensures, lt-ltb (getD (c .before .before .before .before .before .before .before .before .args .head .now) 4 0) (c .before .before .before .before .before .before .before .before .args .time) (c .before .before .before .before .before .if1 .left))
+returns-2 c = λ t. rw (c .before .before .clear-at .ensures, lt-ltb (getD (c .before .before .before .before .before .before .before .before .args .head .now) 4 0) (c .before .before .before .before .before .before .before .before .args .time) (c .before .before .before .before .before .if1 .left))
 
 pub set-time-spec : {M : Type 1} → statement M
 set-time-spec =

@@ -1,0 +1,4 @@
+pub mod Scans
+pub mod Writes
+pub mod Appends
+pub mod Signed

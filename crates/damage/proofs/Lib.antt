@@ -1,0 +1,4 @@
+pub mod Numbers
+pub mod Tests
+pub mod Books
+pub mod Sound

@@ -1,0 +1,12 @@
+use Rattle.damage.proofs.Tests.{tests}
+use Rattle.damage.proofs.book.side_of.Statement.{statement}
+use Rattle.damage.proofs.book.side_of.Tie as tie
+
+returns : tie.Need-returns
+returns c = search tests
+
+returns-2 : tie.Need-returns-2
+returns-2 c = search tests
+
+pub side-of-spec : {M : Type 1} → statement M
+side-of-spec = tie.close (tie.spec returns returns-2)

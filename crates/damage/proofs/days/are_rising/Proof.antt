@@ -1,0 +1,67 @@
+use borrow.Author.Needs.{needs}
+use native.Mathlib.Omega.{arith}
+use mathlib.Core.Path.{_≡_, refl}
+use mathlib.Core.Bool.{_&&_}
+use Prim.Native.Nat.{_-_, _≤_}
+use lib.ListN.{length, drop}
+use Rattle.rules.specs.Header.{rising}
+use Rattle.damage.proofs.Numbers.{rising-next, rising-end}
+use Rattle.damage.proofs.days.are_rising.Statement.{statement}
+use Rattle.damage.proofs.days.are_rising.Tie as tie
+
+abbrev Inv-loop : tie.InvT-loop
+Inv-loop days ok₀ i₀ ok i = (i ≤ length days) × (ok && rising (drop i days) ≡ rising days)
+
+abbrev μ-loop : tie.MeasureT-loop
+μ-loop days ok₀ i₀ ok i = length days - i
+
+loop-holds : tie.Need-loop-holds Inv-loop μ-loop
+loop-holds c = (omega arith, refl)
+
+add-loop : tie.Need-add-loop Inv-loop μ-loop
+add-loop c = search needs
+
+mul-ok : tie.Need-mul-ok Inv-loop μ-loop
+mul-ok c = search needs
+
+shared-slice-read-ok : tie.Need-shared-slice-read-ok Inv-loop μ-loop
+shared-slice-read-ok c = search needs
+
+add-ok : tie.Need-add-ok Inv-loop μ-loop
+add-ok c = search needs
+
+mul-ok-2 : tie.Need-mul-ok-2 Inv-loop μ-loop
+mul-ok-2 c = search needs
+
+shared-slice-read-ok-2 : tie.Need-shared-slice-read-ok-2 Inv-loop μ-loop
+shared-slice-read-ok-2 c = search needs
+
+add-i : tie.Need-add-i Inv-loop μ-loop
+add-i c = search needs
+
+loop-less : tie.Need-loop-less Inv-loop μ-loop
+loop-less c = search needs
+
+loop-again : tie.Need-loop-again Inv-loop μ-loop
+loop-again c = let l = c .before .before .before .loop in (omega arith, rising-next (c .before .before .before .before .args .days .now) (l .i) (l .ok) (l .inv .1) (c .before .before .loop-test .taken))
+
+returns : tie.Need-returns Inv-loop μ-loop
+returns c = let l = c .before .loop in rising-end (c .before .before .args .days .now) (l .i) (l .ok) (l .inv .1) (c .loop-test .left)
+
+pub are-rising-spec : {M : Type 1} → statement M
+are-rising-spec =
+    tie.close
+    (tie.spec
+    Inv-loop
+    μ-loop
+    loop-holds
+    add-loop
+    mul-ok
+    shared-slice-read-ok
+    add-ok
+    mul-ok-2
+    shared-slice-read-ok-2
+    add-i
+    loop-less
+    loop-again
+    returns)

@@ -1,0 +1,95 @@
+use borrow.Author.Needs.{needs}
+use native.Mathlib.Omega.{arith}
+use mathlib.Core.Path.{_≡_}
+use mathlib.Core.Bool.{_&&_}
+use mathlib.Core.List.{List}
+use Prim.Native.Nat.{ℕ, _+_, _-_, _≤_}
+use lib.Dec.{leb}
+use lib.IntN.{ℤ}
+use lib.ListN.{getD}
+use Rattle.arith.specs.Lists.{every, from}
+use Rattle.rules.specs.Refusals.{memberSound}
+use Rattle.rules.specs.Ledger.{lent}
+use Rattle.arith.proofs.Scans.{each-start, each-next, each-end}
+use Rattle.damage.proofs.Tests.{all-three}
+use Rattle.damage.proofs.head.are_members_sound.Statement.{statement}
+use Rattle.damage.proofs.head.are_members_sound.Tie as tie
+
+abbrev Inv-loop : tie.InvT-loop
+Inv-loop head members count ok₀ m₀ ok m = (m ≤ members) × ((p : List ℕ) (l v : List ℤ) (b : List ℕ) (n : List ℤ) → ok && every (memberSound (lent head p l v b n)) (from m (members - m)) ≡ every (memberSound (lent head p l v b n)) (from 0 members))
+
+abbrev μ-loop : tie.MeasureT-loop
+μ-loop head members count ok₀ m₀ ok m = members - m
+
+loop-holds : tie.Need-loop-holds Inv-loop μ-loop
+loop-holds c = (omega arith, λ p l v b n. each-start (memberSound (lent (c .args .head .now) p l v b n)) (c .args .members))
+
+add-ok : tie.Need-add-ok Inv-loop μ-loop
+add-ok c = search needs
+
+mul-ok : tie.Need-mul-ok Inv-loop μ-loop
+mul-ok c = search needs
+
+shared-slice-read-ok : tie.Need-shared-slice-read-ok Inv-loop μ-loop
+shared-slice-read-ok c = search needs
+
+add-ok-2 : tie.Need-add-ok-2 Inv-loop μ-loop
+add-ok-2 c = search needs
+
+mul-ok-2 : tie.Need-mul-ok-2 Inv-loop μ-loop
+mul-ok-2 c = search needs
+
+shared-slice-read-ok-2 : tie.Need-shared-slice-read-ok-2 Inv-loop μ-loop
+shared-slice-read-ok-2 c = search needs
+
+add-ok-3 : tie.Need-add-ok-3 Inv-loop μ-loop
+add-ok-3 c = search needs
+
+mul-ok-3 : tie.Need-mul-ok-3 Inv-loop μ-loop
+mul-ok-3 c = search needs
+
+shared-slice-read-ok-3 : tie.Need-shared-slice-read-ok-3 Inv-loop μ-loop
+shared-slice-read-ok-3 c = search needs
+
+add-m : tie.Need-add-m Inv-loop μ-loop
+add-m c = search needs
+
+loop-less : tie.Need-loop-less Inv-loop μ-loop
+loop-less c = search needs
+
+loop-again : tie.Need-loop-again Inv-loop μ-loop
+unfolding memberSound
+loop-again c =
+    let h = c .before .before .before .before .before .args .head .now in
+    let s = c .before .before .before .before .loop in (
+      omega arith,
+      λ p l v b n. rw (all-three (leb (getD h (128 + s .m) 0) 100000) (leb (getD h (160 + s .m) 0) 1) (leb (getD h (192 + s .m) 0) 5))
+          (each-next (memberSound (lent h p l v b n)) (c .before .before .before .before .before .args .members) (s .m) (s .ok) (every (memberSound (lent h p l v b n)) (from 0 (c .before .before .before .before .before .args .members))) (s .inv .1 p l v b n) (c .before .before .before .loop-test .taken)),
+    )
+
+returns : tie.Need-returns Inv-loop μ-loop
+returns c =
+    let h = c .before .before .args .head .now in
+    let s = c .before .loop in
+    λ p l v b n. each-end (memberSound (lent h p l v b n)) (c .before .before .args .members) (s .m) (s .ok) (every (memberSound (lent h p l v b n)) (from 0 (c .before .before .args .members))) (s .inv .1 p l v b n) (c .loop-test .left)
+
+pub are-members-sound-spec : {M : Type 1} → statement M
+are-members-sound-spec =
+    tie.close
+    (tie.spec
+    Inv-loop
+    μ-loop
+    loop-holds
+    add-ok
+    mul-ok
+    shared-slice-read-ok
+    add-ok-2
+    mul-ok-2
+    shared-slice-read-ok-2
+    add-ok-3
+    mul-ok-3
+    shared-slice-read-ok-3
+    add-m
+    loop-less
+    loop-again
+    returns)

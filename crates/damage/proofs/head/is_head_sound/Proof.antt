@@ -1,0 +1,121 @@
+use Rattle.rules.specs.Days.{Calendar}
+use native.Mathlib.Omega.{arith}
+use mathlib.Core.Path.{_≡_, sym, _∙_}
+use Prim.Native.Nat.{_+_, _-_}
+use lib.Dec.{leb}
+use lib.ListN.{take, drop, getD}
+use borrow.Author.Tests.{le-leb, lt-leb, not-true, not-false}
+use Rattle.arith.specs.Lists.{every, allOf, from}
+use Rattle.rules.specs.Header.{calendarSound, membersSound, daySound}
+use Rattle.rules.specs.Refusals.{headSound, memberSound}
+use Rattle.rules.specs.Ledger.{lent}
+use Rattle.damage.proofs.Tests.{all-nine}
+use Rattle.damage.proofs.Sound.{years}
+use borrow.Author.Needs.{needs}
+use Rattle.damage.proofs.head.is_head_sound.Statement.{statement}
+use Rattle.damage.proofs.head.is_head_sound.Tie as tie
+
+shared-slice-read-first-year : tie.Need-shared-slice-read-first-year
+shared-slice-read-first-year c = search needs
+
+shared-slice-read-members : tie.Need-shared-slice-read-members
+shared-slice-read-members c = search needs
+
+shared-slice-read-count : tie.Need-shared-slice-read-count
+shared-slice-read-count c = search needs
+
+returns : tie.Need-returns
+unfolding headSound allOf
+returns c = λ p l v b n. rw (lt-leb _ _ (c .if1 .taken))
+
+add-end : tie.Need-add-end
+add-end c = search needs
+
+sub-holidays : tie.Need-sub-holidays
+sub-holidays c = search needs
+
+part-holidays-start : tie.Need-part-holidays-start
+part-holidays-start c = search needs
+
+part-holidays-end : tie.Need-part-holidays-end
+part-holidays-end c = search needs
+
+is-calendar-sound-requires : tie.Need-is-calendar-sound-requires
+is-calendar-sound-requires c κs = search needs
+
+returns-2 : tie.Need-returns-2
+unfolding headSound allOf
+returns-2 c =
+    let h = c .before .before .before .before .before .before .before .before .args .head .now in
+    let cut : 8 + getD h 2 0 - 8 ≡ getD h 2 0 = omega arith in
+    λ p l v b n. rw (le-leb _ _ (c .before .before .before .if1 .left), ← (rw cut at (c .before .is-calendar-sound .ensures)), not-true (c .before .is-calendar-sound .result) (c .if2 .taken))
+
+returns-3 : tie.Need-returns-3
+unfolding headSound allOf
+returns-3 c =
+    let h = c .before .before .before .before .before .before .before .before .before .args .head .now in
+    let cut : 8 + getD h 2 0 - 8 ≡ getD h 2 0 = omega arith in
+    λ p l v b n. rw (le-leb _ _ (c .before .before .before .before .if1 .left), ← (rw cut at (c .before .before .is-calendar-sound .ensures)), not-false (c .before .before .is-calendar-sound .result) (c .before .if2 .left), lt-leb 1 (getD h 1 0) (c .if3 .taken))
+
+returns-4 : tie.Need-returns-4
+unfolding headSound allOf
+returns-4 c =
+    let h = c .before .before .before .before .before .before .before .before .before .before .args .head .now in
+    let cut : 8 + getD h 2 0 - 8 ≡ getD h 2 0 = omega arith in
+    λ p l v b n. rw (le-leb _ _ (c .before .before .before .before .before .if1 .left), ← (rw cut at (c .before .before .before .is-calendar-sound .ensures)), not-false (c .before .before .before .is-calendar-sound .result) (c .before .before .if2 .left), le-leb 1 (getD h 1 0) (c .before .if3 .left), lt-leb (getD h 1 0) 32 (c .if4 .taken))
+
+shared-slice-read-counts : tie.Need-shared-slice-read-counts
+shared-slice-read-counts c = search needs
+
+is-day-sound-requires : tie.Need-is-day-sound-requires
+is-day-sound-requires c κs = years _ (sym (c .before .before .before .before .is-calendar-sound .ensures) ∙ not-false (c .before .before .before .before .is-calendar-sound .result) (c .before .before .before .if2 .left))
+
+shared-slice-read-counts-2 : tie.Need-shared-slice-read-counts-2
+shared-slice-read-counts-2 c = search needs
+
+shared-slice-read-counts-3 : tie.Need-shared-slice-read-counts-3
+shared-slice-read-counts-3 c = search needs
+
+shared-slice-read-counts-4 : tie.Need-shared-slice-read-counts-4
+shared-slice-read-counts-4 c = search needs
+
+shared-slice-read-counts-5 : tie.Need-shared-slice-read-counts-5
+shared-slice-read-counts-5 c = search needs
+
+are-members-sound-requires : tie.Need-are-members-sound-requires
+are-members-sound-requires c κs = search needs
+
+returns-5 : tie.Need-returns-5
+unfolding headSound
+returns-5 c =
+    let h = c .before .before .before .before .before .before .before .before .before .before .before .before .before .before .before .before .before .args .head .now in
+    let k : Calendar = record { firstYear = getD h 0 0; holidays = take (getD h 2 0) (drop 8 h) } in
+    let cut : 8 + getD h 2 0 - 8 ≡ getD h 2 0 = omega arith in
+    λ p l v b n. rw (c .before .before .before .before .before .is-day-sound .ensures, cut, c .are-members-sound .ensures p l v b n)
+    (all-nine (leb (getD h 2 0) 120) (calendarSound k) (membersSound (getD h 1 0)) (daySound k (getD h 3 0)) (leb (getD h 4 0) 86399) (leb (getD h 5 0) 4000000000) (leb (getD h 6 0) 5000000) (leb (getD h 7 0) 256) (every (memberSound (lent h p l v b n)) (from 0 (getD h 1 0)))
+    (le-leb _ _ (c .before .before .before .before .before .before .before .before .before .before .before .before .if1 .left)) (sym (rw cut at (c .before .before .before .before .before .before .before .before .before .before .is-calendar-sound .ensures)) ∙ not-false (c .before .before .before .before .before .before .before .before .before .before .is-calendar-sound .result) (c .before .before .before .before .before .before .before .before .before .if2 .left)) (rw (le-leb 1 (getD h 1 0) (c .before .before .before .before .before .before .before .before .if3 .left), le-leb (getD h 1 0) 32 (c .before .before .before .before .before .before .before .if4 .left))))
+
+pub is-head-sound-spec : {M : Type 1} → statement M
+is-head-sound-spec =
+    tie.close
+    (tie.spec
+    shared-slice-read-first-year
+    shared-slice-read-members
+    shared-slice-read-count
+    returns
+    add-end
+    sub-holidays
+    part-holidays-start
+    part-holidays-end
+    is-calendar-sound-requires
+    returns-2
+    returns-3
+    returns-4
+    shared-slice-read-counts
+    is-day-sound-requires
+    shared-slice-read-counts-2
+    shared-slice-read-counts-3
+    shared-slice-read-counts-4
+    shared-slice-read-counts-5
+    are-members-sound-requires
+    returns-5)

@@ -1,0 +1,63 @@
+// The head: the header's fields, day, time, counts and what is kept for each member.
+ghost use mathlib.Core.Path.{_≡_};
+ghost use mathlib.Core.List.{List};
+ghost use Prim.Native.Nat.{ℕ, _+_, _≤_};
+ghost use lib.ListN.{length, getD};
+ghost use lib.IntN.{ℤ};
+ghost use Rattle.arith.specs.Lists.{every, from};
+ghost use Rattle.rules.specs.Refusals.{memberSound, headSound};
+ghost use Rattle.calendar.specs.Bounds.{FirstYear};
+ghost use Rattle.rules.specs.Ledger.{lent};
+use crate::days::is_calendar_sound;
+use crate::days::is_day_sound;
+use rules::DayNo;
+use rules::layout;
+use rules::ranges;
+
+// Each member's limit, mark and count in the present second.
+fn are_members_sound(head: &[u64], members: u64) -> bool
+    requires { ⌜ (224 ≤ length (now head)) × (members ≤ 32) ⌝ }
+    ensures { λ r. ⌜ ((p : List ℕ) (l v : List ℤ) (b : List ℕ) (n : List ℤ) → r ≡ every (memberSound (lent (now (head .entry)) p l v b n)) (from 0 members)) ⌝ }
+{
+    let count = members as usize;
+    let mut ok = true;
+    let mut m: usize = 0;
+    while m < count {
+        ok = ok
+            & ((head[layout::LIMITS + m] <= ranges::MOST_LIMIT)
+                & (head[layout::MARKS + m] <= 1)
+                & (head[layout::SUBMITS + m] <= ranges::MOST_SUBMITS_IN_SECOND));
+        m += 1;
+    }
+    ok
+}
+
+// Every count is tested before it is used.
+pub fn is_head_sound(head: &[u64]) -> bool
+    requires { ⌜ 224 ≤ length (now head) ⌝ }
+    ensures { λ r. ⌜ ((p : List ℕ) (l v : List ℤ) (b : List ℕ) (n : List ℤ) → r ≡ headSound (lent (now (head .entry)) p l v b n)) ⌝ }
+{
+    let first_year = head[layout::FIRST_YEAR];
+    let members = head[layout::MEMBERS];
+    let count = head[layout::HOLIDAY_COUNT];
+    if ranges::MOST_HOLIDAYS < count {
+        return false;
+    }
+    let end = layout::HOLIDAYS + count as usize;
+    let holidays = &head[layout::HOLIDAYS..end];
+    if !is_calendar_sound(first_year, holidays) {
+        return false;
+    }
+    if members < 1 {
+        return false;
+    }
+    if ranges::MOST_MEMBERS < members {
+        return false;
+    }
+    let day = is_day_sound(first_year, holidays, DayNo(head[layout::DAY]));
+    let counts = (head[layout::TIME] <= ranges::LAST_SECOND)
+        & (head[layout::ACCEPTED_SUBMITS] <= ranges::MOST_ACCEPTED_SUBMITS)
+        & (head[layout::LOTS_RUN] <= ranges::MOST_LOTS_RUN)
+        & (head[layout::ORDER_COUNT] <= ranges::MOST_ORDERS);
+    day & counts & are_members_sound(head, members)
+}

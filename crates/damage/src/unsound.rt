@@ -1,0 +1,46 @@
+// Whether what is lent is too short or damaged.
+ghost use mathlib.Core.Path.{_≡_};
+ghost use Rattle.rules.specs.Ledger.{lent};
+ghost use Rattle.rules.specs.Refusals.{unsound};
+use crate::book::is_book_sound;
+use crate::head::is_head_sound;
+use crate::lengths::is_ledger_short;
+use crate::lengths::is_lines_short;
+use crate::prices::are_prices_sound;
+use crate::rows::are_rows_within;
+use rules::layout;
+use rules::ranges;
+
+// Whatever the tables hold: each is read only where its length and the head's counts allow it.
+pub fn is_unsound(
+    head: &[u64],
+    prices: &[u64],
+    lots: &[i64],
+    value: &[i64],
+    book: &[u64],
+    lines: &[i64],
+) -> bool
+    ensures { λ r. ⌜ r ≡ unsound (lent (now (head .entry)) (now (prices .entry)) (now (lots .entry)) (now (value .entry)) (now (book .entry)) (now (lines .entry))) ⌝ }
+{
+    if is_ledger_short(head, prices, lots, value, book) {
+        return true;
+    }
+    if is_lines_short(lines) {
+        return true;
+    }
+    if !is_head_sound(head) {
+        return true;
+    }
+    let members = head[layout::MEMBERS];
+    let run = head[layout::LOTS_RUN];
+    if !are_prices_sound(prices, run) {
+        return true;
+    }
+    if !are_rows_within(lots, members, run) {
+        return true;
+    }
+    if !are_rows_within(value, members, ranges::MOST_PRICE * run) {
+        return true;
+    }
+    !is_book_sound(head, book)
+}

@@ -1,0 +1,125 @@
+use lib.Seq.{length-take-le}
+use mathlib.Core.Path.{_≡_, sym, _∙_}
+use mathlib.Core.Bool.{true}
+use mathlib.Core.List.{[]}
+use Rattle.rules.specs.Header.{beginsWithHeader}
+use Rattle.rules.specs.Refusals.{makeSpec}
+use Rattle.rules.specs.Ledger.{lent}
+use Rattle.tables.proofs.Sound.{lengths}
+use Rattle.making.proofs.Reading.{turned-back, read-well, holiday-room, limit-room, holiday-most, limit-most, as-written}
+use borrow.Author.Needs.{needs}
+use Rattle.making.proofs.make.Statement.{statement}
+use Rattle.making.proofs.make.Tie as tie
+
+-- Where the header has members, the bytes begin with a sound one.
+sound-at : (c : tie.Else2) → beginsWithHeader (c .before .before .before .before .before .before .before .before .before .before .before .before .before .before .args .bytes .now) ≡ true
+sound-at c = read-well (c .before .before .before .before .before .before .before .before .before .before .before .before .before .before .args .bytes .now) (c .before .before .before .read-header .result) (c .before .before .before .read-header .ensures) (c .if2 .left)
+
+is-ledger-short-requires : tie.Need-is-ledger-short-requires
+is-ledger-short-requires c κs = search needs
+
+same-length : tie.Need-same-length
+same-length c = search needs
+
+same-length-2 : tie.Need-same-length-2
+same-length-2 c = search needs
+
+same-length-3 : tie.Need-same-length-3
+same-length-3 c = search needs
+
+same-length-4 : tie.Need-same-length-4
+same-length-4 c = search needs
+
+returns : tie.Need-returns
+unfolding makeSpec
+returns c = λ n. rw (sym (c .before .is-ledger-short .ensures n) ∙ c .if1 .taken)
+
+read-header-requires : tie.Need-read-header-requires
+read-header-requires c κs = search needs
+
+same-length-5 : tie.Need-same-length-5
+same-length-5 c = search needs
+
+same-length-6 : tie.Need-same-length-6
+same-length-6 c = search needs
+
+same-length-7 : tie.Need-same-length-7
+same-length-7 c = search needs
+
+same-length-8 : tie.Need-same-length-8
+same-length-8 c = search needs
+
+returns-2 : tie.Need-returns-2
+unfolding makeSpec
+returns-2 c = λ n. rw (sym (c .before .before .before .before .before .is-ledger-short .ensures n) ∙ c .before .before .before .before .if1 .left, turned-back (c .before .before .before .before .before .before .before .before .before .before .before .before .before .before .args .bytes .now) (c .before .before .before .read-header .result) (c .before .before .before .read-header .ensures) (c .if2 .taken))
+
+array-share-prefix-holidays : tie.Need-array-share-prefix-holidays
+array-share-prefix-holidays c = holiday-room (c .before .before .before .before .before .before .before .before .before .before .before .before .before .before .before .before .before .before .before .before .args .bytes .now) (c .before .before .before .before .before .before .before .before .before .read-header .result) (c .before .before .before .before .before .before .before .before .before .read-header .ensures) (sound-at (c .before .before .before .before .before .before))
+
+slice-aggregate-write-fresh : tie.Need-slice-aggregate-write-fresh
+slice-aggregate-write-fresh c = sym (length-take-le (c .before .before .before .before .before .before .before .before .before .before .read-header .result .header .«holiday_count») (c .before .before .before .before .before .before .before .before .before .before .read-header .result .header .holidays) (holiday-room (c .before .before .before .before .before .before .before .before .before .before .before .before .before .before .before .before .before .before .before .before .before .args .bytes .now) (c .before .before .before .before .before .before .before .before .before .before .read-header .result) (c .before .before .before .before .before .before .before .before .before .before .read-header .ensures) (sound-at (c .before .before .before .before .before .before .before))))
+
+array-share-prefix-limits : tie.Need-array-share-prefix-limits
+array-share-prefix-limits c = limit-room (c .before .before .before .before .before .before .before .before .before .before .before .before .before .before .before .before .before .before .before .before .before .args .bytes .now) (c .before .before .before .before .before .before .before .before .before .before .read-header .result) (c .before .before .before .before .before .before .before .before .before .before .read-header .ensures) (sound-at (c .before .before .before .before .before .before .before))
+
+slice-aggregate-write-fresh-2 : tie.Need-slice-aggregate-write-fresh-2
+slice-aggregate-write-fresh-2 c = sym (length-take-le (c .before .before .before .before .before .before .before .before .before .before .before .read-header .result .header .members) (c .before .before .before .before .before .before .before .before .before .before .before .read-header .result .header .limits) (limit-room (c .before .before .before .before .before .before .before .before .before .before .before .before .before .before .before .before .before .before .before .before .before .before .args .bytes .now) (c .before .before .before .before .before .before .before .before .before .before .before .read-header .result) (c .before .before .before .before .before .before .before .before .before .before .before .read-header .ensures) (sound-at (c .before .before .before .before .before .before .before .before))))
+
+write-fresh-requires : tie.Need-write-fresh-requires
+write-fresh-requires c κs =
+    let a = c .before .before .before .before .before .before .before .before .before .before .before .before .before .before .before .before .before .before .before .before .before .before .args in
+    let s = a .bytes .now in
+    let r = c .before .before .before .before .before .before .before .before .before .before .before .read-header .result in
+    let e = c .before .before .before .before .before .before .before .before .before .before .before .read-header .ensures in
+    let b = sound-at (c .before .before .before .before .before .before .before .before) in
+    let w = lengths (lent (a .head .now) (a .prices .now) (a .lots .now) (a .value .now) (a .book .now) []) (sym (c .before .before .before .before .before .before .before .before .before .before .before .before .before .is-ledger-short .ensures []) ∙ c .before .before .before .before .before .before .before .before .before .before .before .before .if1 .left) in
+    ((w .head-length, w .prices-length, w .lots-length, w .value-length), (holiday-most s r e b, limit-most s r e b))
+
+same-length-9 : tie.Need-same-length-9
+same-length-9 c = search needs
+
+same-length-10 : tie.Need-same-length-10
+same-length-10 c = search needs
+
+same-length-11 : tie.Need-same-length-11
+same-length-11 c = search needs
+
+same-length-12 : tie.Need-same-length-12
+same-length-12 c = search needs
+
+returns-3 : tie.Need-returns-3
+unfolding makeSpec
+returns-3 c =
+    let a = c .before .before .before .before .before .before .before .before .before .before .before .before .before .before .before .before .before .before .before .before .before .before .before .before .before .before .before .before .before .args in
+    let s = a .bytes .now in
+    let r = c .before .before .before .before .before .before .before .before .before .before .before .before .before .before .before .before .before .before .read-header .result in
+    let e = c .before .before .before .before .before .before .before .before .before .before .before .before .before .before .before .before .before .before .read-header .ensures in
+    let b = sound-at (c .before .before .before .before .before .before .before .before .before .before .before .before .before .before .before) in
+    λ n. rw (sym (c .before .before .before .before .before .before .before .before .before .before .before .before .before .before .before .before .before .before .before .before .is-ledger-short .ensures n) ∙ c .before .before .before .before .before .before .before .before .before .before .before .before .before .before .before .before .before .before .before .if1 .left, b, c .before .before .before .before .before .before .write-fresh .ensures (a .book .now) n, as-written s r e b)
+
+pub make-spec : {M : Type 1} → statement M
+make-spec =
+    tie.close
+    (tie.spec
+    is-ledger-short-requires
+    same-length
+    same-length-2
+    same-length-3
+    same-length-4
+    returns
+    read-header-requires
+    same-length-5
+    same-length-6
+    same-length-7
+    same-length-8
+    returns-2
+    array-share-prefix-holidays
+    slice-aggregate-write-fresh
+    array-share-prefix-limits
+    slice-aggregate-write-fresh-2
+    write-fresh-requires
+    same-length-9
+    same-length-10
+    same-length-11
+    same-length-12
+    returns-3)

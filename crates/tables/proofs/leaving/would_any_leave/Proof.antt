@@ -1,0 +1,57 @@
+use borrow.Author.Needs.{needs}
+use native.Mathlib.Omega.{arith}
+use native.Mathlib.Nat.{sub-zero}
+use mathlib.Core.Path.{_≡_, ap, _∙_}
+use mathlib.Core.Bool.{_||_}
+use mathlib.Core.List.{map}
+use Prim.Native.Nat.{_-_, _≤_}
+use Rattle.arith.specs.Lists.{any, from}
+use Rattle.rules.specs.Ledger.{orderAt}
+use Rattle.tables.specs.Left.{leaves}
+use Rattle.arith.proofs.Scans.{some-next, some-end}
+use Rattle.tables.proofs.leaving.would_any_leave.Statement.{statement}
+use Rattle.tables.proofs.leaving.would_any_leave.Tie as tie
+
+abbrev Inv-loop : tie.InvT-loop
+Inv-loop book count w found₀ i₀ found i = (i ≤ count) × (found || any (leaves w) (map (orderAt book) (from i (count - i))) ≡ any (leaves w) (map (orderAt book) (from 0 count)))
+
+abbrev μ-loop : tie.MeasureT-loop
+μ-loop book count w found₀ i₀ found i = count - i
+
+loop-holds : tie.Need-loop-holds Inv-loop μ-loop
+loop-holds c = (omega arith, rw (sub-zero (c .before .args .count)))
+
+order-at-requires : tie.Need-order-at-requires Inv-loop μ-loop
+order-at-requires c κs = search needs
+
+does-leave-requires : tie.Need-does-leave-requires Inv-loop μ-loop
+does-leave-requires c κs = search needs
+
+add-i : tie.Need-add-i Inv-loop μ-loop
+add-i c = search needs
+
+loop-less : tie.Need-loop-less Inv-loop μ-loop
+loop-less c = search needs
+
+loop-again : tie.Need-loop-again Inv-loop μ-loop
+loop-again c =
+    let a = c .before .before .before .before .before .args in
+    let s = c .before .before .before .loop in
+    (omega arith, rw (c .does-leave .ensures ∙ ap (leaves (a .w)) (c .before .order-at .ensures)) (some-next (orderAt (a .book .now)) (leaves (a .w)) (a .count) (s .i) (s .found) (any (leaves (a .w)) (map (orderAt (a .book .now)) (from 0 (a .count)))) (s .inv .1) (c .before .before .loop-test .taken)))
+
+returns : tie.Need-returns Inv-loop μ-loop
+returns c = let a = c .before .before .before .args in let s = c .before .loop in some-end (orderAt (a .book .now)) (leaves (a .w)) (a .count) (s .i) (s .found) (any (leaves (a .w)) (map (orderAt (a .book .now)) (from 0 (a .count)))) (s .inv .1) (c .loop-test .left)
+
+pub would-any-leave-spec : {M : Type 1} → statement M
+would-any-leave-spec =
+    tie.close
+    (tie.spec
+    Inv-loop
+    μ-loop
+    loop-holds
+    order-at-requires
+    does-leave-requires
+    add-i
+    loop-less
+    loop-again
+    returns)
