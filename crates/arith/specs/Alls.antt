@@ -53,6 +53,10 @@ module _ {A : Type 0} where
   all-map P Q [] f h = tt
   all-map P Q (x ∷ l) f h = (f x (h .0), all-map P Q l f (h .1))
 
+  pub all-both : (P Q : A → Type 0) (l : List A) → All P l → All Q l → All (λ a. P a × Q a) l
+  all-both P Q [] h g = tt
+  all-both P Q (x ∷ l) h g = ((h .0, g .0), all-both P Q l (h .1) (g .1))
+
   pub all-append : (P : A → Type 0) (l m : List A) → All P l → All P m → All P (l ++ m)
   all-append P [] m h g = g
   all-append P (x ∷ l) m h g = (h .0, all-append P l m (h .1) g)

@@ -1,14 +1,14 @@
 -- A list in blocks of w places: tests passed block by block, and what is done in each block. Assumes nothing.
-use Prim.Native.Nat.{ℕ, zero, suc, _+_, _*_, _≤_, _<_}
+use Prim.Native.Nat.{ℕ, zero, suc, _+_, _*_, _-_, _≤_, _<_}
 use mathlib.Core.Path.{_≡_, refl, sym, ap, _∙_}
 use mathlib.Core.Bool.{Bool, true}
-use mathlib.Core.List.{List}
+use mathlib.Core.List.{List, _++_}
 use native.Mathlib.Omega.{arith}
 use native.Mathlib.Nat.{suc-mul, zero-mul}
-use lib.ListN.{length, take, drop, getD, length-drop}
+use lib.ListN.{length, take, drop, getD, length-drop, length-append}
 use lib.Seq.{length-take-le, drop-drop, take-at, drop-at, getD-take, getD-drop}
 use Rattle.arith.specs.Lists.{everyBlock, inEachBlock}
-use Rattle.arith.specs.Tests.{and-left, and-right}
+use Rattle.arith.specs.Tests.{same-or, and-left, and-right}
 
 module _ {A : Type 0} (w : ℕ) where
   -- the block of number c
@@ -47,3 +47,26 @@ module _ {A : Type 0} (w : ℕ) where
       let rest = inEachBlock w f n (drop w l) in
       rw (take-at (f (take w l)) rest w (done .0), drop-at (f (take w l)) rest w (done .0), done .1)
       (blocks-done p q f g n (drop w l) (simp length-drop (omega (arith, suc-mul n w))) (and-right (q (take w l)) (everyBlock w q n (drop w l)) e))
+
+  -- what is done in each block is done in the block of number c
+  pub in-each-block : (f : List A → List A) → ((b : List A) → length b ≡ w → length (f b) ≡ w)
+      → (n : ℕ) (l : List A) → n * w ≤ length l → (c : ℕ) → c < n → block c (inEachBlock w f n l) ≡ f (block c l)
+  unfolding inEachBlock
+  in-each-block f g zero l s c h = absurd (omega arith)
+  in-each-block f g (suc n) l s c h =
+      let long : w ≤ length l = omega (arith, suc-mul n w) in
+      same-or c 0
+      (λ z. rw z (first-block (f (take w l) ++ inEachBlock w f n (drop w l)) ∙ take-at (f (take w l)) (inEachBlock w f n (drop w l)) w (g (take w l) (length-take-le w l long)) ∙ ap f (sym (first-block l))))
+      (λ z. let e : c ≡ suc (c - 1) = omega arith in
+      rw e (next-block (c - 1) (f (take w l) ++ inEachBlock w f n (drop w l))
+      ∙ ap (block (c - 1)) (drop-at (f (take w l)) (inEachBlock w f n (drop w l)) w (g (take w l) (length-take-le w l long)))
+      ∙ in-each-block f g n (drop w l) (simp length-drop (omega (arith, suc-mul n w))) (c - 1) (omega arith) ∙ ap f (sym (next-block (c - 1) l))))
+
+  -- and the list is as long as it was
+  pub in-each-length : (f : List A → List A) → ((b : List A) → length b ≡ w → length (f b) ≡ w) → (n : ℕ) (l : List A) → n * w ≤ length l → length (inEachBlock w f n l) ≡ length l
+  unfolding inEachBlock
+  in-each-length f g zero l s = refl
+  in-each-length f g (suc n) l s =
+      let long : w ≤ length l = omega (arith, suc-mul n w) in
+      let rest = in-each-length f g n (drop w l) (simp length-drop (omega (arith, suc-mul n w))) in
+      simp length-append (omega (arith, g (take w l) (length-take-le w l long), rest, length-drop w l))

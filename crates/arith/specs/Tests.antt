@@ -74,6 +74,15 @@ pub and-right : (a b : Bool) → a && b ≡ true → b ≡ true
 and-right true b e = e
 and-right false b e = never (sym e)
 
+-- two tests of which none holds
+pub or-left : (a b : Bool) → a || b ≡ false → a ≡ false
+or-left true b e = e
+or-left false b e = refl
+
+pub or-right : (a b : Bool) → a || b ≡ false → b ≡ false
+or-right true b e = never e
+or-right false b e = e
+
 pub and-false : (a : Bool) → a && false ≡ false
 and-false true = refl
 and-false false = refl

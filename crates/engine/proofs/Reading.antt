@@ -17,7 +17,7 @@ use Rattle.codec.specs.declared.header_reader.HeaderReading.{HeaderReading}
 use Rattle.codec.specs.Columns.{padded}
 use Rattle.codec.specs.Journal.{headerColumns, headerReading}
 use Rattle.tables.specs.Headers.{header}
-use Rattle.tables.proofs.Removal.{from-length}
+use Rattle.arith.proofs.Appends.{from-length}
 
 -- ---- the lists of a header
 holidays-length : (s : List ℕ) → length (headerOf s .holidays) ≡ getD s 10 0

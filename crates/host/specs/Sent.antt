@@ -1,9 +1,9 @@
 -- An outcome as a host gets it: the paper's number and value, and the tables.
 use Prim.Native.Nat.{ℕ}
-use mathlib.Core.Bool.{cond, _||_}
+use mathlib.Core.Bool.{cond}
 use Rattle.rules.specs.Answers.{Outcome, told}
-use Rattle.rules.specs.Ledger.{Tables, ledgerShort, linesShort}
-use Rattle.rules.specs.Refusals.{damaged}
+use Rattle.rules.specs.Ledger.{Tables}
+use Rattle.rules.specs.Refusals.{unsound}
 
 pub record Sent : Type 0 where
   pub number : ℕ
@@ -15,4 +15,4 @@ sent o = record { number = told (o .answer) .number; value = told (o .answer) .v
 
 -- 1, the number of a short or damaged table, or 0.
 unfoldable pub damageNumber : Tables → ℕ
-damageNumber t = cond (ledgerShort t || linesShort t || damaged t) 1 0
+damageNumber t = cond (unsound t) 1 0

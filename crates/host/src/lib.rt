@@ -48,7 +48,7 @@ pub extern "C" fn ledger_make(
     ensures { λ r. ⌜ ((n : List ℤ) → record { number = r; value = 0; after = lent (now (head .exit)) (now (prices .exit)) (now (lots .exit)) (now (value .exit)) (now (book .entry)) n }
         ≡ sent (makeSpec (lent (now (head .entry)) (now (prices .entry)) (now (lots .entry)) (now (value .entry)) (now (book .entry)) n) (now (header .entry)))) ⌝ }
 {
-    let answer = making::make(
+    let answer = engine::make(
         &mut *head,
         &mut *prices,
         &mut *lots,
@@ -71,7 +71,7 @@ pub extern "C" fn ledger_is_damaged(
 ) -> u64
     ensures { λ r. ⌜ r ≡ damageNumber (lent (now (head .entry)) (now (prices .entry)) (now (lots .entry)) (now (value .entry)) (now (book .entry)) (now (lines .entry))) ⌝ }
 {
-    if tables::is_damaged(head, prices, lots, value, book, lines) {
+    if damage::is_unsound(head, prices, lots, value, book, lines) {
         return 1;
     }
     0

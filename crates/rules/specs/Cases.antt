@@ -17,7 +17,8 @@ use Rattle.rules.specs.Ledger.{Tables, lotsAt, valueAt}
 use Rattle.rules.specs.CloseOfDay.{priceOfDay}
 use Rattle.rules.specs.Default.{minimums, dealtOut}
 use Rattle.rules.specs.Refusals.{applySpec}
-use Rattle.rules.specs.Computed.{tablesAfter, madeLedger, orderBytes, closeBytes, proposalBytes, computed}
+use Rattle.rules.specs.Computed.{tablesAfter, computed}
+use Rattle.rules.specs.ExampleRecords.{buy, sell, proposal, close, made, order}
 
 -- What a case is asked of.
 data Input : Type 0 where
@@ -30,7 +31,7 @@ data Input : Type 0 where
   -- first year 2020 that starts on day 359, after so many closes of day
   cascade : ℕ → ℕ → Input
   -- the number that a proposal gets: a quarter bought at 31000, its months sold at 31000, 30500 and 30000, legs at these prices
-  proposal : ℕ → ℕ → ℕ → ℕ → Input
+  proposed : ℕ → ℕ → ℕ → ℕ → Input
   -- L lots dealt out by these weights: the minimums, and what is received
   least : ℕ → List ℕ → Input
   received : ℕ → List ℕ → Input
@@ -41,24 +42,25 @@ dayNumber (On d) = d .0
 dayNumber NoDay = 0
 
 quote : Side → ℕ → Option Order
-quote side p =
-    some (record { number = 0; member = 0; contract = 5; side = side; price = record { 0 = p }; lots = record { 0 = 50 }; day = record { 0 = 0 }; time = 0 })
+quote side p = some (order 0 0 5 side p 50 0 0)
 
 dayPrice : List (ℕ × ℕ) → Option Order → Option Order → ℕ
 dayPrice deals b s = priceOfDay (thresholdOf Month) (total (λ d. d .0) deals) (total (λ d. d .0 * d .1) deals) 0 b s
 
-cascadeAfter : ℕ → Tables
-cascadeAfter n =
-    tablesAfter (madeLedger 2020 359)
-    ((orderBytes 1 17 Sell 30000 4 ∷ orderBytes 0 17 Buy 30000 4 ∷ orderBytes 1 18 Buy 31000 1 ∷ orderBytes 0 18 Sell 31000 1 ∷ []) ++ map (λ i. closeBytes) (from 0 n))
+-- First year 2020, day 359, after these records.
+after : List (List ℕ) → Tables
+after rs = tablesAfter (made 2020 359 [] (1000 ∷ 1000 ∷ [])) rs
 
-proposalNumber : List (ℕ × ℕ) → ℕ
-proposalNumber legs =
+cascadeAfter : ℕ → Tables
+cascadeAfter n = after ((sell 1 17 30000 4 ∷ buy 0 17 30000 4 ∷ buy 1 18 31000 1 ∷ sell 0 18 31000 1 ∷ []) ++ map (λ i. close 61200) (from 0 n))
+
+-- A proposal of one lot of each order, at these prices.
+proposalNumber : ℕ → ℕ → ℕ → ℕ → ℕ
+proposalNumber a b c d =
     told
     (applySpec
-    (tablesAfter (madeLedger 2020 359)
-    (orderBytes 0 18 Buy 31000 1 ∷ orderBytes 1 22 Sell 31000 1 ∷ orderBytes 1 23 Sell 30500 1 ∷ orderBytes 1 24 Sell 30000 1 ∷ []))
-    (proposalBytes legs)
+    (after (buy 0 18 31000 1 ∷ sell 1 22 31000 1 ∷ sell 1 23 30500 1 ∷ sell 1 24 30000 1 ∷ []))
+    (proposal ((0, 1, a) ∷ (1, 1, b) ∷ (2, 1, c) ∷ (3, 1, d) ∷ []))
     .answer)
     .number
 
@@ -67,7 +69,7 @@ result (closing y c) = pos (dayNumber (termClosingDay (record { firstYear = y; h
 result (ggfOfDeals deals) = pos (dayPrice deals none none) ∷ []
 result (ggfWithQuotes deals b s) = pos (dayPrice deals (quote Buy b) (quote Sell s)) ∷ []
 result (cascade n c) = let t = cascadeAfter n in lotsAt t c 0 ∷ valueAt t c 0 ∷ []
-result (proposal a b c d) = pos (proposalNumber ((0, a) ∷ (1, b) ∷ (2, c) ∷ (3, d) ∷ [])) ∷ []
+result (proposed a b c d) = pos (proposalNumber a b c d) ∷ []
 result (least l ws) = map pos (minimums l ws)
 result (received l ws) = map pos (dealtOut l ws)
 
@@ -92,16 +94,16 @@ cases =
     ∷ (cascade 3 23, pos 3 ∷ pos 89000 ∷ [])
     ∷ (cascade 3 24, pos 3 ∷ pos 89000 ∷ [])
     -- accepted with every leg at 31000, refused with any leg at 30900
-    ∷ (proposal 31000 31000 31000 31000, pos 0 ∷ [])
-    ∷ (proposal 30900 31000 31000 31000, pos 13 ∷ [])
-    ∷ (proposal 31000 30900 31000 31000, pos 13 ∷ [])
-    ∷ (proposal 31000 31000 30900 31000, pos 13 ∷ [])
-    ∷ (proposal 31000 31000 31000 30900, pos 13 ∷ [])
+    ∷ (proposed 31000 31000 31000 31000, pos 0 ∷ [])
+    ∷ (proposed 30900 31000 31000 31000, pos 13 ∷ [])
+    ∷ (proposed 31000 30900 31000 31000, pos 13 ∷ [])
+    ∷ (proposed 31000 31000 30900 31000, pos 13 ∷ [])
+    ∷ (proposed 31000 31000 31000 30900, pos 13 ∷ [])
     -- L = 10
     ∷ (least 10 (890 ∷ 435 ∷ 580 ∷ 310 ∷ []), pos 5 ∷ pos 2 ∷ pos 3 ∷ pos 2 ∷ [])
     ∷ (received 10 (890 ∷ 435 ∷ 580 ∷ 310 ∷ []), pos 3 ∷ pos 2 ∷ pos 3 ∷ pos 2 ∷ [])
     ∷ []
 
 starred-cases : map (λ x. result (x .0)) cases ≡ map (λ x. x .1) cases
-unfolding computed result cases dayNumber quote dayPrice cascadeAfter proposalNumber
+unfolding computed result cases dayNumber quote dayPrice after cascadeAfter proposalNumber
 starred-cases = refl

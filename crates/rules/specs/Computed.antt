@@ -1,13 +1,10 @@
--- What applySpec answers and leaves, computed: a list of records from a ledger made of a header.
+-- What applySpec answers and leaves, computed: a call, and a list of records.
 use Prim.Native.Nat.{ℕ}
 use mathlib.Core.List.{List, [], _∷_, map, flatMap, zipWith}
-use lib.ListN.{length, replicate}
+use lib.ListN.{replicate}
 use lib.IntN.{pos}
 use Rattle.arith.specs.Ints.{up, dn}
 use Rattle.arith.specs.Lists.{every, any, kept, howMany, total, over, everyBlock, inEachBlock, allOf, from, count}
-use Rattle.rules.specs.declared.event.Event.the-variants.{Submit, Proposal, CloseOfDay}
-use Rattle.rules.specs.declared.event.OrderKind.the-variants.{Resting}
-use Rattle.rules.specs.declared.order.Side.{Side}
 use Rattle.rules.specs.Answers.{Outcome, Told, told}
 use Rattle.rules.specs.Days.{leapYear, monthDays, yearStart, monthLength, monthStart, businessDay, spanStart, dayAfterSpan, inSpan, firstBusinessDay, nextBusinessDay, businessDayBefore}
 use Rattle.rules.specs.Contracts.{termOf, contractsOf, childrenOf, termFirstDay, termDayAfter, daysOf, holdsDay, holdsHour, termClosingDay, stillToClose, openOfKind, openContracts, openOn, hasCascaded}
@@ -49,25 +46,7 @@ unfoldable pub tablesAfter : Tables → List (List ℕ) → Tables
 tablesAfter t [] = t
 tablesAfter t (r ∷ rs) = tablesAfter (applySpec t r .after) rs
 
--- ---- records for examples
--- A ledger of three members with this first year and start day, no holidays, limits 1000.
-unfoldable pub madeLedger : ℕ → ℕ → Tables
-madeLedger year start =
-    makeSpec zeroTables (headerBytes (record { firstYear = year; startDay = start; members = 3; holidays = []; limits = 1000 ∷ 1000 ∷ 1000 ∷ [] })) .after
-
--- A resting order at 36000 s: member, contract, side, price, lots.
-unfoldable pub orderBytes : ℕ → ℕ → Side → ℕ → ℕ → List ℕ
-orderBytes m c side p q =
-    bytesOf (Submit (record { time = 36000; member = m; contract = c; side = side; kind = Resting; price = record { 0 = p }; lots = record { 0 = q } })) []
-
-unfoldable pub closeBytes : List ℕ
-closeBytes = bytesOf (CloseOfDay 61200) []
-
--- A proposal of one lot for each order number, at these prices.
-unfoldable pub proposalBytes : List (ℕ × ℕ) → List ℕ
-proposalBytes legs = bytesOf (Proposal (length legs)) (map (λ g. record { order = g .0; lots = record { 0 = 1 }; price = record { 0 = g .1 } }) legs)
-
 -- `unfolding computed` opens every definition of the rules, so that what they say of a list computes.
 unfoldable pub computed : {A : Type 0} → A → A
-unfolding up dn every any kept howMany total over everyBlock inEachBlock allOf from count flatMap zipWith leapYear monthDays yearStart monthLength monthStart businessDay spanStart dayAfterSpan inSpan firstBusinessDay nextBusinessDay businessDayBefore termOf contractsOf childrenOf termFirstDay termDayAfter daysOf holdsDay holdsHour termClosingDay stillToClose openOfKind openContracts openOn hasCascaded u16At u32At u16Bytes u32Bytes u16sAt u32sAt sameBytes headerLength headerOf headerBytes rising calendarSound daySound headerSound beginsWithHeader isOpen orders withOrders firstLines posted lineRun booked withoutSubmits timed ledgerShort linesShort freshHead freshPrices freshRows fresh eventSound bytesOf writeSpec fieldsOf legsOf readOf precedes best opposes meets used matching matched submitMatched submitLines wouldRest submitsAt restingLots aboveLimit submitOrders withDeals counted submitBooked numbered namedLegs priceAllowed twoOccur inHour balancedInHour balanced inFull priorityKept acceptable proposalLines usedByLegs proposalBooked enteredBefore quotes bestQuote ggfAtClose withGgfs withoutDeals priced addedTo zeroRows cascaded closingContracts allCascaded isOfAny withClosed hasNextDay nextDay onDay closeBooked defaultBooked sumOf defaultedLongs defaultedShorts givenUp changeLines smallerTotal nettedLongs nettedShorts nettingChanges longsLeft shortsLeft lotsLeft othersLots openWeight weights minimum minimums comesFirst placed inOrder turn round rounds dealtOut taken defaultedChanges takerChanges closeOutLines closeOutBooked everyRow rowsSound contractPricesSound pricesSound memberSound headSound orderSound distinct sidesSound bookSound damaged unsound submitSpec cancelSpec dayLimitsSpec proposalSpec defaultSpec closeOutSpec closeSpec eventSpec readingSpec applySpec makeSpec printed allPrinted tablesAfter madeLedger orderBytes closeBytes proposalBytes
+unfolding up dn every any kept howMany total over everyBlock inEachBlock allOf from count flatMap zipWith leapYear monthDays yearStart monthLength monthStart businessDay spanStart dayAfterSpan inSpan firstBusinessDay nextBusinessDay businessDayBefore termOf contractsOf childrenOf termFirstDay termDayAfter daysOf holdsDay holdsHour termClosingDay stillToClose openOfKind openContracts openOn hasCascaded u16At u32At u16Bytes u32Bytes u16sAt u32sAt sameBytes headerLength headerOf headerBytes rising calendarSound daySound headerSound beginsWithHeader isOpen orders withOrders firstLines posted lineRun booked withoutSubmits timed ledgerShort linesShort freshHead freshPrices freshRows fresh eventSound bytesOf writeSpec fieldsOf legsOf readOf precedes best opposes meets used matching matched submitMatched submitLines wouldRest submitsAt restingLots aboveLimit submitOrders withDeals counted submitBooked numbered namedLegs priceAllowed twoOccur inHour balancedInHour balanced inFull priorityKept acceptable proposalLines usedByLegs proposalBooked enteredBefore quotes bestQuote ggfAtClose withGgfs withoutDeals priced addedTo zeroRows cascaded closingContracts allCascaded isOfAny withClosed hasNextDay nextDay onDay closeBooked defaultBooked sumOf defaultedLongs defaultedShorts givenUp changeLines smallerTotal nettedLongs nettedShorts nettingChanges longsLeft shortsLeft lotsLeft othersLots openWeight weights minimum minimums comesFirst placed inOrder turn round rounds dealtOut taken defaultedChanges takerChanges closeOutLines closeOutBooked everyRow rowsSound contractPricesSound pricesSound memberSound headSound orderSound distinct sidesSound bookSound damaged unsound submitSpec cancelSpec dayLimitsSpec proposalSpec defaultSpec closeOutSpec closeSpec eventSpec readingSpec applySpec makeSpec printed allPrinted tablesAfter
 computed a = a

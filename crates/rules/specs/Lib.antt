@@ -15,6 +15,11 @@ pub mod CalendarLaws
 pub mod HourLaws
 pub mod Bytes
 pub mod Computed
+pub mod ExampleRecords
 pub mod Cases
-pub mod Example
+pub mod JournalExample
 pub mod Numbers
+pub mod MatchingExamples
+pub mod ProposalExamples
+pub mod CloseOfDayExamples
+pub mod CloseOutExamples

@@ -1,121 +1,20 @@
 -- Each refusal number, and what is accepted just beside it, computed from tables and bytes.
-use Prim.Native.Nat.{ℕ}
+use Prim.Native.Nat.{ℕ, _*_}
 use mathlib.Core.Path.{_≡_, refl}
 use mathlib.Core.List.{List, [], _∷_, map}
-use lib.ListN.{set, replicate}
-use lib.IntN.{pos}
+use lib.ListN.{replicate}
+use lib.IntN.{pos, negsuc}
 use Rattle.arith.specs.Lists.{from}
-use Rattle.rules.specs.declared.event.Event.the-variants.{Submit, Cancel, DayLimits, Default, CloseOut}
-use Rattle.rules.specs.declared.event.OrderKind.{OrderKind}
 use Rattle.rules.specs.declared.event.OrderKind.the-variants.{Resting, Oeye, Teye}
 use Rattle.rules.specs.declared.order.Side.the-variants.{Buy, Sell}
 use Rattle.rules.specs.Answers.{Told, told}
 use Rattle.rules.specs.Header.{headerBytes}
-use Rattle.rules.specs.Ledger.{Tables, withHead, withPrices, withRows, withLines, withOrders}
-use Rattle.rules.specs.Records.{bytesOf}
+use Rattle.rules.specs.Ledger.{Tables, lineWidth, withHead, withTime, withAcceptedSubmits, withLotsRun, withGgf, withDayLimits, withLines, withOrders}
 use Rattle.rules.specs.Refusals.{applySpec, makeSpec}
-use Rattle.rules.specs.Computed.{zeroTables, tablesAfter, madeLedger, orderBytes, closeBytes, proposalBytes, computed}
+use Rattle.rules.specs.Computed.{zeroTables, tablesAfter, computed}
+use Rattle.rules.specs.ExampleRecords.{submit, buy, sell, cancel, limits, proposal, default, closeOut, close, made, monday, inHead, inPrices, marked, held, order}
 
--- ---- records and tables
-cancel : ℕ → ℕ → ℕ → List ℕ
-cancel s m n = bytesOf (Cancel (record { time = s; member = m; order = n })) []
-
-limits : ℕ → ℕ → ℕ → List ℕ
-limits c l h = bytesOf (DayLimits (record { contract = c; low = record { 0 = l }; high = record { 0 = h } })) []
-
-default : ℕ → List ℕ
-default m = bytesOf (Default m) []
-
-closeOut : ℕ → List ℕ
-closeOut c = bytesOf (CloseOut (record { contract = c; ratio = 1000 })) []
-
--- member 0 buys one lot of contract 17 at 26000
-buys : OrderKind → List ℕ
-buys kind = bytesOf (Submit (record { time = 36000; member = 0; contract = 17; side = Buy; kind = kind; price = record { 0 = 26000 }; lots = record { 0 = 1 } })) []
-
--- first year 2021, day 369, after these records
-ledger : List (List ℕ) → Tables
-ledger rs = tablesAfter (madeLedger 2021 369) rs
-
-placed : ℕ → ℕ → Tables → Tables
-placed i v t = withHead (set (t .head) i v) t
-
--- contract 17 has a GGF
-withGgf : Tables → Tables
-withGgf t = withPrices (set (t .prices) 85 26000) t
-
--- member 0 has defaulted with 5 lots of contract 17, which nobody else is short of
-oneSided : Tables
-oneSided = let t = withGgf (placed 6 5 (placed 160 1 (ledger []))) in withRows (set (t .lots) 544 (pos 5)) (t .value) t
-
--- 256 orders rest in contract 18
-fullBook : Tables
-fullBook =
-    withOrders
-    (map (λ n. record { number = n; member = 1; contract = 18; side = Sell; price = record { 0 = 31000 }; lots = record { 0 = 1 }; day = record { 0 = 369 }; time = 0 }) (from 0 256))
-    (placed 5 256 (ledger []))
-
--- a header with this number of members, and one limit of 5 lots
-small : ℕ → List ℕ
-small n = headerBytes (record { firstYear = 2021; startDay = 369; members = n; holidays = []; limits = 5 ∷ [] })
-
-limited : Tables
-limited = makeSpec zeroTables (small 1) .after
-
--- ---- the answers
-applied : List (Tables × List ℕ)
-applied =
-    -- 1: 799 places for lines; time 86,400
-    (withLines (replicate 799 (pos 0)) (ledger []), buys Resting)
-    ∷ (placed 4 86400 (ledger []), buys Resting)
-    ∷ (placed 4 36000 (ledger []), buys Resting)
-    -- 3: 101 lots; a surplus byte; an unknown kind
-    ∷ (ledger [], orderBytes 0 17 Buy 26000 100)
-    ∷ (ledger [], orderBytes 0 17 Buy 26000 101)
-    ∷ (ledger [], 5 ∷ 1 ∷ 0 ∷ [])
-    ∷ (ledger [], 8 ∷ 1 ∷ [])
-    -- 4
-    ∷ (ledger (buys Resting ∷ []), cancel 35999 0 0)
-    ∷ (ledger (buys Resting ∷ []), cancel 36000 0 0)
-    -- 5, with the member
-    ∷ (ledger (default 2 ∷ []), default 2)
-    -- 6, with the contract: January 2021 has closed
-    ∷ (ledger [], orderBytes 0 5 Buy 26000 1)
-    -- 7
-    ∷ (ledger (limits 17 25000 25999 ∷ []), buys Resting)
-    ∷ (ledger (limits 17 25000 26000 ∷ []), buys Resting)
-    -- 8
-    ∷ (ledger (map (λ i. buys Resting) (from 0 4)), buys Resting)
-    ∷ (ledger (map (λ i. buys Resting) (from 0 5)), buys Resting)
-    -- 9: a limit met exactly passes; one more is 9
-    ∷ (limited, orderBytes 0 17 Buy 26000 5)
-    ∷ (limited, orderBytes 0 17 Buy 26000 6)
-    -- 10; OEYE that meets nothing is accepted
-    ∷ (ledger [], buys Teye)
-    ∷ (ledger [], buys Oeye)
-    -- 11
-    ∷ (fullBook, buys Resting)
-    ∷ (fullBook, buys Oeye)
-    -- 12
-    ∷ (ledger (buys Resting ∷ []), cancel 36000 1 0)
-    -- 13
-    ∷ (ledger [], proposalBytes ((0, 1) ∷ (1, 1) ∷ []))
-    -- 14
-    ∷ (ledger (default 0 ∷ []), closeOut 17)
-    -- 15
-    ∷ (withGgf (ledger (default 0 ∷ [])), closeOut 17)
-    -- 16
-    ∷ (oneSided, closeOut 17)
-    -- 17: the deal's two lines would make 5,000,001
-    ∷ (placed 6 4999998 (ledger (orderBytes 1 17 Sell 26000 1 ∷ [])), buys Resting)
-    ∷ (placed 6 4999999 (ledger (orderBytes 1 17 Sell 26000 1 ∷ [])), buys Resting)
-    ∷ (placed 5 4000000000 (ledger []), buys Resting)
-    -- 18: 31 December 2025 is the last business day from 2020 on
-    ∷ (madeLedger 2020 2191, closeBytes)
-    ∷ (madeLedger 2020 2190, closeBytes)
-    ∷ []
-
--- a refusal, one with a member or contract, and an acceptance with its line count
+-- A refusal; one with a member or contract; an acceptance with its line count.
 abbrev no : ℕ → Told
 no n = record { number = n; value = 0 }
 
@@ -125,32 +24,127 @@ noOf n v = record { number = n; value = v }
 abbrev lines : ℕ → Told
 lines n = record { number = 0; value = n }
 
-numbers : map (λ x. told (applySpec (x .0) (x .1) .answer)) applied
-    ≡ no 1 ∷ no 1 ∷ lines 0
-    ∷ lines 0 ∷ no 3 ∷ no 3 ∷ no 3
-    ∷ no 4 ∷ lines 0
-    ∷ noOf 5 2
-    ∷ noOf 6 5
-    ∷ no 7 ∷ lines 0
-    ∷ lines 0 ∷ no 8
-    ∷ lines 0 ∷ no 9
-    ∷ no 10 ∷ lines 0
-    ∷ no 11 ∷ lines 0
-    ∷ no 12
-    ∷ no 13
-    ∷ no 14
-    ∷ no 15
-    ∷ no 16
-    ∷ lines 2 ∷ no 17 ∷ no 17
-    ∷ no 18 ∷ lines 0
+-- ---- tables
+-- Monday, 369, after these records.
+abbrev after : List (List ℕ) → Tables
+after rs = tablesAfter monday rs
+
+-- Member 0 has defaulted with 5 lots of contract 17, which has a GGF; the lots run is this.
+abbrev oneDefaulted : ℕ → Tables
+oneDefaulted run = held ((0, 17, pos 5) ∷ []) (marked (0 ∷ []) (inPrices (withGgf 17 26000) (inHead (withLotsRun run) monday)))
+
+-- 256 sells of the first quarter of 2022 rest, one of them at 30000.
+fullBook : Tables
+fullBook =
+    withOrders (order 0 1 18 Sell 30000 2 369 0 ∷ map (λ n. order n 1 18 Sell 31000 1 369 0) (from 1 255)) (inHead (withAcceptedSubmits 256) monday)
+
+-- ---- the answers: tables, a record, and what is told
+answers : List (Tables × List ℕ × Told)
+answers =
+    -- 1: 199 places for lines; time 86,400
+    (withLines (replicate (199 * lineWidth) (pos 0)) monday, buy 0 17 26000 1, no 1)
+    ∷ (inHead (withTime 86400) monday, buy 0 17 26000 1, no 1)
+    ∷ (inHead (withTime 36000) monday, buy 0 17 26000 1, lines 0)
+    -- 3: 101 lots; a surplus byte; an unknown kind
+    ∷ (monday, buy 0 17 26000 101, no 3)
+    ∷ (monday, buy 0 17 26000 100, lines 0)
+    ∷ (monday, 5 ∷ 1 ∷ 0 ∷ [], no 3)
+    ∷ (monday, 5 ∷ 1 ∷ [], lines 0)
+    ∷ (monday, 8 ∷ 1 ∷ [], no 3)
+    -- 4: submit, cancel, close of day
+    ∷ (inHead (withTime 36001) monday, buy 0 17 26000 1, no 4)
+    ∷ (after (buy 0 17 26000 1 ∷ []), cancel 35999 0 0, no 4)
+    ∷ (after (buy 0 17 26000 1 ∷ []), cancel 36000 0 0, lines 0)
+    ∷ (inHead (withTime 36001) monday, close 36000, no 4)
+    ∷ (inHead (withTime 36000) monday, close 36000, lines 0)
+    -- 5, with the member: submit, default
+    ∷ (marked (2 ∷ []) monday, buy 2 17 26000 1, noOf 5 2)
+    ∷ (marked (2 ∷ []) monday, default 2, noOf 5 2)
+    ∷ (marked (2 ∷ []) monday, default 1, lines 0)
+    -- 6, with the contract: January 2021 has closed; four years, eight quarters and fifteen months are open
+    ∷ (monday, buy 0 5 26000 1, noOf 6 5)
+    ∷ (monday, buy 0 6 26000 1, lines 0)
+    ∷ (monday, limits 68 1 26000, lines 0)
+    ∷ (monday, limits 85 1 26000, noOf 6 85)
+    ∷ (monday, limits 35 1 26000, lines 0)
+    ∷ (monday, limits 36 1 26000, noOf 6 36)
+    ∷ (monday, limits 25 1 26000, lines 0)
+    ∷ (monday, limits 26 1 26000, noOf 6 26)
+    ∷ (monday, closeOut 85 1000, noOf 6 85)
+    -- 7
+    ∷ (inPrices (withDayLimits 17 25000 25999) monday, buy 0 17 26000 1, no 7)
+    ∷ (inPrices (withDayLimits 17 25000 26000) monday, buy 0 17 26000 1, lines 0)
+    -- 8
+    ∷ (after (map (λ i. buy 0 17 26000 1) (from 0 5)), buy 0 17 26000 1, no 8)
+    ∷ (after (map (λ i. buy 0 17 26000 1) (from 0 4)), buy 0 17 26000 1, lines 0)
+    -- 9: a limit met exactly passes; one more is 9
+    ∷ (made 2021 369 [] (5 ∷ []), buy 0 17 26000 6, no 9)
+    ∷ (made 2021 369 [] (5 ∷ []), buy 0 17 26000 5, lines 0)
+    -- 10; OEYE that meets nothing is accepted
+    ∷ (monday, submit 36000 Teye Buy 0 17 26000 1, no 10)
+    ∷ (monday, submit 36000 Oeye Buy 0 17 26000 1, lines 0)
+    -- 11, before 17; accepted if nothing is left of it, or if it takes the place of an order that it used up
+    ∷ (inHead (withAcceptedSubmits 4000000000) fullBook, buy 0 18 29999 1, no 11)
+    ∷ (fullBook, buy 0 18 30000 1, lines 2)
+    ∷ (fullBook, buy 0 18 30000 3, lines 2)
+    -- 12
+    ∷ (after (buy 0 17 26000 1 ∷ []), cancel 36000 1 0, no 12)
+    -- 13
+    ∷ (monday, proposal ((0, 1, 1) ∷ (1, 1, 1) ∷ []), no 13)
+    -- 14; 15; 16
+    ∷ (inPrices (withGgf 17 0) (oneDefaulted 5), closeOut 17 1000, no 14)
+    ∷ (inPrices (withGgf 17 26000) (marked (0 ∷ []) monday), closeOut 17 1000, no 15)
+    ∷ (oneDefaulted 5, closeOut 17 1000, no 16)
+    -- 17: the two lines of a deal would make 5,000,001; so would those of a close-out
+    ∷ (inHead (withLotsRun 4999999) (after (sell 1 17 26000 1 ∷ [])), buy 0 17 26000 1, no 17)
+    ∷ (inHead (withLotsRun 4999998) (after (sell 1 17 26000 1 ∷ [])), buy 0 17 26000 1, lines 2)
+    ∷ (inHead (withAcceptedSubmits 4000000000) monday, buy 0 17 26000 1, no 17)
+    ∷ (inHead (withAcceptedSubmits 3999999999) monday, buy 0 17 26000 1, lines 0)
+    ∷ (held ((1, 17, negsuc 4) ∷ []) (oneDefaulted 4999991), closeOut 17 1000, no 17)
+    ∷ (held ((1, 17, negsuc 4) ∷ []) (oneDefaulted 4999990), closeOut 17 1000, lines 2)
+    -- 18: 31 December 2025 is the last business day from 2020 on
+    ∷ (made 2020 2191 [] (5 ∷ []), close 0, no 18)
+    ∷ (made 2020 2190 [] (5 ∷ []), close 0, lines 0)
     ∷ []
-unfolding computed cancel limits default closeOut buys ledger placed withGgf oneSided fullBook small limited applied
+
+numbers : map (λ x. told (applySpec (x .0) (x .1) .answer)) answers ≡ map (λ x. x .2) answers
+unfolding computed held marked fullBook answers
 numbers = refl
 
--- 2: no member; 1 before 2: a head of 223 places
-made : List (Tables × List ℕ)
-made = (zeroTables, small 1) ∷ (zeroTables, small 0) ∷ (withHead (replicate 223 0) zeroTables, small 0) ∷ []
+-- ---- lower number wins: records with two causes that follow each other
+twoCauses : List (Tables × List ℕ × Told)
+twoCauses =
+    -- 1 and 3
+    (inHead (withTime 86400) monday, 8 ∷ 1 ∷ [], no 1)
+    -- submit: 4 and 5, 5 and 6, 6 and 7, 7 and 8, 8 and 9, 9 and 10, 10 and 17
+    ∷ (marked (0 ∷ []) (inHead (withTime 36001) monday), buy 0 17 26000 1, no 4)
+    ∷ (marked (1 ∷ []) monday, buy 1 5 26000 1, noOf 5 1)
+    ∷ (inPrices (withDayLimits 5 1 25999) monday, buy 0 5 26000 1, noOf 6 5)
+    ∷ (after (limits 17 1 26000 ∷ map (λ i. buy 0 17 26000 1) (from 0 5)), buy 0 17 26001 1, no 7)
+    ∷ (tablesAfter (made 2021 369 [] (5 ∷ [])) (map (λ i. buy 0 17 26000 1) (from 0 5)), buy 0 17 26000 1, no 8)
+    ∷ (made 2021 369 [] (5 ∷ []), submit 36000 Teye Buy 0 17 26000 6, no 9)
+    ∷ (inHead (withAcceptedSubmits 4000000000) monday, submit 36000 Teye Buy 0 17 26000 1, no 10)
+    -- cancel: 4 and 12
+    ∷ (inHead (withTime 36001) monday, cancel 36000 0 0, no 4)
+    -- close-out: 6 and 14, 14 and 15, 16 and 17
+    ∷ (monday, closeOut 5 1000, noOf 6 5)
+    ∷ (monday, closeOut 17 1000, no 14)
+    ∷ (oneDefaulted 5000000, closeOut 17 1000, no 16)
+    -- close of day: 4 and 18
+    ∷ (inHead (withTime 36001) (made 2020 2191 [] (5 ∷ [])), close 36000, no 4)
+    ∷ []
 
-made-numbers : map (λ x. told (makeSpec (x .0) (x .1) .answer)) made ≡ lines 0 ∷ no 2 ∷ no 1 ∷ []
-unfolding computed small made
+lower-number-wins : map (λ x. told (applySpec (x .0) (x .1) .answer)) twoCauses ≡ map (λ x. x .2) twoCauses
+unfolding computed held marked twoCauses
+lower-number-wins = refl
+
+-- ---- making a ledger: 2 without a member; 1, before 2, with a head of 223 places
+header : ℕ → List ℕ
+header n = headerBytes (record { firstYear = 2021; startDay = 369; members = n; holidays = []; limits = 5 ∷ [] })
+
+makings : List (Tables × List ℕ × Told)
+makings = (zeroTables, header 1, lines 0) ∷ (zeroTables, header 0, no 2) ∷ (withHead (replicate 223 0) zeroTables, header 0, no 1) ∷ []
+
+made-numbers : map (λ x. told (makeSpec (x .0) (x .1) .answer)) makings ≡ map (λ x. x .2) makings
+unfolding computed header makings
 made-numbers = refl

@@ -3,16 +3,16 @@ use Rattle.host.specs.Sent.{damageNumber}
 use Rattle.host.proofs.ledger_is_damaged.Statement.{statement}
 use Rattle.host.proofs.ledger_is_damaged.Tie as tie
 
-is-damaged-requires : tie.Need-is-damaged-requires
-is-damaged-requires c κs = search needs
+is-unsound-requires : tie.Need-is-unsound-requires
+is-unsound-requires c κs = search needs
 
 returns : tie.Need-returns
 unfolding damageNumber
-returns c = rw (← (c .before .is-damaged .ensures)) (search (c .if1 .taken))
+returns c = rw (← (c .before .is-unsound .ensures)) (search (c .if1 .taken))
 
 returns-2 : tie.Need-returns-2
 unfolding damageNumber
-returns-2 c = rw (← (c .before .is-damaged .ensures)) (search (c .if1 .left))
+returns-2 c = rw (← (c .before .is-unsound .ensures)) (search (c .if1 .left))
 
 pub ledger-is-damaged-spec : {M : Type 1} → statement M
-ledger-is-damaged-spec = tie.close (tie.spec is-damaged-requires returns returns-2)
+ledger-is-damaged-spec = tie.close (tie.spec is-unsound-requires returns returns-2)

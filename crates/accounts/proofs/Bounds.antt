@@ -1,0 +1,179 @@
+-- The rows never pass the lots run. A cascade adds rows to rows, so more is kept: for each member and month, the absolute rows of the
+-- three contracts that hold the month do not pass it together.
+use mathlib.Core.Path.{_≡_, refl, sym, ap, subst}
+use mathlib.Core.Bool.{Bool, true, false, cond}
+use mathlib.Core.List.{List, [], _∷_}
+use Prim.Native.Nat.{ℕ, _+_, _*_, _-_, _/_, _%_, _≤_, _<_}
+use native.Mathlib.Omega.{arith}
+use native.Mathlib.Nat.{le-trans, one-mul, mul-add, mul-le-mul-left}
+use lib.Dec.{eqb, leb}
+use lib.ListN.{length, take, getD, length-take}
+use lib.Seq.{getD-take}
+use lib.IntN.{ℤ, pos, natAbs, _+ℤ_}
+use borrow.Author.Tests.{le-leb, eqb-true, eq-eqb, ne-eqb}
+use Rattle.arith.specs.Alls.{All, all-map, every-place}
+use Rattle.arith.specs.EachBlock.{block, every-block, block-at}
+use Rattle.arith.specs.Ints.{when}
+use Rattle.arith.specs.Lists.{any, total}
+use Rattle.arith.specs.Sizes.{abs-plus, abs-times, abs-when}
+use Rattle.arith.specs.Tests.{le-or-lt, same-or}
+use Rattle.rules.specs.Contracts.{childrenOf}
+use Rattle.rules.specs.HourLaws.{yearOf, quarterOf, monthOf, cascading}
+use Rattle.rules.specs.Header.{Header}
+use Rattle.rules.specs.Ledger.{Tables, Line, members, lotsRun, rowPlace, lineRun, fresh}
+use Rattle.rules.specs.CloseOfDay.{cascaded, allCascaded, withClosed}
+use Rattle.rules.specs.Refusals.{everyRow, rowsSound}
+use Rattle.rules.specs.Accounts.{Column, lots, value, row, amount}
+use Rattle.rules.proofs.SoundHeaders.{SoundHeader}
+use Rattle.accounts.proofs.Lines.{rowTotal}
+use Rattle.accounts.proofs.Rows.{cascaded-month, cascaded-length, cascaded-row}
+use Rattle.accounts.proofs.Cascade.{year-no-child, quarter-child, month-child}
+use Rattle.accounts.proofs.Fresh.{fresh-zero, fresh-runs}
+
+-- ---- the bound
+-- a member's absolute rows of the year, the quarter and the month that hold month i, together
+abbrev threeRows : (ℕ → ℤ) → ℕ → ℕ
+threeRows r i = natAbs (r (yearOf i)) + (natAbs (r (quarterOf i)) + natAbs (r (monthOf i)))
+
+pub record Bounded (n bound : ℕ) (R : ℕ → ℕ → ℤ) : Type 0 where
+  pub within : (m i : ℕ) → m < n → i < 72 → threeRows (λ c. R c m) i ≤ bound
+
+-- Every contract is the year, the quarter or the month of some month, so no row passes the bound.
+pub bounded-row : {n b : ℕ} {R : ℕ → ℕ → ℤ} → Bounded n b R → (c m : ℕ) → c < 102 → m < n → natAbs (R c m) ≤ b
+bounded-row {R = R} a c m l q =
+    let size : ℕ → ℕ = λ d. natAbs (R d m) in
+    let first = 12 * (c / 17) in
+    same-or (c % 17) 0
+    (λ z. let e : yearOf first ≡ c = omega arith in omega (arith, a .within m first q (omega arith), ap size e))
+    (λ z. le-or-lt (c % 17) 4
+    (λ k. let i = first + 3 * (c % 17 - 1) in let e : quarterOf i ≡ c = omega arith in omega (arith, a .within m i q (omega arith), ap size e))
+    (λ k. let i = first + (c % 17 - 5) in let e : monthOf i ≡ c = omega arith in omega (arith, a .within m i q (omega arith), ap size e)))
+
+-- the rows may be told by other words
+pub bounded-same : {n b : ℕ} {R R′ : ℕ → ℕ → ℤ} → ((c m : ℕ) → c < 102 → m < n → R′ c m ≡ R c m) → Bounded n b R → Bounded n b R′
+bounded-same {R = R} {R′ = R′} e a = record {
+  within = λ m i q k. omega (arith, a .within m i q k, ap natAbs (e (yearOf i) m (omega arith) q), ap natAbs (e (quarterOf i) m (omega arith) q), ap natAbs (e (monthOf i) m (omega arith) q));
+}
+
+-- ---- posting
+-- one contract is at most one of the three
+one-of-three : (c i : ℕ) (w : ℤ) → threeRows (λ d. when (eqb c d) w) i ≤ natAbs w
+one-of-three c i w =
+    same-or c (yearOf i) (λ e. rw (eq-eqb c (yearOf i) e, ne-eqb c (quarterOf i) (omega arith), ne-eqb c (monthOf i) (omega arith)) (omega arith))
+    (λ d. same-or c (quarterOf i) (λ e. rw (ne-eqb c (yearOf i) d, eq-eqb c (quarterOf i) e, ne-eqb c (monthOf i) (omega arith)) (omega arith))
+    (λ f. rw (ne-eqb c (yearOf i) d, ne-eqb c (quarterOf i) f) (omega (arith, abs-when (eqb c (monthOf i)) w))))
+
+three-plus : (r s : ℕ → ℤ) (i : ℕ) → threeRows (λ c. r c +ℤ s c) i ≤ threeRows r i + threeRows s i
+three-plus r s i = omega (arith, abs-plus (r (yearOf i)) (s (yearOf i)), abs-plus (r (quarterOf i)) (s (quarterOf i)), abs-plus (r (monthOf i)) (s (monthOf i)))
+
+-- a line adds at most w for each of its lots
+module _ (amount : Line → ℤ) (w : ℕ) where
+  abbrev pub Weighs : Line → Type 0
+  Weighs l = natAbs (amount l) ≤ w * natAbs (l .lots)
+
+  lines-three : (ls : List Line) (m i : ℕ) → All Weighs ls → threeRows (λ c. rowTotal amount c m ls) i ≤ w * lineRun ls
+  unfolding rowTotal lineRun total
+  lines-three [] m i h = omega arith
+  lines-three (l ∷ ls) m i h =
+      let v = when (eqb (l .member) m) (amount l) in
+      omega (
+        arith,
+        three-plus (λ c. when (eqb (l .contract) c) v) (λ c. rowTotal amount c m ls) i,
+        one-of-three (l .contract) i v,
+        abs-when (eqb (l .member) m) (amount l),
+        h .0,
+        lines-three ls m i (h .1),
+        mul-add w (natAbs (l .lots)) (lineRun ls),
+      )
+
+  pub bounded-posted : {n : ℕ} {R : ℕ → ℕ → ℤ} (run : ℕ) (ls : List Line) → All Weighs ls → Bounded n (w * run) R
+      → Bounded n (w * (run + lineRun ls)) (λ c m. R c m +ℤ rowTotal amount c m ls)
+  bounded-posted {R = R} run ls h a = record {
+    within = λ m i q k. omega (arith, three-plus (λ c. R c m) (λ c. rowTotal amount c m ls) i, lines-three ls m i h, a .within m i q k, mul-add w run (lineRun ls));
+  }
+
+-- what a row may reach for each lot run: its lots one, its value the highest price
+abbrev pub weight : Column → ℕ
+weight lots = 1
+weight value = 1000000
+
+pub lines-weigh : (x : Column) (ls : List Line) → All (λ l. l .price ≤ 1000000) ls → All (Weighs (amount x) (weight x)) ls
+lines-weigh lots ls h = all-map (λ l. l .price ≤ 1000000) (Weighs (amount lots) 1) ls (λ l _. omega arith) h
+lines-weigh value ls h =
+    all-map (λ l. l .price ≤ 1000000) (Weighs (amount value) 1000000) ls (λ l q. omega (arith, abs-times (l .lots) (pos (l .price)), mul-le-mul-left (natAbs (l .lots)) q)) h
+
+-- ---- cascades
+-- Of three rows the first goes to the second, or the second to the third, or all stay.
+to-next : (first second : Bool) (x y z w : ℤ) → (first ≡ true → w ≡ x) → (second ≡ true → w ≡ y) → (first ≡ true → second ≡ false)
+    → natAbs (cond first (pos 0) (x +ℤ pos 0)) + (natAbs (cond second (pos 0) (y +ℤ when first w)) + natAbs (z +ℤ when second w)) ≤ natAbs x + (natAbs y + natAbs z)
+to-next true second x y z w e f g = rw (g refl, e refl) (omega (arith, abs-plus y x, abs-plus z (pos 0)))
+to-next false true x y z w e f g = rw (f refl) (omega (arith, abs-plus x (pos 0), abs-plus z y))
+to-next false false x y z w e f g = omega (arith, abs-plus x (pos 0), abs-plus y (pos 0), abs-plus z (pos 0))
+
+-- R′ are the rows after a cascade of the year or quarter c, R those before it.
+pub bounded-cascaded : {n b : ℕ} (c : ℕ) (R R′ : ℕ → ℕ → ℤ) → c % 17 < 5
+    → ((d m : ℕ) → m < n → R′ d m ≡ cond (eqb c d) (pos 0) (R d m +ℤ when (any (λ x. eqb x d) (childrenOf c)) (R c m)))
+    → Bounded n b R → Bounded n b R′
+bounded-cascaded c R R′ h after a = record {
+  within = λ m i q k.
+      let o = cascading c h in
+      le-trans
+      (rw (after (yearOf i) m q, after (quarterOf i) m q, after (monthOf i) m q, year-no-child c i o, quarter-child c i o, month-child c i o, ne-eqb c (monthOf i) (omega arith))
+      (to-next (eqb c (yearOf i)) (eqb c (quarterOf i)) (R (yearOf i) m) (R (quarterOf i) m) (R (monthOf i) m) (R c m)
+      (λ t. ap (λ d. R d m) (eqb-true c (yearOf i) t)) (λ t. ap (λ d. R d m) (eqb-true c (quarterOf i) t)) (λ t. ne-eqb c (quarterOf i) (omega (arith, eqb-true c (yearOf i) t)))))
+      (a .within m i q k);
+}
+
+-- in a column of rows
+abbrev rowsIn : List ℤ → ℕ → ℕ → ℤ
+rowsIn l c m = getD l (rowPlace c m) (pos 0)
+
+column-cascaded : {b : ℕ} (n c : ℕ) (l : List ℤ) → c < 102 → n ≤ 32 → 3264 ≤ length l → Bounded n b (rowsIn l) → Bounded n b (rowsIn (cascaded n c l))
+column-cascaded n c l k q s a =
+    le-or-lt 5 (c % 17) (λ h. rw (cascaded-month n c l h) a)
+    (λ h. bounded-cascaded c (rowsIn l) (rowsIn (cascaded n c l)) h (λ d m p. cascaded-row n c l s k q d m h p) a)
+
+-- tables with rows for their n members
+pub record Roomy (n : ℕ) (t : Tables) : Type 0 where
+  pub size : members t ≡ n
+  pub lots-long : 3264 ≤ length (t .lots)
+  pub value-long : 3264 ≤ length (t .value)
+
+module _ (n : ℕ) (few : n ≤ 32) where
+  columns-cascaded : {b : ℕ} (cs : List ℕ) (l : List ℤ) → All (λ c. c < 102) cs → 3264 ≤ length l → Bounded n b (rowsIn l) → Bounded n b (rowsIn (allCascaded n cs l))
+  unfolding allCascaded
+  columns-cascaded [] l h r a = a
+  columns-cascaded (c ∷ cs) l h r a =
+      columns-cascaded cs (cascaded n c l) (h .1) (omega (arith, cascaded-length n c l r (h .0) few)) (column-cascaded n c l (h .0) few r a)
+
+  pub bounded-closed : {b : ℕ} (x : Column) (cs : List ℕ) (t : Tables) → All (λ c. c < 102) cs → Roomy n t → Bounded n b (row x t) → Bounded n b (row x (withClosed cs t))
+  unfolding withClosed
+  bounded-closed {b} lots cs t h r a = subst (λ s. Bounded n b (rowsIn (allCascaded s cs (t .lots)))) (sym (r .size)) (columns-cascaded cs (t .lots) h (r .lots-long) a)
+  bounded-closed {b} value cs t h r a = subst (λ s. Bounded n b (rowsIn (allCascaded s cs (t .value)))) (sym (r .size)) (columns-cascaded cs (t .value) h (r .value-long) a)
+
+-- ---- the lots run, and the test of damage
+-- each column's rows do not pass the lots run
+abbrev pub WithinRun : Tables → Type 0
+WithinRun t = (x : Column) → Bounded (members t) (weight x * lotsRun t) (row x t)
+
+column-sound : (n b : ℕ) (l : List ℤ) → Bounded n b (rowsIn l) → everyRow (λ z. leb (natAbs z) b) n l ≡ true
+unfolding everyRow
+column-sound n b l a =
+    every-block 32 _ 102 l
+    (λ c k. every-place (λ z. leb (natAbs z) b) (pos 0) (take n (block 32 c l))
+    (λ m h. let q : (m < n) × (m < 32) = omega (arith, simp length-take at h) in
+    rw (getD-take n (block 32 c l) m (pos 0) (q .0), block-at 32 c m l (pos 0) (q .1)) (le-leb (natAbs (rowsIn l c m)) b (bounded-row a c m k (q .0)))))
+
+pub rows-sound : (t : Tables) → WithinRun t → rowsSound t ≡ true
+unfolding rowsSound
+rows-sound t a = rw (column-sound (members t) (lotsRun t) (t .lots) (rw (one-mul (lotsRun t)) at (a lots)), column-sound (members t) (1000000 * lotsRun t) (t .value) (a value))
+
+-- ---- the fresh ledger
+pub bounded-fresh : (h : Header) (t : Tables) → SoundHeader h → 3264 ≤ length (t .lots) → 3264 ≤ length (t .value) → (x : Column) → Bounded (h .members) 0 (row x (fresh h t))
+bounded-fresh h t f s v x =
+    bounded-same (λ c m k q. fresh-zero h t f s v x c m k q) (record { within = λ m i q k. omega arith })
+
+pub within-fresh : (h : Header) (t : Tables) → SoundHeader h → 224 ≤ length (t .head) → 3264 ≤ length (t .lots) → 3264 ≤ length (t .value) → WithinRun (fresh h t)
+within-fresh h t f k s v x =
+    subst (λ n. Bounded n (weight x * lotsRun (fresh h t)) (row x (fresh h t))) (sym (fresh-runs h t f k .size))
+    (record { within = λ m i q l. omega (arith, bounded-fresh h t f s v x .within m i q l) })

@@ -1,0 +1,143 @@
+-- A law of every call, from what each kind of record shows where the tables are not damaged, the event is sound and no cause holds.
+use mathlib.Core.Path.{_≡_, refl, sym, ap, _∙_}
+use mathlib.Core.Bool.{true, false, not, cond}
+use mathlib.Core.List.{List, [], _∷_}
+use Prim.Native.Nat.{ℕ}
+use native.Mathlib.Omega.{arith}
+use Rattle.arith.specs.Alls.{All}
+use Rattle.arith.specs.Lists.{kept}
+use Rattle.arith.specs.Tests.{never, by-bool}
+use Rattle.rules.specs.declared.answer.Answer.{Answer}
+use Rattle.rules.specs.declared.answer.Answer.the-variants.{TableUnsound, RecordUnsound}
+use Rattle.rules.specs.declared.event.Event.{Event}
+use Rattle.rules.specs.declared.event.Event.the-variants.{Submit, Cancel, DayLimits, Proposal, Default, CloseOut, CloseOfDay}
+use Rattle.rules.specs.declared.event.Leg.{Leg}
+use Rattle.rules.specs.declared.event.Reading.{Reading}
+use Rattle.rules.specs.declared.event.Reading.the-variants.{Sound, Unsound}
+use Rattle.rules.specs.Answers.{Outcome, decide}
+use Rattle.rules.specs.Header.{membersSound}
+use Rattle.rules.specs.Ledger.{Tables, members, withPrices, withDayLimits, orders, withOrders, timed, booked}
+use Rattle.rules.specs.Records.{eventSound, fieldsOf, legsOf, ifSound, readOf}
+use Rattle.rules.specs.Matching.{submitBooked}
+use Rattle.rules.specs.Synthetic.{proposalBooked}
+use Rattle.rules.specs.CloseOfDay.{closeBooked}
+use Rattle.rules.specs.Default.{defaultBooked, closeOutBooked}
+use Rattle.rules.specs.Refusals.{unsound, isCancelled, submitSpec, cancelSpec, dayLimitsSpec, proposalSpec, defaultSpec, closeOutSpec, closeSpec, eventSpec, readingSpec, applySpec}
+use Rattle.rules.specs.Accounts.{isAccepted}
+use Rattle.rules.proofs.SoundTables.{Undamaged, undamaged}
+use Rattle.accounts.specs.Answered.{Cause, kindCauses}
+
+-- ---- decide
+abbrev Refuses : List Cause → Type 0
+Refuses causes = All (λ cause. isAccepted (cause .1) ≡ false) causes
+
+abbrev NoneHolds : List Cause → Type 0
+NoneHolds causes = All (λ cause. cause .0 ≡ false) causes
+
+-- the first cause that holds refuses; where none does, what is booked decides
+pub decide-shows : (P : Outcome Tables → Type 0) (t : Tables) (o : Outcome Tables) (causes : List Cause)
+    → ((a : Answer) → isAccepted a ≡ false → P (record { answer = a; after = t })) → Refuses causes → (NoneHolds causes → P o) → P (decide causes t o)
+decide-shows P t o [] f r g = g tt
+decide-shows P t o ((true, a) ∷ causes) f r g = f a (r .0)
+decide-shows P t o ((false, a) ∷ causes) f r g = decide-shows P t o causes f (r .1) (λ q. g (refl, q))
+
+decided-accepted : (causes : List Cause) (t : Tables) (o : Outcome Tables) → Refuses causes → isAccepted (decide causes t o .answer) ≡ true → NoneHolds causes × (decide causes t o ≡ o)
+decided-accepted [] t o r a = (tt, refl)
+decided-accepted ((true, x) ∷ causes) t o r a = never (sym a ∙ r .0)
+decided-accepted ((false, x) ∷ causes) t o r a = let d = decided-accepted causes t o (r .1) a in ((refl, d .0), d .1)
+
+-- ---- what a reader answers is sound
+pub read-sound : (n : ℕ) (bytes : List ℕ) (e : Event) → readOf n bytes ≡ Sound e → eventSound n e (legsOf bytes) ≡ true
+unfolding readOf
+read-sound n bytes e =
+    by-bool (λ b. cond b (ifSound n (legsOf bytes) (fieldsOf bytes)) Unsound ≡ Sound e → eventSound n e (legsOf bytes) ≡ true) (membersSound n) (λ _. go (fieldsOf bytes))
+    (λ _ q. absurd (let z : _≡_ {A = ℕ} 0 1 = cc in omega arith))
+  where
+    go : (f : Reading) → ifSound n (legsOf bytes) f ≡ Sound e → eventSound n e (legsOf bytes) ≡ true
+    go (Sound x) =
+        by-bool (λ b. cond b (Sound x) Unsound ≡ Sound e → eventSound n e (legsOf bytes) ≡ true) (eventSound n x (legsOf bytes))
+        (λ f q. let same : x ≡ e = cc in rw (← same) f) (λ _ q. absurd (let z : _≡_ {A = ℕ} 0 1 = cc in omega arith))
+    go Unsound = λ q. absurd (let z : _≡_ {A = ℕ} 0 1 = cc in omega arith)
+
+-- ---- the kinds of record
+-- what an event leads to where no cause holds
+abbrev pub acceptedAs : Tables → Event → List Leg → Outcome Tables
+acceptedAs t (Submit e) legs = submitBooked t e
+acceptedAs t (Cancel e) legs = booked [] (withOrders (kept (λ o. not (isCancelled e o)) (orders t)) (timed (e .time) t))
+acceptedAs t (DayLimits e) legs = booked [] (withPrices (withDayLimits (e .contract) (e .low .0) (e .high .0) (t .prices)) t)
+acceptedAs t (Proposal n) legs = proposalBooked t legs
+acceptedAs t (Default m) legs = defaultBooked t m
+acceptedAs t (CloseOut e) legs = closeOutBooked t e
+acceptedAs t (CloseOfDay s) legs = closeBooked t s
+
+event-decided : (t : Tables) (e : Event) (legs : List Leg) → eventSpec t e legs ≡ decide (kindCauses t e legs) t (acceptedAs t e legs)
+unfolding eventSpec submitSpec cancelSpec dayLimitsSpec proposalSpec defaultSpec closeOutSpec closeSpec
+event-decided t (Submit e) legs = refl
+event-decided t (Cancel e) legs = refl
+event-decided t (DayLimits e) legs = refl
+event-decided t (Proposal n) legs = refl
+event-decided t (Default m) legs = refl
+event-decided t (CloseOut e) legs = refl
+event-decided t (CloseOfDay s) legs = refl
+
+causes-refuse : (t : Tables) (e : Event) (legs : List Leg) → Refuses (kindCauses t e legs)
+causes-refuse t (Submit e) legs = (refl, (refl, (refl, (refl, (refl, (refl, (refl, (refl, (refl, tt)))))))))
+causes-refuse t (Cancel e) legs = (refl, (refl, tt))
+causes-refuse t (DayLimits e) legs = (refl, tt)
+causes-refuse t (Proposal n) legs = (refl, (refl, tt))
+causes-refuse t (Default m) legs = (refl, tt)
+causes-refuse t (CloseOut e) legs = (refl, (refl, (refl, (refl, (refl, tt)))))
+causes-refuse t (CloseOfDay s) legs = (refl, (refl, tt))
+
+pub kind-accepted : (t : Tables) (e : Event) (legs : List Leg) → isAccepted (acceptedAs t e legs .answer) ≡ true
+unfolding submitBooked proposalBooked defaultBooked closeOutBooked closeBooked booked
+kind-accepted t (Submit e) legs = refl
+kind-accepted t (Cancel e) legs = refl
+kind-accepted t (DayLimits e) legs = refl
+kind-accepted t (Proposal n) legs = refl
+kind-accepted t (Default m) legs = refl
+kind-accepted t (CloseOut e) legs = refl
+kind-accepted t (CloseOfDay s) legs = refl
+
+abbrev pub NoCause : Tables → Event → List Leg → Type 0
+NoCause t e legs = NoneHolds (kindCauses t e legs)
+
+-- ---- an accepted call: nothing is damaged, its event is sound, no cause holds, and it leads to what its kind books
+pub record AcceptedCall (t : Tables) (bytes : List ℕ) (e : Event) : Type 0 where
+  pub tables : Undamaged t
+  pub event : eventSound (members t) e (legsOf bytes) ≡ true
+  pub no-cause : NoCause t e (legsOf bytes)
+  pub leads : applySpec t bytes ≡ acceptedAs t e (legsOf bytes)
+
+pub accepted-call : (t : Tables) (bytes : List ℕ) (e : Event) → readOf (members t) bytes ≡ Sound e → isAccepted (applySpec t bytes .answer) ≡ true → AcceptedCall t bytes e
+unfolding applySpec readingSpec
+accepted-call t bytes e r a =
+    let legs = legsOf bytes in
+    let told = decided-accepted ((unsound t, TableUnsound) ∷ []) t (readingSpec t (readOf (members t) bytes) legs) (refl, tt) a in
+    let is : readingSpec t (readOf (members t) bytes) legs ≡ decide (kindCauses t e legs) t (acceptedAs t e legs) = ap (λ x. readingSpec t x legs) r ∙ event-decided t e legs in
+    let kind = decided-accepted (kindCauses t e legs) t (acceptedAs t e legs) (causes-refuse t e legs) (ap (λ o. isAccepted (o .answer)) (sym (told .1 ∙ is)) ∙ a) in
+    record { tables = undamaged t (told .0 .0); event = read-sound (members t) bytes e r; no-cause = kind .0; leads = told .1 ∙ is ∙ kind .1 }
+
+-- ---- every call, with what its bytes say
+module _ (P : Reading → Tables → Outcome Tables → Type 0) (refused : (x : Reading) (t : Tables) (a : Answer) → isAccepted a ≡ false → P x t (record { answer = a; after = t }))
+    (shows : (e : Event) (t : Tables) (legs : List Leg) → Undamaged t → eventSound (members t) e legs ≡ true → NoCause t e legs → P (Sound e) t (acceptedAs t e legs)) where
+  reading-shows : (t : Tables) (x : Reading) (bytes : List ℕ) → readOf (members t) bytes ≡ x → Undamaged t → P x t (readingSpec t x (legsOf bytes))
+  unfolding readingSpec
+  reading-shows t (Sound e) bytes q u =
+      rw (event-decided t e (legsOf bytes))
+      (decide-shows (P (Sound e) t) t (acceptedAs t e (legsOf bytes)) (kindCauses t e (legsOf bytes)) (refused (Sound e) t) (causes-refuse t e (legsOf bytes))
+      (λ none. shows e t (legsOf bytes) u (read-sound (members t) bytes e q) none))
+  reading-shows t Unsound bytes q u = refused Unsound t RecordUnsound refl
+
+  pub every-reading : (t : Tables) (bytes : List ℕ) → P (readOf (members t) bytes) t (applySpec t bytes)
+  unfolding applySpec
+  every-reading t bytes =
+      let x = readOf (members t) bytes in
+      decide-shows (P x t) t (readingSpec t x (legsOf bytes)) ((unsound t, TableUnsound) ∷ []) (refused x t) (refl, tt)
+      (λ sound. reading-shows t x bytes refl (undamaged t (sound .0)))
+
+-- the same where it does not matter what they say
+pub every-call : (P : Tables → Outcome Tables → Type 0) → ((t : Tables) (a : Answer) → isAccepted a ≡ false → P t (record { answer = a; after = t }))
+    → ((e : Event) (t : Tables) (legs : List Leg) → Undamaged t → eventSound (members t) e legs ≡ true → NoCause t e legs → P t (acceptedAs t e legs))
+    → (t : Tables) (bytes : List ℕ) → P t (applySpec t bytes)
+every-call P refused shows = every-reading (λ _. P) (λ _. refused) shows

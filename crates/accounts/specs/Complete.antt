@@ -1,0 +1,33 @@
+-- Matching is complete, and nobody is passed over.
+use Prim.Native.Nat.{ℕ}
+use mathlib.Core.Logic.{_⊎_}
+use mathlib.Core.Path.{_≡_}
+use mathlib.Core.Bool.{true, false, _&&_}
+use mathlib.Core.List.{List}
+use Rattle.arith.specs.Alls.{All}
+use Rattle.rules.specs.declared.event.Event.the-variants.{Submit}
+use Rattle.rules.specs.declared.event.Reading.the-variants.{Sound}
+use Rattle.rules.specs.declared.event.Submission.{Submission}
+use Rattle.rules.specs.Ledger.{Tables, members, orders}
+use Rattle.rules.specs.Matching.{precedes, opposes, meets, incoming, submitMatched}
+use Rattle.rules.specs.Records.{readOf}
+use Rattle.rules.specs.Refusals.{applySpec}
+use Rattle.rules.specs.Accounts.{isAccepted}
+
+-- The bytes are a submit, and it is accepted.
+abbrev pub AcceptedSubmit : Tables → List ℕ → Submission → Type 0
+AcceptedSubmit t bytes e = (readOf (members t) bytes ≡ Sound (Submit e)) × (isAccepted (applySpec t bytes .answer) ≡ true)
+
+-- After an accepted submit nothing of the order is left, or no resting order that opposes it meets its price.
+abbrev pub MatchingIsComplete : Type 0
+MatchingIsComplete =
+    (t : Tables) (bytes : List ℕ) (e : Submission)
+    → AcceptedSubmit t bytes e
+    → (submitMatched t e .left ≡ 0) ⊎ All (λ r. opposes (incoming t e) r && meets (incoming t e) r ≡ false) (orders (applySpec t bytes .after))
+
+-- A deal leaves no better order unmet: of the orders that still rest and oppose, none precedes one that was dealt with.
+abbrev pub NobodyIsPassedOver : Type 0
+NobodyIsPassedOver =
+    (t : Tables) (bytes : List ℕ) (e : Submission)
+    → AcceptedSubmit t bytes e
+    → All (λ deal. All (λ r. opposes (incoming t e) r && precedes r (deal .resting) ≡ false) (orders (applySpec t bytes .after))) (submitMatched t e .deals)

@@ -1,0 +1,171 @@
+-- Document 01, "Close of day": what is priced beside what is not, and what a close leaves, computed.
+use Prim.Native.Nat.{ℕ, suc}
+use mathlib.Core.Path.{_≡_, refl}
+use mathlib.Core.List.{List, [], _∷_, _++_, map, flatMap}
+use lib.IntN.{ℤ, pos, negsuc}
+use Rattle.arith.specs.Lists.{from}
+use Rattle.rules.specs.declared.order.Order.{Order}
+use Rattle.rules.specs.declared.order.Side.{Side}
+use Rattle.rules.specs.declared.order.Side.the-variants.{Buy, Sell}
+use Rattle.rules.specs.declared.units.Day.the-variants.{On}
+use Rattle.rules.specs.Contracts.{termOf, termClosingDay}
+use Rattle.rules.specs.Ledger.{Tables, calendar, withAcceptedSubmits, withLotsRun, withGgf, withDealt, withOrders, day, time, submitsThisSecond, orderCount, ggf, dayLots, dayValue, lotsAt, valueAt, orderAt}
+use Rattle.rules.specs.Refusals.{applySpec}
+use Rattle.rules.specs.Computed.{tablesAfter, computed}
+use Rattle.rules.specs.ExampleRecords.{buy, sell, close, made, monday, inHead, inPrices, held, order}
+
+-- ---- the GGF
+-- An order of a contract: side, price, lots, day and time of entry.
+abbrev Quote : Type 0
+Quote = Side × ℕ × ℕ × ℕ × ℕ
+
+-- A contract with its former GGF, M, V and orders, and its GGF after the close.
+abbrev Priced : Type 0
+Priced = ℕ × ℕ × ℕ × ℕ × List Quote × ℕ
+
+-- Their orders, all of member 0, numbered from n on.
+resting : ℕ → List (ℕ × Quote) → List Order
+resting n [] = []
+resting n ((c, q) ∷ qs) = order n 0 c (q .0) (q .1) (q .2) (q .3) (q .4) ∷ resting (suc n) qs
+
+placed : List Priced → Tables → Tables
+placed [] t = t
+placed ((c, former, m, v, quotes, price) ∷ xs) t = inPrices (withGgf c former) (inPrices (withDealt c m v) (placed xs t))
+
+-- Monday, 369, with a lots run of 1000 and the contracts as they are given; then the close at 36000 s.
+closed : List Priced → Tables
+closed xs =
+    applySpec
+    (withOrders (resting 0 (flatMap (λ x. map (λ q. (x .0, q)) (x .4)) xs)) (inHead (withAcceptedSubmits 100) (inHead (withLotsRun 1000) (placed xs monday))))
+    (close 36000)
+    .after
+
+abbrev Prices : List Priced → Type 0
+Prices xs = map (ggf (closed xs)) (map (λ x. x .0) xs) ≡ map (λ x. x .5) xs
+
+-- V/M from 10, 20, 50 lots on, whatever is quoted; halves round up, less rounds down. One lot less, and no quote: the former GGF.
+-- A contract that is not open keeps its own: the year 2021 has closed, the year 2026 is not among the first four.
+ggf-of-deals : Prices
+    ((17, 25000, 10, 260005, [], 26001)
+    ∷ (51, 25000, 10, 260004, [], 26000)
+    ∷ (68, 25000, 10, 260000, (Buy, 20000, 10, 366, 0) ∷ (Sell, 21000, 10, 366, 0) ∷ [], 26000)
+    ∷ (34, 25000, 9, 234000, [], 25000)
+    ∷ (18, 25000, 20, 520000, [], 26000)
+    ∷ (19, 25000, 19, 494000, [], 25000)
+    ∷ (22, 25000, 50, 1300000, [], 26000)
+    ∷ (23, 0, 49, 1274000, [], 0)
+    ∷ (0, 25000, 10, 260000, [], 25000)
+    ∷ (85, 25000, 10, 260000, [], 25000)
+    ∷ [])
+unfolding computed closed placed resting
+ggf-of-deals = refl
+
+-- Below the threshold, with quotes: (6V + M(b+s))/(8M) if there are deals, (b+s)/2 if not, of the best buy and the best sell.
+-- Without one of the two the former GGF.
+ggf-of-quotes : Prices
+    ((24, 25000, 20, 558000, (Buy, 27500, 50, 366, 0) ∷ (Sell, 27600, 50, 366, 0) ∷ [], 27813)
+    ∷ (25, 25000, 0, 0, (Buy, 27500, 50, 366, 0) ∷ (Sell, 27601, 50, 366, 0) ∷ [], 27551)
+    ∷ (6, 25000, 0, 0, (Buy, 27400, 50, 366, 0) ∷ (Buy, 27500, 50, 366, 0) ∷ (Sell, 27600, 50, 366, 0) ∷ (Sell, 27700, 50, 366, 0) ∷ [], 27550)
+    ∷ (7, 25000, 0, 0, (Buy, 27500, 50, 366, 0) ∷ [], 25000)
+    ∷ (8, 25000, 0, 0, (Sell, 27500, 50, 366, 0) ∷ [], 25000)
+    ∷ [])
+unfolding computed closed placed resting
+ggf-of-quotes = refl
+
+-- An order quotes from 10, 20, 50 lots on, if it entered on an earlier day, whenever, or at 35700 s at the latest.
+which-orders-quote : Prices
+    ((17, 0, 0, 0, (Buy, 27500, 10, 366, 0) ∷ (Sell, 27600, 10, 366, 0) ∷ [], 27550)
+    ∷ (34, 0, 0, 0, (Buy, 27500, 9, 366, 0) ∷ (Sell, 27600, 10, 366, 0) ∷ [], 0)
+    ∷ (18, 0, 0, 0, (Buy, 27500, 20, 366, 0) ∷ (Sell, 27600, 20, 366, 0) ∷ [], 27550)
+    ∷ (19, 0, 0, 0, (Buy, 27500, 20, 366, 0) ∷ (Sell, 27600, 19, 366, 0) ∷ [], 0)
+    ∷ (22, 0, 0, 0, (Buy, 27500, 50, 366, 0) ∷ (Buy, 27550, 49, 366, 0) ∷ (Sell, 27600, 50, 366, 0) ∷ [], 27550)
+    ∷ (23, 0, 0, 0, (Buy, 27500, 50, 368, 86399) ∷ (Sell, 27600, 50, 369, 35700) ∷ [], 27550)
+    ∷ (24, 0, 0, 0, (Buy, 27500, 50, 368, 86399) ∷ (Sell, 27600, 50, 369, 35701) ∷ [], 0)
+    ∷ (25, 0, 0, 0, (Buy, 27500, 50, 368, 86399) ∷ (Sell, 27600, 50, 370, 0) ∷ [], 0)
+    ∷ [])
+unfolding computed closed placed resting
+which-orders-quote = refl
+
+-- Orders enter with the ledger's day and their own time: at 36000 s of Monday, 300 s and 299 s before the close, and the day before.
+entered-at :
+    map
+    (λ rs. ggf (tablesAfter monday (buy 0 22 27500 50 ∷ sell 1 22 27601 50 ∷ rs)) 22)
+    ((close 36300 ∷ []) ∷ (close 36299 ∷ []) ∷ (close 36299 ∷ close 0 ∷ []) ∷ [])
+    ≡ 27551 ∷ 0 ∷ 27551 ∷ []
+unfolding computed
+entered-at = refl
+
+-- M and V, each deal counted once: two deals of 5 lots in the year, then nothing on the next day.
+abbrev dayFigures : Tables → List ℕ
+dayFigures t = ggf t 17 ∷ dayLots t 17 ∷ dayValue t 17 ∷ day t ∷ time t ∷ submitsThisSecond t 1 ∷ []
+
+abbrev deals : List (List ℕ)
+deals = sell 0 17 26000 5 ∷ sell 0 17 27000 5 ∷ buy 1 17 27000 10 ∷ []
+
+-- Tuesday, 370, is a holiday.
+days-figures : map (λ rs. dayFigures (tablesAfter (made 2021 369 (370 ∷ []) (1000 ∷ 1000 ∷ [])) rs)) (deals ∷ (deals ++ (close 36000 ∷ [])) ∷ [])
+    ≡ (0 ∷ 10 ∷ 265000 ∷ 369 ∷ 36000 ∷ 1 ∷ []) ∷ (26500 ∷ 0 ∷ 0 ∷ 371 ∷ 0 ∷ 0 ∷ []) ∷ []
+unfolding computed
+days-figures = refl
+
+-- M and V become 0 in every contract, also in one that is not open.
+closed-figures : dayLots (closed ((0, 0, 10, 260000, [], 0) ∷ [])) 0 ∷ dayValue (closed ((0, 0, 10, 260000, [], 0) ∷ [])) 0 ∷ [] ≡ 0 ∷ 0 ∷ []
+unfolding computed closed placed resting
+closed-figures = refl
+
+-- ---- closing contracts
+-- Outside the span only weekends are no business days: in a ledger from 2021 on the year 2021 closed on Friday 25 December 2020.
+closed-before-the-span : termClosingDay (calendar monday) (termOf 0) ≡ On (record { 0 = 359 })
+unfolding computed
+closed-before-the-span = refl
+
+-- Day 453 is the last of the second quarter and of April. Orders 0 to 3 are in the quarter, in April and, two, in the next
+-- year: what stays moves up once, and places past it are untouched.
+abbrev bookAfter : Tables → List ℕ
+bookAfter t = let l = applySpec t (close 36000) .after in orderCount l ∷ map (λ i. orderAt (l .book) i .number) (0 ∷ 1 ∷ 2 ∷ 3 ∷ [])
+
+orders-that-close : bookAfter
+    (withOrders
+    (order 0 0 2 Buy 26000 1 453 0 ∷ order 1 0 8 Buy 26000 1 453 0 ∷ order 2 0 17 Buy 26000 1 453 0 ∷ order 3 0 17 Buy 26000 1 453 0 ∷ [])
+    (inHead (withAcceptedSubmits 4) (made 2021 453 [] (1000 ∷ []))))
+    ≡ 2 ∷ 2 ∷ 3 ∷ 2 ∷ 3 ∷ []
+unfolding computed
+orders-that-close = refl
+
+-- A closing contract is open that day: its orders quote before they go.
+closing-is-priced :
+    ggf
+    (applySpec
+    (withOrders (order 0 0 2 Buy 26000 20 452 0 ∷ order 1 0 2 Sell 26100 20 452 0 ∷ []) (inHead (withAcceptedSubmits 2) (made 2021 453 [] (1000 ∷ []))))
+    (close 36000)
+    .after)
+    2
+    ≡ 26050
+unfolding computed
+closing-is-priced = refl
+
+-- Lots that net to zero carry their value: member 0 bought 4 of the year 2021 at 30000 and sold 4 of its first quarter at 31000.
+abbrev bought : List (List ℕ)
+bought = sell 1 17 30000 4 ∷ buy 0 17 30000 4 ∷ buy 1 18 31000 4 ∷ sell 0 18 31000 4 ∷ []
+
+-- Member 0's lots and value in a contract, after the first close, of the year's closing day, 359, and the third, of the quarter's, 363.
+abbrev rowAfter : ℕ → ℕ → List ℤ
+rowAfter n c =
+    let t = tablesAfter (made 2020 359 [] (1000 ∷ 1000 ∷ [])) (bought ++ map (λ i. close 61200) (from 0 n)) in
+    lotsAt t c 0 ∷ valueAt t c 0 ∷ []
+
+rows-that-cascade : rowAfter 1 17 ∷ rowAfter 1 18 ∷ rowAfter 1 19 ∷ rowAfter 3 18 ∷ rowAfter 3 22 ∷ rowAfter 3 24 ∷ []
+    ≡ (pos 0 ∷ pos 0 ∷ [])
+    ∷ (pos 0 ∷ negsuc 3999 ∷ [])
+    ∷ (pos 4 ∷ pos 120000 ∷ [])
+    ∷ (pos 0 ∷ pos 0 ∷ [])
+    ∷ (pos 0 ∷ negsuc 3999 ∷ [])
+    ∷ (pos 0 ∷ negsuc 3999 ∷ [])
+    ∷ []
+unfolding computed
+rows-that-cascade = refl
+
+-- Rows of members past the count are surplus: of two members, the third's stay.
+surplus-rows : map (λ c. lotsAt (applySpec (held ((2, 17, pos 7) ∷ []) (made 2020 359 [] (1000 ∷ 1000 ∷ []))) (close 0) .after) c 2) (17 ∷ 18 ∷ []) ≡ pos 7 ∷ pos 0 ∷ []
+unfolding computed held
+surplus-rows = refl

@@ -1,0 +1,106 @@
+//! compare SEED RECORDS: applies generated records and prints how often each answer and each edge came. With the
+//! feature `c_engine` the proved library gets the same calls; the run stops at the first difference.
+use model::answer::{told, Answer};
+use model::apply::apply;
+use model::coverage::{Coverage, EDGES};
+use model::damage::is_damaged;
+use model::generate::{run, Call};
+use model::make::make;
+use model::tables::Tables;
+use model::text::{ledger, to_hex};
+use std::process::ExitCode;
+
+fn modelled(tables: &mut Tables, call: &Call) -> Answer {
+    match call {
+        Call::Make(bytes) => make(tables, bytes),
+        Call::Apply(bytes) => apply(tables, bytes),
+    }
+}
+
+/// The library's answer; its damage test has to agree with it.
+#[cfg(feature = "c_engine")]
+fn proved(tables: &mut Tables, call: &Call) -> Option<(u64, u64)> {
+    use model::engine_c;
+    match call {
+        Call::Make(bytes) => Some(engine_c::make(tables, bytes)),
+        Call::Apply(bytes) => {
+            let is_damaged = engine_c::is_damaged(tables);
+            let answer = engine_c::apply(tables, bytes);
+            assert_eq!(is_damaged, answer.0 == 1, "ledger_is_damaged and ledger_apply differ");
+            Some(answer)
+        }
+    }
+}
+
+#[cfg(not(feature = "c_engine"))]
+fn proved(_: &mut Tables, _: &Call) -> Option<(u64, u64)> {
+    None
+}
+
+/// The first place of a table on which the two differ.
+fn difference(ours: &Tables, theirs: &Tables) -> Option<String> {
+    fn first<T: PartialEq + std::fmt::Display>(name: &str, ours: &[T], theirs: &[T]) -> Option<String> {
+        let place = ours.iter().zip(theirs).position(|(a, b)| a != b)?;
+        Some(format!("{name} place {place}: model {}, library {}", ours[place], theirs[place]))
+    }
+    first("head", &ours.head, &theirs.head)
+        .or_else(|| first("prices", &ours.prices, &theirs.prices))
+        .or_else(|| first("lots", &ours.lots, &theirs.lots))
+        .or_else(|| first("value", &ours.value, &theirs.value))
+        .or_else(|| first("book", &ours.book, &theirs.book))
+        .or_else(|| first("lines", &ours.lines, &theirs.lines))
+}
+
+/// One call on both sides, from the same tables.
+struct Sides {
+    before: Tables,
+    theirs: Tables,
+    coverage: Coverage,
+}
+
+impl Sides {
+    fn call(&mut self, tables: &mut Tables, call: Call) -> Result<(), String> {
+        self.before.clone_from(tables);
+        self.theirs.clone_from(tables);
+        let answer = modelled(tables, &call);
+        self.coverage.observe(&self.before, &call, answer, tables);
+        let Some(proved) = proved(&mut self.theirs, &call) else {
+            return Ok(());
+        };
+        let bytes = match call {
+            Call::Make(bytes) => format!("header {}", to_hex(bytes)),
+            Call::Apply(bytes) => format!("record {}", to_hex(bytes)),
+        };
+        if proved != told(answer) {
+            return Err(format!("{bytes}\nanswer: model {:?}, library {proved:?}", told(answer)));
+        }
+        if let Some(place) = difference(tables, &self.theirs) {
+            return Err(format!("{bytes}\nanswer {proved:?}\n{place}"));
+        }
+        Ok(())
+    }
+}
+
+fn main() -> ExitCode {
+    let numbers: Vec<u64> = std::env::args().skip(1).filter_map(|number| number.parse().ok()).collect();
+    let &[seed, records] = numbers.as_slice() else {
+        eprintln!("compare SEED RECORDS");
+        return ExitCode::FAILURE;
+    };
+    let mut sides = Sides { before: Tables::empty(), theirs: Tables::empty(), coverage: Coverage::default() };
+    let outcome = run(seed, records, |tables, call| sides.call(tables, call));
+    let answers = &sides.coverage.answers;
+    println!("{} calls, {} accepted", answers.iter().sum::<u64>(), answers[0]);
+    answers.iter().enumerate().skip(1).for_each(|(number, count)| println!("refused {number}: {count}"));
+    for edge in EDGES {
+        println!("{edge}: {}", sides.coverage.edges.get(edge).unwrap_or(&0));
+    }
+    if let Err(difference) = outcome {
+        if !is_damaged(&sides.before) {
+            print!("ledger before the call\n{}", ledger(&sides.before));
+        }
+        println!("DIFFERENT after {} calls\n{difference}", answers.iter().sum::<u64>());
+        return ExitCode::FAILURE;
+    }
+    ExitCode::SUCCESS
+}

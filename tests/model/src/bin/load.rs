@@ -1,0 +1,87 @@
+//! load [SUBMITS]: the time of Change 14's load at 2, 8 and 32 members and of single records, in the model and, with the
+//! feature `c_engine`, in the proved library: both in this process, in turn, the least of many rounds.
+use model::apply::apply;
+use model::damage::is_damaged;
+use model::load::{calls, fresh, submits, Call};
+use model::tables::Tables;
+use std::hint::black_box;
+use std::time::{Duration, Instant};
+
+/// Submits to one fresh ledger.
+const RUN: u64 = 10_000;
+const ROUNDS: usize = 5;
+/// How often a single record is applied.
+const REPEATS: usize = 300;
+
+type Side = fn(&mut Tables, &[u8]);
+
+const APPLY: &[Side] = &[
+    |tables, record| _ = black_box(apply(tables, record)),
+    #[cfg(feature = "c_engine")]
+    |tables, record| _ = black_box(model::engine_c::apply(tables, record)),
+];
+const IS_DAMAGED: &[Side] = &[
+    |tables, _| _ = black_box(is_damaged(tables)),
+    #[cfg(feature = "c_engine")]
+    |tables, _| _ = black_box(model::engine_c::is_damaged(tables)),
+];
+
+/// The least time of each side.
+type Least = Vec<Duration>;
+
+fn least(sides: &[Side], rounds: usize, timed: impl Fn(Side) -> Duration) -> Least {
+    let mut least = vec![Duration::MAX; sides.len()];
+    for _ in 0..rounds {
+        for (least, &side) in least.iter_mut().zip(sides) {
+            *least = timed(side).min(*least);
+        }
+    }
+    least
+}
+
+fn timed_run(start: &Tables, records: &[Vec<u8>], side: Side) -> Duration {
+    let mut tables = start.clone();
+    let before = Instant::now();
+    records.iter().for_each(|record| side(&mut tables, record));
+    before.elapsed()
+}
+
+fn print(name: &str, calls: u64, least: &Least) {
+    let each: Vec<f64> = least.iter().map(|time| time.as_nanos() as f64 / calls as f64).collect();
+    print!("{name}: model {:.0} ns", each[0]);
+    match each.get(1) {
+        Some(library) => println!(", library {library:.0} ns, ratio {:.2}", library / each[0]),
+        None => println!(),
+    }
+}
+
+fn print_load(members: u64, count: u64) {
+    let start = fresh(members);
+    let mut sum = vec![Duration::ZERO; APPLY.len()];
+    for run in 1..=count.div_ceil(RUN) {
+        let records = submits(members, RUN, run * 0x9e37_79b9);
+        let least = least(APPLY, ROUNDS, |side| timed_run(&start, &records, side));
+        sum.iter_mut().zip(least).for_each(|(sum, time)| *sum += time);
+    }
+    print(&format!("{members} members, a submit of the load"), count.div_ceil(RUN) * RUN, &sum);
+}
+
+fn print_call(sides: &[Side], name: String, call: &Call) {
+    let records = [call.bytes.clone()];
+    let least = least(sides, REPEATS, |side| timed_run(&call.tables, &records, side));
+    print(&name, 1, &least);
+}
+
+fn main() {
+    let count = std::env::args().nth(1).and_then(|count| count.parse().ok()).unwrap_or(1_000_000);
+    for members in [2, 8, 32] {
+        print_load(members, count);
+        let empty = Call { name: String::new(), tables: fresh(members), bytes: Vec::new() };
+        print_call(IS_DAMAGED, format!("{members} members, empty book, damage test alone"), &empty);
+        let calls = calls(members);
+        print_call(IS_DAMAGED, format!("{members} members, full book, damage test alone"), &calls[0]);
+        for call in &calls {
+            print_call(APPLY, format!("{members} members, full book, {}", call.name), call);
+        }
+    }
+}

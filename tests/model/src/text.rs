@@ -1,0 +1,44 @@
+//! A ledger as the text of tests/lists, and numbers in hex.
+use crate::contract::CONTRACTS;
+use crate::tables::*;
+use std::fmt::Write;
+
+pub fn from_hex(hex: &str) -> Vec<u8> {
+    let digits = |pair: usize| u8::from_str_radix(&hex[2 * pair..2 * pair + 2], 16).expect("two hex digits");
+    (0..hex.len() / 2).map(digits).collect()
+}
+
+pub fn to_hex(bytes: &[u8]) -> String {
+    bytes.iter().map(|byte| format!("{byte:02x}")).collect()
+}
+
+/// Zero rows and contracts that are as when fresh are left out; orders are given by number.
+pub fn ledger(tables: &Tables) -> String {
+    let members = 0..tables.members();
+    let mut out = String::new();
+    let (day, time, accepted, run) = (tables.day(), tables.time(), tables.head[ACCEPTED], tables.run());
+    let marks: String = members.clone().map(|member| if tables.is_defaulted(member) { '1' } else { '0' }).collect();
+    let counts: String = members.clone().map(|member| format!(" {}", tables.submits(member))).collect();
+    write!(out, "day {day} time {time} accepted {accepted} run {run}\nmarks {marks}\ncounts{counts}\n").unwrap();
+    for contract in 0..CONTRACTS {
+        let [ggf, low, high, m, v] = [GGF, LOW, HIGH, DAY_LOTS, DAY_VALUE].map(|which| tables.price(contract, which));
+        if [ggf, low, high, m, v] != [0, 1, MOST_PRICE, 0, 0] {
+            writeln!(out, "contract {contract} ggf {ggf} low {low} high {high} M {m} V {v}").unwrap();
+        }
+    }
+    for (contract, member) in (0..CONTRACTS).flat_map(|contract| members.clone().map(move |member| (contract, member)))
+    {
+        let (lots, value) = (tables.lots(contract, member), tables.value(contract, member));
+        if (lots, value) != (0, 0) {
+            writeln!(out, "row {contract} {member} lots {lots} value {value}").unwrap();
+        }
+    }
+    let mut orders: Vec<Order> = tables.orders().collect();
+    orders.sort_by_key(|order| order.number);
+    for Order { number, member, contract, side, price, lots, day, time } in orders {
+        let side = side.number();
+        write!(out, "order {number} member {member} contract {contract} side {side} ").unwrap();
+        writeln!(out, "price {price} lots {lots} day {day} time {time}").unwrap();
+    }
+    out
+}
