@@ -21,7 +21,7 @@ use Rattle.rules.specs.Ledger.{bookLength, orderAt}
 use Rattle.rules.specs.Matching.{opposes, meetsPrice, meets}
 use Rattle.matching.specs.declared.deals.Counterparty.{Counterparty}
 use Rattle.matching.specs.Ranks.{Ranked, rankOf, noRank, rankIn, ranksOf, Lowest, LowestOf}
-use Rattle.matching.specs.Deals.{counterparty, dealWidth, dealPlaces, dealAt, dealsIn}
+use Rattle.matching.specs.Deals.{counterparty, dealWidth, dealPlaces, dealAt, dealsIn, FromBook}
 use Rattle.matching.specs.Matching.{DealMade, Matchable, Ended}
 use Rattle.tables.specs.Fit.{ordersIn}
 use Rattle.matching.proofs.Best.{ranks-length, ranks-at, live, rank-live}
@@ -40,7 +40,7 @@ module _ (k : ℕ) (d : Counterparty) (l : List ℕ) (fits : k * dealWidth + 3 �
   abbrev l′ : List ℕ
   l′ = over (k * dealWidth) (dealPlaces d) l
 
-  deal-new : dealAt l′ k ≡ d
+  pub deal-new : dealAt l′ k ≡ d
   deal-new =
       rw (
         ap (λ n. getD l′ n 0) (sym (add-zero (k * dealWidth))) ∙ over-inside (k * dealWidth) (dealPlaces d) l fits 0 0 (omega arith),
@@ -48,7 +48,7 @@ module _ (k : ℕ) (d : Counterparty) (l : List ℕ) (fits : k * dealWidth + 3 �
         over-inside (k * dealWidth) (dealPlaces d) l fits 2 0 (omega arith),
       )
 
-  deal-old : (i : ℕ) → i < k → dealAt l′ i ≡ dealAt l i
+  pub deal-old : (i : ℕ) → i < k → dealAt l′ i ≡ dealAt l i
   deal-old i h =
       rw (
         over-outside (k * dealWidth) (dealPlaces d) l fits (i * dealWidth) 0 (λ g. omega arith),
@@ -78,6 +78,7 @@ pub record Going (o : Order) (book : List ℕ) (n m : ℕ) (left ranks deals : L
   pub ranks-length : length ranks ≡ n
   pub deals-length : length deals ≡ m
   pub room : mostLots * dealWidth ≤ m
+  pub from-book : (j : ℕ) → j < k → FromBook book n (dealAt deals j)
 
 pub going-start : (o : Order) (book left ranks deals : List ℕ) → Matchable o book left ranks → mostLots * dealWidth ≤ length deals → Going o book (length left) (length deals) left ranks deals (o .lots .0) 0
 unfolding dealsIn from
@@ -96,6 +97,7 @@ going-start o book left ranks deals m room =
       ranks-length = ap length (m .all-ranked) ∙ ranks-length o _ os (length-map os _) ∙ orders-length book (length left);
       deals-length = refl;
       room = room;
+      from-book = λ j h. absurd (omega arith);
     }
 
 -- The best order, which crosses, and its price.
@@ -178,6 +180,13 @@ module _ (o : Order) (book : List ℕ) (n m : ℕ) (left ranks deals : List ℕ)
           let next = running-deal o os left ranks wanted (dealsIn k deals) (g .running) (orderAt book i) i lots (g .ranked) (g .numbers) l (ap (meets o) here ∙ e) (g .some) refl ranks′ ranks-same in
           rw (d .still-wanted, d .left-after, d .deals-after, deals-more k (counterparty (orderAt book i) lots) deals fits) (rw here at next)
 
+      pub from-made : (j : ℕ) → j < k + 1 → FromBook book n (dealAt deals′ j)
+      from-made j h =
+          let new = counterparty (orderAt book i) lots in
+          rw (d .deals-after)
+          (same-or j k (λ e. rw (e, deal-new k new deals fits) (record { place = i; below = x .below; member = refl; price = refl }))
+          (λ e. rw (deal-old k new deals fits j (omega arith)) (g .from-book j (omega arith))))
+
       pub going-made : (still ≡ 0 → ⊥) → Going o book n m left′ ranks′ deals′ still (k + 1)
       going-made z =
           record {
@@ -192,6 +201,7 @@ module _ (o : Order) (book : List ℕ) (n m : ℕ) (left ranks deals : List ℕ)
             ranks-length = ranks-long;
             deals-length = deals-long;
             room = g .room;
+            from-book = from-made;
           }
 
       pub still-less : still < wanted

@@ -121,14 +121,6 @@ module _ (o : Order) (os : List Order) (z : Order) (h : All Ranked os) (d : Dist
     pub most : length (matched o os .resting) ≤ howMany (ltb 0) left
     pub fewer : 0 < crossing o left os → 0 < matched o os .left → length (matched o os .resting) < howMany (ltb 0) left
 
-  at-end : (left : List ℕ) (x : ℕ) (ds : List Counterparty) → length left ≡ length os → Ended o os left x ds → (0 < x → crossing o left os ≡ 0) → Measured left x
-  at-end left x ds e f n =
-      record {
-        lots = f .lots ∙ le-or-lt x 0 (λ g. omega arith) (λ g. omega (arith, n g));
-        most = omega (arith, ap length (f .resting), left-count left os e);
-        fewer = λ c g. absurd (omega (arith, f .lots, n (omega (arith, f .lots))));
-      }
-
   -- the order of the lowest rank is one of them, opposes and is not used up
   met-place : (left ranks : List ℕ) (x : ℕ) (ds : List Counterparty) → Running o os left ranks x ds → (i : ℕ) → Lowest ranks i → i < length os
   met-place left ranks x ds r i l = let low : Lowest (ranksOf o left os) i = rw (r .ranked) at l in omega (arith, low .below, ranks-length o left os (r .sized))
@@ -138,6 +130,26 @@ module _ (o : Order) (os : List Order) (z : Order) (h : All Ranked os) (d : Dist
       let low : Lowest (ranksOf o left os) i = rw (r .ranked) at l in
       let alive = live o (getD left i 0) (getD os i z) (rw (ranks-at o z left os i (r .sized) (met-place left ranks x ds r i l)) at (low .some)) in
       (alive .0, alive .1)
+
+  -- where no lots cross nothing is dealt
+  pub untouched : (left ranks : List ℕ) (x : ℕ) (ds : List Counterparty) → Running o os left ranks x ds → crossing o left os ≡ 0 → Ended o os left x ds
+  untouched left ranks x ds r e = go (found ranks)
+    where
+      go : Found ranks → Ended o os left x ds
+      go (nowhere f) = ended-none o os left ranks x ds r h f
+      go (lowest i l) =
+          true-or (meets o (getD os i z))
+          (λ m. let alive = met left ranks x ds r i l in
+          absurd (omega (arith, alive .1, crossing-used o z left os i (getD left i 0) (r .sized) (met-place left ranks x ds r i l) (rw (alive .0) m) (omega arith))))
+          (λ m. ended-far o os left ranks x ds r z i h l m)
+
+  at-end : (left : List ℕ) (x : ℕ) (ds : List Counterparty) → length left ≡ length os → Ended o os left x ds → (0 < x → crossing o left os ≡ 0) → Measured left x
+  at-end left x ds e f n =
+      record {
+        lots = f .lots ∙ le-or-lt x 0 (λ g. omega arith) (λ g. omega (arith, n g));
+        most = omega (arith, ap length (f .resting), left-count left os e);
+        fewer = λ c g. absurd (omega (arith, f .lots, n (omega (arith, f .lots))));
+      }
 
   -- with one deal more
   deal-measured : (x : ℕ) → 0 < x → (left ranks : List ℕ) (ds : List Counterparty) (r : Running o os left ranks x ds) (i : ℕ) → Lowest ranks i → meets o (getD os i z) ≡ true

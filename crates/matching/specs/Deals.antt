@@ -1,10 +1,11 @@
 -- Deals as a column keeps them: three places for each, the resting member, the resting price and the lots.
-use Prim.Native.Nat.{ℕ, _+_, _*_}
+use Prim.Native.Nat.{ℕ, _+_, _*_, _<_}
+use mathlib.Core.Path.{_≡_}
 use mathlib.Core.List.{List, [], _∷_, map}
 use lib.ListN.{getD}
 use Rattle.arith.specs.Lists.{from}
 use Rattle.rules.specs.declared.order.Order.{Order}
-use Rattle.rules.specs.Ledger.{Line}
+use Rattle.rules.specs.Ledger.{Line, orderAt}
 use Rattle.rules.specs.Matching.{Deal, signed, otherSide}
 use Rattle.matching.specs.declared.deals.Counterparty.{Counterparty}
 
@@ -38,3 +39,10 @@ linesWith o d =
     record { member = o .member; contract = o .contract; lots = signed (o .side) (d .lots .0); price = d .price .0 }
     ∷ record { member = d .member; contract = o .contract; lots = signed (otherSide (o .side)) (d .lots .0); price = d .price .0 }
     ∷ []
+
+-- The other party is the member of an order of the book's first n places, at that order's price.
+pub record FromBook (book : List ℕ) (n : ℕ) (d : Counterparty) : Type 0 where
+  pub place : ℕ
+  pub below : place < n
+  pub member : d .member ≡ orderAt book place .member
+  pub price : d .price .0 ≡ orderAt book place .price .0

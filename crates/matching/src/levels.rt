@@ -6,7 +6,7 @@ ghost use lib.ListN.{length, getD};
 ghost use Rattle.rules.specs.Ranges.{mostLots, mostOrders};
 ghost use Rattle.rules.specs.Ledger.{bookLength, orderAt};
 ghost use Rattle.tables.specs.Fit.{ordersIn};
-ghost use Rattle.matching.specs.Deals.{dealWidth, dealsIn};
+ghost use Rattle.matching.specs.Deals.{dealWidth, dealAt, dealsIn, FromBook};
 ghost use Rattle.matching.specs.Matching.{DealMade, Matchable, Ended};
 use crate::columns::lowest_of;
 use crate::columns::use_lots;
@@ -84,6 +84,7 @@ pub fn match_orders(
     requires { ⌜ Matchable o (now book) (now left) (now ranks) × (mostLots * dealWidth ≤ length (now deals)) ⌝ }
     ensures { λ r. ⌜ Ended o (ordersIn (length (now (left .entry))) (now (book .entry))) (now (left .exit)) (r .left) (dealsIn (r .deals) (now (deals .exit))) ⌝ }
     ensures { λ r. ⌜ r .deals ≤ mostLots ⌝ }
+    ensures { λ r. ⌜ ((j : ℕ) → j < r .deals → FromBook (now (book .entry)) (length (now (left .entry))) (dealAt (now (deals .exit)) j)) ⌝ }
 {
     let count = left.len();
     let mut wanted = o.lots.0;

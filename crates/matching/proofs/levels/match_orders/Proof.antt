@@ -5,7 +5,7 @@ use Prim.Native.Nat.{_≤_}
 use lib.ListN.{length}
 use borrow.Author.Tests.{not-true, not-false}
 use Rattle.matching.specs.Ranks.{LowestOf}
-use Rattle.matching.proofs.Going.{Going, going-start, Next, ended-empty, ended-apart, next-first, next-level, going-made, still-less, ended-made, left-long, ranks-long, deals-long, resized}
+use Rattle.matching.proofs.Going.{Going, going-start, Next, ended-empty, ended-apart, next-first, next-level, going-made, still-less, ended-made, from-made, left-long, ranks-long, deals-long, resized}
 use Rattle.matching.proofs.levels.match_orders.Statement.{statement}
 use Rattle.matching.proofs.levels.match_orders.Tie as tie
 use Rattle.matching.proofs.levels.match_orders.Reads as reads
@@ -125,7 +125,7 @@ same-length-3 c = c .before .levels .inv .0 .deals-length
 returns : tie.Need-returns Inv-orders μ-orders Inv-levels μ-levels
 returns c =
     let g = c .before .levels .inv .0 in
-    (ended-empty _ _ _ _ _ _ _ _ _ g _ (c .before .levels .inv .1) (omega arith), omega (arith, g .few))
+    (ended-empty _ _ _ _ _ _ _ _ _ g _ (c .before .levels .inv .1) (omega arith), (omega (arith, g .few), g .from-book))
 
 -- src/levels.rt:77:1
 same-length-4 : tie.Need-same-length-4 Inv-orders μ-orders Inv-levels μ-levels
@@ -145,7 +145,7 @@ returns-2 c =
     let g = c .before .before .before .before .levels .inv .0 in
     (
       ended-apart _ _ _ _ _ _ _ _ _ g _ (c .before .before .before .before .levels .inv .1) (c .before .before .before .levels-test .taken) _ (c .before .before .order-at .ensures) (sym (c .before .does-meet .ensures) ∙ not-true _ (c .if1 .taken)),
-      omega (arith, g .few),
+      (omega (arith, g .few), g .from-book),
     )
 
 -- src/levels.rt:77:1
@@ -164,7 +164,7 @@ same-length-9 c = deals-long _ _ _ _ _ _ _ _ _ (c .before .before .before .befor
 returns-3 : tie.Need-returns-3 Inv-orders μ-orders Inv-levels μ-levels
 returns-3 c =
     let g = c .before .before .before .before .before .before .before .before .before .before .before .orders .inv .0 in
-    (ended-made _ _ _ _ _ _ _ _ _ g _ _ (c .before .before .before .before .before .before .before .before .before .before .before .orders .inv .1) _ _ _ _ (c .before .before .before .before .before .before .before .deal .ensures) (c .if2 .taken), omega (arith, g .few, g .some))
+    (ended-made _ _ _ _ _ _ _ _ _ g _ _ (c .before .before .before .before .before .before .before .before .before .before .before .orders .inv .1) _ _ _ _ (c .before .before .before .before .before .before .before .deal .ensures) (c .if2 .taken), (omega (arith, g .few, g .some), from-made _ _ _ _ _ _ _ _ _ g _ _ (c .before .before .before .before .before .before .before .before .before .before .before .orders .inv .1) _ _ _ _ (c .before .before .before .before .before .before .before .deal .ensures)))
 
 pub match-orders-spec : {M : Type 1} → statement M
 match-orders-spec =
