@@ -5,3 +5,4 @@ pub mod Measures
 pub mod Passes
 pub mod Scanning
 pub mod Going
+pub mod Totals

@@ -20,12 +20,12 @@ use Rattle.matching.specs.Crossing.{isOwn, crosses, ownLots, crossingLot
 use Rattle.tables.specs.Fit.{ordersIn}
 use Rattle.matching.proofs.Best.{ranks-at}
 
-total-append : {A : Type 0} (f : A → ℕ) (l m : List A) → total f (l ++ m) ≡ total f l + total f m
+pub total-append : {A : Type 0} (f : A → ℕ) (l m : List A) → total f (l ++ m) ≡ total f l + total f m
 unfolding total
 total-append f [] m = sym (zero-add (total f m))
 total-append f (x ∷ l) m = omega (arith, total-append f l m)
 
-total-one : {A : Type 0} (f : A → ℕ) (x : A) → total f (x ∷ []) ≡ f x
+pub total-one : {A : Type 0} (f : A → ℕ) (x : A) → total f (x ∷ []) ≡ f x
 unfolding total
 total-one f x = add-zero (f x)
 

@@ -33,12 +33,15 @@ dealAt l k =
 unfoldable pub dealsIn : ℕ → List ℕ → List Counterparty
 dealsIn n l = map (dealAt l) (from 0 n)
 
--- The two lines of a deal.
+-- The two lines of a deal: the incoming member's, then the resting member's.
+abbrev pub lineIn : Order → Counterparty → Line
+lineIn o d = record { member = o .member; contract = o .contract; lots = signed (o .side) (d .lots .0); price = d .price .0 }
+
+abbrev pub lineOut : Order → Counterparty → Line
+lineOut o d = record { member = d .member; contract = o .contract; lots = signed (otherSide (o .side)) (d .lots .0); price = d .price .0 }
+
 abbrev pub linesWith : Order → Counterparty → List Line
-linesWith o d =
-    record { member = o .member; contract = o .contract; lots = signed (o .side) (d .lots .0); price = d .price .0 }
-    ∷ record { member = d .member; contract = o .contract; lots = signed (otherSide (o .side)) (d .lots .0); price = d .price .0 }
-    ∷ []
+linesWith o d = lineIn o d ∷ lineOut o d ∷ []
 
 -- The other party is the member of an order of the book's first n places, at that order's price.
 pub record FromBook (book : List ℕ) (n : ℕ) (d : Counterparty) : Type 0 where

@@ -1,0 +1,6 @@
+pub mod Signs
+pub mod Judged
+pub mod Kept
+pub mod Lines
+pub mod Heads
+pub mod Orders
