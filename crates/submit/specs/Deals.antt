@@ -8,14 +8,15 @@ use lib.ListN.{length, getD}
 use Rattle.arith.specs.Lists.{over, total}
 use Rattle.rules.specs.declared.order.Order.{Order}
 use Rattle.rules.specs.Ranges.{contractCount, mostMembers, mostOrders, mostLots, mostPrice, mostLotsRun}
-use Rattle.rules.specs.Ledger.{headLength, pricesLength, bookLength, linesLength, dayLotsPlace, dayValuePlace, withOrderCount, withDealt, orderAt, orderPlaces}
+use Rattle.rules.specs.Ledger.{Tables, withHead, withRows, withLines, headLength, pricesLength, bookLength, linesLength, dayLotsPlace, dayValuePlace, withOrderCount, withDealt, orderAt, orderPlaces}
 use Rattle.rules.specs.Matching.{matched}
 use Rattle.rules.specs.Refusals.{distinct}
 use Rattle.tables.specs.Fit.{RowsFit, membersIn, lotsRunIn, orderCountIn, ordersIn}
+use Rattle.tables.specs.Lines.{withLine}
 use Rattle.matching.specs.declared.deals.Counterparty.{Counterparty}
 use Rattle.matching.specs.declared.levels.Matched.{Matched}
 use Rattle.matching.specs.Ranks.{Ranked}
-use Rattle.matching.specs.Deals.{dealWidth, dealAt, dealsIn, counterpartyOf, FromBook}
+use Rattle.matching.specs.Deals.{dealWidth, dealAt, dealsIn, lineIn, lineOut, counterpartyOf, FromBook}
 
 abbrev pub lotsDealt : Counterparty → ℕ
 lotsDealt d = d .lots .0
@@ -37,6 +38,14 @@ pub record Bookable (head : List ℕ) (lots value lines : List ℤ) : Type 0 whe
   pub lots-fit : RowsFit (membersIn head) (lotsRunIn head) lots
   pub value-fit : RowsFit (membersIn head) (mostPrice * lotsRunIn head) value
   pub lines-long : linesLength ≤ length lines
+
+-- The two lines of deal k are booked.
+pub record DealBooked (o : Order) (d : Counterparty) (k : ℕ) (head : List ℕ) (lots value lines : List ℤ) (head′ : List ℕ) (lots′ value′ lines′ : List ℤ) : Type 0 where
+  pub same : (t : Tables) → withHead head′ (withRows lots′ value′ (withLines lines′ t))
+      ≡ withLine (k * 2 + 1) (lineOut o d) (withLine (k * 2) (lineIn o d) (withHead head (withRows lots value (withLines lines t))))
+  pub bookable : Bookable head′ lots′ value′ lines′
+  pub members-same : membersIn head′ ≡ membersIn head
+  pub run-grown : lotsRunIn head′ ≡ lotsRunIn head + 2 * d .lots .0
 
 -- An order that can be matched with the book of a ledger.
 pub record Tradable (head prices book : List ℕ) (o : Order) : Type 0 where

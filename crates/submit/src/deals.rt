@@ -6,9 +6,8 @@ ghost use Rattle.arith.specs.Lists.{total};
 ghost use Rattle.rules.specs.Ranges.{contractCount, mostLots, mostLotsRun, mostPrice};
 ghost use Rattle.rules.specs.Ledger.{Tables, withHead, withRows, withLines, booked};
 ghost use Rattle.tables.specs.Fit.{membersIn, lotsRunIn};
-ghost use Rattle.tables.specs.Lines.{withLine};
-ghost use Rattle.matching.specs.Deals.{dealAt, dealsIn, linesWith, lineIn, lineOut};
-ghost use Rattle.submit.specs.Deals.{DealsFit, Bookable, lotsDealt, worthOf};
+ghost use Rattle.matching.specs.Deals.{dealAt, dealsIn, linesWith};
+ghost use Rattle.submit.specs.Deals.{DealsFit, Bookable, DealBooked, lotsDealt, worthOf};
 use matching::Counterparty;
 use matching::deal_at;
 use matching::other_side;
@@ -45,8 +44,7 @@ fn book_deal(
 )
     requires { ⌜ Bookable (now head) (now lots) (now value) (now lines) × (k < mostLots) ⌝ }
     requires { ⌜ (o .member < membersIn (now head)) × (o .contract < contractCount) × (d .member < membersIn (now head)) × (d .price .0 ≤ mostPrice) × (lotsRunIn (now head) + 2 * d .lots .0 ≤ mostLotsRun) ⌝ }
-    ensures { λ _. ⌜ ((t : Tables) → withHead (now (head .exit)) (withRows (now (lots .exit)) (now (value .exit)) (withLines (now (lines .exit)) t))
-        ≡ withLine (k * 2 + 1) (lineOut o d) (withLine (k * 2) (lineIn o d) (withHead (now (head .entry)) (withRows (now (lots .entry)) (now (value .entry)) (withLines (now (lines .entry)) t))))) ⌝ }
+    ensures { λ _. ⌜ DealBooked o d k (now (head .entry)) (now (lots .entry)) (now (value .entry)) (now (lines .entry)) (now (head .exit)) (now (lots .exit)) (now (value .exit)) (now (lines .exit)) ⌝ }
 {
     let side = o.side;
     let against = other_side(side);
