@@ -4,3 +4,5 @@ pub mod Kept
 pub mod Lines
 pub mod Heads
 pub mod Orders
+pub mod Trading
+pub mod Accepted

@@ -11,7 +11,7 @@ ghost use Rattle.rules.specs.Ledger.{Tables, lent, withHead, withAcceptedSubmit
 ghost use Rattle.rules.specs.Matching.{incoming, isResting, withLots, submitBooked};
 ghost use Rattle.tables.specs.Fit.{HeadFit, PricesFit, RowsFit, BookFit, membersIn, acceptedIn, lotsRunIn, orderCountIn, ordersIn};
 ghost use Rattle.matching.specs.Crossing.{crossingIn};
-ghost use Rattle.submit.specs.Fit.{SubmissionFit};
+ghost use Rattle.submit.specs.Fit.{SubmissionFit, Acceptable};
 use crate::causes::is_resting;
 use crate::deals::book_deals;
 use crate::trade::trade;
@@ -67,4 +67,41 @@ fn rest_order(head: &mut [u64], book: &mut [u64], kind: OrderKind, o: Order, lef
         tables::put_order(&mut *book, count as usize, tables::with_lots(o, left));
         head[ORDER_COUNT] = count + 1;
     }
+}
+
+// The tables after an accepted submit, step by step as the rules have them.
+fn book_submit(
+    head: &mut [u64],
+    prices: &mut [u64],
+    lots: &mut [i64],
+    value: &mut [i64],
+    book: &mut [u64],
+    lines: &mut [i64],
+    e: Submission,
+    crossing: u64,
+) -> Answer
+    requires { ⌜ HeadFit (now head) × PricesFit (lotsRunIn (now head)) (now prices) × BookFit (now head) (now book) × SubmissionFit (now head) e × (linesLength ≤ length (now lines)) ⌝ }
+    requires { ⌜ RowsFit (membersIn (now head)) (lotsRunIn (now head)) (now lots) × RowsFit (membersIn (now head)) (mostPrice * lotsRunIn (now head)) (now value) ⌝ }
+    requires { ⌜ Acceptable (lent (now head) (now prices) (now lots) (now value) (now book) (now lines)) e crossing ⌝ }
+    ensures { λ r. ⌜ record { answer = r; after = lent (now (head .exit)) (now (prices .exit)) (now (lots .exit)) (now (value .exit)) (now (book .exit)) (now (lines .exit)) }
+        ≡ submitBooked (lent (now (head .entry)) (now (prices .entry)) (now (lots .entry)) (now (value .entry)) (now (book .entry)) (now (lines .entry))) e ⌝ }
+{
+    let kind = e.kind;
+    let o = order_of(&*head, e);
+    let mut deals = [0u64; 300];
+    tables::set_time(&mut *head, e.time);
+    count_submit(&mut *head, e.member);
+    let m = trade(&mut *head, &mut *prices, &mut *book, o, crossing, &mut deals);
+    rest_order(&mut *head, &mut *book, kind, o, m.left);
+    let count = m.deals;
+    book_deals(
+        &mut *head,
+        &mut *lots,
+        &mut *value,
+        &mut *lines,
+        o,
+        &deals,
+        count,
+    );
+    Answer::Accepted(count as u64 * 2)
 }

@@ -1,3 +1,7 @@
+use Prim.Native.Nat.{_*_}
+use lib.ListN.{getD}
+use Rattle.arith.specs.Lists.{over}
+use Rattle.rules.specs.Ledger.{orderPlaces}
 use native.Mathlib.Omega.{arith}
 use mathlib.Core.Path.{_≡_, refl, sym, ap, _∙_}
 use borrow.Author.Needs.{needs}
@@ -43,7 +47,12 @@ same-length-2 c = search needs
 
 -- src/booking.rt:60:1
 returns : tie.Need-returns
-returns c = (rw (← (c .before .before .before .before .before .before .before .is-resting .ensures), c .before .before .before .before .before .before .if1 .taken) refl, rw (← (c .before .before .before .before .before .before .before .is-resting .ensures), c .before .before .before .before .before .before .if1 .taken, ← (c .before .before .before .with-lots .ensures)) (c .before .before .put-order .ensures))
+returns c =
+    let a = c .before .before .before .before .before .before .before .before .before .before .args in
+    (
+      rw (← (c .before .before .before .before .before .before .before .is-resting .ensures), c .before .before .before .before .before .before .if1 .taken) refl,
+      rw (← (c .before .before .before .before .before .before .before .is-resting .ensures), c .before .before .before .before .before .before .if1 .taken) (c .before .before .put-order .ensures ∙ ap (λ x. over (getD (a .head .now) 7 0 * 8) (orderPlaces x) (a .book .now)) (c .before .before .before .with-lots .ensures)),
+    )
 
 -- src/booking.rt:60:1
 returns-2 : tie.Need-returns-2
