@@ -1,13 +1,13 @@
 -- What code may count on of a submit that was read.
-use Prim.Native.Nat.{ℕ, _+_, _*_, _≤_, _<_, min}
+use Prim.Native.Nat.{ℕ, _+_, _≤_, _<_}
 use mathlib.Core.Path.{_≡_}
 use mathlib.Core.Bool.{true}
 use mathlib.Core.List.{List}
 use lib.ListN.{length}
 use Rattle.rules.specs.declared.event.Submission.{Submission}
 use Rattle.rules.specs.Ranges.{contractCount, mostPrice, mostLots, mostOrders, mostLotsRun, mostSubmitsInSecond, mostAcceptedSubmits}
-use Rattle.rules.specs.Ledger.{Tables, orders, lotsRun, acceptedSubmits}
-use Rattle.rules.specs.Matching.{incoming, submitMatched, submitsAt, wouldRest}
+use Rattle.rules.specs.Ledger.{Tables, orders, lotsRun, acceptedSubmits, lineRun}
+use Rattle.rules.specs.Matching.{incoming, submitMatched, submitLines, submitsAt, wouldRest}
 use Rattle.matching.specs.Crossing.{crossingIn}
 use Rattle.tables.specs.Fit.{membersIn}
 
@@ -24,5 +24,5 @@ pub record Acceptable (t : Tables) (e : Submission) (lots : ℕ) : Type 0 where
   pub crosses : lots ≡ crossingIn (incoming t e) (orders t)
   pub most-submits : submitsAt t (e .time) (e .member) < mostSubmitsInSecond
   pub most-accepted : acceptedSubmits t < mostAcceptedSubmits
-  pub most-run : lotsRun t + 2 * min (e .lots .0) lots ≤ mostLotsRun
+  pub most-run : lotsRun t + lineRun (submitLines t e) ≤ mostLotsRun
   pub place : wouldRest t e ≡ true → length (submitMatched t e .resting) < mostOrders
