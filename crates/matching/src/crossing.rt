@@ -1,6 +1,6 @@
 // What an incoming order finds in the book, measured in one pass before anything is written.
 ghost use mathlib.Core.Path.{_≡_};
-ghost use Prim.Native.Nat.{ℕ, _≤_, _<_};
+ghost use Prim.Native.Nat.{ℕ, _*_, _≤_, _<_};
 ghost use lib.ListN.{length};
 ghost use Rattle.tables.specs.Fit.{ordersIn};
 ghost use Rattle.rules.specs.Ranges.{mostLots, mostOrders};
@@ -42,6 +42,7 @@ pub fn measure(book: &[u64], count: usize, o: Order) -> Crossing
     requires { ⌜ (count ≤ mostOrders) × (bookLength ≤ length (now book)) ⌝ }
     requires { ⌜ ((i : ℕ) → i < count → orderAt (now book) i .lots .0 ≤ mostLots) ⌝ }
     ensures { λ r. ⌜ r .own ≡ ownIn o (ordersIn count (now (book .entry))) ⌝ }
+    ensures { λ r. ⌜ r .own ≤ count * mostLots ⌝ }
     ensures { λ r. ⌜ r .lots ≡ crossingIn o (ordersIn count (now (book .entry))) ⌝ }
 {
     let mut own: u64 = 0;

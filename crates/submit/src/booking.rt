@@ -70,7 +70,7 @@ fn rest_order(head: &mut [u64], book: &mut [u64], kind: OrderKind, o: Order, lef
 }
 
 // The tables after an accepted submit, step by step as the rules have them.
-fn book_submit(
+pub fn book_submit(
     head: &mut [u64],
     prices: &mut [u64],
     lots: &mut [i64],

@@ -56,7 +56,7 @@ loop-again c = (omega arith, measuring-next _ _ _ _ _ (c .before .before .before
 
 -- src/crossing.rt:42:1
 returns : tie.Need-returns Inv-loop μ-loop
-returns c = let same : c .before .loop .i ≡ c .before .before .before .args .count = omega arith in (rw same at (c .before .loop .inv .1 .own-lots), rw same at (c .before .loop .inv .1 .crossing-lots))
+returns c = let same : c .before .loop .i ≡ c .before .before .before .args .count = omega arith in (rw same at (c .before .loop .inv .1 .own-lots), (omega (arith, same, c .before .loop .inv .1 .own-few), rw same at (c .before .loop .inv .1 .crossing-lots)))
 
 pub measure-spec : {M : Type 1} → statement M
 measure-spec =
