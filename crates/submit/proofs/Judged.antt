@@ -128,12 +128,17 @@ module _ (t : Tables) (e : Submission) (ranked : All Ranked (orders t)) (numbers
   causes-are : submitCauses t e ≡ firstCauses t e ++ measuredCauses (ownIn o (orders t)) cross t e
   causes-are = rw (above-is, teye-is, rest-is, total-is)
 
+  -- the first part decides alone where it refuses
+  pub judged-first : (first : Verdict) → ((b : Outcome Tables) → outcome first t b ≡ decide (firstCauses t e) t b) → (b : Outcome Tables)
+      → outcome first t (decide (measuredCauses (ownIn o (orders t)) cross t e) t b) ≡ decide (submitCauses t e) t b
+  judged-first first h b =
+      h (decide (measuredCauses (ownIn o (orders t)) cross t e) t b)
+      ∙ sym (decide-both (firstCauses t e) (measuredCauses (ownIn o (orders t)) cross t e) t b) ∙ ap (λ cs. decide cs t b) (sym causes-are)
+
   module _ (first second : Verdict) (h : (b : Outcome Tables) → outcome first t b ≡ decide (firstCauses t e) t b)
       (k : (b : Outcome Tables) → outcome second t b ≡ decide (measuredCauses (ownIn o (orders t)) cross t e) t b) where
     pub judged : (b : Outcome Tables) → outcome first t (outcome second t b) ≡ decide (submitCauses t e) t b
-    judged b =
-        ap (outcome first t) (k b) ∙ h (decide (measuredCauses (ownIn o (orders t)) cross t e) t b)
-        ∙ sym (decide-both (firstCauses t e) (measuredCauses (ownIn o (orders t)) cross t e) t b) ∙ ap (λ cs. decide cs t b) (sym causes-are)
+    judged b = ap (outcome first t) (k b) ∙ judged-first first h b
 
     pub acceptable : first ≡ Sound → second ≡ Sound → Acceptable t e cross
     acceptable x y =

@@ -6,3 +6,4 @@ pub mod Heads
 pub mod Orders
 pub mod Trading
 pub mod Accepted
+pub mod Applied

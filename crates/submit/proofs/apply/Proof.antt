@@ -1,3 +1,7 @@
+use native.Mathlib.Omega.{arith}
+use mathlib.Core.Path.{_≡_, sym, _∙_}
+use Rattle.rules.specs.Ledger.{lent}
+use Rattle.submit.proofs.Applied.{refused-first, refused-second, accepted, accepts}
 use borrow.Author.Needs.{needs}
 use Rattle.submit.proofs.apply.Statement.{statement}
 use Rattle.submit.proofs.apply.Tie as tie
@@ -27,7 +31,17 @@ same-length-2 c = search needs
 
 -- src/lib.rt:42:9
 returns : tie.Need-returns
-returns c = ?
+returns c =
+    let a = c .before .before .before .before .before .before .before .before .before .args in
+    let f = c .before .before .before .before .before .before .before .before .before .pre .0 in
+    let head = a .head .now in
+    let prices = a .prices .now in
+    let lots = a .lots .now in
+    let value = a .value .now in
+    let book = a .book .now in
+    let lines = a .lines .now in
+    let all = lent head prices lots value book lines in
+    λ t. refused-first head prices lots value book lines (a .e) (f .0) (f .2) (f .3) _ (c .before .before .before .first-cause .ensures all) _ (c .before .first .given .1)
 
 enum-told : tie.Need-enum-told
 enum-told c = search needs
@@ -42,11 +56,15 @@ order-of-requires c κs = search needs
 
 -- src/lib.rt:45:9
 measure-requires : tie.Need-measure-requires
-measure-requires c κs = ?
+measure-requires c κs =
+    let f = c .before .before .before .before .before .before .before .before .before .before .before .before .pre .0 in
+    ((f .0 .most-orders, f .2 .long), λ i k. f .2 .order-fit i k .most-lots)
 
 -- src/lib.rt:46:9
 measured-cause-requires : tie.Need-measured-cause-requires
-measured-cause-requires c κs = ?
+measured-cause-requires c κs =
+    let f = c .before .before .before .before .before .before .before .before .before .before .before .before .before .before .before .pre .0 in
+    ((f .0, c .before .before .before .before .before .before .before .before .before .before .before .before .before .before .before .pre .1 .0, f .3), omega (arith, c .before .before .measure .ensures .1 .0, f .0 .most-orders))
 
 -- src/lib.rt:47:29
 enum-known-second : tie.Need-enum-known-second
@@ -70,14 +88,34 @@ same-length-6 c = search needs
 
 -- src/lib.rt:48:9
 returns-2 : tie.Need-returns-2
-returns-2 c = ?
+returns-2 c =
+    let a = c .before .before .before .before .before .before .before .before .before .before .before .before .before .before .before .before .before .before .before .args in
+    let f = c .before .before .before .before .before .before .before .before .before .before .before .before .before .before .before .before .before .before .before .pre .0 in
+    let head = a .head .now in
+    let prices = a .prices .now in
+    let lots = a .lots .now in
+    let value = a .value .now in
+    let book = a .book .now in
+    let lines = a .lines .now in
+    let all = lent head prices lots value book lines in
+    λ t. refused-second head prices lots value book lines (a .e) (f .0) (f .2) (f .3) _ (c .before .before .before .before .before .before .before .order-of .ensures all) _ _ (c .before .before .before .before .before .before .measure .ensures .0) (c .before .before .before .before .before .before .measure .ensures .1 .1) _ _ (c .before .before .before .before .before .before .before .before .before .before .before .before .before .first-cause .ensures all) (c .before .before .before .measured-cause .ensures all) (c .before .before .before .before .before .before .before .before .before .before .before .enum-told .given .1) _ (c .before .second .given .1)
 
 enum-told-2 : tie.Need-enum-told-2
 enum-told-2 c = search needs
 
 -- src/lib.rt:50:5
 book-submit-requires : tie.Need-book-submit-requires
-book-submit-requires c κs = ?
+book-submit-requires c κs =
+    let a = c .before .before .before .before .before .before .before .before .before .before .before .before .before .before .before .before .before .before .before .before .before .before .before .before .args in
+    let f = c .before .before .before .before .before .before .before .before .before .before .before .before .before .before .before .before .before .before .before .before .before .before .before .before .pre .0 in
+    let head = a .head .now in
+    let prices = a .prices .now in
+    let lots = a .lots .now in
+    let value = a .value .now in
+    let book = a .book .now in
+    let lines = a .lines .now in
+    let all = lent head prices lots value book lines in
+    (f, (c .before .before .before .before .before .before .before .before .before .before .before .before .before .before .before .before .before .before .before .before .before .before .before .before .pre .1, accepts head prices lots value book lines (a .e) (f .0) (f .2) (f .3) _ (c .before .before .before .before .before .before .before .before .before .before .before .before .order-of .ensures all) _ _ (c .before .before .before .before .before .before .before .before .before .before .before .measure .ensures .0) (c .before .before .before .before .before .before .before .before .before .before .before .measure .ensures .1 .1) _ _ (c .before .before .before .before .before .before .before .before .before .before .before .before .before .before .before .before .before .before .first-cause .ensures all) (c .before .before .before .before .before .before .before .before .measured-cause .ensures all) (c .before .before .before .before .before .before .before .before .before .before .before .before .before .before .before .before .enum-told .given .1) (c .before .before .before .before .before .before .enum-told2 .given .1)))
 
 -- src/lib.rt:26:1
 same-length-7 : tie.Need-same-length-7
@@ -105,7 +143,17 @@ same-length-12 c = search needs
 
 -- src/lib.rt:26:1
 returns-3 : tie.Need-returns-3
-returns-3 c = ?
+returns-3 c =
+    let a = c .before .before .before .before .before .before .before .before .before .before .before .before .before .before .before .before .before .before .before .before .before .before .before .before .before .before .before .before .before .before .before .before .before .before .args in
+    let f = c .before .before .before .before .before .before .before .before .before .before .before .before .before .before .before .before .before .before .before .before .before .before .before .before .before .before .before .before .before .before .before .before .before .before .pre .0 in
+    let head = a .head .now in
+    let prices = a .prices .now in
+    let lots = a .lots .now in
+    let value = a .value .now in
+    let book = a .book .now in
+    let lines = a .lines .now in
+    let all = lent head prices lots value book lines in
+    λ t. c .before .before .before .before .before .before .before .before .before .book-submit .ensures ∙ accepted head prices lots value book lines (a .e) (f .0) (f .2) (f .3) _ (c .before .before .before .before .before .before .before .before .before .before .before .before .before .before .before .before .before .before .before .before .before .before .order-of .ensures all) _ _ (c .before .before .before .before .before .before .before .before .before .before .before .before .before .before .before .before .before .before .before .before .before .measure .ensures .0) (c .before .before .before .before .before .before .before .before .before .before .before .before .before .before .before .before .before .before .before .before .before .measure .ensures .1 .1) _ _ (c .before .before .before .before .before .before .before .before .before .before .before .before .before .before .before .before .before .before .before .before .before .before .before .before .before .before .before .before .first-cause .ensures all) (c .before .before .before .before .before .before .before .before .before .before .before .before .before .before .before .before .before .before .measured-cause .ensures all) (c .before .before .before .before .before .before .before .before .before .before .before .before .before .before .before .before .before .before .before .before .before .before .before .before .before .before .enum-told .given .1) (c .before .before .before .before .before .before .before .before .before .before .before .before .before .before .before .before .enum-told2 .given .1)
 
 pub apply-spec : {M : Type 1} → statement M
 apply-spec =
