@@ -1,11 +1,11 @@
 -- An answer names the lowest cause that holds: each kind's causes stand in rising number, and decide takes the first.
 use Prim.Native.Nat.{ℕ, _<_}
-use mathlib.Core.Path.{_≡_, refl, sym, subst, _∙_}
+use mathlib.Core.Path.{_≡_, refl, sym, _∙_}
 use mathlib.Core.Bool.{true, false}
-use mathlib.Core.List.{List, [], _∷_, _++_, List·Memᴰ, List·Memᴰ·head, List·Memᴰ·tail}
+use mathlib.Core.List.{List, [], _∷_, _++_, List·Memᴰ·head, List·Memᴰ·tail}
 use native.Mathlib.Omega.{arith}
 use borrow.Author.Tests.{ne-eqb}
-use Rattle.arith.specs.Alls.{All, all-map}
+use Rattle.arith.specs.Alls.{All, all-map, all-member}
 use Rattle.arith.specs.Tests.{never}
 use Rattle.rules.specs.declared.answer.Answer.{Answer}
 use Rattle.rules.specs.declared.answer.Answer.the-variants.{TableUnsound, RecordUnsound}
@@ -103,10 +103,6 @@ answers-exactly t bytes =
     (omega arith, reading-rising t (readOf (members t) bytes) (legsOf bytes)) (reading-exact t (readOf (members t) bytes) (legsOf bytes))
 
 -- ---- number 1 is for tables alone
-all-member : {A : Type 0} (P : A → Type 0) {x : A} {l : List A} → List·Memᴰ x l → All P l → P x
-all-member P (List·Memᴰ·head e) h = subst P (sym e) (h .0)
-all-member P (List·Memᴰ·tail m) h = all-member P m (h .1)
-
 pub one-is-unsound : (t : Tables) (bytes : List ℕ) → numberOf (applySpec t bytes .answer) ≡ 1 → unsound t ≡ true
 one-is-unsound t bytes e =
     let a = applySpec t bytes .answer in

@@ -10,6 +10,7 @@ use lib.ListN.{length, getD, length-map, length-append}
 use lib.IntN.{ℤ, pos, negsuc, natAbs, negℤ, _+ℤ_, _-ℤ_, +ℤ-idl, +ℤ-idr, +ℤ-invr, +ℤ-invl, negℤ-+ℤ}
 use borrow.Author.Tests.{lt-ltb, le-ltb}
 use Rattle.arith.specs.Lists.{total, from}
+use Rattle.arith.specs.Overs.{zip-length}
 use Rattle.arith.specs.Sums.{group}
 use Rattle.arith.specs.Tests.{by-bool, by-eqb, le-or-lt}
 use Rattle.arith.specs.Alls.{All, all-append}
@@ -123,13 +124,6 @@ left-sum q [] = omega arith
 left-sum q (x ∷ xs) = omega (arith, left-sum (q - min q x) xs)
 
 -- ---- one number for each member
-zip-length : {A : Type 0} (f : ℕ → ℕ → A) (xs ys : List ℕ) (n : ℕ) → length xs ≡ n → length ys ≡ n → length (zipWith f xs ys) ≡ n
-unfolding zipWith
-zip-length f [] ys n d e = d
-zip-length f (x ∷ xs) [] n d e = e
-zip-length f (x ∷ xs) (y ∷ ys) zero d e = absurd (omega arith)
-zip-length f (x ∷ xs) (y ∷ ys) (suc n) d e = ap suc (zip-length f xs ys n (omega arith) (omega arith))
-
 pub from-length : (a n : ℕ) → length (from a n) ≡ n
 unfolding from
 from-length a zero = refl
@@ -166,11 +160,13 @@ module _ (t : Tables) (c : ℕ) where
   netted-length xs e = given-length (smallerTotal t c) xs ∙ e
 
   pub left-length : (xs : List ℕ) → length xs ≡ members t → length (less xs (givenUp (smallerTotal t c) xs)) ≡ members t
-  left-length xs e = zip-length _ xs _ (members t) e (netted-length xs e)
+  left-length xs e = zip-length _ xs _ (e ∙ sym (netted-length xs e)) ∙ e
 
   netting-length : length (nettingChanges t c) ≡ members t
   unfolding nettingChanges nettedLongs nettedShorts
-  netting-length = zip-length _ _ _ _ (netted-length _ shorts-length) (netted-length _ longs-length)
+  netting-length =
+      let shorts = netted-length _ shorts-length in
+      zip-length _ (nettedShorts t c) (nettedLongs t c) (shorts ∙ sym (netted-length _ longs-length)) ∙ shorts
 
   -- step 1: as many lots come back as are given up
   netting-net : netOf (nettingChanges t c) ≡ pos 0
@@ -194,7 +190,9 @@ module _ (t : Tables) (c : ℕ) where
 
   remaining-length : length (defaultedChanges t c) ≡ members t
   unfolding defaultedChanges longsLeft shortsLeft nettedLongs nettedShorts
-  remaining-length = zip-length _ _ _ _ (left-length _ shorts-length) (left-length _ longs-length)
+  remaining-length =
+      let shorts = left-length _ shorts-length in
+      zip-length _ (shortsLeft t c) (longsLeft t c) (shorts ∙ sym (left-length _ longs-length)) ∙ shorts
 
   remaining-net : netOf (defaultedChanges t c) ≡ pos (sumOf (shortsLeft t c)) -ℤ pos (sumOf (longsLeft t c))
   unfolding defaultedChanges longsLeft shortsLeft nettedLongs nettedShorts

@@ -10,7 +10,7 @@ use native.Mathlib.Omega.{arith}
 use lib.Dec.{eqb, leb, ltb}
 use lib.ListN.{length}
 use borrow.Author.Tests.{le-leb, lt-leb, leb-false, lt-ltb, le-ltb, eq-eqb}
-use Rattle.arith.specs.Alls.{All, all-map, all-always, all-append}
+use Rattle.arith.specs.Alls.{All, all-map, all-always, all-append, all-there}
 use Rattle.arith.specs.Tests.{never, by-bool, le-or-lt, and-right, and-false}
 use Rattle.rules.specs.declared.order.Order.{Order}
 use Rattle.rules.specs.declared.order.Side.{Side}
@@ -73,10 +73,6 @@ matched-none (suc n) o os e = go (best (opposes o) os) refl
     go (some r) f = rw (f, matching, le-ltb 0 (o .lots .0) (omega arith))
 
 -- ---- an order used up leaves the book shorter
-all-there : (os : List Order) → All (λ o. List·Memᴰ o os) os
-all-there [] = tt
-all-there (o ∷ os) = (List·Memᴰ·head refl, all-map (λ x. List·Memᴰ x os) (λ x. List·Memᴰ x (o ∷ os)) os (λ x m. List·Memᴰ·tail m) (all-there os))
-
 used-up : (q : ℕ) (r : Order) (os : List Order) → r .lots .0 ≤ q → List·Memᴰ r os → length (used (r .number) q os) < length os
 unfolding used
 used-up q r (o ∷ os) h (List·Memᴰ·head e) = rw (← e, eq-eqb (r .number) (r .number) refl, le-leb (r .lots .0) q h) (omega (arith, used-length (r .number) q os))

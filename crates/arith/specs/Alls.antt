@@ -1,7 +1,7 @@
 -- What holds of each element of a list. Assumes nothing.
-use mathlib.Core.Path.{_≡_, refl}
+use mathlib.Core.Path.{_≡_, refl, sym, subst}
 use mathlib.Core.Bool.{Bool, true, cond}
-use mathlib.Core.List.{List, [], _∷_, _++_}
+use mathlib.Core.List.{List, [], _∷_, _++_, List·Memᴰ, List·Memᴰ·head, List·Memᴰ·tail}
 use Prim.Native.Nat.{ℕ, zero, suc, _<_}
 use native.Mathlib.Omega.{arith}
 use lib.ListN.{length, getD}
@@ -68,3 +68,13 @@ module _ {A : Type 0} where
   all-kept P p (x ∷ l) h =
       by-bool (λ b. All (λ a. P a × (p a ≡ true)) (cond b (x ∷ kept p l) (kept p l))) (p x) (λ e. ((h .0, e), all-kept P p l (h .1)))
       (λ _. all-kept P p l (h .1))
+
+-- what holds of each element, by where an element stands
+module _ {A : Type 0} where
+  pub all-member : (P : A → Type 0) {x : A} {l : List A} → List·Memᴰ x l → All P l → P x
+  all-member P (List·Memᴰ·head e) h = subst P (sym e) (h .0)
+  all-member P (List·Memᴰ·tail m) h = all-member P m (h .1)
+
+  pub all-there : (l : List A) → All (λ x. List·Memᴰ x l) l
+  all-there [] = tt
+  all-there (y ∷ l) = (List·Memᴰ·head refl, all-map (λ x. List·Memᴰ x l) (λ x. List·Memᴰ x (y ∷ l)) l (λ x m. List·Memᴰ·tail m) (all-there l))

@@ -31,7 +31,7 @@ module _ {A : Type 0} (a : ℕ) (xs l : List A) (fits : a + length xs ≤ length
       (λ h. List·getD-append (take a l) _ z i (rw (length-take-le a l (omega arith)) h) ∙ getD-take a l i z h)
 
 -- Two lists of the same length joined place by place.
-pub zip-length : {A : Type 0} (f : A → A → A) (xs ys : List A) → length xs ≡ length ys → length (zipWith f xs ys) ≡ length xs
+pub zip-length : {A B : Type 0} (f : A → A → B) (xs ys : List A) → length xs ≡ length ys → length (zipWith f xs ys) ≡ length xs
 unfolding zipWith
 zip-length f [] [] e = refl
 zip-length f [] (y ∷ ys) e = refl

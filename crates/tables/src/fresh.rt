@@ -5,16 +5,32 @@ ghost use Prim.Native.Nat.{ℕ, _+_, _*_, _≤_, _<_};
 ghost use lib.ListN.{length, replicate};
 ghost use lib.IntN.{ℤ, pos};
 ghost use Rattle.arith.specs.Lists.{over};
-ghost use Rattle.rules.specs.Ledger.{fresh, freshHead, freshPrices, freshRows};
+ghost use Rattle.rules.specs.Ranges.{mostHolidays, mostMembers};
+ghost use Rattle.rules.specs.Ledger.{headLength, pricesLength, rowsLength, fresh, freshHead, freshPrices, freshRows};
 ghost use Rattle.rules.specs.Ledger.{lent};
 ghost use Rattle.tables.specs.Headers.{header};
 use rules::DayNo;
-
-const CONTRACTS: usize = 102;
-
-const ROW_WIDTH: usize = 32;
-
-const PRICE_WIDTH: usize = 5;
+use rules::layout::ACCEPTED_SUBMITS;
+use rules::layout::CONTRACTS;
+use rules::layout::DAY;
+use rules::layout::DAY_LOTS;
+use rules::layout::DAY_VALUE;
+use rules::layout::FIRST_YEAR;
+use rules::layout::GGF;
+use rules::layout::HIGH;
+use rules::layout::HOLIDAY_COUNT;
+use rules::layout::HOLIDAYS;
+use rules::layout::LIMITS;
+use rules::layout::LOTS_RUN;
+use rules::layout::LOW;
+use rules::layout::MARKS;
+use rules::layout::MEMBERS;
+use rules::layout::ORDER_COUNT;
+use rules::layout::PRICE_WIDTH;
+use rules::layout::ROW_WIDTH;
+use rules::layout::SUBMITS;
+use rules::layout::TIME;
+use rules::ranges::MOST_PRICE;
 
 fn clear_rows(rows: &mut [i64])
     ensures { λ _. ⌜ now (rows .exit) ≡ replicate (length (now (rows .entry))) (pos 0) ⌝ }
@@ -49,7 +65,7 @@ fn copy(places: &mut [u64], list: &[u64])
 
 // Zero rows for each member of each contract.
 fn write_rows(rows: &mut [i64], members: usize)
-    requires { ⌜ (3264 ≤ length (now rows)) × (members ≤ 32) ⌝ }
+    requires { ⌜ (rowsLength ≤ length (now rows)) × (members ≤ mostMembers) ⌝ }
     ensures { λ _. ⌜ now (rows .exit) ≡ freshRows members (now (rows .entry)) ⌝ }
 {
     let mut contract: usize = 0;
@@ -63,17 +79,17 @@ fn write_rows(rows: &mut [i64], members: usize)
 
 // No GGF, low 1, high 1,000,000, nothing dealt.
 fn write_prices(prices: &mut [u64])
-    requires { ⌜ 510 ≤ length (now prices) ⌝ }
+    requires { ⌜ pricesLength ≤ length (now prices) ⌝ }
     ensures { λ _. ⌜ now (prices .exit) ≡ freshPrices (now (prices .entry)) ⌝ }
 {
     let mut contract: usize = 0;
     while contract < CONTRACTS {
         let at = contract * PRICE_WIDTH;
-        prices[at] = 0;
-        prices[at + 1] = 1;
-        prices[at + 2] = 1000000;
-        prices[at + 3] = 0;
-        prices[at + 4] = 0;
+        prices[at + GGF] = 0;
+        prices[at + LOW] = 1;
+        prices[at + HIGH] = MOST_PRICE;
+        prices[at + DAY_LOTS] = 0;
+        prices[at + DAY_VALUE] = 0;
         contract += 1;
     }
 }
@@ -96,31 +112,31 @@ pub fn clear_at(head: &mut [u64], at: usize, count: usize)
 
 // The head's first eight places; time and counts are 0.
 fn write_numbers(head: &mut [u64], first_year: u64, members: u64, holidays: u64, start: DayNo)
-    requires { ⌜ 224 ≤ length (now head) ⌝ }
+    requires { ⌜ headLength ≤ length (now head) ⌝ }
     ensures { λ _. ⌜ now (head .exit) ≡ over 0 («first_year» ∷ members ∷ holidays ∷ start .0 ∷ 0 ∷ 0 ∷ 0 ∷ 0 ∷ []) (now (head .entry)) ⌝ }
 {
-    head[0] = first_year;
-    head[1] = members;
-    head[2] = holidays;
-    head[3] = start.0;
-    head[4] = 0;
-    head[5] = 0;
-    head[6] = 0;
-    head[7] = 0;
+    head[FIRST_YEAR] = first_year;
+    head[MEMBERS] = members;
+    head[HOLIDAY_COUNT] = holidays;
+    head[DAY] = start.0;
+    head[TIME] = 0;
+    head[ACCEPTED_SUBMITS] = 0;
+    head[LOTS_RUN] = 0;
+    head[ORDER_COUNT] = 0;
 }
 
 // Each member has a limit, so there are as many members as limits.
 fn write_head(head: &mut [u64], first_year: u64, start: DayNo, holidays: &[u64], limits: &[u64])
-    requires { ⌜ (224 ≤ length (now head)) × (length (now holidays) ≤ 120) × (length (now limits) ≤ 32) ⌝ }
+    requires { ⌜ (headLength ≤ length (now head)) × (length (now holidays) ≤ mostHolidays) × (length (now limits) ≤ mostMembers) ⌝ }
     ensures { λ _. ⌜ now (head .exit) ≡ freshHead (header «first_year» (start .0) (now (holidays .entry)) (now (limits .entry))) (now (head .entry)) ⌝ }
 {
     let members = limits.len();
     let count = holidays.len();
     write_numbers(&mut *head, first_year, members as u64, count as u64, start);
-    write_at(&mut *head, 8, holidays);
-    write_at(&mut *head, 128, limits);
-    clear_at(&mut *head, 160, members);
-    clear_at(&mut *head, 192, members);
+    write_at(&mut *head, HOLIDAYS, holidays);
+    write_at(&mut *head, LIMITS, limits);
+    clear_at(&mut *head, MARKS, members);
+    clear_at(&mut *head, SUBMITS, members);
 }
 
 // Every table of a fresh ledger.
@@ -134,8 +150,8 @@ pub fn write_fresh(
     holidays: &[u64],
     limits: &[u64],
 )
-    requires { ⌜ (224 ≤ length (now head)) × (510 ≤ length (now prices)) × (3264 ≤ length (now lots)) × (3264 ≤ length (now value)) ⌝ }
-    requires { ⌜ (length (now holidays) ≤ 120) × (length (now limits) ≤ 32) ⌝ }
+    requires { ⌜ (headLength ≤ length (now head)) × (pricesLength ≤ length (now prices)) × (rowsLength ≤ length (now lots)) × (rowsLength ≤ length (now value)) ⌝ }
+    requires { ⌜ (length (now holidays) ≤ mostHolidays) × (length (now limits) ≤ mostMembers) ⌝ }
     ensures { λ _. ⌜ ((b : List ℕ) (n : List ℤ) → lent (now (head .exit)) (now (prices .exit)) (now (lots .exit)) (now (value .exit)) b n
         ≡ fresh (header «first_year» (start .0) (now (holidays .entry)) (now (limits .entry))) (lent (now (head .entry)) (now (prices .entry)) (now (lots .entry)) (now (value .entry)) b n)) ⌝ }
 {

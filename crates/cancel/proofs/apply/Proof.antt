@@ -2,7 +2,6 @@ use mathlib.Core.List.{[]}
 use Rattle.rules.specs.Ledger.{lent}
 use Rattle.tables.specs.Fit.{OrdersFit}
 use Rattle.rules.specs.Ledger.{timed}
-
 use mathlib.Core.Path.{_≡_, sym, ap, subst, _∙_}
 use mathlib.Core.Bool.{true, false}
 use native.Mathlib.Omega.{arith}

@@ -1,6 +1,5 @@
 use Rattle.tables.specs.Fit.{OrdersFit}
 use Rattle.rules.specs.Ledger.{withOrders}
-
 use mathlib.Core.Path.{_≡_, sym, ap, subst, _∙_}
 use native.Mathlib.Omega.{arith}
 use lib.ListN.{getD, length-set, set}
