@@ -165,7 +165,7 @@ module _ (o : Order) where
       let rank = ranks-at z qs rs i (omega arith) (omega (arith, l .below, ranks-length qs rs (omega arith))) in
       let there = live (getD qs i 0) (getD rs i z) (rw rank at (l .some)) in
       let next = best-lowest z qs rs i (omega arith) (h .1)
-          (record { below = omega (arith, l .below); some = l .some; before = λ j k. l .before (suc j) (omega arith); behind = λ j k. l .behind (suc j) (omega arith) }) in
+      (record { below = omega (arith, l .below); some = l .some; before = λ j k. l .before (suc j) (omega arith); behind = λ j k. l .behind (suc j) (omega arith) }) in
       by-eqb (λ b. best (opposes o) (cond b (leftOver qs rs) (withLots q r ∷ leftOver qs rs)) ≡ some (withLots (getD qs i 0) (getD rs i z))) q 0 (λ _. next)
       (λ n. best-behind (opposes o) (withLots q r) (leftOver qs rs) (withLots (getD qs i 0) (getD rs i z)) next
       (λ u. let t = sym (same-opposes q r) ∙ u in

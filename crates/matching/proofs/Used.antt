@@ -65,7 +65,7 @@ used-left z (p ∷ ps) (r ∷ rs) (suc i) q e d h n l =
     let next = used-left z ps rs i q (omega arith) (d .1) (omega arith) n l in
     let other = all-place (λ y. eqb (r .number) (y .number) ≡ false) z rs (d .0) i (omega arith) in
     by-eqb (λ b. used (getD rs i z .number) q (cond b (leftOver ps rs) (withLots p r ∷ leftOver ps rs))
-        ≡ cond b (leftOver (set ps i (getD ps i 0 - q)) rs) (withLots p r ∷ leftOver (set ps i (getD ps i 0 - q)) rs)) p 0
+    ≡ cond b (leftOver (set ps i (getD ps i 0 - q)) rs) (withLots p r ∷ leftOver (set ps i (getD ps i 0 - q)) rs)) p 0
     (λ _. next) (λ _. rw other (ap (λ l. withLots p r ∷ l) next))
 
 -- ---- where matching stops

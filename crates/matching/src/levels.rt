@@ -97,15 +97,7 @@ pub fn match_orders(
         }
         let level = first.price.0;
         'orders: loop {
-            wanted = deal(
-                book,
-                &mut *left,
-                &mut *ranks,
-                &mut *deals,
-                k,
-                best,
-                wanted,
-            );
+            wanted = deal(book, &mut *left, &mut *ranks, &mut *deals, k, best, wanted);
             k += 1;
             if wanted == 0 {
                 break 'levels;

@@ -6,7 +6,6 @@ use lib.IntN.{ℤ, pos, natAbs, negℤ, _+ℤ_, _-ℤ_, +ℤ-idl}
 use lib.Signed.{ltZ}
 use mir.Syntax.{w64}
 use mir.Val.{SFits, toZ, ofZ}
-
 use Rattle.arith.proofs.Signed.{rd, back, rd-pos, sfits-abs, abs-neg, add-is}
 
 module _ (z : ℤ) (h : natAbs z < 2 ^ 63) where

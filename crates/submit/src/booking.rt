@@ -91,7 +91,14 @@ pub fn book_submit(
     let mut deals = [0u64; 300];
     tables::set_time(&mut *head, e.time);
     count_submit(&mut *head, e.member);
-    let m = trade(&mut *head, &mut *prices, &mut *book, o, crossing, &mut deals);
+    let m = trade(
+        &mut *head,
+        &mut *prices,
+        &mut *book,
+        o,
+        crossing,
+        &mut deals,
+    );
     rest_order(&mut *head, &mut *book, kind, o, m.left);
     let count = m.deals;
     book_deals(

@@ -124,7 +124,11 @@ pub fn measured_cause(head: &[u64], lots: &[i64], e: Submission, found: Crossing
     let wanted = e.lots.0;
     let crossing = found.lots;
     let limit = head[LIMITS + e.member as usize];
-    if is_above(limit, position(lots, e.contract, e.member, side), found.own + wanted) {
+    if is_above(
+        limit,
+        position(lots, e.contract, e.member, side),
+        found.own + wanted,
+    ) {
         return Verdict::Refused(Answer::AboveLimit);
     }
     if is_teye(kind) & (crossing < wanted) {

@@ -48,22 +48,37 @@ fn book_deal(
 {
     let side = o.side;
     let against = other_side(side);
-    let bought = DealLine {
+    let price = d.price.0;
+    let incoming = DealLine {
         member: o.member,
         contract: o.contract,
         side: side,
         lots: Lots(d.lots.0),
-        price: Kurus(d.price.0),
+        price: Kurus(price),
     };
-    let sold = DealLine {
+    let resting = DealLine {
         member: d.member,
         contract: o.contract,
         side: against,
         lots: Lots(d.lots.0),
-        price: Kurus(d.price.0),
+        price: Kurus(price),
     };
-    book_line(&mut *head, &mut *lots, &mut *value, &mut *lines, k * 2, bought);
-    book_line(&mut *head, &mut *lots, &mut *value, &mut *lines, k * 2 + 1, sold);
+    book_line(
+        &mut *head,
+        &mut *lots,
+        &mut *value,
+        &mut *lines,
+        k * 2,
+        incoming,
+    );
+    book_line(
+        &mut *head,
+        &mut *lots,
+        &mut *value,
+        &mut *lines,
+        k * 2 + 1,
+        resting,
+    );
 }
 
 // Both lines of every deal, in the order of the deals.

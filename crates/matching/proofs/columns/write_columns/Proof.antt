@@ -70,8 +70,7 @@ loop-again c =
     let ranks = ranks-length (a .o) (map lotsOf os) os (length-map os lotsOf) in
     let lots : c .before .order-at .result .lots .0 ≡ getD (map lotsOf os) (l .i) 0 = ap (λ r. r .lots .0) (c .before .order-at .ensures) ∙ sym (lots-here (a .book .now) (a .o) n (l .i) h) in
     let rank : c .rank-in .result ≡ getD (firstRank (a .o) os) (l .i) 0
-      = c .rank-in .ensures ∙ ap (λ r. rankIn (a .o) (r .lots .0) r) (c .before .order-at .ensures) ∙ sym (rank-here (a .book .now) (a .o) n (l .i) h) in
-    (
+    = c .rank-in .ensures ∙ ap (λ r. rankIn (a .o) (r .lots .0) r) (c .before .order-at .ensures) ∙ sym (rank-here (a .book .now) (a .o) n (l .i) h) in (
       length-set (l .left) (l .i) _ ∙ l .inv .0,
       length-set (l .ranks) (l .i) _ ∙ l .inv .1,
       omega arith,
@@ -94,8 +93,7 @@ returns c =
     let l = c .before .loop in
     let n = length (a .left .now) in
     let os = ordersIn n (a .book .now) in
-    let h : n ≤ l .i = omega arith in
-    (
+    let h : n ≤ l .i = omega arith in (
       l .inv .3 ∙ front-end (l .i) (map lotsOf os) (a .left .now) (omega (arith, length-map os lotsOf, orders-length (a .book .now) n)) h,
       l .inv .4 ∙ front-end (l .i) (firstRank (a .o) os) (a .ranks .now) (omega (arith, ranks-length (a .o) (map lotsOf os) os (length-map os lotsOf), orders-length (a .book .now) n)) (omega (arith, c .before .before .before .before .before .pre .0 .1)),
     )

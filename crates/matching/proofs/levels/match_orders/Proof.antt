@@ -47,8 +47,7 @@ does-meet-requires c κs = search needs
 -- src/levels.rt:98:9
 orders-holds : tie.Need-orders-holds Inv-orders μ-orders Inv-levels μ-levels
 orders-holds c =
-    let g = c .before .before .before .before .levels .inv .0 in
-    (
+    let g = c .before .before .before .before .levels .inv .0 in (
       resized _ _ _ _ _ _ _ _ _ _ g (sym (g .deals-length)),
       next-first _ _ _ _ _ _ _ _ _ g _ (c .before .before .before .before .levels .inv .1) (c .before .before .before .levels-test .taken) _ (c .before .before .order-at .ensures) (sym (c .before .does-meet .ensures) ∙ not-false _ (c .if1 .left)),
       omega arith,
@@ -58,8 +57,7 @@ orders-holds c =
 deal-requires : tie.Need-deal-requires Inv-orders μ-orders Inv-levels μ-levels
 deal-requires c κs =
     let g = c .before .before .before .orders .inv .0 in
-    let x = c .before .before .before .orders .inv .1 in
-    (
+    let x = c .before .before .before .orders .inv .1 in (
       (omega (arith, g .left-length, x .below), omega (arith, g .left-length, g .most-orders), g .ranks-length ∙ sym (g .left-length), g .long),
       (omega (arith, g .few, g .some), omega (arith, g .room, g .deals-length)),
     )
@@ -102,8 +100,7 @@ orders-again : tie.Need-orders-again Inv-orders μ-orders Inv-levels μ-levels
 orders-again c =
     let g = c .before .before .before .before .before .before .before .before .before .before .before .before .before .before .before .orders .inv .0 in
     let x = c .before .before .before .before .before .before .before .before .before .before .before .before .before .before .before .orders .inv .1 in
-    let made = going-made _ _ _ _ _ _ _ _ _ g _ _ x _ _ _ _ (c .before .before .before .before .before .before .before .before .before .before .before .deal .ensures) (c .before .before .before .before .if2 .left) in
-    (
+    let made = going-made _ _ _ _ _ _ _ _ _ g _ _ x _ _ _ _ (c .before .before .before .before .before .before .before .before .before .before .before .deal .ensures) (c .before .before .before .before .if2 .left) in (
       made,
       next-level _ _ _ _ _ _ _ _ _ made _ _ (c .before .before .lowest-of2 .ensures) (c .before .is-at .ensures (not-false _ (c .if3 .left))) (x .crosses),
       omega (arith, still-less _ _ _ _ _ _ _ _ _ g _ _ x _ _ _ _ (c .before .before .before .before .before .before .before .before .before .before .before .deal .ensures), c .before .before .before .before .before .before .before .before .before .before .before .before .before .before .before .orders .inv .2),
@@ -142,8 +139,7 @@ same-length-6 c = c .before .before .before .before .levels .inv .0 .deals-lengt
 -- src/levels.rt:77:1
 returns-2 : tie.Need-returns-2 Inv-orders μ-orders Inv-levels μ-levels
 returns-2 c =
-    let g = c .before .before .before .before .levels .inv .0 in
-    (
+    let g = c .before .before .before .before .levels .inv .0 in (
       ended-apart _ _ _ _ _ _ _ _ _ g _ (c .before .before .before .before .levels .inv .1) (c .before .before .before .levels-test .taken) _ (c .before .before .order-at .ensures) (sym (c .before .does-meet .ensures) ∙ not-true _ (c .if1 .taken)),
       (omega (arith, g .few), g .from-book),
     )

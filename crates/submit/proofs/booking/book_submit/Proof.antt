@@ -61,8 +61,7 @@ trade-requires c κs =
     let book = a .book .now in
     let lines = a .lines .now in
     let same = counted-is head prices lots value book lines (a .e) (f .0) (f .1) (f .2) (f .3) (a .crossing) w _ (c .before .before .before .before .before .before .before .before .before .before .set-time .ensures) _ (c .before .before .before .before .before .before .count-submit .ensures) in
-    let o = c .before .before .before .before .before .before .before .before .before .before .before .before .order-of .ensures (lent head prices lots value book lines) in
-    (
+    let o = c .before .before .before .before .before .before .before .before .before .before .before .before .order-of .ensures (lent head prices lots value book lines) in (
       (tradable-as head prices lots value book lines (a .e) (f .0) (f .1) (f .2) (f .3) _ same _ o, search needs),
       (λ i k. f .2 .order-fit i (omega (arith, count-same head prices lots value book lines (a .e) (f .0) (f .1) (f .2) (f .3) _ same)) .most-side, crossing-as head prices lots value book lines (a .e) (f .0) (f .1) (f .2) (f .3) _ same _ o (a .crossing) w),
     )
@@ -105,8 +104,7 @@ book-deals-requires c κs =
     let dealt = traded-as head prices lots value book lines (a .e) (f .0) (f .1) (f .2) (f .3) _ same _ o _ _ _ _ _ (c .before .before .before .before .before .before .before .before .before .before .before .before .before .before .before .before .before .before .before .trade .ensures) in
     let rests = c .before .before .before .before .before .before .before .before .before .rest-order .ensures .0 in
     let put = put-as head prices lots value book lines (a .e) (f .0) (f .1) (f .2) (f .3) _ same _ o (isResting (a .e .kind) && ltb 0 (c .before .before .before .before .before .before .before .before .before .before .before .before .before .before .before .before .before .before .before .trade .result .left)) (c .before .before .before .before .before .before .before .before .before .before .before .before .before .before .before .before .before .before .before .trade .result .left) (orderCountIn (c .before .before .before .before .before .before .before .before .before .before .before .before .before .before .before .before .before .before .before .trade .last .0) * orderWidth) (c .before .before .before .before .before .before .before .before .before .before .before .before .before .before .before .before .before .before .before .trade .last .1 .1 .0) _ (c .before .before .before .before .before .before .before .before .before .rest-order .ensures .1) in
-    let members = rest-members head prices lots value book lines (a .e) (f .0) (f .1) (f .2) (f .3) _ same (a .crossing) w _ _ _ _ _ dealt _ _ rests put in
-    (
+    let members = rest-members head prices lots value book lines (a .e) (f .0) (f .1) (f .2) (f .3) _ same (a .crossing) w _ _ _ _ _ dealt _ _ rests put in (
       (bookable head prices lots value book lines (a .e) (f .0) (f .1) (f .2) (f .3) _ same (a .crossing) w _ _ _ _ _ dealt _ _ rests put (c .before .before .before .before .before .before .before .before .before .before .before .before .before .before .before .before .before .before .before .before .before .before .before .before .before .before .before .before .before .before .before .before .before .before .before .before .before .pre .1 .0 .0) (c .before .before .before .before .before .before .before .before .before .before .before .before .before .before .before .before .before .before .before .before .before .before .before .before .before .before .before .before .before .before .before .before .before .before .before .before .before .pre .1 .0 .1) (f .4), deals-fit head prices lots value book lines (a .e) (f .0) (f .1) (f .2) (f .3) _ same (a .crossing) w _ _ _ _ _ dealt (search needs)),
       (
         (

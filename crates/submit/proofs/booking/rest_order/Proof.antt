@@ -48,8 +48,7 @@ same-length-2 c = search needs
 -- src/booking.rt:60:1
 returns : tie.Need-returns
 returns c =
-    let a = c .before .before .before .before .before .before .before .before .before .before .args in
-    (
+    let a = c .before .before .before .before .before .before .before .before .before .before .args in (
       rw (← (c .before .before .before .before .before .before .before .is-resting .ensures), c .before .before .before .before .before .before .if1 .taken) refl,
       rw (← (c .before .before .before .before .before .before .before .is-resting .ensures), c .before .before .before .before .before .before .if1 .taken) (c .before .before .put-order .ensures ∙ ap (λ x. over (getD (a .head .now) 7 0 * 8) (orderPlaces x) (a .book .now)) (c .before .before .before .with-lots .ensures)),
     )

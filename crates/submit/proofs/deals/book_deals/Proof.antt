@@ -35,8 +35,7 @@ book-deal-requires c κs =
     let a = c .before .before .before .before .before .before .before .before .before .args in
     let f = c .before .before .before .before .before .before .before .before .before .pre .0 .1 in
     let k = c .before .before .before .before .before .loop-test .taken in
-    let d = c .before .before .before .before .deal-at .ensures in
-    (
+    let d = c .before .before .before .before .deal-at .ensures in (
       (g .bookable, omega (arith, f .most)),
       (
         omega (arith, g .members-same, c .before .before .before .before .before .before .before .before .before .pre .1 .0 .0),
@@ -58,8 +57,7 @@ loop-less c = search needs
 -- src/deals.rt:88:5
 loop-again : tie.Need-loop-again Inv-loop μ-loop
 loop-again c =
-    let l = c .before .before .before .before .before .before .before .before .before .before .before .before .loop in
-    (
+    let l = c .before .before .before .before .before .before .before .before .before .before .before .before .loop in (
       omega arith,
       booking-next _ _ _ _ _ _ _ _ _ _ _ _ _ _ _ (l .inv .1) (omega (arith, c .before .before .before .before .before .before .before .before .before .before .before .before .before .before .before .pre .0 .0 .long)) _ (c .before .before .before .before .before .before .before .before .before .before .deal-at .ensures) (c .before .before .before .before .before .book-deal .ensures),
       c .before .before .before .before .before .book-deal .kept .0 ∙ l .inv .2,
