@@ -1,12 +1,11 @@
 -- The loops of matching: what holds at their heads, one deal, and the three ways they end. Assumes nothing.
 use mathlib.Core.Path.{_≡_, refl, sym, ap, _∙_}
-use mathlib.Core.Bool.{Bool, true, false, cond, _&&_}
+use mathlib.Core.Bool.{true, false}
 use mathlib.Core.List.{List, [], _∷_, _++_, map}
 use Prim.Native.Nat.{ℕ, zero, suc, _+_, _*_, _-_, _≤_, _<_, min}
 use native.Mathlib.Omega.{arith}
 use native.Mathlib.Nat.{zero-add, add-zero}
 use native.Mathlib.Numerals.{add-one}
-use lib.Dec.{eqb, ltb}
 use lib.ListN.{length, getD, set, length-set, length-map}
 use lib.Seq.{set-getD}
 use borrow.Author.Tests.{eq-eqb, ne-eqb}
@@ -20,15 +19,15 @@ use Rattle.rules.specs.Ranges.{mostLots, mostOrders}
 use Rattle.rules.specs.Ledger.{bookLength, orderAt}
 use Rattle.rules.specs.Matching.{opposes, meetsPrice, meets}
 use Rattle.matching.specs.declared.deals.Counterparty.{Counterparty}
-use Rattle.matching.specs.Ranks.{Ranked, rankOf, noRank, rankIn, ranksOf, Lowest, LowestOf}
+use Rattle.matching.specs.Ranks.{Ranked, rankOf, noRank, rankIn, Lowest, LowestOf}
 use Rattle.matching.specs.Deals.{counterparty, dealWidth, dealPlaces, dealAt, dealsIn, FromBook}
 use Rattle.matching.specs.Matching.{DealMade, Matchable, Ended}
 use Rattle.tables.specs.Fit.{ordersIn}
 use Rattle.matching.proofs.Best.{ranks-length, ranks-at, live, rank-live}
 use Rattle.matching.proofs.Used.{Distinct, distinct-numbers}
 use Rattle.matching.proofs.Running.{Running, running-start, running-deal, ended-full, ended-far, ended-none}
-use Rattle.tables.proofs.Left.{orders-length}
-use Rattle.matching.proofs.Passes.{order-here, all-orders}
+use Rattle.tables.proofs.Left.{orders-length, all-orders}
+use Rattle.matching.proofs.Passes.{order-here}
 
 -- ---- one more deal in the column
 map-below : {B : Type 0} (f g : ℕ → B) (a n : ℕ) → ((i : ℕ) → i < a + n → f i ≡ g i) → map f (from a n) ≡ map g (from a n)
@@ -84,9 +83,9 @@ pub going-start : (o : Order) (book left ranks deals : List ℕ) → Matchable o
 unfolding dealsIn from
 going-start o book left ranks deals m room =
     let os = ordersIn (length left) book in
-    let start = running-start o os (all-orders book (λ r. 0 < r .lots .0) (length left) (m .has-lots)) in
+    let start = running-start o os (all-orders (λ r. 0 < r .lots .0) book (length left) (m .has-lots)) in
     record {
-      ranked = all-orders book Ranked (length left) (m .ranked);
+      ranked = all-orders Ranked book (length left) (m .ranked);
       numbers = distinct-numbers os (m .numbers-distinct);
       long = m .long;
       most-orders = m .most-orders;

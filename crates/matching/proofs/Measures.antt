@@ -1,26 +1,26 @@
 -- What matching leads to is known before it: the lots that cross decide what is left, and whether an order leaves. Assumes nothing.
-use mathlib.Core.Path.{_≡_, refl, sym, ap, _∙_}
-use mathlib.Core.Bool.{Bool, true, false, cond, _&&_}
-use mathlib.Core.List.{List, [], _∷_, map}
-use mathlib.Core.Option.{Option, none, some}
+use mathlib.Core.Path.{_≡_, refl, ap, _∙_}
+use mathlib.Core.Bool.{true, false, cond}
+use mathlib.Core.List.{List, [], _∷_}
+use mathlib.Core.Option.{none, some}
 use Prim.Native.Nat.{ℕ, zero, suc, _+_, _-_, _≤_, _<_, min}
 use native.Mathlib.Omega.{arith}
-use lib.Dec.{eqb, ltb, leb}
-use lib.ListN.{length, getD, set, length-set, length-map}
+use lib.Dec.{ltb}
+use lib.ListN.{length, getD, set}
 use borrow.Author.Tests.{lt-ltb, le-ltb, eq-eqb, ne-eqb}
-use Rattle.arith.specs.Lists.{howMany, total}
+use Rattle.arith.specs.Lists.{howMany}
 use Rattle.arith.specs.Alls.{All, all-place, all-map}
-use Rattle.arith.specs.Tests.{by-bool, by-eqb, true-or, le-or-lt}
+use Rattle.arith.specs.Tests.{by-bool, true-or, le-or-lt}
 use Rattle.rules.specs.declared.order.Order.{Order}
-use Rattle.rules.specs.Matching.{best, opposes, meets, withLots, used, Deal, Matched, stopped, afterDeal, matching, matched}
+use Rattle.rules.specs.Matching.{opposes, meets, used, matching, matched}
 use Rattle.matching.specs.declared.deals.Counterparty.{Counterparty}
 use Rattle.tables.specs.Left.{leftOver}
 use Rattle.matching.specs.Ranks.{Ranked, rankOf, noRank, rankIn, ranksOf, Lowest, crossing}
 use Rattle.matching.specs.Crossing.{crosses}
 use Rattle.matching.specs.Matching.{Ended}
-use Rattle.matching.proofs.Best.{best-lowest, ranks-length, ranks-at, live, rank-live, rank-below, meets-far}
+use Rattle.matching.proofs.Best.{ranks-length, ranks-at, live, rank-live, rank-below, meets-far}
 use Rattle.matching.proofs.Used.{Distinct}
-use Rattle.matching.proofs.Running.{Running, ended-full, ended-far, ended-none, running-deal, running-start, count-fewer}
+use Rattle.matching.proofs.Running.{Running, ended-full, ended-far, ended-none, running-deal, count-fewer}
 
 -- ---- the lowest rank of a list, if there is one
 pub data Found (ranks : List ℕ) : Type 0 where

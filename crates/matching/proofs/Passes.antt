@@ -1,12 +1,11 @@
 -- One more order of a pass over the book. Assumes nothing.
 use mathlib.Core.Path.{_≡_, refl, sym, ap, _∙_}
-use mathlib.Core.Bool.{Bool, true, cond}
+use mathlib.Core.Bool.{cond}
 use mathlib.Core.List.{List, [], _∷_, _++_, map}
 use Prim.Native.Nat.{ℕ, zero, suc, _+_, _*_, _≤_, _<_}
 use native.Mathlib.Omega.{arith}
 use native.Mathlib.Nat.{zero-add, add-zero}
-use native.Mathlib.Numerals.{add-one}
-use lib.ListN.{length, getD, length-map}
+use lib.ListN.{getD, length-map}
 use Rattle.arith.specs.Lists.{from, total}
 use Rattle.arith.specs.Tests.{by-bool}
 use Rattle.arith.specs.Alls.{All}
@@ -14,7 +13,7 @@ use Rattle.arith.proofs.Appends.{from-length, map-at, from-at}
 use Rattle.tables.proofs.Left.{orders-more, orders-length}
 use Rattle.rules.specs.declared.order.Order.{Order}
 use Rattle.rules.specs.Ledger.{orderAt}
-use Rattle.matching.specs.Ranks.{lotsOf, rankIn, ranksOf, firstRank}
+use Rattle.matching.specs.Ranks.{lotsOf, rankIn, firstRank}
 use Rattle.rules.specs.Ranges.{mostLots}
 use Rattle.matching.specs.Crossing.{isOwn, crosses, ownLots, crossingLots, ownIn, crossingIn}
 use Rattle.tables.specs.Fit.{ordersIn}
@@ -32,15 +31,6 @@ total-one f x = add-zero (f x)
 module _ (b : List ℕ) where
   pub order-here : (n i : ℕ) (z : Order) → i < n → getD (ordersIn n b) i z ≡ orderAt b i
   order-here n i z h = map-at (orderAt b) (from 0 n) i 0 z (omega (arith, from-length 0 n)) ∙ ap (orderAt b) (from-at 0 n i 0 h ∙ zero-add i)
-
-  -- what holds of the order at each place holds of each order
-  pub all-orders : (P : Order → Type 0) (n : ℕ) → ((i : ℕ) → i < n → P (orderAt b i)) → All P (ordersIn n b)
-  unfolding from
-  all-orders P n f = go n 0 (λ i _ h. f i (omega arith))
-    where
-      go : (m a : ℕ) → ((i : ℕ) → a ≤ i → i < a + m → P (orderAt b i)) → All P (map (orderAt b) (from a m))
-      go zero a g = tt
-      go (suc m) a g = (g a (omega arith) (omega arith), go m (suc a) (λ i h k. g i (omega arith) (omega arith)))
 
   module _ (f : Order → ℕ) (i sum : ℕ) (known : sum ≡ total f (ordersIn i b)) where
     pub total-next : sum + f (orderAt b i) ≡ total f (ordersIn (i + 1) b)

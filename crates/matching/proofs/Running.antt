@@ -1,30 +1,27 @@
 -- How far matching has come, and one deal more. Assumes nothing.
 use mathlib.Core.Path.{_≡_, refl, sym, ap, _∙_}
-use mathlib.Core.Bool.{Bool, true, false, cond, _&&_}
+use mathlib.Core.Bool.{Bool, true, false}
 use mathlib.Core.List.{List, [], _∷_, _++_, map, append-assoc, append-nil}
-use mathlib.Core.Option.{Option, none, some}
+use mathlib.Core.Option.{some}
 use Prim.Native.Nat.{ℕ, zero, suc, _+_, _-_, _≤_, _<_, min}
 use native.Mathlib.Omega.{arith}
-use lib.Dec.{eqb, ltb}
+use lib.Dec.{ltb}
 use lib.ListN.{length, getD, set, length-set, length-map}
-use lib.Seq.{set-getD}
-use borrow.Author.Tests.{lt-ltb, le-ltb, ltb-true, ne-eqb}
+use borrow.Author.Tests.{lt-ltb, ne-eqb}
 use Rattle.arith.specs.Lists.{howMany}
-use Rattle.arith.specs.Alls.{All, all-place}
-use Rattle.arith.specs.Tests.{by-eqb, true-or, le-or-lt}
+use Rattle.arith.specs.Alls.{All}
+use Rattle.arith.specs.Tests.{true-or}
 use Rattle.rules.specs.declared.order.Order.{Order}
-use Rattle.rules.specs.Matching.{best, opposes, meets, withLots, used, Deal, Matched, stopped, afterDeal, matching, matched}
+use Rattle.rules.specs.Matching.{best, opposes, meets, withLots, used, stopped, afterDeal, matching, matched}
 use Rattle.matching.specs.declared.deals.Counterparty.{Counterparty}
 use Rattle.tables.specs.Left.{leftOver}
 use Rattle.matching.specs.Ranks.{Ranked, rankOf, noRank, rankIn, ranksOf, lotsOf, Lowest}
 use Rattle.matching.specs.Deals.{counterparty, counterpartyOf}
 use Rattle.matching.specs.Matching.{Ended}
-use Rattle.matching.proofs.Best.{best-lowest, best-none, ranks-length, ranks-at, live, rank-live}
+use Rattle.matching.proofs.Best.{best-lowest, best-none, ranks-length, ranks-at, live}
 use Rattle.matching.proofs.Used.{Distinct, used-left, stops-empty, stops-none, stops-far, deals-best}
 
 -- ---- the column of lots left
-some-left : ℕ → Bool
-some-left q = ltb 0 q
 
 pub count-most : (l : List ℕ) → howMany (ltb 0) l ≤ length l
 unfolding howMany

@@ -1,18 +1,17 @@
 -- Deals as the rules have them and as a column keeps them: their lots, their worth and their lines. Assumes nothing.
-use mathlib.Core.Path.{_≡_, refl, sym, ap, _∙_}
-use mathlib.Core.Bool.{Bool, true, false, cond, _&&_}
+use mathlib.Core.Path.{_≡_, refl, sym, ap}
+use mathlib.Core.Bool.{Bool, cond, _&&_}
 use mathlib.Core.List.{List, [], _∷_, _++_, map, flatMap}
 use mathlib.Core.Option.{Option, none, some}
-use Prim.Native.Nat.{ℕ, zero, suc, _+_, _*_, _-_, _≤_, _<_, min}
+use Prim.Native.Nat.{ℕ, zero, suc, _+_, _*_, _-_, min}
 use native.Mathlib.Omega.{arith}
 use native.Mathlib.Nat.{zero-add}
 use lib.Dec.{ltb}
-use lib.IntN.{natAbs}
 use Rattle.arith.specs.Lists.{total, kept}
 use Rattle.arith.specs.Tests.{by-bool, true-or}
 use Rattle.rules.specs.declared.order.Order.{Order}
 use Rattle.rules.specs.Ledger.{lineRun}
-use Rattle.rules.specs.Matching.{signed, otherSide, best, opposes, meets, withLots, used, Deal, Matched, stopped, afterDeal, matching, matched, dealLines}
+use Rattle.rules.specs.Matching.{otherSide, best, opposes, meets, withLots, used, Deal, Matched, stopped, afterDeal, matching, matched, dealLines}
 use Rattle.tables.proofs.Amounts.{abs-signed}
 use Rattle.matching.specs.declared.deals.Counterparty.{Counterparty}
 use Rattle.matching.specs.Crossing.{crosses, crossingLots, crossingIn}

@@ -1,22 +1,20 @@
 -- Matching over a column of what is left of each order, a deal at a time. Assumes nothing.
-use mathlib.Core.Path.{_≡_, refl, sym, ap, _∙_}
-use mathlib.Core.Bool.{Bool, true, false, not, cond, _&&_, _||_}
+use mathlib.Core.Path.{_≡_, refl, sym, ap}
+use mathlib.Core.Bool.{true, false, not, cond, _||_}
 use mathlib.Core.List.{List, [], _∷_, map}
 use mathlib.Core.Option.{Option, none, some}
-use Prim.Native.Nat.{ℕ, zero, suc, _+_, _-_, _≤_, _<_, min}
+use Prim.Native.Nat.{ℕ, zero, suc, _-_, _≤_, _<_, min}
 use native.Mathlib.Omega.{arith}
-use lib.Dec.{eqb, leb, ltb}
-use lib.ListN.{length, getD, set, length-set}
-use borrow.Author.Tests.{lt-ltb, le-ltb, ltb-true, le-leb, lt-leb, eq-eqb, ne-eqb, eqb-false, not-true}
-use Rattle.arith.specs.Lists.{any, howMany}
+use lib.Dec.{eqb, ltb}
+use lib.ListN.{length, getD, set}
+use borrow.Author.Tests.{lt-ltb, le-leb, lt-leb, eq-eqb, ne-eqb, eqb-false, not-true}
+use Rattle.arith.specs.Lists.{any}
 use Rattle.arith.specs.Alls.{All, all-place}
-use Rattle.arith.specs.Tests.{by-bool, by-eqb, true-or, le-or-lt, and-left, and-right, same-or, never}
+use Rattle.arith.specs.Tests.{by-bool, by-eqb, true-or, le-or-lt, and-left, and-right, never}
 use Rattle.rules.specs.declared.order.Order.{Order}
-use Rattle.rules.specs.Matching.{best, better, opposes, meets, withLots, used, Matched, stopped, afterDeal, matching}
+use Rattle.rules.specs.Matching.{best, opposes, meets, withLots, used, stopped, afterDeal, matching}
 use Rattle.rules.specs.Refusals.{distinct}
 use Rattle.tables.specs.Left.{leftOver}
-use Rattle.matching.specs.Ranks.{Ranked, rankOf, noRank, rankIn, ranksOf, Lowest}
-use Rattle.matching.proofs.Best.{best-lowest, ranks-at, live, rank-below}
 
 -- ---- numbers that no two orders share
 abbrev pub Distinct : List Order → Type 0

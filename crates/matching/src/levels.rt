@@ -24,7 +24,7 @@ pub struct Matched {
     pub left: u64,
 }
 
-fn least(a: u64, b: u64) -> u64
+pub fn least(a: u64, b: u64) -> u64
     ensures { λ r. ⌜ r ≡ min a b ⌝ }
 {
     if a <= b {

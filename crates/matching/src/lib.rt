@@ -11,5 +11,6 @@ pub use crossing::measure;
 pub use deals::Counterparty;
 pub use deals::deal_at;
 pub use levels::Matched;
+pub use levels::least;
 pub use levels::match_orders;
 pub use priority::other_side;

@@ -1,8 +1,8 @@
 -- An accepted submit, from the steps of the code to the rules. Assumes nothing.
 use mathlib.Core.Path.{_≡_, refl, sym, ap, subst, _∙_}
-use mathlib.Core.Bool.{Bool, true, false, cond, _&&_}
+use mathlib.Core.Bool.{Bool, true, cond, _&&_}
 use mathlib.Core.List.{List, [], _∷_, _++_, map, flatMap}
-use Prim.Native.Nat.{ℕ, _+_, _*_, _-_, _≤_, _<_, min}
+use Prim.Native.Nat.{ℕ, _+_, _*_, _-_, _≤_, _<_}
 use native.Mathlib.Omega.{arith}
 use lib.Dec.{ltb}
 use lib.IntN.{ℤ}
@@ -13,9 +13,8 @@ use Rattle.arith.specs.Lists.{over, total}
 use Rattle.rules.specs.declared.answer.Answer.the-variants.{Accepted}
 use Rattle.rules.specs.declared.event.Submission.{Submission}
 use Rattle.rules.specs.declared.order.Order.{Order}
-use Rattle.rules.specs.Answers.{Outcome}
 use Rattle.rules.specs.Ranges.{mostMembers, mostOrders, mostLots, mostLotsRun, mostPrice, mostSubmitsInSecond, mostAcceptedSubmits}
-use Rattle.rules.specs.Ledger.{Tables, Line, lineRun, lent, withAcceptedSubmits, withSubmitsThisSecond, submitsFrom, orderWidth, withHead, withBook, withPrices, withRows, withLines, withOrderCount, withDealt, headLength, linesLength, members, dayLotsPlace, dayValuePlace, orderAt, orderPlaces, orders, withOrders, booked, timed}
+use Rattle.rules.specs.Ledger.{Tables, Line, lineRun, lent, withAcceptedSubmits, withSubmitsThisSecond, submitsFrom, orderWidth, withHead, withBook, withPrices, withRows, withLines, withOrderCount, withDealt, headLength, linesLength, dayLotsPlace, dayValuePlace, orderPlaces, orders, withOrders, booked, timed}
 use Rattle.rules.specs.Matching.{incoming, isResting, withLots, matched, submitMatched, submitLines, wouldRest, submitOrders, withDeals, counted, submitBooked}
 use Rattle.tables.specs.Fit.{HeadFit, PricesFit, RowsFit, BookFit, membersIn, acceptedIn, lotsRunIn, orderCountIn, ordersIn}
 use Rattle.matching.specs.declared.levels.Matched.{Matched}

@@ -1,12 +1,11 @@
 -- The head of an accepted submit: its time, its counts, and what stays. Assumes nothing.
-use mathlib.Core.Path.{_≡_, refl, sym, ap, _∙_}
+use mathlib.Core.Path.{_≡_, refl, _∙_}
 use mathlib.Core.Bool.{cond}
-use mathlib.Core.List.{List}
 use Prim.Native.Nat.{ℕ, _+_, _≤_, _<_}
 use native.Mathlib.Omega.{arith}
 use lib.Dec.{ltb}
 use lib.ListN.{length, getD, set, replicate, length-set, length-replicate, getD-replicate}
-use lib.Seq.{getD-set-other, getD-set-same}
+use lib.Seq.{getD-set-other}
 use Rattle.arith.specs.Overs.{over-inside}
 use Rattle.arith.specs.Tests.{by-bool}
 use Rattle.rules.specs.Ranges.{mostMembers}

@@ -1,19 +1,19 @@
 -- The causes that the book tells, by the lots that cross. Assumes nothing.
 use mathlib.Core.Path.{_≡_, refl, sym, ap, _∙_}
-use mathlib.Core.Bool.{Bool, true, false, cond, _&&_, _||_, and-assoc}
+use mathlib.Core.Bool.{Bool, true, false, _&&_, _||_, and-assoc}
 use mathlib.Core.List.{List, [], _∷_, _++_, map, flatMap}
-use Prim.Native.Nat.{ℕ, zero, suc, _+_, _*_, _-_, _≤_, _<_, min}
+use Prim.Native.Nat.{ℕ, _+_, _*_, _-_, _≤_, _<_, min}
 use native.Mathlib.Omega.{arith}
 use lib.Dec.{eqb, leb, ltb}
-use lib.ListN.{length, getD, length-map}
+use lib.ListN.{length, length-map}
 use lib.IntN.{pos, _+ℤ_}
 use lib.Signed.{ltZ}
-use borrow.Author.Tests.{lt-ltb, le-ltb, lt-leb, eq-eqb, ne-eqb, ltb-true, ltb-false, leb-false}
-use Rattle.arith.specs.Lists.{total, kept, howMany}
+use borrow.Author.Tests.{lt-ltb, lt-leb, ne-eqb, ltb-true, ltb-false, leb-false}
+use Rattle.arith.specs.Lists.{total}
 use Rattle.arith.specs.Alls.{All}
-use Rattle.arith.specs.Tests.{by-bool, true-or, same-or, same-ltb, never}
+use Rattle.arith.specs.Tests.{true-or, same-or, same-ltb, never}
 use Rattle.rules.specs.declared.answer.Answer.{Answer}
-use Rattle.rules.specs.declared.answer.Answer.the-variants.{Accepted, TimeBelowLedger, MemberDefaulted, ContractNotOpen, PriceOutsideLimits, SixthSubmit, AboveLimit, CannotMatchInFull, BookFull, TotalPassed}
+use Rattle.rules.specs.declared.answer.Answer.the-variants.{Accepted}
 use Rattle.rules.specs.declared.event.Submission.{Submission}
 use Rattle.rules.specs.declared.order.Order.{Order}
 use Rattle.rules.specs.Answers.{Outcome, decide}
@@ -21,7 +21,7 @@ use Rattle.rules.specs.Ranges.{mostSubmitsInSecond, mostOrders, mostLotsRun, mo
 use Rattle.rules.specs.Ledger.{Tables, time, acceptedSubmits, lotsRun, orderCount, orders, limit, lotsAt, lineRun}
 use Rattle.rules.specs.Matching.{isTeye, isResting, mirrored, matched, incoming, submitMatched, submitLines, wouldRest, submitsAt, restingLots, aboveLimit}
 use Rattle.rules.specs.Refusals.{submitCauses, runWouldPass}
-use Rattle.matching.specs.Ranks.{Ranked, lotsOf, ranksOf, crossing}
+use Rattle.matching.specs.Ranks.{Ranked, lotsOf, ranksOf}
 use Rattle.matching.specs.Crossing.{isOwn, ownLots, ownIn, crossingIn}
 use Rattle.matching.specs.Deals.{counterpartyOf, linesWith}
 use Rattle.matching.specs.Matching.{Ended}

@@ -1,9 +1,9 @@
 -- The deals of a column, one after the other. Assumes nothing.
 use mathlib.Core.Path.{_≡_, refl, sym, ap, _∙_}
-use mathlib.Core.List.{List, [], _∷_, _++_, map, flatMap, append-assoc}
+use mathlib.Core.List.{List, [], _∷_, _++_, flatMap, append-assoc}
 use Prim.Native.Nat.{ℕ, zero, suc, _+_, _*_, _-_, _≤_, _<_}
 use native.Mathlib.Omega.{arith}
-use native.Mathlib.Nat.{zero-add, add-zero, add-suc, mul-le-mul}
+use native.Mathlib.Nat.{zero-add, add-zero, mul-le-mul}
 use native.Mathlib.Numerals.{add-one}
 use lib.ListN.{length, length-map}
 use Rattle.arith.specs.Lists.{from, total}

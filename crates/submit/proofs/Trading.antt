@@ -1,21 +1,20 @@
 -- An order is matched with the book of a ledger: what the columns and the tables hold. Assumes nothing.
-use mathlib.Core.Path.{_≡_, refl, sym, ap, subst, _∙_}
-use mathlib.Core.List.{List, [], _∷_, map, flatMap}
+use mathlib.Core.Path.{_≡_, sym, ap, _∙_}
+use mathlib.Core.List.{List, [], map}
 use Prim.Native.Nat.{ℕ, _+_, _*_, _-_, _≤_, _<_}
 use native.Mathlib.Omega.{arith}
 use native.Mathlib.Nat.{add-zero}
-use lib.ListN.{length, getD, set, length-map}
+use lib.ListN.{length, getD, length-map}
 use lib.Seq.{set-getD}
-use Rattle.arith.specs.Lists.{over, from, total}
+use Rattle.arith.specs.Lists.{from, total}
 use Rattle.arith.specs.Alls.{All}
 use Rattle.rules.specs.declared.order.Order.{Order}
-use Rattle.rules.specs.Ranges.{mostOrders, mostLots, mostPrice}
-use Rattle.rules.specs.Ledger.{Tables, lent, withHead, withBook, withOrders, withDealt, dayLotsPlace, dayValuePlace, sideAt, orderAt, orderPlaces}
+use Rattle.rules.specs.Ranges.{mostLots}
+use Rattle.rules.specs.Ledger.{Tables, lent, withHead, withBook, withOrders, withDealt, dayLotsPlace, dayValuePlace, sideAt}
 use Rattle.rules.specs.Matching.{matched, Deal}
 use Rattle.tables.specs.Fit.{orderCountIn, ordersIn}
 use Rattle.tables.specs.Left.{leftOver}
 use Rattle.tables.proofs.Left.{orders-length, all-orders}
-use Rattle.matching.specs.declared.deals.Counterparty.{Counterparty}
 use Rattle.matching.specs.declared.levels.Matched.{Matched}
 use Rattle.matching.specs.Ranks.{Ranked, lotsOf, firstRank}
 use Rattle.matching.specs.Crossing.{crossingIn}

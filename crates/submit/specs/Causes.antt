@@ -1,7 +1,7 @@
 -- A submit's causes in two parts: those that the head and the prices tell, and those that the book tells.
 use Prim.Native.Nat.{ℕ, _+_, _*_, min}
 use mathlib.Core.Bool.{Bool, not, _&&_, _||_}
-use mathlib.Core.List.{List, [], _∷_, _++_}
+use mathlib.Core.List.{List, [], _∷_}
 use lib.Dec.{eqb, leb, ltb}
 use lib.IntN.{pos, _+ℤ_}
 use lib.Signed.{ltZ}

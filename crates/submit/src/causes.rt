@@ -14,6 +14,7 @@ ghost use Rattle.submit.specs.Causes.{outcome, firstCauses, measuredCaus
 use crate::position::is_above;
 use crate::position::position;
 use matching::Crossing;
+use matching::least;
 use rules::Answer;
 use rules::OrderKind;
 use rules::Submission;
@@ -101,15 +102,6 @@ pub fn first_cause(head: &[u64], prices: &[u64], e: Submission) -> Verdict
         return Verdict::Refused(Answer::SixthSubmit);
     }
     Verdict::Sound
-}
-
-fn least(a: u64, b: u64) -> u64
-    ensures { λ r. ⌜ r ≡ min a b ⌝ }
-{
-    if a <= b {
-        return a;
-    }
-    b
 }
 
 // What the book tells: the member's own lots there and the lots that cross.

@@ -1,35 +1,23 @@
 use native.Mathlib.Omega.{arith}
-use mathlib.Core.Path.{_≡_, sym, _∙_}
+use mathlib.Core.Path.{_∙_}
 use Rattle.rules.specs.Ledger.{lent}
 use Rattle.submit.proofs.Applied.{refused-first, refused-second, accepted, accepts}
 use borrow.Author.Needs.{needs}
 use Rattle.submit.proofs.apply.Statement.{statement}
 use Rattle.submit.proofs.apply.Tie as tie
-use Rattle.submit.proofs.apply.Reads as reads
-use Rattle.submit.proofs.apply.Lts as lts
-use Rattle.matching.proofs.measure.Reads as measure-reads
-use Rattle.submit.proofs.booking.book_submit.Reads as book-submit-reads
-use Rattle.submit.proofs.booking.order_of.Reads as order-of-reads
-use Rattle.submit.proofs.causes.first_cause.Reads as first-cause-reads
-use Rattle.submit.proofs.causes.measured_cause.Reads as measured-cause-reads
 
--- src/lib.rt:40:9
 first-cause-requires : tie.Need-first-cause-requires
 first-cause-requires c κs = search needs
 
--- src/lib.rt:41:29
 enum-known-first : tie.Need-enum-known-first
 enum-known-first c = search needs
 
--- src/lib.rt:42:9
 same-length : tie.Need-same-length
 same-length c = search needs
 
--- src/lib.rt:42:9
 same-length-2 : tie.Need-same-length-2
 same-length-2 c = search needs
 
--- src/lib.rt:42:9
 returns : tie.Need-returns
 returns c =
     let a = c .before .before .before .before .before .before .before .before .before .args in
@@ -46,47 +34,37 @@ returns c =
 enum-told : tie.Need-enum-told
 enum-told c = search needs
 
--- src/lib.rt:44:17
 slice-read-count : tie.Need-slice-read-count
 slice-read-count c = search needs
 
--- src/lib.rt:45:50
 order-of-requires : tie.Need-order-of-requires
 order-of-requires c κs = search needs
 
--- src/lib.rt:45:9
 measure-requires : tie.Need-measure-requires
 measure-requires c κs =
     let f = c .before .before .before .before .before .before .before .before .before .before .before .before .pre .0 in
     ((f .0 .most-orders, f .2 .long), λ i k. f .2 .order-fit i k .most-lots)
 
--- src/lib.rt:46:9
 measured-cause-requires : tie.Need-measured-cause-requires
 measured-cause-requires c κs =
     let f = c .before .before .before .before .before .before .before .before .before .before .before .before .before .before .before .pre .0 in
     ((f .0, c .before .before .before .before .before .before .before .before .before .before .before .before .before .before .before .pre .1 .0, f .3), omega (arith, c .before .before .measure .ensures .1 .0, f .0 .most-orders))
 
--- src/lib.rt:47:29
 enum-known-second : tie.Need-enum-known-second
 enum-known-second c = search needs
 
--- src/lib.rt:48:9
 same-length-3 : tie.Need-same-length-3
 same-length-3 c = search needs
 
--- src/lib.rt:48:9
 same-length-4 : tie.Need-same-length-4
 same-length-4 c = search needs
 
--- src/lib.rt:48:9
 same-length-5 : tie.Need-same-length-5
 same-length-5 c = search needs
 
--- src/lib.rt:48:9
 same-length-6 : tie.Need-same-length-6
 same-length-6 c = search needs
 
--- src/lib.rt:48:9
 returns-2 : tie.Need-returns-2
 returns-2 c =
     let a = c .before .before .before .before .before .before .before .before .before .before .before .before .before .before .before .before .before .before .before .args in
@@ -103,7 +81,6 @@ returns-2 c =
 enum-told-2 : tie.Need-enum-told-2
 enum-told-2 c = search needs
 
--- src/lib.rt:50:5
 book-submit-requires : tie.Need-book-submit-requires
 book-submit-requires c κs =
     let a = c .before .before .before .before .before .before .before .before .before .before .before .before .before .before .before .before .before .before .before .before .before .before .before .before .args in
@@ -117,31 +94,24 @@ book-submit-requires c κs =
     let all = lent head prices lots value book lines in
     (f, (c .before .before .before .before .before .before .before .before .before .before .before .before .before .before .before .before .before .before .before .before .before .before .before .before .pre .1, accepts head prices lots value book lines (a .e) (f .0) (f .2) (f .3) _ (c .before .before .before .before .before .before .before .before .before .before .before .before .order-of .ensures all) _ _ (c .before .before .before .before .before .before .before .before .before .before .before .measure .ensures .0) (c .before .before .before .before .before .before .before .before .before .before .before .measure .ensures .1 .1) _ _ (c .before .before .before .before .before .before .before .before .before .before .before .before .before .before .before .before .before .before .first-cause .ensures all) (c .before .before .before .before .before .before .before .before .measured-cause .ensures all) (c .before .before .before .before .before .before .before .before .before .before .before .before .before .before .before .before .enum-told .given .1) (c .before .before .before .before .before .before .enum-told2 .given .1)))
 
--- src/lib.rt:26:1
 same-length-7 : tie.Need-same-length-7
 same-length-7 c = search needs
 
--- src/lib.rt:26:1
 same-length-8 : tie.Need-same-length-8
 same-length-8 c = search needs
 
--- src/lib.rt:26:1
 same-length-9 : tie.Need-same-length-9
 same-length-9 c = search needs
 
--- src/lib.rt:26:1
 same-length-10 : tie.Need-same-length-10
 same-length-10 c = search needs
 
--- src/lib.rt:26:1
 same-length-11 : tie.Need-same-length-11
 same-length-11 c = search needs
 
--- src/lib.rt:26:1
 same-length-12 : tie.Need-same-length-12
 same-length-12 c = search needs
 
--- src/lib.rt:26:1
 returns-3 : tie.Need-returns-3
 returns-3 c =
     let a = c .before .before .before .before .before .before .before .before .before .before .before .before .before .before .before .before .before .before .before .before .before .before .before .before .before .before .before .before .before .before .before .before .before .before .args in

@@ -1,13 +1,11 @@
 use borrow.Author.Needs.{needs}
 use Prim.Native.Nat.{_-_}
-use lib.ListN.{length, getD}
+use lib.ListN.{length}
 use native.Mathlib.Omega.{arith}
 use mathlib.Core.Logic.{⊎-elim}
 use Rattle.matching.proofs.Scanning.{Scanned, scanned-start, scanned-lower, scanned-next, scanned-most, scanned-lowest, scanned-none}
 use Rattle.matching.proofs.columns.lowest_of.Statement.{statement}
 use Rattle.matching.proofs.columns.lowest_of.Tie as tie
-use Rattle.matching.proofs.columns.lowest_of.Reads as reads
-use Rattle.matching.proofs.columns.lowest_of.Lts as lts
 
 abbrev Inv-loop : tie.InvT-loop
 Inv-loop ranks lowest₀ place₀ i₀ lowest place i = Scanned ranks i lowest place
@@ -15,33 +13,26 @@ Inv-loop ranks lowest₀ place₀ i₀ lowest place i = Scanned ranks i lowest p
 abbrev μ-loop : tie.MeasureT-loop
 μ-loop ranks lowest₀ place₀ i₀ lowest place i = length ranks - i
 
--- src/columns.rt:54:5
 loop-holds : tie.Need-loop-holds Inv-loop μ-loop
 loop-holds c = scanned-start _
 
--- src/columns.rt:55:20
 mul-rank : tie.Need-mul-rank Inv-loop μ-loop
 mul-rank c = search needs
 
--- src/columns.rt:55:20
 shared-slice-read-rank : tie.Need-shared-slice-read-rank Inv-loop μ-loop
 shared-slice-read-rank c = search needs
 
--- src/columns.rt:60:9
 add-i : tie.Need-add-i Inv-loop μ-loop
 add-i c = search needs
 
--- src/columns.rt:54:5
 loop-less : tie.Need-loop-less Inv-loop μ-loop
 loop-less c = search needs
 
--- src/columns.rt:54:5
 loop-again : tie.Need-loop-again Inv-loop μ-loop
 loop-again c =
     let s = c .before .before .before .loop .inv in
     ⊎-elim (λ w. rw (w .1, w .2) (scanned-lower _ _ _ _ s (omega arith) (w .0 .taken))) (λ w. rw (w .1, w .2) (scanned-next _ _ _ _ s (omega arith) (omega (arith, w .0 .left)))) (c .if1 .came)
 
--- src/columns.rt:47:1
 returns : tie.Need-returns Inv-loop μ-loop
 returns c = record { most = scanned-most _ _ _ _ (c .before .loop .inv) (omega arith); lowest = scanned-lowest _ _ _ _ (c .before .loop .inv) (omega arith); none = scanned-none _ _ _ _ (c .before .loop .inv) (omega arith) }
 

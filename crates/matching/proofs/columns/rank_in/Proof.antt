@@ -3,25 +3,17 @@ use borrow.Author.Tests.{lt-ltb}
 use borrow.Author.Needs.{needs}
 use Rattle.matching.proofs.columns.rank_in.Statement.{statement}
 use Rattle.matching.proofs.columns.rank_in.Tie as tie
-use Rattle.matching.proofs.columns.rank_in.Reads as reads
-use Rattle.matching.proofs.columns.rank_in.Lts as lts
-use Rattle.matching.proofs.priority.does_oppose.Reads as does-oppose-reads
-use Rattle.matching.proofs.priority.rank_of.Reads as rank-of-reads
 
--- src/columns.rt:24:8
 does-oppose-requires : tie.Need-does-oppose-requires
 does-oppose-requires c κs = search needs
 
--- src/columns.rt:25:9
 rank-of-requires : tie.Need-rank-of-requires
 rank-of-requires c κs = search needs
 
--- src/columns.rt:25:9
 returns : tie.Need-returns
 unfolding rankIn
 returns c = rw (← (c .before .before .does-oppose .ensures), c .before .if1 .taken, lt-ltb 0 (c .before .before .before .args .r .lots .0) (c .before .before .before .pre .1), c .rank-of .ensures)
 
--- src/columns.rt:20:1
 returns-2 : tie.Need-returns-2
 unfolding rankIn
 returns-2 c = rw (← (c .before .does-oppose .ensures), c .if1 .left)

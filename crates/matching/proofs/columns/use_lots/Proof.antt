@@ -3,54 +3,40 @@ use borrow.Author.Tests.{eq-eqb, ne-eqb}
 use borrow.Author.Needs.{needs}
 use Rattle.matching.proofs.columns.use_lots.Statement.{statement}
 use Rattle.matching.proofs.columns.use_lots.Tie as tie
-use Rattle.matching.proofs.columns.use_lots.Reads as reads
-use Rattle.matching.proofs.columns.use_lots.Lts as lts
 
--- src/columns.rt:71:16
 mul-rest : tie.Need-mul-rest
 mul-rest c = search needs
 
--- src/columns.rt:71:16
 slice-read-rest : tie.Need-slice-read-rest
 slice-read-rest c = search needs
 
--- src/columns.rt:71:16
 sub-rest : tie.Need-sub-rest
 sub-rest c = search needs
 
--- src/columns.rt:72:5
 mul-left : tie.Need-mul-left
 mul-left c = search needs
 
--- src/columns.rt:72:5
 slice-write-left : tie.Need-slice-write-left
 slice-write-left c = search needs
 
--- src/columns.rt:74:9
 mul-ranks : tie.Need-mul-ranks
 mul-ranks c = search needs
 
--- src/columns.rt:74:9
 slice-write-ranks : tie.Need-slice-write-ranks
 slice-write-ranks c = search needs
 
--- src/columns.rt:66:1
 same-length : tie.Need-same-length
 same-length c = search needs
 
--- src/columns.rt:66:1
 same-length-2 : tie.Need-same-length-2
 same-length-2 c = search needs
 
--- src/columns.rt:66:1
 returns : tie.Need-returns
 returns c = (refl, rw (eq-eqb _ 0 (c .if1 .taken)) refl)
 
--- src/columns.rt:66:1
 same-length-3 : tie.Need-same-length-3
 same-length-3 c = search needs
 
--- src/columns.rt:66:1
 returns-2 : tie.Need-returns-2
 returns-2 c = (refl, rw (ne-eqb _ 0 (c .if1 .left)) refl)
 

@@ -12,10 +12,6 @@ use Rattle.tables.proofs.Left.{orders-length}
 use Rattle.matching.proofs.Passes.{lots-here, rank-here}
 use Rattle.matching.proofs.columns.write_columns.Statement.{statement}
 use Rattle.matching.proofs.columns.write_columns.Tie as tie
-use Rattle.matching.proofs.columns.write_columns.Reads as reads
-use Rattle.matching.proofs.columns.write_columns.Lts as lts
-use Rattle.matching.proofs.columns.rank_in.Reads as rank-in-reads
-use Rattle.tables.proofs.order_at.Reads as order-at-reads
 
 abbrev Inv-loop : tie.InvT-loop
 Inv-loop book o left₀ ranks₀ i₀ left ranks i = (length left ≡ length left₀) × (length ranks ≡ length ranks₀) × (i ≤ length left₀) × (left ≡ take i (map lotsOf (ordersIn (length left₀) book)) ++ drop i left₀) × (ranks ≡ take i (firstRank o (ordersIn (length left₀) book)) ++ drop i ranks₀)
@@ -23,43 +19,33 @@ Inv-loop book o left₀ ranks₀ i₀ left ranks i = (length left ≡ length lef
 abbrev μ-loop : tie.MeasureT-loop
 μ-loop book o left₀ ranks₀ i₀ left ranks i = length left₀ - i
 
--- src/columns.rt:38:5
 loop-holds : tie.Need-loop-holds Inv-loop μ-loop
 loop-holds c = (refl, refl, omega arith, refl, refl)
 
--- src/columns.rt:39:13
 order-at-requires : tie.Need-order-at-requires Inv-loop μ-loop
 order-at-requires c κs = search needs
 
--- src/columns.rt:40:9
 mul-left : tie.Need-mul-left Inv-loop μ-loop
 mul-left c = search needs
 
--- src/columns.rt:40:9
 slice-write-left : tie.Need-slice-write-left Inv-loop μ-loop
 slice-write-left c = search needs
 
--- src/columns.rt:41:20
 rank-in-requires : tie.Need-rank-in-requires Inv-loop μ-loop
 rank-in-requires c κs = let f = c .before .before .before .before .before .before .pre .1 (c .before .before .loop .i) (omega arith) in rw (c .order-at .ensures) f
 
--- src/columns.rt:41:9
 mul-ranks : tie.Need-mul-ranks Inv-loop μ-loop
 mul-ranks c = search needs
 
--- src/columns.rt:41:9
 slice-write-ranks : tie.Need-slice-write-ranks Inv-loop μ-loop
 slice-write-ranks c = search needs
 
--- src/columns.rt:42:9
 add-i : tie.Need-add-i Inv-loop μ-loop
 add-i c = search needs
 
--- src/columns.rt:38:5
 loop-less : tie.Need-loop-less Inv-loop μ-loop
 loop-less c = search needs
 
--- src/columns.rt:38:5
 loop-again : tie.Need-loop-again Inv-loop μ-loop
 loop-again c =
     let a = c .before .before .before .before .before .before .before .args in
@@ -78,15 +64,12 @@ loop-again c =
       rw (rank, l .inv .4) (front-next (l .i) (firstRank (a .o) os) (a .ranks .now) 0 (omega (arith, orders-length (a .book .now) n)) (omega (arith, c .before .before .before .before .before .before .before .pre .0 .1))),
     )
 
--- src/columns.rt:31:1
 same-length : tie.Need-same-length Inv-loop μ-loop
 same-length c = search needs
 
--- src/columns.rt:31:1
 same-length-2 : tie.Need-same-length-2 Inv-loop μ-loop
 same-length-2 c = search needs
 
--- src/columns.rt:31:1
 returns : tie.Need-returns Inv-loop μ-loop
 returns c =
     let a = c .before .before .before .before .before .args in

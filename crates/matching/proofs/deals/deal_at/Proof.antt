@@ -3,50 +3,37 @@ use Prim.Native.Nat.{_*_}
 use borrow.Author.Needs.{needs}
 use Rattle.matching.proofs.deals.deal_at.Statement.{statement}
 use Rattle.matching.proofs.deals.deal_at.Tie as tie
-use Rattle.matching.proofs.deals.deal_at.Reads as reads
-use Rattle.matching.proofs.deals.deal_at.Lts as lts
 
--- src/deals.rt:30:14
 mul-at : tie.Need-mul-at
 mul-at c = search needs
 
--- src/deals.rt:32:23
 add-t4 : tie.Need-add-t4
 add-t4 c = search needs
 
--- src/deals.rt:32:17
 mul-t5 : tie.Need-mul-t5
 mul-t5 c = search needs
 
--- src/deals.rt:32:17
 shared-slice-read-t7 : tie.Need-shared-slice-read-t7
 shared-slice-read-t7 c = search needs
 
--- src/deals.rt:33:28
 add-t8 : tie.Need-add-t8
 add-t8 c = search needs
 
--- src/deals.rt:33:22
 mul-t9 : tie.Need-mul-t9
 mul-t9 c = search needs
 
--- src/deals.rt:33:22
 shared-slice-read-t11 : tie.Need-shared-slice-read-t11
 shared-slice-read-t11 c = search needs
 
--- src/deals.rt:34:26
 add-t13 : tie.Need-add-t13
 add-t13 c = search needs
 
--- src/deals.rt:34:20
 mul-t14 : tie.Need-mul-t14
 mul-t14 c = search needs
 
--- src/deals.rt:34:20
 shared-slice-read-t16 : tie.Need-shared-slice-read-t16
 shared-slice-read-t16 c = search needs
 
--- src/deals.rt:26:1
 returns : tie.Need-returns
 returns c = rw (add-zero (c .before .before .before .args .k * 3))
 

@@ -1,60 +1,43 @@
 use Prim.Native.Nat.{_-_, _*_, min}
 use lib.ListN.{getD}
-use mathlib.Core.Path.{refl, sym, ap, _∙_}
+use mathlib.Core.Path.{ap, _∙_}
 use Prim.Native.Nat.{_-_, _*_}
 use Rattle.arith.specs.Lists.{over}
 use Rattle.matching.specs.Deals.{counterparty, dealPlaces}
 use borrow.Author.Needs.{needs}
 use Rattle.matching.proofs.levels.deal.Statement.{statement}
 use Rattle.matching.proofs.levels.deal.Tie as tie
-use Rattle.matching.proofs.levels.deal.Reads as reads
-use Rattle.matching.proofs.levels.deal.Lts as lts
-use Rattle.matching.proofs.columns.use_lots.Reads as use-lots-reads
-use Rattle.matching.proofs.deals.put_deal.Reads as put-deal-reads
-use Rattle.matching.proofs.levels.least.Reads as least-reads
-use Rattle.tables.proofs.order_at.Reads as order-at-reads
 
--- src/levels.rt:50:9
 order-at-requires : tie.Need-order-at-requires
 order-at-requires c κs = search needs
 
--- src/levels.rt:51:30
 mul-least : tie.Need-mul-least
 mul-least c = search needs
 
--- src/levels.rt:51:30
 slice-read-least : tie.Need-slice-read-least
 slice-read-least c = search needs
 
--- src/levels.rt:51:9
 least-requires : tie.Need-least-requires
 least-requires c κs = search needs
 
--- src/levels.rt:52:5
 use-lots-requires : tie.Need-use-lots-requires
 use-lots-requires c κs = search needs
 
--- src/levels.rt:53:5
 put-deal-requires : tie.Need-put-deal-requires
 put-deal-requires c κs = search needs
 
--- src/levels.rt:62:5
 sub-result : tie.Need-sub-result
 sub-result c = search needs
 
--- src/levels.rt:37:1
 same-length : tie.Need-same-length
 same-length c = search needs
 
--- src/levels.rt:37:1
 same-length-2 : tie.Need-same-length-2
 same-length-2 c = search needs
 
--- src/levels.rt:37:1
 same-length-3 : tie.Need-same-length-3
 same-length-3 c = search needs
 
--- src/levels.rt:37:1
 returns : tie.Need-returns
 returns c =
     let a = c .before .before .before .before .before .before .before .before .before .before .before .before .before .before .before .before .before .before .args in

@@ -5,19 +5,13 @@ use Rattle.arith.specs.Tests.{never}
 use borrow.Author.Needs.{needs}
 use Rattle.matching.proofs.levels.is_at.Statement.{statement}
 use Rattle.matching.proofs.levels.is_at.Tie as tie
-use Rattle.matching.proofs.levels.is_at.Reads as reads
-use Rattle.matching.proofs.levels.is_at.Lts as lts
-use Rattle.tables.proofs.order_at.Reads as order-at-reads
 
--- src/levels.rt:71:9
 returns : tie.Need-returns
 returns c = λ f. never (sym f)
 
--- src/levels.rt:73:5
 order-at-requires : tie.Need-order-at-requires
 order-at-requires c κs = search needs
 
--- src/levels.rt:66:1
 returns-2 : tie.Need-returns-2
 returns-2 c = λ t. (omega (arith, c .before .before .if1 .left), ap (λ r. r .price .0) (sym (c .before .order-at .ensures)) ∙ eqb-true _ _ t)
 

@@ -2,23 +2,17 @@ use Rattle.rules.specs.Matching.{meets}
 use borrow.Author.Needs.{needs}
 use Rattle.matching.proofs.priority.does_meet.Statement.{statement}
 use Rattle.matching.proofs.priority.does_meet.Tie as tie
-use Rattle.matching.proofs.priority.does_meet.Reads as reads
-use Rattle.matching.proofs.priority.does_meet.Lts as lts
 
--- src/priority.rt:55:22
 enum-told : tie.Need-enum-told
 enum-told c = search needs
 
--- src/priority.rt:56:23
 enum-told-2 : tie.Need-enum-told-2
 enum-told-2 c = search needs
 
--- src/priority.rt:48:1
 returns : tie.Need-returns
 unfolding meets
 returns c = rw (c .enum-told .given .1)
 
--- src/priority.rt:48:1
 returns-2 : tie.Need-returns-2
 unfolding meets
 returns-2 c = rw (c .enum-told2 .given .1)

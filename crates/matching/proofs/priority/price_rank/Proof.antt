@@ -1,26 +1,19 @@
 use borrow.Author.Needs.{needs}
 use Rattle.matching.proofs.priority.price_rank.Statement.{statement}
 use Rattle.matching.proofs.priority.price_rank.Tie as tie
-use Rattle.matching.proofs.priority.price_rank.Reads as reads
-use Rattle.matching.proofs.priority.price_rank.Lts as lts
 
--- src/priority.rt:65:22
 enum-told : tie.Need-enum-told
 enum-told c = search needs
 
--- src/priority.rt:65:22
 sub-result : tie.Need-sub-result
 sub-result c = search needs
 
--- src/priority.rt:66:23
 enum-told-2 : tie.Need-enum-told-2
 enum-told-2 c = search needs
 
--- src/priority.rt:60:1
 returns : tie.Need-returns
 returns c = rw (c .enum-told .given .1)
 
--- src/priority.rt:60:1
 returns-2 : tie.Need-returns-2
 returns-2 c = search needs
 

@@ -7,23 +7,16 @@ use native.Mathlib.Omega.{arith}
 use borrow.Author.Needs.{needs}
 use Rattle.matching.proofs.priority.rank_of.Statement.{statement}
 use Rattle.matching.proofs.priority.rank_of.Tie as tie
-use Rattle.matching.proofs.priority.rank_of.Reads as reads
-use Rattle.matching.proofs.priority.rank_of.Lts as lts
-use Rattle.matching.proofs.priority.price_rank.Reads as price-rank-reads
 
--- src/priority.rt:76:5
 price-rank-requires : tie.Need-price-rank-requires
 price-rank-requires c κs = search needs
 
--- src/priority.rt:76:5
 mul-result : tie.Need-mul-result
 mul-result c = omega (arith, c .price-rank .ensures, price-below (c .before .args .r) (c .before .pre))
 
--- src/priority.rt:76:5
 add-result : tie.Need-add-result
 add-result c = omega (arith, c .before .price-rank .ensures, price-below (c .before .before .args .r) (c .before .before .pre))
 
--- src/priority.rt:71:1
 returns : tie.Need-returns
 unfolding rankOf
 returns c = ap (λ n. n * numbersEnd + c .before .before .args .r .number) (c .before .price-rank .ensures)

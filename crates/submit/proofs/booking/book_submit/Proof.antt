@@ -1,36 +1,23 @@
-use lib.ListN.{length}
 use Rattle.submit.proofs.Accepted.{traded-as, put-as, lines-as}
 use native.Mathlib.Omega.{arith}
-use mathlib.Core.Path.{_≡_, refl, sym, ap, subst, _∙_}
+use mathlib.Core.Path.{ap}
 use Prim.Native.Nat.{_*_}
 use mathlib.Core.Bool.{_&&_}
 use lib.Dec.{ltb}
 use Rattle.rules.specs.Ledger.{lent, orderWidth}
 use Rattle.rules.specs.Matching.{isResting}
 use Rattle.tables.specs.Fit.{orderCountIn}
-use Rattle.submit.specs.Deals.{Traded}
 use Rattle.submit.proofs.Accepted.{countable, counted-is, count-same, head-long, tradable-as, crossing-as, deals-head, room-left, deals-fit, deals-members, run-fits, rest-members, rest-run, bookable, booked-is}
 use borrow.Author.Needs.{needs}
 use Rattle.submit.proofs.booking.book_submit.Statement.{statement}
 use Rattle.submit.proofs.booking.book_submit.Tie as tie
-use Rattle.submit.proofs.booking.book_submit.Reads as reads
-use Rattle.submit.proofs.booking.book_submit.Lts as lts
-use Rattle.submit.proofs.booking.count_submit.Reads as count-submit-reads
-use Rattle.submit.proofs.booking.order_of.Reads as order-of-reads
-use Rattle.submit.proofs.booking.rest_order.Reads as rest-order-reads
-use Rattle.submit.proofs.deals.book_deals.Reads as book-deals-reads
-use Rattle.submit.proofs.trade.trade.Reads as trade-reads
-use Rattle.tables.proofs.set_time.Reads as set-time-reads
 
--- src/booking.rt:90:9
 order-of-requires : tie.Need-order-of-requires
 order-of-requires c κs = search needs
 
--- src/booking.rt:92:5
 set-time-requires : tie.Need-set-time-requires
 set-time-requires c κs = search needs
 
--- src/booking.rt:93:5
 count-submit-requires : tie.Need-count-submit-requires
 count-submit-requires c κs =
     let a = c .before .before .before .before .before .before .before .before .before .before .args in
@@ -44,11 +31,9 @@ count-submit-requires c κs =
     let lines = a .lines .now in
     countable head prices lots value book lines (a .e) (f .0) (f .1) (f .2) (f .3) (a .crossing) w _ (c .before .before .before .set-time .ensures)
 
--- src/booking.rt:94:70
 slice-aggregate-trade : tie.Need-slice-aggregate-trade
 slice-aggregate-trade c = search needs
 
--- src/booking.rt:94:9
 trade-requires : tie.Need-trade-requires
 trade-requires c κs =
     let a = c .before .before .before .before .before .before .before .before .before .before .before .before .before .before .before .before .before .args in
@@ -66,7 +51,6 @@ trade-requires c κs =
       (λ i k. f .2 .order-fit i (omega (arith, count-same head prices lots value book lines (a .e) (f .0) (f .1) (f .2) (f .3) _ same)) .most-side, crossing-as head prices lots value book lines (a .e) (f .0) (f .1) (f .2) (f .3) _ same _ o (a .crossing) w),
     )
 
--- src/booking.rt:95:5
 rest-order-requires : tie.Need-rest-order-requires
 rest-order-requires c κs =
     let a = c .before .before .before .before .before .before .before .before .before .before .before .before .before .before .before .before .before .before .before .before .before .before .before .before .before .before .before .args in
@@ -83,11 +67,9 @@ rest-order-requires c κs =
     let dealt = traded-as head prices lots value book lines (a .e) (f .0) (f .1) (f .2) (f .3) _ same _ o _ _ _ _ _ (c .before .before .before .before .before .before .before .before .before .trade .ensures) in
     (omega (arith, head-long head prices lots value book lines (a .e) (f .0) (f .1) (f .2) (f .3) _ same, deals-head head prices lots value book lines (a .e) (f .0) (f .1) (f .2) (f .3) _ same (a .crossing) w _ _ _ _ _ dealt), omega (arith, c .before .before .before .before .before .before .before .before .before .trade .kept .1 .1 .0, f .2 .long), room-left head prices lots value book lines (a .e) (f .0) (f .1) (f .2) (f .3) _ same (a .crossing) w _ _ _ _ _ dealt)
 
--- src/booking.rt:103:9
 slice-aggregate-book-deals : tie.Need-slice-aggregate-book-deals
 slice-aggregate-book-deals c = search needs
 
--- src/booking.rt:97:5
 book-deals-requires : tie.Need-book-deals-requires
 book-deals-requires c κs =
     let a = c .before .before .before .before .before .before .before .before .before .before .before .before .before .before .before .before .before .before .before .before .before .before .before .before .before .before .before .before .before .before .before .before .before .before .before .before .before .args in
@@ -116,35 +98,27 @@ book-deals-requires c κs =
       ),
     )
 
--- src/booking.rt:106:22
 mul-t44 : tie.Need-mul-t44
 mul-t44 c = search needs
 
--- src/booking.rt:73:1
 same-length : tie.Need-same-length
 same-length c = omega (arith, c .before .before .before .before .before .book-deals .kept .0, c .before .before .before .before .before .before .before .before .before .before .before .before .before .before .before .rest-order .kept .0, c .before .before .before .before .before .before .before .before .before .before .before .before .before .before .before .before .before .before .before .before .before .before .before .before .before .trade .kept .0, c .before .before .before .before .before .before .before .before .before .before .before .before .before .before .before .before .before .before .before .before .before .before .before .before .before .before .before .before .before .before .before .before .count-submit .kept .0, c .before .before .before .before .before .before .before .before .before .before .before .before .before .before .before .before .before .before .before .before .before .before .before .before .before .before .before .before .before .before .before .before .before .before .before .before .set-time .kept .0)
 
--- src/booking.rt:73:1
 same-length-2 : tie.Need-same-length-2
 same-length-2 c = search needs
 
--- src/booking.rt:73:1
 same-length-3 : tie.Need-same-length-3
 same-length-3 c = search needs
 
--- src/booking.rt:73:1
 same-length-4 : tie.Need-same-length-4
 same-length-4 c = search needs
 
--- src/booking.rt:73:1
 same-length-5 : tie.Need-same-length-5
 same-length-5 c = search needs
 
--- src/booking.rt:73:1
 same-length-6 : tie.Need-same-length-6
 same-length-6 c = search needs
 
--- src/booking.rt:73:1
 returns : tie.Need-returns
 returns c =
     let a = c .before .before .before .before .before .before .before .before .before .before .before .before .before .before .before .before .before .before .before .before .before .before .before .before .before .before .before .before .before .before .before .before .before .before .before .before .before .before .before .before .before .before .before .args in

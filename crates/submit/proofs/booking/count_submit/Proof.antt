@@ -3,50 +3,37 @@ use lib.ListN.{length-set}
 use borrow.Author.Needs.{needs}
 use Rattle.submit.proofs.booking.count_submit.Statement.{statement}
 use Rattle.submit.proofs.booking.count_submit.Tie as tie
-use Rattle.submit.proofs.booking.count_submit.Reads as reads
-use Rattle.submit.proofs.booking.count_submit.Lts as lts
 
--- src/booking.rt:53:14
 add-at : tie.Need-add-at
 add-at c = search needs
 
--- src/booking.rt:54:20
 slice-read-accepted : tie.Need-slice-read-accepted
 slice-read-accepted c = search needs
 
--- src/booking.rt:55:16
 mul-head : tie.Need-mul-head
 mul-head c = search needs
 
--- src/booking.rt:55:16
 slice-read-head : tie.Need-slice-read-head
 slice-read-head c = search needs
 
--- src/booking.rt:55:16
 add-head : tie.Need-add-head
 add-head c = search needs
 
--- src/booking.rt:55:5
 mul-head-2 : tie.Need-mul-head-2
 mul-head-2 c = search needs
 
--- src/booking.rt:55:5
 slice-write-head : tie.Need-slice-write-head
 slice-write-head c = search needs
 
--- src/booking.rt:56:30
 add-head-2 : tie.Need-add-head-2
 add-head-2 c = search needs
 
--- src/booking.rt:56:5
 slice-write-head-2 : tie.Need-slice-write-head-2
 slice-write-head-2 c = simp length-set (omega arith)
 
--- src/booking.rt:49:1
 same-length : tie.Need-same-length
 same-length c = search needs
 
--- src/booking.rt:49:1
 returns : tie.Need-returns
 returns c = search needs
 

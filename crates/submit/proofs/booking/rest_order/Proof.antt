@@ -3,49 +3,35 @@ use lib.ListN.{getD}
 use Rattle.arith.specs.Lists.{over}
 use Rattle.rules.specs.Ledger.{orderPlaces}
 use native.Mathlib.Omega.{arith}
-use mathlib.Core.Path.{_≡_, refl, sym, ap, _∙_}
+use mathlib.Core.Path.{refl, ap, _∙_}
 use borrow.Author.Needs.{needs}
 use Rattle.submit.proofs.booking.rest_order.Statement.{statement}
 use Rattle.submit.proofs.booking.rest_order.Tie as tie
-use Rattle.submit.proofs.booking.rest_order.Reads as reads
-use Rattle.submit.proofs.booking.rest_order.Lts as lts
-use Rattle.submit.proofs.causes.is_resting.Reads as is-resting-reads
-use Rattle.tables.proofs.put_order.Reads as put-order-reads
-use Rattle.tables.proofs.with_lots.Reads as with-lots-reads
 
--- src/booking.rt:65:8
 is-resting-requires : tie.Need-is-resting-requires
 is-resting-requires c κs = search needs
 
--- src/booking.rt:66:21
 slice-read-count : tie.Need-slice-read-count
 slice-read-count c = search needs
 
--- src/booking.rt:67:55
 with-lots-requires : tie.Need-with-lots-requires
 with-lots-requires c κs = search needs
 
--- src/booking.rt:67:9
 put-order-requires : tie.Need-put-order-requires
 put-order-requires c κs = (c .before .before .before .before .before .before .before .pre .2 (rw (← (c .before .before .before .before .is-resting .ensures)) (c .before .before .before .if1 .taken)), c .before .before .before .before .before .before .before .pre .1)
 
--- src/booking.rt:68:29
 add-head : tie.Need-add-head
 add-head c = omega (arith, c .before .before .before .before .before .before .before .before .before .before .pre .2 (rw (← (c .before .before .before .before .before .before .before .is-resting .ensures)) (c .before .before .before .before .before .before .if1 .taken)))
 
--- src/booking.rt:68:9
 slice-write-head : tie.Need-slice-write-head
 slice-write-head c = search needs
 
--- src/booking.rt:60:1
 same-length : tie.Need-same-length
 same-length c = search needs
 
--- src/booking.rt:60:1
 same-length-2 : tie.Need-same-length-2
 same-length-2 c = search needs
 
--- src/booking.rt:60:1
 returns : tie.Need-returns
 returns c =
     let a = c .before .before .before .before .before .before .before .before .before .before .args in (
@@ -53,7 +39,6 @@ returns c =
       rw (← (c .before .before .before .before .before .before .before .is-resting .ensures), c .before .before .before .before .before .before .if1 .taken) (c .before .before .put-order .ensures ∙ ap (λ x. over (getD (a .head .now) 7 0 * 8) (orderPlaces x) (a .book .now)) (c .before .before .before .with-lots .ensures)),
     )
 
--- src/booking.rt:60:1
 returns-2 : tie.Need-returns-2
 returns-2 c = (rw (← (c .before .is-resting .ensures), c .if1 .left) refl, rw (← (c .before .is-resting .ensures), c .if1 .left) refl)
 

@@ -1,71 +1,53 @@
 use borrow.Author.Tests.{lt-ltb, le-ltb, le-leb, lt-leb, eq-eqb, ne-eqb}
 use Rattle.rules.specs.Ledger.{withPrices}
 use borrow.Author.Tests.{not-true, not-false}
-use mathlib.Core.Path.{_≡_, sym, _∙_}
+use mathlib.Core.Path.{sym, _∙_}
 use borrow.Author.Needs.{needs}
 use Rattle.submit.proofs.causes.first_cause.Statement.{statement}
 use Rattle.submit.proofs.causes.first_cause.Tie as tie
-use Rattle.submit.proofs.causes.first_cause.Reads as reads
-use Rattle.submit.proofs.causes.first_cause.Lts as lts
-use Rattle.submit.proofs.causes.is_price_outside.Reads as is-price-outside-reads
-use Rattle.submit.proofs.causes.submits_at.Reads as submits-at-reads
-use Rattle.tables.proofs.is_contract_open.Reads as is-contract-open-reads
 
--- src/causes.rt:88:15
 shared-slice-read-if1 : tie.Need-shared-slice-read-if1
 shared-slice-read-if1 c = search needs
 
--- src/causes.rt:89:9
 returns : tie.Need-returns
 returns c = λ t b. rw (lt-ltb _ _ (c .if1 .taken))
 
--- src/causes.rt:91:13
 add-if2 : tie.Need-add-if2
 add-if2 c = search needs
 
--- src/causes.rt:91:8
 mul-if2 : tie.Need-mul-if2
 mul-if2 c = search needs
 
--- src/causes.rt:91:8
 shared-slice-read-if2 : tie.Need-shared-slice-read-if2
 shared-slice-read-if2 c = search needs
 
--- src/causes.rt:92:9
 returns-2 : tie.Need-returns-2
 returns-2 c = λ t b. rw (le-ltb _ _ (c .before .before .if1 .left), eq-eqb _ _ (c .if2 .taken))
 
--- src/causes.rt:94:9
 is-contract-open-requires : tie.Need-is-contract-open-requires
 is-contract-open-requires c κs = search needs
 
--- src/causes.rt:95:9
 returns-3 : tie.Need-returns-3
 returns-3 c = λ t b. rw (le-ltb _ _ (c .before .before .before .before .if1 .left), ne-eqb _ _ (c .before .before .if2 .left), sym (c .before .is-contract-open .ensures (withPrices (c .before .before .before .before .before .before .before .before .args .prices .now) t)) ∙ not-true _ (c .if3 .taken))
 
--- src/causes.rt:97:8
 is-price-outside-requires : tie.Need-is-price-outside-requires
 is-price-outside-requires c κs = search needs
 
--- src/causes.rt:98:9
 returns-4 : tie.Need-returns-4
 returns-4 c =
     λ t b.
     let opened = sym (c .before .before .before .is-contract-open .ensures (withPrices (c .before .before .before .before .before .before .before .before .before .before .args .prices .now) t)) ∙ not-false _ (c .before .before .if3 .left) in
     rw (le-ltb _ _ (c .before .before .before .before .before .before .if1 .left), ne-eqb _ _ (c .before .before .before .before .if2 .left), opened, sym (c .before .is-price-outside .ensures) ∙ c .if4 .taken)
 
--- src/causes.rt:100:34
 submits-at-requires : tie.Need-submits-at-requires
 submits-at-requires c κs = search needs
 
--- src/causes.rt:101:9
 returns-5 : tie.Need-returns-5
 returns-5 c =
     λ t b.
     let opened = sym (c .before .before .before .before .before .is-contract-open .ensures (withPrices (c .before .before .before .before .before .before .before .before .before .before .before .before .args .prices .now) t)) ∙ not-false _ (c .before .before .before .before .if3 .left) in
     rw (le-ltb _ _ (c .before .before .before .before .before .before .before .before .if1 .left), ne-eqb _ _ (c .before .before .before .before .before .before .if2 .left), opened, sym (c .before .before .before .is-price-outside .ensures) ∙ c .before .before .if4 .left, ← (c .before .submits-at .ensures (withPrices (c .before .before .before .before .before .before .before .before .before .before .before .before .args .prices .now) t)), le-leb _ _ (c .if5 .taken))
 
--- src/causes.rt:80:1
 returns-6 : tie.Need-returns-6
 returns-6 c =
     λ t b.

@@ -1,53 +1,37 @@
-use borrow.Author.Tests.{lt-ltb, le-ltb, le-leb, lt-leb, eq-eqb, ne-eqb}
-use mathlib.Core.Path.{_≡_, refl, sym, ap, _∙_}
-use Prim.Native.Nat.{_+_, _*_}
+use mathlib.Core.Path.{sym, ap, _∙_}
+use Prim.Native.Nat.{_+_}
 use lib.ListN.{getD}
 use lib.IntN.{pos, _+ℤ_}
 use lib.Signed.{ltZ}
 use native.Mathlib.Omega.{arith}
-use borrow.Author.Tests.{not-true, not-false}
-use mathlib.Core.Path.{_≡_, sym, _∙_}
+use mathlib.Core.Path.{sym, _∙_}
 use borrow.Author.Needs.{needs}
 use Rattle.submit.proofs.causes.measured_cause.Statement.{statement}
 use Rattle.submit.proofs.causes.measured_cause.Tie as tie
-use Rattle.submit.proofs.causes.measured_cause.Reads as reads
-use Rattle.submit.proofs.causes.measured_cause.Lts as lts
-use Rattle.submit.proofs.causes.is_resting.Reads as is-resting-reads
-use Rattle.submit.proofs.causes.is_teye.Reads as is-teye-reads
-use Rattle.submit.proofs.causes.least.Reads as least-reads
-use Rattle.submit.proofs.position.is_above.Reads as is-above-reads
-use Rattle.submit.proofs.position.position.Reads as position-reads
 
--- src/causes.rt:126:22
 add-limit : tie.Need-add-limit
 add-limit c = search needs
 
--- src/causes.rt:126:17
 mul-limit : tie.Need-mul-limit
 mul-limit c = search needs
 
--- src/causes.rt:126:17
 shared-slice-read-limit : tie.Need-shared-slice-read-limit
 shared-slice-read-limit c = search needs
 
--- src/causes.rt:127:24
 position-requires : tie.Need-position-requires
 position-requires c κs =
     let f = c .before .before .pre .0 in
     let e = c .before .before .args .e in
     ((f .1 .long, f .2 .contract-below, omega (arith, f .2 .member-below, f .0 .most-members)), omega (arith, f .1 .within (e .contract) (e .member) (f .2 .contract-below) (f .2 .member-below), f .0 .most-run))
 
--- src/causes.rt:127:68
 add-is-above : tie.Need-add-is-above
 add-is-above c = search needs
 
--- src/causes.rt:127:8
 is-above-requires : tie.Need-is-above-requires
 is-above-requires c κs =
     let f = c .before .before .before .before .pre .0 in
     (f .0 .member-fit (c .before .before .before .before .args .e .member) (f .2 .member-below) .most-limit, c .before .position .ensures .1, omega (arith, c .before .before .before .before .pre .1, f .2 .most-lots))
 
--- src/causes.rt:128:9
 returns : tie.Need-returns
 returns c =
     λ t b.
@@ -55,11 +39,9 @@ returns c =
     let above = ap (λ z. ltZ (pos (getD (a .head .now) (128 + a .e .member) 0)) (z +ℤ pos (a .found .own + a .e .lots .0))) (sym (c .before .before .before .position .ensures .0)) ∙ sym (c .before .is-above .ensures) in
     rw (above, c .if1 .taken)
 
--- src/causes.rt:130:8
 is-teye-requires : tie.Need-is-teye-requires
 is-teye-requires c κs = search needs
 
--- src/causes.rt:131:9
 returns-2 : tie.Need-returns-2
 returns-2 c =
     λ t b.
@@ -67,15 +49,12 @@ returns-2 c =
     let above = ap (λ z. ltZ (pos (getD (a .head .now) (128 + a .e .member) 0)) (z +ℤ pos (a .found .own + a .e .lots .0))) (sym (c .before .before .before .before .before .position .ensures .0)) ∙ sym (c .before .before .before .is-above .ensures) in
     rw (above, c .before .before .if1 .left, ← (c .before .is-teye .ensures), c .if2 .taken)
 
--- src/causes.rt:133:8
 is-resting-requires : tie.Need-is-resting-requires
 is-resting-requires c κs = search needs
 
--- src/causes.rt:133:62
 shared-slice-read-if3 : tie.Need-shared-slice-read-if3
 shared-slice-read-if3 c = search needs
 
--- src/causes.rt:134:9
 returns-3 : tie.Need-returns-3
 returns-3 c =
     λ t b.
@@ -83,27 +62,21 @@ returns-3 c =
     let above = ap (λ z. ltZ (pos (getD (a .head .now) (128 + a .e .member) 0)) (z +ℤ pos (a .found .own + a .e .lots .0))) (sym (c .before .before .before .before .before .before .before .before .position .ensures .0)) ∙ sym (c .before .before .before .before .before .before .is-above .ensures) in
     rw (above, c .before .before .before .before .before .if1 .left, ← (c .before .before .before .before .is-teye .ensures), c .before .before .before .if2 .left, ← (c .before .before .is-resting .ensures), c .if3 .taken)
 
--- src/causes.rt:136:15
 shared-slice-read-run : tie.Need-shared-slice-read-run
 shared-slice-read-run c = search needs
 
--- src/causes.rt:136:36
 least-requires : tie.Need-least-requires
 least-requires c κs = search needs
 
--- src/causes.rt:136:32
 mul-run : tie.Need-mul-run
 mul-run c = search needs
 
--- src/causes.rt:136:15
 add-run : tie.Need-add-run
 add-run c = search needs
 
--- src/causes.rt:137:58
 shared-slice-read-if4 : tie.Need-shared-slice-read-if4
 shared-slice-read-if4 c = search needs
 
--- src/causes.rt:138:9
 returns-4 : tie.Need-returns-4
 returns-4 c =
     λ t b.
@@ -111,7 +84,6 @@ returns-4 c =
     let above = ap (λ z. ltZ (pos (getD (a .head .now) (128 + a .e .member) 0)) (z +ℤ pos (a .found .own + a .e .lots .0))) (sym (c .before .before .before .before .before .before .before .before .before .before .before .before .position .ensures .0)) ∙ sym (c .before .before .before .before .before .before .before .before .before .before .is-above .ensures) in
     rw (above, c .before .before .before .before .before .before .before .before .before .if1 .left, ← (c .before .before .before .before .before .before .before .before .is-teye .ensures), c .before .before .before .before .before .before .before .if2 .left, ← (c .before .before .before .before .before .before .is-resting .ensures), c .before .before .before .before .if3 .left, ← (c .before .before .least .ensures), c .if4 .taken)
 
--- src/causes.rt:116:1
 returns-5 : tie.Need-returns-5
 returns-5 c =
     λ t b.

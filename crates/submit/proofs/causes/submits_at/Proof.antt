@@ -3,31 +3,23 @@ use borrow.Author.Tests.{lt-ltb, le-ltb}
 use borrow.Author.Needs.{needs}
 use Rattle.submit.proofs.causes.submits_at.Statement.{statement}
 use Rattle.submit.proofs.causes.submits_at.Tie as tie
-use Rattle.submit.proofs.causes.submits_at.Reads as reads
-use Rattle.submit.proofs.causes.submits_at.Lts as lts
 
--- src/causes.rt:73:8
 shared-slice-read-if1 : tie.Need-shared-slice-read-if1
 shared-slice-read-if1 c = search needs
 
--- src/causes.rt:74:9
 returns : tie.Need-returns
 unfolding submitsAt
 returns c = λ t. rw (lt-ltb _ _ (c .if1 .taken))
 
--- src/causes.rt:76:10
 add-result : tie.Need-add-result
 add-result c = search needs
 
--- src/causes.rt:76:5
 mul-result : tie.Need-mul-result
 mul-result c = search needs
 
--- src/causes.rt:76:5
 shared-slice-read-result : tie.Need-shared-slice-read-result
 shared-slice-read-result c = search needs
 
--- src/causes.rt:69:1
 returns-2 : tie.Need-returns-2
 unfolding submitsAt
 returns-2 c = λ t. rw (le-ltb _ _ (c .before .if1 .left))

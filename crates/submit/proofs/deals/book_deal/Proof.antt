@@ -1,29 +1,19 @@
 use Prim.Native.Nat.{_<_, _*_, _+_}
 use Rattle.rules.specs.Ranges.{mostLots}
-use Rattle.tables.specs.Lines.{withLine}
-use Rattle.rules.specs.Ledger.{withHead, withRows, withLines}
-use Rattle.matching.specs.Deals.{lineIn, lineOut}
 use Rattle.submit.proofs.Lines.{incoming-fit, resting-fit}
-use mathlib.Core.Path.{_≡_, refl, sym, ap, _∙_}
+use mathlib.Core.Path.{_∙_}
 use native.Mathlib.Omega.{arith}
 use Rattle.submit.proofs.Lines.{bookable-after, run-after, members-after, lineOfIncoming, lineOfResting}
 use borrow.Author.Needs.{needs}
 use Rattle.submit.proofs.deals.book_deal.Statement.{statement}
 use Rattle.submit.proofs.deals.book_deal.Tie as tie
-use Rattle.submit.proofs.deals.book_deal.Reads as reads
-use Rattle.submit.proofs.deals.book_deal.Lts as lts
-use Rattle.matching.proofs.other_side.Reads as other-side-reads
-use Rattle.tables.proofs.book_line.Reads as book-line-reads
 
--- src/deals.rt:52:9
 other-side-requires : tie.Need-other-side-requires
 other-side-requires c κs = search needs
 
--- src/deals.rt:67:65
 mul-book-line : tie.Need-mul-book-line
 mul-book-line c = search needs
 
--- src/deals.rt:67:5
 book-line-requires : tie.Need-book-line-requires
 book-line-requires c κs =
     let a = c .before .before .before .before .before .before .args in
@@ -33,15 +23,12 @@ book-line-requires c κs =
     let first = incoming-fit (a .head .now) (a .o) (a .d) (q .0) (q .1) (q .2) (q .3) (q .4) in
     ((b .long, b .most-members, first), ((b .lots-fit, b .value-fit), (omega arith, b .lines-long)))
 
--- src/deals.rt:68:65
 mul-book-line-2 : tie.Need-mul-book-line-2
 mul-book-line-2 c = search needs
 
--- src/deals.rt:68:65
 add-book-line : tie.Need-add-book-line
 add-book-line c = search needs
 
--- src/deals.rt:68:5
 book-line-requires-2 : tie.Need-book-line-requires-2
 book-line-requires-2 c κs =
     let a = c .before .before .before .before .before .before .before .before .before .before .before .before .before .before .before .before .args in
@@ -56,23 +43,18 @@ book-line-requires-2 c κs =
     let second = resting-fit (a .head .now) (a .o) (a .d) (q .0) (q .1) (q .2) (q .3) (q .4) _ (c .before .before .before .before .before .before .before .before .before .before .before .before .before .before .other-side .result) members run in
     ((more .long, more .most-members, second), ((more .lots-fit, more .value-fit), (omega arith, more .lines-long)))
 
--- src/deals.rt:37:1
 same-length : tie.Need-same-length
 same-length c = search needs
 
--- src/deals.rt:37:1
 same-length-2 : tie.Need-same-length-2
 same-length-2 c = search needs
 
--- src/deals.rt:37:1
 same-length-3 : tie.Need-same-length-3
 same-length-3 c = search needs
 
--- src/deals.rt:37:1
 same-length-4 : tie.Need-same-length-4
 same-length-4 c = search needs
 
--- src/deals.rt:37:1
 returns : tie.Need-returns
 returns c =
     let a = c .before .before .before .before .before .before .before .before .before .before .before .before .before .before .before .before .before .before .before .before .before .before .args in

@@ -1,6 +1,6 @@
 use borrow.Author.Needs.{needs}
 use Prim.Native.Nat.{_≤_, _-_, _+_}
-use mathlib.Core.Path.{_≡_, refl, sym, ap, _∙_}
+use mathlib.Core.Path.{_≡_, refl, ap, _∙_}
 use native.Mathlib.Omega.{arith}
 use lib.ListN.{length}
 use Rattle.submit.specs.Deals.{lotsDealt}
@@ -8,10 +8,6 @@ use Rattle.submit.proofs.Kept.{total-next, total-prefix}
 use Rattle.submit.proofs.Lines.{Booking, booking-start, booking-next}
 use Rattle.submit.proofs.deals.book_deals.Statement.{statement}
 use Rattle.submit.proofs.deals.book_deals.Tie as tie
-use Rattle.submit.proofs.deals.book_deals.Reads as reads
-use Rattle.submit.proofs.deals.book_deals.Lts as lts
-use Rattle.matching.proofs.deal_at.Reads as deal-at-reads
-use Rattle.submit.proofs.deals.book_deal.Reads as book-deal-reads
 
 abbrev Inv-loop : tie.InvT-loop
 Inv-loop head₀ lots₀ value₀ lines₀ o deals count k₀ head lots value lines k = (k ≤ count) × Booking o deals k head₀ lots₀ value₀ lines₀ head lots value lines × (length head ≡ length head₀) × (length lots ≡ length lots₀) × (length value ≡ length value₀) × (length lines ≡ length lines₀)
@@ -19,15 +15,12 @@ Inv-loop head₀ lots₀ value₀ lines₀ o deals count k₀ head lots value li
 abbrev μ-loop : tie.MeasureT-loop
 μ-loop head₀ lots₀ value₀ lines₀ o deals count k₀ head lots value lines k = count - k
 
--- src/deals.rt:88:5
 loop-holds : tie.Need-loop-holds Inv-loop μ-loop
 loop-holds c = (omega arith, booking-start _ _ _ _ _ _ (c .before .before .pre .0 .0), refl, refl, refl, refl)
 
--- src/deals.rt:89:13
 deal-at-requires : tie.Need-deal-at-requires Inv-loop μ-loop
 deal-at-requires c κs = let f = c .before .before .before .before .pre .0 .1 in (omega (arith, f .most), f .room)
 
--- src/deals.rt:90:9
 book-deal-requires : tie.Need-book-deal-requires Inv-loop μ-loop
 book-deal-requires c κs =
     let g = c .before .before .before .before .before .before .loop .inv .1 in
@@ -46,15 +39,12 @@ book-deal-requires c κs =
       ),
     )
 
--- src/deals.rt:91:9
 add-k : tie.Need-add-k Inv-loop μ-loop
 add-k c = search needs
 
--- src/deals.rt:88:5
 loop-less : tie.Need-loop-less Inv-loop μ-loop
 loop-less c = search needs
 
--- src/deals.rt:88:5
 loop-again : tie.Need-loop-again Inv-loop μ-loop
 loop-again c =
     let l = c .before .before .before .before .before .before .before .before .before .before .before .before .loop in (
@@ -66,23 +56,18 @@ loop-again c =
       c .before .before .before .before .before .book-deal .kept .1 .1 .1 .0 ∙ l .inv .5,
     )
 
--- src/deals.rt:72:1
 same-length : tie.Need-same-length Inv-loop μ-loop
 same-length c = c .before .loop .inv .2
 
--- src/deals.rt:72:1
 same-length-2 : tie.Need-same-length-2 Inv-loop μ-loop
 same-length-2 c = c .before .loop .inv .3
 
--- src/deals.rt:72:1
 same-length-3 : tie.Need-same-length-3 Inv-loop μ-loop
 same-length-3 c = c .before .loop .inv .4
 
--- src/deals.rt:72:1
 same-length-4 : tie.Need-same-length-4 Inv-loop μ-loop
 same-length-4 c = c .before .loop .inv .5
 
--- src/deals.rt:72:1
 returns : tie.Need-returns Inv-loop μ-loop
 returns c = let same : c .before .loop .k ≡ c .before .before .before .before .args .count = omega arith in rw same at (c .before .loop .inv .1 .same)
 

@@ -1,52 +1,41 @@
 use lib.ListN.{getD}
 use lib.IntN.{pos}
-use Rattle.arith.proofs.Signed.{rd-pos, back, abs-neg}
-use mathlib.Core.Path.{_≡_, refl, sym, ap, _∙_}
+use Rattle.arith.proofs.Signed.{back, abs-neg}
+use mathlib.Core.Path.{refl}
 use Prim.Native.Nat.{_+_, _*_}
 use native.Mathlib.Omega.{arith}
 use Rattle.submit.proofs.Signs.{opposite-ok, opposite-is}
 use borrow.Author.Needs.{needs}
 use Rattle.submit.proofs.position.position.Statement.{statement}
 use Rattle.submit.proofs.position.position.Tie as tie
-use Rattle.submit.proofs.position.position.Reads as reads
-use Rattle.submit.proofs.position.position.Lts as lts
 
--- src/position.rt:21:14
 mul-at : tie.Need-mul-at
 mul-at c = search needs
 
--- src/position.rt:21:14
 add-at : tie.Need-add-at
 add-at c = search needs
 
--- src/position.rt:22:15
 mul-net : tie.Need-mul-net
 mul-net c = search needs
 
--- src/position.rt:22:15
 shared-slice-copy-out-net : tie.Need-shared-slice-copy-out-net
 shared-slice-copy-out-net c = search needs
 
--- src/position.rt:24:22
 enum-told : tie.Need-enum-told
 enum-told c = search needs
 
--- src/position.rt:25:31
 enum-told-2 : tie.Need-enum-told-2
 enum-told-2 c = search needs
 
--- src/position.rt:25:31
 sub-t13 : tie.Need-sub-t13
 sub-t13 c = let a = c .before .before .before .args in opposite-ok (getD (a .lots .now) (a .contract * 32 + a .member) (pos 0)) (omega (arith, c .before .before .before .pre .1))
 
--- src/position.rt:16:1
 returns : tie.Need-returns
 returns c =
     let a = c .before .before .before .args in
     let z = getD (a .lots .now) (a .contract * 32 + a .member) (pos 0) in
     rw (c .enum-told .given .1, back z (omega (arith, c .before .before .before .pre .1))) (refl, c .before .before .before .pre .1)
 
--- src/position.rt:16:1
 returns-2 : tie.Need-returns-2
 returns-2 c =
     let a = c .before .before .before .args in

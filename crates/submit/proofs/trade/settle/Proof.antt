@@ -1,32 +1,20 @@
 use native.Mathlib.Omega.{arith}
-use mathlib.Core.Path.{_≡_, refl, sym, ap, _∙_}
-use Prim.Native.Nat.{_*_, _≤_}
+use mathlib.Core.Path.{sym, ap, _∙_}
 use lib.ListN.{length, length-map}
-use Rattle.rules.specs.Ranges.{mostLots}
 use Rattle.tables.specs.Fit.{orderCountIn, ordersIn}
 use Rattle.tables.proofs.Left.{orders-length}
 use Rattle.matching.specs.Ranks.{lotsOf}
-use Rattle.matching.specs.Deals.{dealWidth}
 use Rattle.submit.proofs.Trading.{matchable, left-most, deals-fit, traded}
 use borrow.Author.Needs.{needs}
 use Rattle.submit.proofs.trade.settle.Statement.{statement}
 use Rattle.submit.proofs.trade.settle.Tie as tie
-use Rattle.submit.proofs.trade.settle.Reads as reads
-use Rattle.submit.proofs.trade.settle.Lts as lts
-use Rattle.matching.proofs.write_columns.Reads as write-columns-reads
-use Rattle.matching.proofs.match_orders.Reads as match-orders-reads
-use Rattle.submit.proofs.deals.worth_of.Reads as worth-of-reads
-use Rattle.submit.proofs.trade.add_dealt.Reads as add-dealt-reads
-use Rattle.tables.proofs.keep_orders.Reads as keep-orders-reads
 
--- src/trade.rt:48:5
 write-columns-requires : tie.Need-write-columns-requires
 write-columns-requires c κs =
     let x = c .before .before .before .before .before .before .before .before .before .pre .0 in
     let many = c .before .before .before .before .before .before .before .before .before .pre .1 .0 in
     ((omega (arith, many, x .most-orders), c .before .before .before .before .before .before .before .before .before .pre .1 .1 ∙ sym many, x .book-long), λ i h. (x .ranked i (omega (arith, many)), x .has-lots i (omega (arith, many))))
 
--- src/trade.rt:49:9
 match-orders-requires : tie.Need-match-orders-requires
 match-orders-requires c κs =
     let a = c .before .before .before .before .before .before .before .before .before .before .before .before .before .before .before .before .before .before .args in
@@ -36,7 +24,6 @@ match-orders-requires c κs =
     let ranks = rw (c .before .before .before .before .before .before .before .before .before .before .before .before .before .before .before .before .before .before .pre .1 .0) at (c .before .before .before .before .before .before .before .before .write-columns .ensures .1) in
     (matchable _ _ _ _ x _ _ left ranks, c .before .before .before .before .before .before .before .before .before .before .before .before .before .before .before .before .before .before .pre .1 .2)
 
--- src/trade.rt:50:9
 worth-of-requires : tie.Need-worth-of-requires
 worth-of-requires c κs =
     let a = c .before .before .before .before .before .before .before .before .before .before .before .before .before .before .before .before .before .before .before .before .before .before .before .before .before .before .args in
@@ -50,7 +37,6 @@ worth-of-requires c κs =
     let from = rw many at (c .before .before .before .before .before .before .before .match-orders .ensures .1 .1) in
     deals-fit _ _ _ _ x _ _ _ ended few (omega (arith, c .before .before .before .before .before .before .before .match-orders .kept .1 .1 .1 .1 .0, c .before .before .before .before .before .before .before .before .before .before .before .before .before .before .before .before .before .before .before .before .before .before .before .before .before .before .pre .1 .2)) from
 
--- src/trade.rt:51:41
 sub-add-dealt : tie.Need-sub-add-dealt
 sub-add-dealt c =
     let a = c .before .before .before .before .before .before .before .before .before .before .before .before .before .before .before .before .before .before .before .before .before .before .before .before .before .before .before .before .before .before .args in
@@ -64,43 +50,34 @@ sub-add-dealt c =
     let from = rw many at (c .before .before .before .before .before .before .before .before .before .before .before .match-orders .ensures .1 .1) in
     left-most _ _ _ _ x _ _ _ ended few (omega (arith, c .before .before .before .before .before .before .before .before .before .before .before .match-orders .kept .1 .1 .1 .1 .0, c .before .before .before .before .before .before .before .before .before .before .before .before .before .before .before .before .before .before .before .before .before .before .before .before .before .before .before .before .before .before .pre .1 .2)) from
 
--- src/trade.rt:51:5
 add-dealt-requires : tie.Need-add-dealt-requires
 add-dealt-requires c κs =
     let x = c .before .before .before .before .before .before .before .before .before .before .before .before .before .before .before .before .before .before .before .before .before .before .before .before .before .before .before .before .before .before .pre .0 in
     ((x .prices-long, x .contract-below), (omega (arith, x .most-day-lots, x .most-lots), omega (arith, x .most-day-value, c .before .before .before .worth-of .ensures .1)))
 
--- src/trade.rt:52:5
 keep-orders-requires : tie.Need-keep-orders-requires
 keep-orders-requires c κs =
     let x = c .before .before .before .before .before .before .before .before .before .before .before .before .before .before .before .before .before .before .before .before .before .before .before .before .before .before .before .before .before .before .before .before .before .before .before .before .pre .0 in
     (x .head-long, x .book-long, x .most-orders, omega (arith, c .before .before .before .before .before .before .before .before .before .before .before .before .before .before .before .before .before .match-orders .kept .1 .1 .0, c .before .before .before .before .before .before .before .before .before .before .before .before .before .before .before .before .before .before .before .before .before .before .before .before .before .before .write-columns .kept .1 .1 .0, c .before .before .before .before .before .before .before .before .before .before .before .before .before .before .before .before .before .before .before .before .before .before .before .before .before .before .before .before .before .before .before .before .before .before .before .before .pre .1 .0))
 
--- src/trade.rt:35:1
 same-length : tie.Need-same-length
 same-length c = search needs
 
--- src/trade.rt:35:1
 same-length-2 : tie.Need-same-length-2
 same-length-2 c = search needs
 
--- src/trade.rt:35:1
 same-length-3 : tie.Need-same-length-3
 same-length-3 c = search needs
 
--- src/trade.rt:35:1
 same-length-4 : tie.Need-same-length-4
 same-length-4 c = c .before .before .before .before .before .before .before .before .before .before .before .before .before .before .before .before .before .before .before .before .before .before .match-orders .kept .1 .1 .0 ∙ c .before .before .before .before .before .before .before .before .before .before .before .before .before .before .before .before .before .before .before .before .before .before .before .before .before .before .before .before .before .before .before .write-columns .kept .1 .1 .0
 
--- src/trade.rt:35:1
 same-length-5 : tie.Need-same-length-5
 same-length-5 c = c .before .before .before .before .before .before .before .before .before .before .before .before .before .before .before .before .before .before .before .before .before .before .match-orders .kept .1 .1 .1 .0 ∙ c .before .before .before .before .before .before .before .before .before .before .before .before .before .before .before .before .before .before .before .before .before .before .before .before .before .before .before .before .before .before .before .write-columns .kept .1 .1 .1 .0
 
--- src/trade.rt:35:1
 same-length-6 : tie.Need-same-length-6
 same-length-6 c = search needs
 
--- src/trade.rt:35:1
 returns : tie.Need-returns
 returns c =
     let a = c .before .before .before .before .before .before .before .before .before .before .before .before .before .before .before .before .before .before .before .before .before .before .before .before .before .before .before .before .before .before .before .before .before .before .before .before .before .before .before .before .before .args in

@@ -1,60 +1,43 @@
-use native.Mathlib.Omega.{arith}
-use mathlib.Core.Path.{_≡_, refl, sym, ap, _∙_}
-use lib.ListN.{length}
+use mathlib.Core.Path.{sym, _∙_}
 use lib.Seq.{length-take-le}
 use Rattle.submit.proofs.Trading.{untraded}
 use borrow.Author.Needs.{needs}
 use Rattle.submit.proofs.trade.trade.Statement.{statement}
 use Rattle.submit.proofs.trade.trade.Tie as tie
-use Rattle.submit.proofs.trade.trade.Reads as reads
-use Rattle.submit.proofs.trade.trade.Lts as lts
-use Rattle.submit.proofs.trade.settle.Reads as settle-reads
 
--- src/trade.rt:71:9
 returns : tie.Need-returns
 returns c = untraded _ _ _ _ (c .before .before .before .before .before .pre .0 .0) (sym (c .before .before .before .before .before .pre .1 .1) ∙ c .if1 .taken) (c .before .before .before .before .before .pre .1 .0) _
 
--- src/trade.rt:76:17
 slice-read-count : tie.Need-slice-read-count
 slice-read-count c = search needs
 
--- src/trade.rt:84:9
 array-borrow-prefix-left : tie.Need-array-borrow-prefix-left
 array-borrow-prefix-left c = search needs
 
--- src/trade.rt:84:9
 slice-aggregate-settle : tie.Need-slice-aggregate-settle
 slice-aggregate-settle c = sym (length-take-le _ _ (c .before .before .before .before .before .before .before .before .before .before .pre .0 .0 .most-orders))
 
--- src/trade.rt:85:9
 array-borrow-prefix-ranks : tie.Need-array-borrow-prefix-ranks
 array-borrow-prefix-ranks c = search needs
 
--- src/trade.rt:85:9
 slice-aggregate-settle-2 : tie.Need-slice-aggregate-settle-2
 slice-aggregate-settle-2 c = sym (length-take-le _ _ (c .before .before .before .before .before .before .before .before .before .before .before .pre .0 .0 .most-orders))
 
--- src/trade.rt:79:5
 settle-requires : tie.Need-settle-requires
 settle-requires c κs = (c .before .before .before .before .before .before .before .before .before .before .before .before .pre .0 .0, (length-take-le _ _ (c .before .before .before .before .before .before .before .before .before .before .before .before .pre .0 .0 .most-orders), length-take-le _ _ (c .before .before .before .before .before .before .before .before .before .before .before .before .pre .0 .0 .most-orders), c .before .before .before .before .before .before .before .before .before .before .before .before .pre .0 .1))
 
--- src/trade.rt:57:1
 same-length : tie.Need-same-length
 same-length c = search needs
 
--- src/trade.rt:57:1
 same-length-2 : tie.Need-same-length-2
 same-length-2 c = search needs
 
--- src/trade.rt:57:1
 same-length-3 : tie.Need-same-length-3
 same-length-3 c = search needs
 
--- src/trade.rt:57:1
 same-length-4 : tie.Need-same-length-4
 same-length-4 c = search needs
 
--- src/trade.rt:57:1
 returns-2 : tie.Need-returns-2
 returns-2 c = search needs
 
