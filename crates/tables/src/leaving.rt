@@ -72,7 +72,8 @@ fn write_left(book: &[u64], left: &mut [u64], w: Leaving)
     }
 }
 
-fn with_lots(o: Order, left: u64) -> Order
+// The order with another number of lots.
+pub fn with_lots(o: Order, left: u64) -> Order
     ensures { λ r. ⌜ r ≡ withLots left o ⌝ }
 {
     let side = o.side;

@@ -13,6 +13,7 @@ pub use head::set_time;
 pub use leaving::Leaving;
 pub use leaving::keep_orders;
 pub use leaving::remove_orders;
+pub use leaving::with_lots;
 pub use leaving::would_any_leave;
 pub use lines::DealLine;
 pub use lines::book_line;

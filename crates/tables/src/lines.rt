@@ -5,10 +5,10 @@ ghost use Prim.Native.Nat.{ℕ, _*_, _+_, _^_, _≤_, _<_};
 ghost use lib.ListN.{length, getD, set};
 ghost use lib.IntN.{ℤ, pos, natAbs, _+ℤ_};
 ghost use Rattle.arith.specs.Lists.{over};
-ghost use Rattle.rules.specs.Ranges.{mostPrice, mostLotsRun, leastLines};
-ghost use Rattle.rules.specs.Ledger.{Tables, withHead, withRows, withLines, linesLength, lineWidth, linePlaces, lineLots, lineValue, posted};
+ghost use Rattle.rules.specs.Ranges.{mostMembers, mostPrice, mostLotsRun, leastLines};
+ghost use Rattle.rules.specs.Ledger.{Tables, withHead, withRows, withLines, headLength, linesLength, lineWidth, linePlaces, lineLots, lineValue, posted};
 ghost use Rattle.rules.specs.Matching.{signed};
-ghost use Rattle.tables.specs.Fit.{HeadFit, RowsFit, membersIn, lotsRunIn};
+ghost use Rattle.tables.specs.Fit.{RowsFit, membersIn, lotsRunIn};
 ghost use Rattle.tables.specs.Lines.{LineFit, lineOf, withLine};
 use rules::Kurus;
 use rules::Lots;
@@ -96,7 +96,7 @@ pub fn book_line(
     i: usize,
     line: DealLine,
 )
-    requires { ⌜ HeadFit (now head) × LineFit (now head) line ⌝ }
+    requires { ⌜ (headLength ≤ length (now head)) × (membersIn (now head) ≤ mostMembers) × LineFit (now head) line ⌝ }
     requires { ⌜ RowsFit (membersIn (now head)) (lotsRunIn (now head)) (now lots) × RowsFit (membersIn (now head)) (mostPrice * lotsRunIn (now head)) (now value) ⌝ }
     requires { ⌜ (i < leastLines) × (linesLength ≤ length (now lines)) ⌝ }
     ensures { λ _. ⌜ ((t : Tables) → withHead (now (head .exit)) (withRows (now (lots .exit)) (now (value .exit)) (withLines (now (lines .exit)) t))

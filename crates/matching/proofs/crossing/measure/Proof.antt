@@ -1,0 +1,61 @@
+use Rattle.matching.proofs.Passes.{Measuring, measuring-start, measuring-next}
+use Prim.Native.Nat.{_-_, _≤_}
+use borrow.Author.Needs.{needs}
+use mathlib.Core.Path.{_≡_, refl}
+use Prim.Native.Nat.{_-_, _≤_}
+use native.Mathlib.Omega.{arith}
+use Rattle.matching.proofs.crossing.measure.Statement.{statement}
+use Rattle.matching.proofs.crossing.measure.Tie as tie
+
+abbrev Inv-loop : tie.InvT-loop
+Inv-loop book count o own₀ lots₀ i₀ own lots i = (i ≤ count) × Measuring o book i own lots
+
+abbrev μ-loop : tie.MeasureT-loop
+μ-loop book count o own₀ lots₀ i₀ own lots i = count - i
+
+loop-holds : tie.Need-loop-holds Inv-loop μ-loop
+loop-holds c = (omega arith, measuring-start _ _)
+
+order-at-requires : tie.Need-order-at-requires Inv-loop μ-loop
+order-at-requires c κs = search needs
+
+own-lots-requires : tie.Need-own-lots-requires Inv-loop μ-loop
+own-lots-requires c κs = search needs
+
+add-own : tie.Need-add-own Inv-loop μ-loop
+add-own c = let m = measuring-next _ _ _ _ _ (c .before .before .before .loop .inv .1) _ (c .before .order-at .ensures) (c .before .before .before .before .before .pre .1 _ (c .before .before .loop-test .taken)) _ _ (c .own-lots .ensures) refl in omega (arith, m .own-few)
+
+crossing-lots-requires : tie.Need-crossing-lots-requires Inv-loop μ-loop
+crossing-lots-requires c κs = search needs
+
+add-lots : tie.Need-add-lots Inv-loop μ-loop
+add-lots c = let m = measuring-next _ _ _ _ _ (c .before .before .before .before .loop .inv .1) _ (c .before .before .order-at .ensures) (c .before .before .before .before .before .before .pre .1 _ (c .before .before .before .loop-test .taken)) _ _ (c .before .own-lots .ensures) (c .crossing-lots .ensures) in omega (arith, m .crossing-few)
+
+add-i : tie.Need-add-i Inv-loop μ-loop
+add-i c = search needs
+
+loop-less : tie.Need-loop-less Inv-loop μ-loop
+loop-less c = search needs
+
+loop-again : tie.Need-loop-again Inv-loop μ-loop
+loop-again c = (omega arith, measuring-next _ _ _ _ _ (c .before .before .before .before .loop .inv .1) _ (c .before .before .order-at .ensures) (c .before .before .before .before .before .before .pre .1 _ (c .before .before .before .loop-test .taken)) _ _ (c .before .own-lots .ensures) (c .crossing-lots .ensures))
+
+returns : tie.Need-returns Inv-loop μ-loop
+returns c = let same : c .before .loop .i ≡ c .before .before .before .args .count = omega arith in (rw same at (c .before .loop .inv .1 .own-lots), (omega (arith, same, c .before .loop .inv .1 .own-few), rw same at (c .before .loop .inv .1 .crossing-lots)))
+
+pub measure-spec : {M : Type 1} → statement M
+measure-spec =
+    tie.close
+    (tie.spec
+    Inv-loop
+    μ-loop
+    loop-holds
+    order-at-requires
+    own-lots-requires
+    add-own
+    crossing-lots-requires
+    add-lots
+    add-i
+    loop-less
+    loop-again
+    returns)

@@ -1,0 +1,4 @@
+pub mod Crossing
+pub mod Ranks
+pub mod Deals
+pub mod Matching

@@ -1,0 +1,69 @@
+-- Priority as one number: of the orders that an incoming one may meet, the first has the lowest rank.
+use Prim.Native.Nat.{ℕ, _+_, _*_, _-_, _≤_, _<_}
+use mathlib.Core.Path.{_≡_}
+use mathlib.Core.Bool.{cond, _&&_}
+use mathlib.Core.List.{List, [], _∷_, map}
+use lib.Dec.{ltb}
+use lib.ListN.{length, getD}
+use Rattle.rules.specs.declared.order.Order.{Order}
+use Rattle.rules.specs.declared.order.Side.{Side}
+use Rattle.rules.specs.declared.order.Side.the-variants.{Buy, Sell}
+use Rattle.rules.specs.Ranges.{mostPrice}
+use Rattle.rules.specs.Matching.{opposes}
+use Rattle.matching.specs.Crossing.{crosses}
+
+-- Order numbers are below it.
+abbrev pub numbersEnd : ℕ
+numbersEnd = 4294967296
+
+-- An order whose price and number are in their ranges.
+pub record Ranked (r : Order) : Type 0 where
+  pub price : r .price .0 ≤ mostPrice
+  pub number : r .number < numbersEnd
+
+abbrev pub priceRank : Side → ℕ → ℕ
+priceRank Buy p = mostPrice - p
+priceRank Sell p = p
+
+-- Best price first, then lower number.
+unfoldable pub rankOf : Order → ℕ
+rankOf r = priceRank (r .side) (r .price .0) * numbersEnd + r .number
+
+-- The rank of an order that the incoming one does not meet, for its contract or its side, or because it is used up.
+abbrev pub noRank : ℕ
+noRank = 18446744073709551615
+
+unfoldable pub rankIn : Order → ℕ → Order → ℕ
+rankIn o q r = cond (opposes o r && ltb 0 q) (rankOf r) noRank
+
+-- The ranks of orders of which so many lots are left.
+unfoldable pub ranksOf : Order → List ℕ → List Order → List ℕ
+ranksOf o [] os = []
+ranksOf o (q ∷ qs) [] = []
+ranksOf o (q ∷ qs) (r ∷ rs) = rankIn o q r ∷ ranksOf o qs rs
+
+abbrev pub lotsOf : Order → ℕ
+lotsOf r = r .lots .0
+
+-- The ranks while nothing is used.
+abbrev pub firstRank : Order → List Order → List ℕ
+firstRank o os = ranksOf o (map lotsOf os) os
+
+-- The place of the lowest rank.
+pub record Lowest (ranks : List ℕ) (i : ℕ) : Type 0 where
+  pub below : i < length ranks
+  pub some : getD ranks i 0 < noRank
+  pub before : (j : ℕ) → j < i → getD ranks i 0 < getD ranks j 0
+  pub behind : (j : ℕ) → j < length ranks → getD ranks i 0 ≤ getD ranks j 0
+
+-- The place of the lowest rank, or the end where there is none.
+pub record LowestOf (ranks : List ℕ) (i : ℕ) : Type 0 where
+  pub most : i ≤ length ranks
+  pub lowest : i < length ranks → Lowest ranks i
+  pub none : i ≡ length ranks → (j : ℕ) → j < length ranks → noRank ≤ getD ranks j 0
+
+-- The lots that cross where so many are left.
+unfoldable pub crossing : Order → List ℕ → List Order → ℕ
+crossing o [] os = 0
+crossing o (q ∷ qs) [] = 0
+crossing o (q ∷ qs) (r ∷ rs) = cond (crosses o r) q 0 + crossing o qs rs

@@ -1,0 +1,61 @@
+// What an incoming order finds in the book, measured in one pass before anything is written.
+ghost use mathlib.Core.Path.{_≡_};
+ghost use Prim.Native.Nat.{ℕ, _*_, _≤_, _<_};
+ghost use lib.ListN.{length};
+ghost use Rattle.tables.specs.Fit.{ordersIn};
+ghost use Rattle.rules.specs.Ranges.{mostLots, mostOrders};
+ghost use Rattle.rules.specs.Ledger.{bookLength, orderAt};
+ghost use Rattle.matching.specs.Crossing.{ownLots, crossingLots, ownIn, crossingIn};
+use crate::priority::does_meet;
+use crate::priority::does_oppose;
+use crate::priority::is_same_side;
+use rules::Order;
+use tables::order_at;
+
+// The member's own resting lots of the order's contract and side, and the lots that cross.
+pub struct Crossing {
+    pub own: u64,
+    pub lots: u64,
+}
+
+fn own_lots(o: Order, r: Order) -> u64
+    ensures { λ x. ⌜ x ≡ ownLots o r ⌝ }
+{
+    let a = r.side;
+    let b = o.side;
+    if (r.member == o.member) & ((r.contract == o.contract) & is_same_side(a, b)) {
+        return r.lots.0;
+    }
+    0
+}
+
+fn crossing_lots(o: Order, r: Order) -> u64
+    ensures { λ x. ⌜ x ≡ crossingLots o r ⌝ }
+{
+    if does_oppose(o, r) & does_meet(o, r) {
+        return r.lots.0;
+    }
+    0
+}
+
+pub fn measure(book: &[u64], count: usize, o: Order) -> Crossing
+    requires { ⌜ (count ≤ mostOrders) × (bookLength ≤ length (now book)) ⌝ }
+    requires { ⌜ ((i : ℕ) → i < count → orderAt (now book) i .lots .0 ≤ mostLots) ⌝ }
+    ensures { λ r. ⌜ r .own ≡ ownIn o (ordersIn count (now (book .entry))) ⌝ }
+    ensures { λ r. ⌜ r .own ≤ count * mostLots ⌝ }
+    ensures { λ r. ⌜ r .lots ≡ crossingIn o (ordersIn count (now (book .entry))) ⌝ }
+{
+    let mut own: u64 = 0;
+    let mut lots: u64 = 0;
+    let mut i: usize = 0;
+    while i < count {
+        let r = order_at(book, i);
+        own += own_lots(o, r);
+        lots += crossing_lots(o, r);
+        i += 1;
+    }
+    Crossing {
+        own: own,
+        lots: lots,
+    }
+}

@@ -1,0 +1,16 @@
+// An incoming order meets the orders of the book.
+mod columns;
+mod crossing;
+mod deals;
+mod levels;
+mod priority;
+
+pub use columns::write_columns;
+pub use crossing::Crossing;
+pub use crossing::measure;
+pub use deals::Counterparty;
+pub use deals::deal_at;
+pub use levels::Matched;
+pub use levels::least;
+pub use levels::match_orders;
+pub use priority::other_side;

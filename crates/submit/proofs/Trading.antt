@@ -1,0 +1,124 @@
+-- An order is matched with the book of a ledger: what the columns and the tables hold. Assumes nothing.
+use mathlib.Core.Path.{_≡_, sym, ap, _∙_}
+use mathlib.Core.List.{List, [], map}
+use Prim.Native.Nat.{ℕ, _+_, _*_, _-_, _≤_, _<_}
+use native.Mathlib.Omega.{arith}
+use native.Mathlib.Nat.{add-zero}
+use lib.ListN.{length, getD, length-map}
+use lib.Seq.{set-getD}
+use Rattle.arith.specs.Lists.{from, total}
+use Rattle.arith.specs.Alls.{All}
+use Rattle.rules.specs.declared.order.Order.{Order}
+use Rattle.rules.specs.Ranges.{mostLots}
+use Rattle.rules.specs.Ledger.{Tables, lent, withHead, withBook, withOrders, withDealt, dayLotsPlace, dayValuePlace, sideAt}
+use Rattle.rules.specs.Matching.{matched, Deal}
+use Rattle.tables.specs.Fit.{orderCountIn, ordersIn}
+use Rattle.tables.specs.Left.{leftOver}
+use Rattle.tables.proofs.Left.{orders-length, all-orders}
+use Rattle.matching.specs.declared.levels.Matched.{Matched}
+use Rattle.matching.specs.Ranks.{Ranked, lotsOf, firstRank}
+use Rattle.matching.specs.Crossing.{crossingIn}
+use Rattle.matching.specs.Deals.{dealWidth, dealAt, dealsIn, counterpartyOf, FromBook}
+use Rattle.matching.specs.Matching.{Matchable, Ended}
+use Rattle.matching.proofs.Used.{Distinct, distinct-numbers}
+use Rattle.matching.proofs.Totals.{dealt-and-left, lots-kept, worth-kept}
+use Rattle.submit.specs.Deals.{DealsFit, Tradable, Traded, lotsDealt, worthOf}
+use Rattle.submit.proofs.Judged.{still, resting-still}
+use Rattle.submit.proofs.Kept.{total-at}
+use Rattle.submit.proofs.Orders.{written-back}
+
+module _ (head prices book : List ℕ) (o : Order) (x : Tradable head prices book o) where
+  abbrev n : ℕ
+  n = orderCountIn head
+
+  abbrev os : List Order
+  os = ordersIn n book
+
+  pub matchable : (left ranks : List ℕ) → left ≡ map lotsOf os → ranks ≡ firstRank o os → Matchable o book left ranks
+  matchable left ranks e f =
+      let many : length left ≡ n = ap length e ∙ length-map os lotsOf ∙ orders-length book n in
+      record {
+        least-lots = x .least-lots;
+        most-lots = x .most-lots;
+        long = x .book-long;
+        most-orders = omega (arith, x .most-orders);
+        ranked = λ i h. x .ranked i (omega arith);
+        has-lots = λ i h. x .has-lots i (omega arith);
+        numbers-distinct = rw many (x .numbers-distinct);
+        all-left = rw many e;
+        all-ranked = rw many f;
+      }
+
+  -- ---- after the deals
+  module _ (m : Matched) (left deals : List ℕ) (e : Ended o os left (m .left) (dealsIn (m .deals) deals)) (few : m .deals ≤ mostLots) (room : mostLots * dealWidth ≤ length deals)
+      (from-book : (j : ℕ) → j < m .deals → FromBook book n (dealAt deals j)) where
+    lots-dealt : total lotsDealt (dealsIn (m .deals) deals) + m .left ≡ o .lots .0
+    lots-dealt = omega (arith, dealt-and-left o os, lots-kept (matched o os .deals), ap (total lotsDealt) (e .deals), e .lots)
+
+    pub left-most : m .left ≤ o .lots .0
+    left-most = omega (arith, lots-dealt)
+
+    pub deals-fit : DealsFit (m .deals) deals
+    deals-fit =
+        record {
+          room = room;
+          most = few;
+          most-price = λ j h. let b = from-book j h in omega (arith, b .price, x .ranked (b .place) (b .below) .price);
+          most-lots = λ j h. omega (arith, total-at deals lotsDealt j (m .deals) h, lots-dealt, x .most-lots);
+        }
+
+    pub traded : (head′ prices′ book′ : List ℕ) (worth : ℕ) → worth ≡ total worthOf (dealsIn (m .deals) deals)
+        → prices′ ≡ withDealt (o .contract) (getD prices (dayLotsPlace (o .contract)) 0 + (o .lots .0 - m .left)) (getD prices (dayValuePlace (o .contract)) 0 + worth) prices
+        → ((t : Tables) → withHead head′ (withBook book′ t) ≡ withOrders (leftOver left os) (withHead head (withBook book t)))
+        → Traded o head prices book m head′ prices′ book′ deals
+    unfolding withOrders
+    traded head′ prices′ book′ worth w p k =
+        let ds = matched o os .deals in
+        let lots : o .lots .0 - m .left ≡ total (λ d. d .lots) ds = omega (arith, dealt-and-left o os, e .lots) in
+        let value : worth ≡ total (λ d. d .lots * d .resting .price .0) ds = w ∙ ap (total worthOf) (sym (e .deals)) ∙ sym (worth-kept ds) in
+        let kept = k (lent [] [] [] [] [] []) in
+        record {
+          head-after = rw (e .resting) (ap (λ t. t .head) kept);
+          prices-after = p ∙ ap (λ q. withDealt (o .contract) (getD prices (dayLotsPlace (o .contract)) 0 + q) (getD prices (dayValuePlace (o .contract)) 0 + worth) prices) lots
+              ∙ ap (λ v. withDealt (o .contract) (getD prices (dayLotsPlace (o .contract)) 0 + total (λ d. d .lots) ds) (getD prices (dayValuePlace (o .contract)) 0 + v) prices) value;
+          book-after = rw (e .resting) (ap (λ t. t .book) kept);
+          deals-kept = e .deals;
+          lots-left = e .lots;
+          few = few;
+          from-book = from-book;
+        }
+
+  -- ---- no lots cross
+  module _ (none : crossingIn o os ≡ 0) (sides : (i : ℕ) → i < n → sideAt book i ≤ 1) where
+    ranked : All Ranked os
+    ranked = all-orders Ranked book n (x .ranked)
+
+    has-lots : All (λ r. 0 < r .lots .0) os
+    has-lots = all-orders (λ r. 0 < r .lots .0) book n (x .has-lots)
+
+    apart : Distinct os
+    apart = distinct-numbers os (x .numbers-distinct)
+
+    ended : Ended o os (map lotsOf os) (o .lots .0) []
+    ended = still o os ranked apart has-lots (x .least-lots) none
+
+    nothing : (ds : List Deal) → map counterpartyOf ds ≡ [] → (total (λ d. d .lots) ds ≡ 0) × (total (λ d. d .lots * d .resting .price .0) ds ≡ 0)
+    unfolding total
+    nothing ds e = (lots-kept ds ∙ ap (total lotsDealt) e, worth-kept ds ∙ ap (total worthOf) e)
+
+    pub untraded : (deals : List ℕ) → Traded o head prices book (record { deals = 0; left = o .lots .0 }) head prices book deals
+    unfolding dealsIn from
+    untraded deals =
+        let rs = resting-still o os ranked apart has-lots (x .least-lots) none in
+        let zero-dealt = nothing (matched o os .deals) (ended .deals) in
+        let c = o .contract in
+        record {
+          head-after = rw (rs, orders-length book n) (sym (set-getD head 7 0));
+          prices-after =
+              rw (zero-dealt .0, zero-dealt .1, add-zero (getD prices (dayLotsPlace c) 0), add-zero (getD prices (dayValuePlace c) 0), set-getD prices (dayLotsPlace c) 0) (sym (set-getD prices (dayValuePlace c) 0));
+          book-after = rw rs (sym (written-back book n (omega (arith, x .most-orders, x .book-long)) sides));
+          deals-kept = ended .deals;
+          lots-left = ended .lots;
+          few = omega arith;
+          from-book = λ j h. absurd (omega arith);
+        }

@@ -1,0 +1,73 @@
+use borrow.Author.Tests.{lt-ltb, le-ltb, le-leb, lt-leb, eq-eqb, ne-eqb}
+use Rattle.rules.specs.Ledger.{withPrices}
+use borrow.Author.Tests.{not-true, not-false}
+use mathlib.Core.Path.{sym, _∙_}
+use borrow.Author.Needs.{needs}
+use Rattle.submit.proofs.causes.first_cause.Statement.{statement}
+use Rattle.submit.proofs.causes.first_cause.Tie as tie
+
+shared-slice-read-if1 : tie.Need-shared-slice-read-if1
+shared-slice-read-if1 c = search needs
+
+returns : tie.Need-returns
+returns c = λ t b. rw (lt-ltb _ _ (c .if1 .taken))
+
+add-if2 : tie.Need-add-if2
+add-if2 c = search needs
+
+mul-if2 : tie.Need-mul-if2
+mul-if2 c = search needs
+
+shared-slice-read-if2 : tie.Need-shared-slice-read-if2
+shared-slice-read-if2 c = search needs
+
+returns-2 : tie.Need-returns-2
+returns-2 c = λ t b. rw (le-ltb _ _ (c .before .before .if1 .left), eq-eqb _ _ (c .if2 .taken))
+
+is-contract-open-requires : tie.Need-is-contract-open-requires
+is-contract-open-requires c κs = search needs
+
+returns-3 : tie.Need-returns-3
+returns-3 c = λ t b. rw (le-ltb _ _ (c .before .before .before .before .if1 .left), ne-eqb _ _ (c .before .before .if2 .left), sym (c .before .is-contract-open .ensures (withPrices (c .before .before .before .before .before .before .before .before .args .prices .now) t)) ∙ not-true _ (c .if3 .taken))
+
+is-price-outside-requires : tie.Need-is-price-outside-requires
+is-price-outside-requires c κs = search needs
+
+returns-4 : tie.Need-returns-4
+returns-4 c =
+    λ t b.
+    let opened = sym (c .before .before .before .is-contract-open .ensures (withPrices (c .before .before .before .before .before .before .before .before .before .before .args .prices .now) t)) ∙ not-false _ (c .before .before .if3 .left) in
+    rw (le-ltb _ _ (c .before .before .before .before .before .before .if1 .left), ne-eqb _ _ (c .before .before .before .before .if2 .left), opened, sym (c .before .is-price-outside .ensures) ∙ c .if4 .taken)
+
+submits-at-requires : tie.Need-submits-at-requires
+submits-at-requires c κs = search needs
+
+returns-5 : tie.Need-returns-5
+returns-5 c =
+    λ t b.
+    let opened = sym (c .before .before .before .before .before .is-contract-open .ensures (withPrices (c .before .before .before .before .before .before .before .before .before .before .before .before .args .prices .now) t)) ∙ not-false _ (c .before .before .before .before .if3 .left) in
+    rw (le-ltb _ _ (c .before .before .before .before .before .before .before .before .if1 .left), ne-eqb _ _ (c .before .before .before .before .before .before .if2 .left), opened, sym (c .before .before .before .is-price-outside .ensures) ∙ c .before .before .if4 .left, ← (c .before .submits-at .ensures (withPrices (c .before .before .before .before .before .before .before .before .before .before .before .before .args .prices .now) t)), le-leb _ _ (c .if5 .taken))
+
+returns-6 : tie.Need-returns-6
+returns-6 c =
+    λ t b.
+    let opened = sym (c .before .before .before .before .before .is-contract-open .ensures (withPrices (c .before .before .before .before .before .before .before .before .before .before .before .before .args .prices .now) t)) ∙ not-false _ (c .before .before .before .before .if3 .left) in
+    rw (le-ltb _ _ (c .before .before .before .before .before .before .before .before .if1 .left), ne-eqb _ _ (c .before .before .before .before .before .before .if2 .left), opened, sym (c .before .before .before .is-price-outside .ensures) ∙ c .before .before .if4 .left, ← (c .before .submits-at .ensures (withPrices (c .before .before .before .before .before .before .before .before .before .before .before .before .args .prices .now) t)), lt-leb _ _ (c .if5 .left))
+
+pub first-cause-spec : {M : Type 1} → statement M
+first-cause-spec =
+    tie.close
+    (tie.spec
+    shared-slice-read-if1
+    returns
+    add-if2
+    mul-if2
+    shared-slice-read-if2
+    returns-2
+    is-contract-open-requires
+    returns-3
+    is-price-outside-requires
+    returns-4
+    submits-at-requires
+    returns-5
+    returns-6)

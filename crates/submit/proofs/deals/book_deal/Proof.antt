@@ -1,0 +1,92 @@
+use Prim.Native.Nat.{_<_, _*_, _+_}
+use Rattle.rules.specs.Ranges.{mostLots}
+use Rattle.submit.proofs.Lines.{incoming-fit, resting-fit}
+use mathlib.Core.Path.{_∙_}
+use native.Mathlib.Omega.{arith}
+use Rattle.submit.proofs.Lines.{bookable-after, run-after, members-after, lineOfIncoming, lineOfResting}
+use borrow.Author.Needs.{needs}
+use Rattle.submit.proofs.deals.book_deal.Statement.{statement}
+use Rattle.submit.proofs.deals.book_deal.Tie as tie
+
+other-side-requires : tie.Need-other-side-requires
+other-side-requires c κs = search needs
+
+mul-book-line : tie.Need-mul-book-line
+mul-book-line c = search needs
+
+book-line-requires : tie.Need-book-line-requires
+book-line-requires c κs =
+    let a = c .before .before .before .before .before .before .args in
+    let b = c .before .before .before .before .before .before .pre .0 .0 in
+    let q = c .before .before .before .before .before .before .pre .1 in
+    let small : a .k < mostLots = c .before .before .before .before .before .before .pre .0 .1 in
+    let first = incoming-fit (a .head .now) (a .o) (a .d) (q .0) (q .1) (q .2) (q .3) (q .4) in
+    ((b .long, b .most-members, first), ((b .lots-fit, b .value-fit), (omega arith, b .lines-long)))
+
+mul-book-line-2 : tie.Need-mul-book-line-2
+mul-book-line-2 c = search needs
+
+add-book-line : tie.Need-add-book-line
+add-book-line c = search needs
+
+book-line-requires-2 : tie.Need-book-line-requires-2
+book-line-requires-2 c κs =
+    let a = c .before .before .before .before .before .before .before .before .before .before .before .before .before .before .before .before .args in
+    let b = c .before .before .before .before .before .before .before .before .before .before .before .before .before .before .before .before .pre .0 .0 in
+    let q = c .before .before .before .before .before .before .before .before .before .before .before .before .before .before .before .before .pre .1 in
+    let small : a .k < mostLots = c .before .before .before .before .before .before .before .before .before .before .before .before .before .before .before .before .pre .0 .1 in
+    let first = incoming-fit (a .head .now) (a .o) (a .d) (q .0) (q .1) (q .2) (q .3) (q .4) in
+    let line = lineOfIncoming (a .o) (a .d) in
+    let run = run-after _ _ _ _ _ _ _ _ (a .k * 2) line b first (omega arith) (c .before .before .before .before .before .before .before .before .before .book-line .ensures) in
+    let members = members-after _ _ _ _ _ _ _ _ (a .k * 2) line b first (omega arith) (c .before .before .before .before .before .before .before .before .before .book-line .ensures) in
+    let more = bookable-after _ _ _ _ _ _ _ _ (a .k * 2) line b first (omega arith) (c .before .before .before .before .before .before .before .before .before .book-line .ensures) in
+    let second = resting-fit (a .head .now) (a .o) (a .d) (q .0) (q .1) (q .2) (q .3) (q .4) _ (c .before .before .before .before .before .before .before .before .before .before .before .before .before .before .other-side .result) members run in
+    ((more .long, more .most-members, second), ((more .lots-fit, more .value-fit), (omega arith, more .lines-long)))
+
+same-length : tie.Need-same-length
+same-length c = search needs
+
+same-length-2 : tie.Need-same-length-2
+same-length-2 c = search needs
+
+same-length-3 : tie.Need-same-length-3
+same-length-3 c = search needs
+
+same-length-4 : tie.Need-same-length-4
+same-length-4 c = search needs
+
+returns : tie.Need-returns
+returns c =
+    let a = c .before .before .before .before .before .before .before .before .before .before .before .before .before .before .before .before .before .before .before .before .before .before .args in
+    let b = c .before .before .before .before .before .before .before .before .before .before .before .before .before .before .before .before .before .before .before .before .before .before .pre .0 .0 in
+    let q = c .before .before .before .before .before .before .before .before .before .before .before .before .before .before .before .before .before .before .before .before .before .before .pre .1 in
+    let small : a .k < mostLots = c .before .before .before .before .before .before .before .before .before .before .before .before .before .before .before .before .before .before .before .before .before .before .pre .0 .1 in
+    let first = incoming-fit (a .head .now) (a .o) (a .d) (q .0) (q .1) (q .2) (q .3) (q .4) in
+    let line = lineOfIncoming (a .o) (a .d) in
+    let run = run-after _ _ _ _ _ _ _ _ (a .k * 2) line b first (omega arith) (c .before .before .before .before .before .before .before .before .before .before .before .before .before .before .before .book-line .ensures) in
+    let members = members-after _ _ _ _ _ _ _ _ (a .k * 2) line b first (omega arith) (c .before .before .before .before .before .before .before .before .before .before .before .before .before .before .before .book-line .ensures) in
+    let more = bookable-after _ _ _ _ _ _ _ _ (a .k * 2) line b first (omega arith) (c .before .before .before .before .before .before .before .before .before .before .before .before .before .before .before .book-line .ensures) in
+    let second = resting-fit (a .head .now) (a .o) (a .d) (q .0) (q .1) (q .2) (q .3) (q .4) _ (c .before .before .before .before .before .before .before .before .before .before .before .before .before .before .before .before .before .before .before .before .other-side .result) members run in
+    let last = lineOfResting (a .o) (c .before .before .before .before .before .before .before .before .before .before .before .before .before .before .before .before .before .before .before .before .other-side .result) (a .d) in
+    record {
+      same = λ t. rw (← (c .before .before .before .before .before .before .before .before .before .before .before .before .before .before .before .before .before .before .before .before .other-side .ensures), ← (c .before .before .before .before .before .before .before .before .before .before .before .before .before .before .before .book-line .ensures t)) (c .before .before .before .before .before .book-line2 .ensures t);
+      bookable = bookable-after _ _ _ _ _ _ _ _ (a .k * 2 + 1) last more second (omega arith) (c .before .before .before .before .before .book-line2 .ensures);
+      members-same = members-after _ _ _ _ _ _ _ _ (a .k * 2 + 1) last more second (omega arith) (c .before .before .before .before .before .book-line2 .ensures) ∙ members;
+      run-grown = omega (arith, run-after _ _ _ _ _ _ _ _ (a .k * 2 + 1) last more second (omega arith) (c .before .before .before .before .before .book-line2 .ensures));
+    }
+
+pub book-deal-spec : {M : Type 1} → statement M
+book-deal-spec =
+    tie.close
+    (tie.spec
+    other-side-requires
+    mul-book-line
+    book-line-requires
+    mul-book-line-2
+    add-book-line
+    book-line-requires-2
+    same-length
+    same-length-2
+    same-length-3
+    same-length-4
+    returns)

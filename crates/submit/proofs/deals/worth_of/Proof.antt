@@ -1,0 +1,53 @@
+use borrow.Author.Needs.{needs}
+use Prim.Native.Nat.{_≤_, _-_}
+use mathlib.Core.Path.{_≡_}
+use native.Mathlib.Omega.{arith}
+use native.Mathlib.Nat.{mul-le-mul}
+use Rattle.submit.proofs.Kept.{Worth, worth-start, worth-next}
+use Rattle.submit.proofs.deals.worth_of.Statement.{statement}
+use Rattle.submit.proofs.deals.worth_of.Tie as tie
+
+abbrev Inv-loop : tie.InvT-loop
+Inv-loop deals count worth₀ k₀ worth k = (k ≤ count) × Worth deals k worth
+
+abbrev μ-loop : tie.MeasureT-loop
+μ-loop deals count worth₀ k₀ worth k = count - k
+
+loop-holds : tie.Need-loop-holds Inv-loop μ-loop
+loop-holds c = (omega arith, worth-start _)
+
+deal-at-requires : tie.Need-deal-at-requires Inv-loop μ-loop
+deal-at-requires c κs = let f = c .before .before .before .pre in (omega (arith, f .most), f .room)
+
+mul-worth : tie.Need-mul-worth Inv-loop μ-loop
+mul-worth c = let f = c .before .before .before .before .before .pre in rw (c .before .deal-at .ensures) (omega (arith, mul-le-mul (f .most-lots (c .before .before .before .loop .k) (c .before .before .loop-test .taken)) (f .most-price (c .before .before .before .loop .k) (c .before .before .loop-test .taken))))
+
+add-worth : tie.Need-add-worth Inv-loop μ-loop
+add-worth c = let w = worth-next _ _ _ _ (c .before .before .before .before .before .pre) (c .before .before .loop-test .taken) (c .before .before .before .loop .inv .1) _ (c .before .deal-at .ensures) in omega (arith, w .most, c .before .before .before .before .before .pre .most)
+
+add-k : tie.Need-add-k Inv-loop μ-loop
+add-k c = search needs
+
+loop-less : tie.Need-loop-less Inv-loop μ-loop
+loop-less c = search needs
+
+loop-again : tie.Need-loop-again Inv-loop μ-loop
+loop-again c = (omega arith, worth-next _ _ _ _ (c .before .before .before .before .before .pre) (c .before .before .loop-test .taken) (c .before .before .before .loop .inv .1) _ (c .before .deal-at .ensures))
+
+returns : tie.Need-returns Inv-loop μ-loop
+returns c = let same : c .before .loop .k ≡ c .before .before .before .args .count = omega arith in (rw same at (c .before .loop .inv .1 .sum), omega (arith, c .before .loop .inv .1 .most, c .before .before .before .pre .most))
+
+pub worth-of-spec : {M : Type 1} → statement M
+worth-of-spec =
+    tie.close
+    (tie.spec
+    Inv-loop
+    μ-loop
+    loop-holds
+    deal-at-requires
+    mul-worth
+    add-worth
+    add-k
+    loop-less
+    loop-again
+    returns)

@@ -1,0 +1,106 @@
+// The deals of a submit: their worth, and the two lines of each.
+ghost use mathlib.Core.Path.{_≡_};
+ghost use mathlib.Core.List.{flatMap};
+ghost use Prim.Native.Nat.{ℕ, _+_, _*_, _≤_, _<_};
+ghost use Rattle.arith.specs.Lists.{total};
+ghost use Rattle.rules.specs.Ranges.{contractCount, mostLots, mostLotsRun, mostPrice};
+ghost use Rattle.rules.specs.Ledger.{Tables, withHead, withRows, withLines, booked};
+ghost use Rattle.tables.specs.Fit.{membersIn, lotsRunIn};
+ghost use Rattle.matching.specs.Deals.{dealAt, dealsIn, linesWith};
+ghost use Rattle.submit.specs.Deals.{DealsFit, Bookable, DealBooked, lotsDealt, worthOf};
+use matching::Counterparty;
+use matching::deal_at;
+use matching::other_side;
+use rules::Kurus;
+use rules::Lots;
+use rules::Order;
+use tables::DealLine;
+use tables::book_line;
+
+// Lots times price over all deals.
+pub fn worth_of(deals: &[u64], count: usize) -> u64
+    requires { ⌜ DealsFit count (now deals) ⌝ }
+    ensures { λ r. ⌜ (r ≡ total worthOf (dealsIn count (now (deals .entry)))) × (r ≤ mostLots * (mostLots * mostPrice)) ⌝ }
+{
+    let mut worth: u64 = 0;
+    let mut k: usize = 0;
+    while k < count {
+        let d = deal_at(deals, k);
+        worth += d.lots.0 * d.price.0;
+        k += 1;
+    }
+    worth
+}
+
+// The incoming member's line, then the resting member's.
+fn book_deal(
+    head: &mut [u64],
+    lots: &mut [i64],
+    value: &mut [i64],
+    lines: &mut [i64],
+    k: usize,
+    o: Order,
+    d: Counterparty,
+)
+    requires { ⌜ Bookable (now head) (now lots) (now value) (now lines) × (k < mostLots) ⌝ }
+    requires { ⌜ (o .member < membersIn (now head)) × (o .contract < contractCount) × (d .member < membersIn (now head)) × (d .price .0 ≤ mostPrice) × (lotsRunIn (now head) + 2 * d .lots .0 ≤ mostLotsRun) ⌝ }
+    ensures { λ _. ⌜ DealBooked o d k (now (head .entry)) (now (lots .entry)) (now (value .entry)) (now (lines .entry)) (now (head .exit)) (now (lots .exit)) (now (value .exit)) (now (lines .exit)) ⌝ }
+{
+    let side = o.side;
+    let against = other_side(side);
+    let price = d.price.0;
+    let incoming = DealLine {
+        member: o.member,
+        contract: o.contract,
+        side: side,
+        lots: Lots(d.lots.0),
+        price: Kurus(price),
+    };
+    let resting = DealLine {
+        member: d.member,
+        contract: o.contract,
+        side: against,
+        lots: Lots(d.lots.0),
+        price: Kurus(price),
+    };
+    book_line(
+        &mut *head,
+        &mut *lots,
+        &mut *value,
+        &mut *lines,
+        k * 2,
+        incoming,
+    );
+    book_line(
+        &mut *head,
+        &mut *lots,
+        &mut *value,
+        &mut *lines,
+        k * 2 + 1,
+        resting,
+    );
+}
+
+// Both lines of every deal, in the order of the deals.
+pub fn book_deals(
+    head: &mut [u64],
+    lots: &mut [i64],
+    value: &mut [i64],
+    lines: &mut [i64],
+    o: Order,
+    deals: &[u64],
+    count: usize,
+)
+    requires { ⌜ Bookable (now head) (now lots) (now value) (now lines) × DealsFit count (now deals) ⌝ }
+    requires { ⌜ (o .member < membersIn (now head)) × (o .contract < contractCount) × ((j : ℕ) → j < count → dealAt (now deals) j .member < membersIn (now head)) ⌝ }
+    requires { ⌜ lotsRunIn (now head) + 2 * total lotsDealt (dealsIn count (now deals)) ≤ mostLotsRun ⌝ }
+    ensures { λ _. ⌜ ((t : Tables) → withHead (now (head .exit)) (withRows (now (lots .exit)) (now (value .exit)) (withLines (now (lines .exit)) t))
+        ≡ booked (flatMap (linesWith o) (dealsIn count (now (deals .entry)))) (withHead (now (head .entry)) (withRows (now (lots .entry)) (now (value .entry)) (withLines (now (lines .entry)) t))) .after) ⌝ }
+{
+    let mut k: usize = 0;
+    while k < count {
+        let d = deal_at(deals, k);
+        book_deal(&mut *head, &mut *lots, &mut *value, &mut *lines, k, o, d);
+        k += 1;
+    }
+}

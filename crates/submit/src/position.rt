@@ -1,0 +1,38 @@
+// A member's position in a contract, beside its limit.
+ghost use mathlib.Core.Path.{_≡_};
+ghost use Prim.Native.Nat.{_≤_, _<_};
+ghost use lib.ListN.{length, getD};
+ghost use lib.IntN.{pos, natAbs, _+ℤ_};
+ghost use lib.Signed.{ltZ};
+ghost use Rattle.rules.specs.Ranges.{contractCount, mostMembers, mostLimit, mostLotsRun};
+ghost use Rattle.rules.specs.Ledger.{rowPlace, rowsLength};
+ghost use Rattle.rules.specs.Matching.{mirrored};
+use rules::Side;
+use rules::layout::ROW_WIDTH;
+
+// Buys less sells; mirrored for a sell.
+pub struct NetLots(i64);
+
+pub fn position(lots: &[i64], contract: u64, member: u64, side: Side) -> NetLots
+    requires { ⌜ (rowsLength ≤ length (now lots)) × (contract < contractCount) × (member < mostMembers) ⌝ }
+    requires { ⌜ natAbs (getD (now lots) (rowPlace contract member) (pos 0)) ≤ mostLotsRun ⌝ }
+    ensures { λ r. ⌜ (r .0 ≡ mirrored side (getD (now (lots .entry)) (rowPlace contract member) (pos 0))) × (natAbs (r .0) ≤ mostLotsRun) ⌝ }
+{
+    let at = contract as usize * ROW_WIDTH + member as usize;
+    let net = lots[at];
+    match side {
+        Side::Buy => NetLots(net),
+        Side::Sell => NetLots(-net),
+    }
+}
+
+// Whether so many lots more would pass the limit.
+pub fn is_above(limit: u64, p: NetLots, more: u64) -> bool
+    requires { ⌜ (limit ≤ mostLimit) × (natAbs (p .0) ≤ mostLotsRun) × (more ≤ mostLotsRun) ⌝ }
+    ensures { λ r. ⌜ r ≡ ltZ (pos limit) (p .0 +ℤ pos more) ⌝ }
+{
+    let most = limit as i64;
+    let wanted = more as i64;
+    let net = p.0;
+    most < net + wanted
+}
