@@ -37,8 +37,10 @@ returns : tie.Need-returns
 returns c = let a = c .before .before .before .before .before .before .before .before .before .before .before .before .before .before .before .before .before .before .before .before .before .before .before .before .before .before .before .before .before .before .before .before .before .args in
     let n = c .before .before .before .before .before .before .before .before .before .before .before .before .before .before .before .before .before .before .before .before .before .before .book-netting .ensures in
     let b = c .before .before .before .before .before .before .book-changes .ensures in
+    let all =
     done (a .contract) (a .price .0) (a .netted) (a .left) (a .longs .now) (a .shorts .now) (a .weights .now) (c .before .before .before .before .before .before .before .before .before .before .before .before .before .before .before .before .before .before .before .before .before .before .before .before .before .before .before .before .before .before .before .before .before .pre .0 .1) (c .before .before .before .before .before .before .before .before .before .before .before .before .before .before .before .before .before .before .before .before .before .before .before .before .before .before .before .before .before .before .before .before .before .pre .0 .2) _ _ _ _ (c .before .before .before .before .before .before .before .before .before .before .before .before .before .before .before .before .before .before .before .before .before .before .before .before .before .before .before .before .before .before .before .before .before .pre .0 .0) (c .before .before .before .before .before .before .before .before .before .before .before .before .before .before .before .before .before .before .before .before .before .before .before .before .before .before .before .before .before .before .before .before .before .pre .1)
-    _ _ _ _ _ _ _ (n .0) (n .1 .0) (n .1 .1 .0) (n .1 .1 .1) _ _ _ _ _ (b .0) (b .1) (c .if1 .taken)
+    _ _ _ _ _ _ _ (n .0) (n .1 .0) (n .1 .1 .0) (n .1 .1 .1) _ _ _ _ _ (b .0) (b .1) (c .if1 .taken) in
+    (all .0, (n .1 .0, (n .1 .1 .0, all .1)))
 
 sum-of-requires : tie.Need-sum-of-requires
 sum-of-requires c κs = left-column _ _ _ (c .before .before .before .before .before .before .before .before .before .before .before .before .before .before .before .before .before .before .before .before .before .before .before .book-netting .ensures .1 .0) (c .before .before .before .before .before .before .before .before .before .before .before .before .before .before .before .before .before .before .before .before .before .before .before .before .before .before .before .before .before .before .before .before .before .before .pre .1 .longs-column)
@@ -73,8 +75,10 @@ returns-2 c = let a = c .before .before .before .before .before .before .before 
     let n = c .before .before .before .before .before .before .before .before .before .before .before .before .before .before .before .before .before .before .before .before .before .before .before .before .before .before .before .before .before .before .before .before .before .before .book-netting .ensures in
     let b = c .before .before .before .before .before .before .before .before .before .before .before .before .before .before .before .before .before .before .book-changes .ensures in
     let k = c .before .before .before .before .before .book-takers .ensures in
+    let all =
     finish (a .contract) (a .price .0) (a .netted) (a .left) (a .longs .now) (a .shorts .now) (a .weights .now) (c .before .before .before .before .before .before .before .before .before .before .before .before .before .before .before .before .before .before .before .before .before .before .before .before .before .before .before .before .before .before .before .before .before .before .before .before .before .before .before .before .before .before .before .before .before .pre .0 .1) (c .before .before .before .before .before .before .before .before .before .before .before .before .before .before .before .before .before .before .before .before .before .before .before .before .before .before .before .before .before .before .before .before .before .before .before .before .before .before .before .before .before .before .before .before .before .pre .0 .2) _ _ _ _ (c .before .before .before .before .before .before .before .before .before .before .before .before .before .before .before .before .before .before .before .before .before .before .before .before .before .before .before .before .before .before .before .before .before .before .before .before .before .before .before .before .before .before .before .before .before .pre .0 .0) (c .before .before .before .before .before .before .before .before .before .before .before .before .before .before .before .before .before .before .before .before .before .before .before .before .before .before .before .before .before .before .before .before .before .before .before .before .before .before .before .before .before .before .before .before .before .pre .1)
-    _ _ _ _ _ _ _ (n .0) (n .1 .0) (n .1 .1 .0) (n .1 .1 .1) _ _ _ _ _ (b .0) (b .1) _ (c .before .before .before .before .before .before .before .before .before .before .sum-of .ensures) _ _ _ _ _ (k .0) (k .1)
+    _ _ _ _ _ _ _ (n .0) (n .1 .0) (n .1 .1 .0) (n .1 .1 .1) _ _ _ _ _ (b .0) (b .1) _ (c .before .before .before .before .before .before .before .before .before .before .sum-of .ensures) _ _ _ _ _ (k .0) (k .1) in
+    (all .0, (n .1 .0, (n .1 .1 .0, all .1)))
 
 pub book-steps-spec : {M : Type 1} → statement M
 book-steps-spec =
