@@ -52,6 +52,19 @@ static uint64_t with(size_t at, uint8_t byte) {
   return make(bytes, LENGTH);
 }
 
+/* a header of so many members and holidays with all its bytes: the holidays are days 370, 371 and so on, the limits 0 */
+static uint64_t sized(uint8_t members, uint8_t holidays) {
+  uint8_t bytes[11 + 2 * 255 + 4 * 255] = {0};
+  memcpy(bytes, sound, 9);
+  bytes[9] = members;
+  bytes[10] = holidays;
+  for (size_t i = 0; i < holidays; i++) {
+    bytes[11 + 2 * i] = (uint8_t)((370 + i) / 256);
+    bytes[12 + 2 * i] = (uint8_t)((370 + i) % 256);
+  }
+  return make(bytes, (size_t)11 + 2 * holidays + 4 * members);
+}
+
 static void fresh_places(void) {
   static const uint64_t first[8] = {2021, 2, 2, 369, 0, 0, 0, 0};
   expect(memcmp(head, first, sizeof first) == 0, "head 0 to 7");
@@ -122,8 +135,10 @@ int main(void) {
   refused(with(8, 0x72 + 4), 2, "a start day on a Saturday");
   refused(with(7, 0), 2, "a start day before the span");
   refused(with(9, 0), 2, "no members");
-  refused(with(9, 33), 2, "33 members");
-  refused(with(10, 121), 2, "121 holidays");
+  refused(sized(33, 2), 2, "33 members");
+  expect(sized(32, 2) == 0, "32 members");
+  refused(sized(2, 121), 2, "121 holidays");
+  expect(sized(2, 120) == 0, "120 holidays");
   refused(with(12, 0xF4), 2, "holidays that do not rise");
   refused(with(11, 0), 2, "a holiday before the span");
   refused(with(16, 0xFF), 2, "a limit above 100,000 lots");
