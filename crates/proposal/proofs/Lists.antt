@@ -1,0 +1,30 @@
+-- Lists by their places. Assumes nothing.
+use mathlib.Core.Path.{_≡_, refl, ap, _∙_}
+use mathlib.Core.Bool.{Bool, _||_}
+use mathlib.Core.List.{List, [], _∷_, map}
+use Prim.Native.Nat.{ℕ, zero, suc, _+_, _<_, _≤_}
+use native.Mathlib.Omega.{arith}
+use native.Mathlib.Nat.{zero-add}
+use lib.ListN.{length, getD, length-map}
+use lib.Seq.{ext-getD}
+use Rattle.arith.specs.Lists.{any, from}
+use Rattle.arith.proofs.Appends.{from-length, map-at, from-at}
+
+-- each of the numbers from a on mapped the same way by two
+pub map-from : {A : Type 0} (f g : ℕ → A) (a n : ℕ) → ((i : ℕ) → a ≤ i → i < a + n → f i ≡ g i) → map f (from a n) ≡ map g (from a n)
+unfolding from
+map-from f g a zero e = refl
+map-from f g a (suc n) e = rw (e a (omega arith) (omega arith), map-from f g (suc a) n (λ i l u. e i (omega arith) (omega arith)))
+
+-- a list is what stands at its places
+pub map-places : (l : List ℕ) → map (λ i. getD l i 0) (from 0 (length l)) ≡ l
+map-places l =
+    let long = length-map (from 0 (length l)) (λ i. getD l i 0) ∙ from-length 0 (length l) in
+    ext-getD 0 (map (λ i. getD l i 0) (from 0 (length l))) l long
+    (λ i h. map-at (λ j. getD l j 0) (from 0 (length l)) i 0 0 (omega (arith, long, from-length 0 (length l)))
+    ∙ ap (λ j. getD l j 0) (from-at 0 (length l) i 0 (omega (arith, long)) ∙ zero-add i))
+
+pub any-map : {A B : Type 0} (p : B → Bool) (f : A → B) (l : List A) → any p (map f l) ≡ any (λ a. p (f a)) l
+unfolding any
+any-map p f [] = refl
+any-map p f (x ∷ l) = rw (any-map p f l)

@@ -1,0 +1,2 @@
+-- What the code of a proposal is stated with.
+pub mod Columns

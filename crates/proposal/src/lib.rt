@@ -1,0 +1,6 @@
+// A synthetic proposal. It is handed tables that are long enough and not damaged, and legs in their ranges.
+mod balance;
+mod conditions;
+mod places;
+mod priority;
+mod sides;
