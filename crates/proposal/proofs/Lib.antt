@@ -1,3 +1,5 @@
 pub mod Lists
 pub mod Named
 pub mod Together
+pub mod Rising
+pub mod Months

@@ -1,13 +1,15 @@
 -- Lists by their places. Assumes nothing.
-use mathlib.Core.Path.{_≡_, refl, ap, _∙_}
-use mathlib.Core.Bool.{Bool, _||_}
+use mathlib.Core.Path.{_≡_, refl, sym, ap, _∙_}
+use mathlib.Core.Bool.{Bool, _&&_, _||_, and-assoc, or-assoc}
 use mathlib.Core.List.{List, [], _∷_, map}
-use Prim.Native.Nat.{ℕ, zero, suc, _+_, _<_, _≤_}
+use Prim.Native.Nat.{ℕ, zero, suc, _+_, _-_, _<_, _≤_}
 use native.Mathlib.Omega.{arith}
-use native.Mathlib.Nat.{zero-add}
+use native.Mathlib.Nat.{zero-add, sub-zero}
 use lib.ListN.{length, getD, length-map}
 use lib.Seq.{ext-getD}
-use Rattle.arith.specs.Lists.{any, from}
+use Rattle.arith.specs.Lists.{every, any, from}
+use Rattle.arith.specs.Tests.{and-true, or-false}
+use Rattle.arith.proofs.Scans.{from-next, from-end}
 use Rattle.arith.proofs.Appends.{from-length, map-at, from-at}
 
 -- each of the numbers from a on mapped the same way by two
@@ -28,3 +30,27 @@ pub any-map : {A B : Type 0} (p : B → Bool) (f : A → B) (l : List A) → any
 unfolding any
 any-map p f [] = refl
 any-map p f (x ∷ l) = rw (any-map p f l)
+
+-- ---- whether one of the numbers from i up to n passes
+module _ (p : ℕ → Bool) (n : ℕ) where
+  pub one-start : any p (from 0 (n - 0)) ≡ any p (from 0 n)
+  one-start = rw (sub-zero n)
+
+  module _ (i : ℕ) (found one : Bool) (known : found || any p (from i (n - i)) ≡ one) where
+    pub one-next : i < n → (found || p i) || any p (from (i + 1) (n - (i + 1))) ≡ one
+    unfolding any
+    one-next h = or-assoc found (p i) (any p (from (i + 1) (n - (i + 1)))) ∙ rw (from-next i n h) at known
+
+    pub one-end : n ≤ i → found ≡ one
+    unfolding any
+    one-end h = sym (or-false found) ∙ rw (from-end i n h) at known
+
+-- ---- what the numbers from i up to n are mapped to
+module _ {A : Type 0} (f : ℕ → A) (p : A → Bool) (n i : ℕ) (ok all : Bool) (known : ok && every p (map f (from i (n - i))) ≡ all) where
+  pub all-next : i < n → (ok && p (f i)) && every p (map f (from (i + 1) (n - (i + 1)))) ≡ all
+  unfolding every
+  all-next h = and-assoc ok (p (f i)) (every p (map f (from (i + 1) (n - (i + 1))))) ∙ rw (from-next i n h) at known
+
+  pub all-end : n ≤ i → ok ≡ all
+  unfolding every
+  all-end h = sym (and-true ok) ∙ rw (from-end i n h) at known

@@ -3,17 +3,17 @@ use mathlib.Core.Path.{_≡_, refl, sym, ap, _∙_}
 use mathlib.Core.Bool.{Bool, true, false, cond, _&&_}
 use mathlib.Core.List.{List, [], _∷_, map}
 use mathlib.Core.Option.{Option, none, some}
-use Prim.Native.Nat.{ℕ, zero, suc, _+_, _<_, _≤_}
+use Prim.Native.Nat.{ℕ, zero, suc, _+_, _*_, _-_, _<_, _≤_}
 use native.Mathlib.Omega.{arith}
-use native.Mathlib.Nat.{zero-add}
+use native.Mathlib.Nat.{zero-add, add-zero}
 use lib.Dec.{eqb, ltb}
 use lib.ListN.{length, getD, length-map}
-use borrow.Author.Tests.{ltb-true, ltb-false, ne-eqb}
+use borrow.Author.Tests.{ltb-true, ltb-false, eq-eqb, ne-eqb}
 use Rattle.arith.specs.Alls.{every-all, all-place}
 use Rattle.arith.specs.Lists.{every, from}
 use Rattle.arith.specs.Tests.{by-bool, true-or, le-or-lt, and-left, and-right, never}
 use Rattle.arith.proofs.Appends.{from-length, map-at, from-at}
-use Rattle.arith.proofs.Scans.{every-map, map-map}
+use Rattle.arith.proofs.Scans.{from-next, from-end, every-map, map-map}
 use Rattle.rules.specs.declared.event.Leg.{Leg}
 use Rattle.rules.specs.declared.order.Order.{Order}
 use Rattle.rules.specs.Ledger.{orderAt}
@@ -37,6 +37,20 @@ numbered-none n [] h = refl
 numbered-none n (o ∷ os) h =
     by-bool (λ b. suc (length os) ≤ cond b 0 (suc (placeOf n os)) → cond b (some o) (numbered n os) ≡ none) (eqb (o .number) n) (λ _ l. absurd (omega arith))
     (λ _ l. numbered-none n os (omega arith)) h
+
+-- The orders looked through from place i on.
+module _ (n : ℕ) (b : List ℕ) (count i all : ℕ) (known : i + placeOf n (map (orderAt b) (from i (count - i))) ≡ all) where
+  pub place-here : i < count → orderAt b i .number ≡ n → i ≡ all
+  unfolding placeOf
+  place-here h e = sym (add-zero i) ∙ rw (from-next i count h, eq-eqb (orderAt b i .number) n e) at known
+
+  pub place-next : i < count → (orderAt b i .number ≡ n → ⊥) → i + 1 + placeOf n (map (orderAt b) (from (i + 1) (count - (i + 1)))) ≡ all
+  unfolding placeOf
+  place-next h d = omega (arith, rw (from-next i count h, ne-eqb (orderAt b i .number) n d) at known)
+
+  pub place-end : count ≤ i → i ≡ all
+  unfolding placeOf
+  place-end h = sym (add-zero i) ∙ rw (from-end i count h) at known
 
 -- ---- all legs
 module _ (os : List Order) (z : Order) where

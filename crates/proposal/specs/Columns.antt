@@ -69,9 +69,14 @@ unfoldable pub inMonth : List ℕ → List ℕ → List ℕ → Side → ℕ →
 inMonth book places amounts s m = total (λ i. cond (countsAt book s m (getD places i 0)) (getD amounts i 0) 0) (from 0 (length places))
 
 -- ---- priority
--- The order has the contract and side of the order at a leg's place, and better priority.
-unfoldable pub isAhead : List ℕ → List ℕ → Order → Bool
-isAhead book places o = any (λ p. eqb (o .contract) (orderAt book p .contract) && (sameSide (o .side) (orderAt book p .side) && precedes o (orderAt book p))) places
+-- Of the same contract and side, with better priority.
+abbrev pub isBefore : Order → Order → Bool
+isBefore a b = eqb (a .contract) (b .contract) && (sameSide (a .side) (b .side) && precedes a b)
 
+-- The order is before the order at a leg's place.
+unfoldable pub isAhead : List ℕ → List ℕ → Order → Bool
+isAhead book places o = any (λ p. isBefore o (orderAt book p)) places
+
+-- The order is a leg in full.
 unfoldable pub isFullLeg : List ℕ → List ℕ → Order → Bool
 isFullLeg orders lots o = any (λ i. eqb (getD orders i 0) (o .number) && eqb (getD lots i 0) (o .lots .0)) (from 0 (length orders))

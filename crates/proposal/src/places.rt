@@ -24,7 +24,7 @@ fn place_of(book: &[u64], count: usize, number: u64) -> usize
         }
         i += 1;
     }
-    count
+    i
 }
 
 // The place of each leg's order.

@@ -1,15 +1,14 @@
 // Every resting order of a leg's contract and side with better priority is a leg in full.
 ghost use mathlib.Core.Path.{_≡_};
-ghost use mathlib.Core.Bool.{not, _&&_, _||_};
-ghost use Prim.Native.Nat.{_≤_, _<_};
-ghost use lib.Dec.{eqb};
-ghost use lib.ListN.{length, getD};
-ghost use Rattle.arith.specs.Lists.{every, any, from};
+ghost use mathlib.Core.Bool.{not, _||_};
+ghost use Prim.Native.Nat.{_≤_};
+ghost use lib.ListN.{length};
+ghost use Rattle.arith.specs.Lists.{every};
 ghost use Rattle.rules.specs.Ranges.{mostOrders};
-ghost use Rattle.rules.specs.Ledger.{bookLength, orderAt};
-ghost use Rattle.rules.specs.Matching.{sameSide, betterPrice, precedes};
+ghost use Rattle.rules.specs.Ledger.{bookLength};
+ghost use Rattle.rules.specs.Matching.{betterPrice, precedes};
 ghost use Rattle.tables.specs.Fit.{ordersIn};
-ghost use Rattle.proposal.specs.Columns.{PlacesFit, isAhead, isFullLeg};
+ghost use Rattle.proposal.specs.Columns.{PlacesFit, isBefore, isAhead, isFullLeg};
 use crate::sides::is_same_side;
 use rules::Order;
 use rules::Side;
@@ -36,7 +35,7 @@ fn does_precede(a: Order, b: Order) -> bool
 
 // Of the same contract and side, with better priority.
 fn is_before(a: Order, b: Order) -> bool
-    ensures { λ r. ⌜ r ≡ eqb (a .contract) (b .contract) && (sameSide (a .side) (b .side) && precedes a b) ⌝ }
+    ensures { λ r. ⌜ r ≡ isBefore a b ⌝ }
 {
     let of = a.side;
     let other = b.side;

@@ -1,3 +1,4 @@
+use Rattle.rules.specs.Synthetic.{priceAllowed}
 use borrow.Author.Needs.{needs}
 use Rattle.proposal.proofs.conditions.is_price_allowed.Statement.{statement}
 use Rattle.proposal.proofs.conditions.is_price_allowed.Tie as tie
@@ -42,11 +43,13 @@ shared-slice-read-result-2 c = search needs
 
 -- src/conditions.rt:64:1
 returns : tie.Need-returns
-returns c = ?
+unfolding priceAllowed
+returns c = λ t. rw (c .before .enum-told .given .1)
 
 -- src/conditions.rt:64:1
 returns-2 : tie.Need-returns-2
-returns-2 c = ?
+unfolding priceAllowed
+returns-2 c = λ t. rw (c .before .enum-told2 .given .1)
 
 pub is-price-allowed-spec : {M : Type 1} → statement M
 is-price-allowed-spec =

@@ -1,3 +1,4 @@
+use Rattle.rules.specs.Matching.{precedes}
 use borrow.Author.Needs.{needs}
 use Rattle.proposal.proofs.priority.does_precede.Statement.{statement}
 use Rattle.proposal.proofs.priority.does_precede.Tie as tie
@@ -11,7 +12,8 @@ is-better-price-requires c κs = search needs
 
 -- src/priority.rt:28:1
 returns : tie.Need-returns
-returns c = ?
+unfolding precedes
+returns c = rw (c .before .before .is-better-price .ensures)
 
 pub does-precede-spec : {M : Type 1} → statement M
 does-precede-spec = tie.close (tie.spec is-better-price-requires returns)

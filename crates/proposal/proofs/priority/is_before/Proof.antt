@@ -16,7 +16,7 @@ does-precede-requires c κs = search needs
 
 -- src/priority.rt:38:1
 returns : tie.Need-returns
-returns c = ?
+returns c = rw (c .before .is-same-side .ensures, c .does-precede .ensures)
 
 pub is-before-spec : {M : Type 1} → statement M
 is-before-spec = tie.close (tie.spec is-same-side-requires does-precede-requires returns)
