@@ -1,11 +1,12 @@
 -- The amounts of a month, leg by leg. Assumes nothing.
 use mathlib.Core.Path.{_≡_, refl, sym, ap, _∙_}
-use mathlib.Core.Bool.{Bool, true, false, cond, _&&_}
+use mathlib.Core.Bool.{Bool, cond, _&&_, _||_}
 use mathlib.Core.List.{List}
 use Prim.Native.Nat.{ℕ, suc, _+_, _<_, _≤_}
 use native.Mathlib.Omega.{arith}
 use native.Mathlib.Nat.{zero-add}
 use native.Mathlib.Numerals.{add-one}
+use lib.Dec.{eqb}
 use lib.ListN.{length, getD}
 use Rattle.arith.specs.Lists.{total, from}
 use Rattle.arith.specs.Ranges.{total-more}
@@ -13,12 +14,14 @@ use Rattle.rules.specs.declared.order.Order.{Order}
 use Rattle.rules.specs.declared.order.Side.{Side}
 use Rattle.rules.specs.Ledger.{orderAt}
 use Rattle.rules.specs.Matching.{sameSide}
-use Rattle.rules.specs.HourLaws.{holdsMonth}
+use Rattle.rules.specs.HourLaws.{yearOf, quarterOf, monthOf, holdsMonth}
 use Rattle.proposal.specs.Columns.{countsAt, inMonth}
 
-pub part-most : (b : Bool) (x : ℕ) → cond b x 0 ≤ x
-part-most true x = omega arith
-part-most false x = omega arith
+-- A leg's order is of the side, and of one of the month's three contracts.
+pub counts-by : (b : Bool) (s u : Side) (y q n c m : ℕ) → b ≡ sameSide s u → y ≡ yearOf m → q ≡ quarterOf m → n ≡ monthOf m
+    → b && (eqb y c || (eqb q c || eqb n c)) ≡ sameSide s u && holdsMonth c m
+unfolding holdsMonth
+counts-by b s u y q n c m e f g h = rw (e, f, g, h)
 
 module _ (book places amounts : List ℕ) (s : Side) (m : ℕ) where
   -- What the first i legs bring.

@@ -6,7 +6,7 @@ use mathlib.Core.Option.{Option, none, some}
 use Prim.Native.Nat.{ℕ, zero, suc, _+_, _*_, _-_, _<_, _≤_}
 use native.Mathlib.Omega.{arith}
 use native.Mathlib.Nat.{zero-add, add-zero}
-use lib.Dec.{eqb, ltb}
+use lib.Dec.{eqb, leb, ltb}
 use lib.ListN.{length, getD, length-map}
 use borrow.Author.Tests.{ltb-true, ltb-false, eq-eqb, ne-eqb}
 use Rattle.arith.specs.Alls.{every-all, all-place}
@@ -16,8 +16,8 @@ use Rattle.arith.proofs.Appends.{from-length, map-at, from-at}
 use Rattle.arith.proofs.Scans.{from-next, from-end, every-map, map-map}
 use Rattle.rules.specs.declared.event.Leg.{Leg}
 use Rattle.rules.specs.declared.order.Order.{Order}
-use Rattle.rules.specs.Ledger.{orderAt}
-use Rattle.rules.specs.Synthetic.{Named, numbered, namedLegs}
+use Rattle.rules.specs.Ledger.{Tables, orderAt}
+use Rattle.rules.specs.Synthetic.{Named, numbered, namedLegs, hasLots, priceAllowed}
 use Rattle.tables.specs.Fit.{ordersIn}
 use Rattle.tables.proofs.Left.{orders-length}
 use Rattle.proposal.specs.Columns.{columnLeg, columnLegs, placeOf, namedAt, namedTo}
@@ -140,3 +140,11 @@ module _ (count : ℕ) (book orders lots prices : List ℕ) where
 
   pub not-named : every (λ p. ltb p count) placesIn ≡ false → eqb (length (namedLegs os legs)) (length legs) ≡ false
   not-named e = named-not os (orderAt book 0) legs (sym found-same ∙ e)
+
+-- ---- a leg and its order as the code reads them
+pub within-same : (t : Tables) (g h : Leg) (o p : Order) (b : Bool) → g ≡ h → o ≡ p → b ≡ priceAllowed t (record { leg = g; order = o })
+    → leb (g .lots .0) (o .lots .0) && b ≡ hasLots (record { leg = h; order = p }) && priceAllowed t (record { leg = h; order = p })
+within-same t g h o p b e f same =
+    ap (λ x. leb (g .lots .0) (o .lots .0) && x) same
+    ∙ ap (λ x. leb (x .lots .0) (o .lots .0) && priceAllowed t (record { leg = x; order = o })) e
+    ∙ ap (λ x. leb (h .lots .0) (x .lots .0) && priceAllowed t (record { leg = h; order = x })) f

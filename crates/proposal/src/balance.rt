@@ -42,6 +42,7 @@ fn contracts_of(i: u64) -> MonthContracts
 // What a leg adds to the amounts of a side in the month.
 fn amount_of(held: MonthContracts, order: Order, side: Side, amount: u64) -> u64
     ensures { λ r. ⌜ ((m : ℕ) → held .year ≡ yearOf m → held .quarter ≡ quarterOf m → held .month ≡ monthOf m → r ≡ cond (sameSide (order .side) side && holdsMonth (order .contract) m) amount 0) ⌝ }
+    ensures { λ r. ⌜ r ≤ amount ⌝ }
 {
     let contract = order.contract;
     let of = order.side;

@@ -9,7 +9,7 @@ ghost use Rattle.rules.specs.Header.{rising};
 ghost use Rattle.rules.specs.Ranges.{contractCount, mostOrders};
 ghost use Rattle.rules.specs.Ledger.{Tables, withPrices, pricesLength, bookLength, orderWidth};
 ghost use Rattle.rules.specs.Synthetic.{hasLots, priceAllowed};
-ghost use Rattle.proposal.specs.Columns.{PlacesFit, ContractsFit, columnLeg, namedTo};
+ghost use Rattle.proposal.specs.Columns.{LegsFit, PlacesFit, ContractsFit, columnLeg, namedTo};
 use rules::Kurus;
 use rules::Leg;
 use rules::Lots;
@@ -85,7 +85,7 @@ pub fn are_within(
     leg_prices: &[u64],
 ) -> bool
     requires { ⌜ (pricesLength ≤ length (now prices)) × PlacesFit mostOrders (now places) × ContractsFit (now book) (now places) ⌝ }
-    requires { ⌜ (length (now places) ≡ length (now orders)) × (length (now «leg_lots») ≡ length (now orders)) × (length (now «leg_prices») ≡ length (now orders)) ⌝ }
+    requires { ⌜ LegsFit (now orders) (now «leg_lots») (now «leg_prices») × (length (now places) ≡ length (now orders)) ⌝ }
     ensures { λ r. ⌜ ((t : Tables) → r ≡ every (λ n. hasLots n && priceAllowed (withPrices (now (prices .entry)) t) n)
         (namedTo (now (book .entry)) (now (places .entry)) (now (orders .entry)) (now («leg_lots» .entry)) (now («leg_prices» .entry)))) ⌝ }
 {

@@ -32,11 +32,11 @@ add-first c = omega (arith, c .before .pre .3 .below 0 (omega arith))
 
 -- src/conditions.rt:42:17
 mul-first-2 : tie.Need-mul-first-2 Inv-loop μ-loop
-mul-first-2 c = search needs
+mul-first-2 c = omega (arith, c .before .pre .3 .below 0 (omega arith))
 
 -- src/conditions.rt:42:17
 shared-slice-read-first-2 : tie.Need-shared-slice-read-first-2 Inv-loop μ-loop
-shared-slice-read-first-2 c = search needs
+shared-slice-read-first-2 c = omega (arith, c .before .before .pre .3 .below 0 (omega arith))
 
 -- src/conditions.rt:45:5
 loop-holds : tie.Need-loop-holds Inv-loop μ-loop
@@ -52,7 +52,7 @@ shared-slice-read-found c = search needs
 
 -- src/conditions.rt:46:32
 mul-found-2 : tie.Need-mul-found-2 Inv-loop μ-loop
-mul-found-2 c = search needs
+mul-found-2 c = omega (arith, c .before .before .before .before .before .pre .3 .below (c .before .before .loop .i) (c .before .loop-test .taken))
 
 -- src/conditions.rt:46:32
 add-found : tie.Need-add-found Inv-loop μ-loop
@@ -60,11 +60,11 @@ add-found c = omega (arith, c .before .before .before .before .before .pre .3 .b
 
 -- src/conditions.rt:46:27
 mul-found-3 : tie.Need-mul-found-3 Inv-loop μ-loop
-mul-found-3 c = search needs
+mul-found-3 c = omega (arith, c .before .before .before .before .before .pre .3 .below (c .before .before .loop .i) (c .before .loop-test .taken))
 
 -- src/conditions.rt:46:27
 shared-slice-read-found-2 : tie.Need-shared-slice-read-found-2 Inv-loop μ-loop
-shared-slice-read-found-2 c = search needs
+shared-slice-read-found-2 c = omega (arith, c .before .before .before .before .before .before .pre .3 .below (c .before .before .before .loop .i) (c .before .before .loop-test .taken))
 
 -- src/conditions.rt:47:9
 add-i : tie.Need-add-i Inv-loop μ-loop
