@@ -3,3 +3,4 @@ pub mod Named
 pub mod Together
 pub mod Rising
 pub mod Months
+pub mod Checks

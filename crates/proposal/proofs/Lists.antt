@@ -7,7 +7,7 @@ use native.Mathlib.Omega.{arith}
 use native.Mathlib.Nat.{zero-add, sub-zero}
 use lib.ListN.{length, getD, length-map}
 use lib.Seq.{ext-getD}
-use Rattle.arith.specs.Lists.{every, any, from}
+use Rattle.arith.specs.Lists.{every, any, total, from}
 use Rattle.arith.specs.Tests.{and-true, or-false}
 use Rattle.arith.proofs.Scans.{from-next, from-end}
 use Rattle.arith.proofs.Appends.{from-length, map-at, from-at}
@@ -54,3 +54,20 @@ module _ {A : Type 0} (f : ℕ → A) (p : A → Bool) (n i : ℕ) (ok all : Boo
   pub all-end : n ≤ i → ok ≡ all
   unfolding every
   all-end h = sym (and-true ok) ∙ rw (from-end i n h) at known
+
+-- ---- two tests, or two numbers, that are the same of each
+module _ {A : Type 0} where
+  pub every-same : (p q : A → Bool) (l : List A) → ((a : A) → p a ≡ q a) → every p l ≡ every q l
+  unfolding every
+  every-same p q [] e = refl
+  every-same p q (x ∷ l) e = rw (e x, every-same p q l e)
+
+pub total-map : {A B : Type 0} (f : B → ℕ) (g : A → B) (l : List A) → total f (map g l) ≡ total (λ a. f (g a)) l
+unfolding total
+total-map f g [] = refl
+total-map f g (x ∷ l) = rw (total-map f g l)
+
+pub total-same : (f g : ℕ → ℕ) (a n : ℕ) → ((i : ℕ) → a ≤ i → i < a + n → f i ≡ g i) → total f (from a n) ≡ total g (from a n)
+unfolding total from
+total-same f g a zero e = refl
+total-same f g a (suc n) e = rw (e a (omega arith) (omega arith), total-same f g (suc a) n (λ i l u. e i (omega arith) (omega arith)))

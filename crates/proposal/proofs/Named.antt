@@ -20,7 +20,7 @@ use Rattle.rules.specs.Ledger.{Tables, orderAt}
 use Rattle.rules.specs.Synthetic.{Named, numbered, namedLegs, hasLots, priceAllowed}
 use Rattle.tables.specs.Fit.{ordersIn}
 use Rattle.tables.proofs.Left.{orders-length}
-use Rattle.proposal.specs.Columns.{columnLeg, columnLegs, placeOf, namedAt, namedTo}
+use Rattle.proposal.specs.Columns.{columnLeg, columnLegs, placeOf, placesOf, namedAt, namedTo}
 use Rattle.proposal.proofs.Lists.{map-from, map-places}
 
 -- ---- one leg
@@ -109,9 +109,8 @@ module _ (count : ℕ) (book orders lots prices : List ℕ) where
   abbrev os : List Order
   os = ordersIn count book
 
-  -- The place of each leg's order.
-  abbrev pub placesIn : List ℕ
-  placesIn = map (λ n. placeOf n (ordersIn count book)) orders
+  abbrev placesIn : List ℕ
+  placesIn = placesOf count book orders
 
   found-same : every (λ p. ltb p count) placesIn ≡ every (isFound os (orderAt book 0)) legs
   found-same =

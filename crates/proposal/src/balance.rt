@@ -5,13 +5,12 @@ ghost use mathlib.Core.List.{zipWith};
 ghost use Prim.Native.Nat.{ℕ, _*_, _≤_, _<_};
 ghost use lib.Dec.{eqb};
 ghost use lib.ListN.{length, getD};
-ghost use Rattle.arith.specs.Lists.{every, from};
 ghost use Rattle.rules.specs.declared.order.Side.the-variants.{Buy, Sell};
 ghost use Rattle.rules.specs.Ranges.{monthsInSpan, mostOrders, mostLots, mostPrice};
 ghost use Rattle.rules.specs.Ledger.{bookLength};
 ghost use Rattle.rules.specs.Matching.{sameSide};
 ghost use Rattle.rules.specs.HourLaws.{yearOf, quarterOf, monthOf, holdsMonth};
-ghost use Rattle.proposal.specs.Columns.{PlacesFit, AmountsFit, inMonth};
+ghost use Rattle.proposal.specs.Columns.{LegsFit, PlacesFit, AmountsFit, inMonth, balancedMonths};
 use crate::sides::is_same_side;
 use rules::Order;
 use rules::Side;
@@ -76,7 +75,7 @@ fn is_month_balanced(book: &[u64], places: &[usize], amounts: &[u64], month: u64
 // Whether it is so in every month of the six years.
 pub fn is_balanced(book: &[u64], places: &[usize], amounts: &[u64]) -> bool
     requires { ⌜ (bookLength ≤ length (now book)) × PlacesFit mostOrders (now places) × AmountsFit (now places) (now amounts) ⌝ }
-    ensures { λ r. ⌜ r ≡ every (λ m. eqb (inMonth (now (book .entry)) (now (places .entry)) (now (amounts .entry)) Buy m) (inMonth (now (book .entry)) (now (places .entry)) (now (amounts .entry)) Sell m)) (from 0 monthsInSpan) ⌝ }
+    ensures { λ r. ⌜ r ≡ balancedMonths (now (book .entry)) (now (places .entry)) (now (amounts .entry)) ⌝ }
 {
     let mut ok = true;
     let mut month: u64 = 0;
@@ -99,4 +98,15 @@ pub fn write_values(lots: &[u64], prices: &[u64], values: &mut [u64])
         values[i] = amount;
         i += 1;
     }
+}
+
+// Whether lots and lots times price are balanced.
+pub fn are_both_balanced(book: &[u64], places: &[usize], lots: &[u64], prices: &[u64]) -> bool
+    requires { ⌜ (bookLength ≤ length (now book)) × PlacesFit mostOrders (now places) × LegsFit (length (now places)) (now lots) (now prices) ⌝ }
+    ensures { λ r. ⌜ r ≡ balancedMonths (now (book .entry)) (now (places .entry)) (now (lots .entry)) && balancedMonths (now (book .entry)) (now (places .entry)) (zipWith (λ q p. q * p) (now (lots .entry)) (now (prices .entry))) ⌝ }
+{
+    let n = lots.len();
+    let mut values = [0u64; 12];
+    write_values(lots, prices, &mut values[..n]);
+    is_balanced(book, places, lots) & is_balanced(book, places, &values[..n])
 }

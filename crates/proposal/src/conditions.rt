@@ -85,7 +85,7 @@ pub fn are_within(
     leg_prices: &[u64],
 ) -> bool
     requires { ⌜ (pricesLength ≤ length (now prices)) × PlacesFit mostOrders (now places) × ContractsFit (now book) (now places) ⌝ }
-    requires { ⌜ LegsFit (now orders) (now «leg_lots») (now «leg_prices») × (length (now places) ≡ length (now orders)) ⌝ }
+    requires { ⌜ LegsFit (length (now orders)) (now «leg_lots») (now «leg_prices») × (length (now places) ≡ length (now orders)) ⌝ }
     ensures { λ r. ⌜ ((t : Tables) → r ≡ every (λ n. hasLots n && priceAllowed (withPrices (now (prices .entry)) t) n)
         (namedTo (now (book .entry)) (now (places .entry)) (now (orders .entry)) (now («leg_lots» .entry)) (now («leg_prices» .entry)))) ⌝ }
 {

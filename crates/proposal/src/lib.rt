@@ -1,4 +1,5 @@
 // A synthetic proposal. It is handed tables that are long enough and not damaged, and legs in their ranges.
+mod acceptable;
 mod balance;
 mod conditions;
 mod places;

@@ -1,6 +1,5 @@
 // The resting orders that the legs name: the place of each in the book.
 ghost use mathlib.Core.Path.{_≡_};
-ghost use mathlib.Core.List.{map};
 ghost use Prim.Native.Nat.{_≤_};
 ghost use lib.Dec.{ltb};
 ghost use lib.ListN.{length};
@@ -8,7 +7,7 @@ ghost use Rattle.arith.specs.Lists.{every};
 ghost use Rattle.rules.specs.Ranges.{mostOrders};
 ghost use Rattle.rules.specs.Ledger.{bookLength};
 ghost use Rattle.tables.specs.Fit.{ordersIn};
-ghost use Rattle.proposal.specs.Columns.{placeOf};
+ghost use Rattle.proposal.specs.Columns.{placeOf, placesOf};
 use rules::layout::ORDER_NUMBER;
 use rules::layout::ORDER_WIDTH;
 
@@ -30,7 +29,7 @@ fn place_of(book: &[u64], count: usize, number: u64) -> usize
 // The place of each leg's order.
 pub fn write_places(book: &[u64], count: usize, orders: &[u64], places: &mut [usize])
     requires { ⌜ (count ≤ mostOrders) × (bookLength ≤ length (now book)) × (length (now places) ≡ length (now orders)) ⌝ }
-    ensures { λ _. ⌜ now (places .exit) ≡ map (λ n. placeOf n (ordersIn count (now (book .entry)))) (now (orders .entry)) ⌝ }
+    ensures { λ _. ⌜ now (places .exit) ≡ placesOf count (now (book .entry)) (now (orders .entry)) ⌝ }
 {
     let mut i: usize = 0;
     while i < orders.len() {

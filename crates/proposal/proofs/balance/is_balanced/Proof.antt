@@ -7,7 +7,7 @@ use lib.Dec.{eqb}
 use Rattle.arith.specs.Lists.{every, from}
 use Rattle.arith.proofs.Scans.{each-next, each-end}
 use Rattle.rules.specs.declared.order.Side.the-variants.{Buy, Sell}
-use Rattle.proposal.specs.Columns.{inMonth}
+use Rattle.proposal.specs.Columns.{inMonth, balancedMonths}
 use Rattle.proposal.proofs.balance.is_balanced.Statement.{statement}
 use Rattle.proposal.proofs.balance.is_balanced.Tie as tie
 use Rattle.proposal.proofs.balance.is_balanced.Reads as reads
@@ -15,13 +15,14 @@ use Rattle.proposal.proofs.balance.is_balanced.Lts as lts
 use Rattle.proposal.proofs.balance.is_month_balanced.Reads as is-month-balanced-reads
 
 abbrev Inv-loop : tie.InvT-loop
-Inv-loop book places amounts ok₀ month₀ ok month = (month ≤ 72) × (ok && every (λ m. eqb (inMonth book places amounts Buy m) (inMonth book places amounts Sell m)) (from month (72 - month)) ≡ every (λ m. eqb (inMonth book places amounts Buy m) (inMonth book places amounts Sell m)) (from 0 72))
+Inv-loop book places amounts ok₀ month₀ ok month = (month ≤ 72) × (ok && every (λ m. eqb (inMonth book places amounts Buy m) (inMonth book places amounts Sell m)) (from month (72 - month)) ≡ balancedMonths book places amounts)
 
 abbrev μ-loop : tie.MeasureT-loop
 μ-loop book places amounts ok₀ month₀ ok month = 72 - month
 
 -- src/balance.rt:82:5
 loop-holds : tie.Need-loop-holds Inv-loop μ-loop
+unfolding balancedMonths
 loop-holds c = (omega arith, refl)
 
 -- src/balance.rt:83:19
