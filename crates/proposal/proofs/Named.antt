@@ -18,9 +18,9 @@ use Rattle.rules.specs.declared.event.Leg.{Leg}
 use Rattle.rules.specs.declared.order.Order.{Order}
 use Rattle.rules.specs.Ledger.{Tables, orderAt}
 use Rattle.rules.specs.Synthetic.{Named, numbered, namedLegs, hasLots, priceAllowed}
-use Rattle.tables.specs.Fit.{ordersIn}
+use Rattle.tables.specs.Fit.{BookFit, orderCountIn, ordersIn}
 use Rattle.tables.proofs.Left.{orders-length}
-use Rattle.proposal.specs.Columns.{columnLeg, columnLegs, placeOf, placesOf, namedAt, namedTo}
+use Rattle.proposal.specs.Columns.{PlacesFit, ContractsFit, columnLeg, columnLegs, placeOf, placesOf, namedAt, namedTo}
 use Rattle.proposal.proofs.Lists.{map-from, map-places}
 
 -- ---- one leg
@@ -102,6 +102,16 @@ pub order-there : (count : ℕ) (book : List ℕ) (p : ℕ) (z : Order) → p < 
 order-there count book p z h =
     map-at (orderAt book) (from 0 count) p 0 z (omega (arith, from-length 0 count)) ∙ ap (orderAt book) (from-at 0 count p 0 h ∙ zero-add p)
 
+-- Where each leg names a resting order, its place is that of an order.
+pub found-fit : (count : ℕ) (places : List ℕ) → every (λ p. ltb p count) places ≡ true → PlacesFit count places
+found-fit count places e = record { below = λ i h. ltb-true _ count (all-place (λ p. ltb p count ≡ true) 0 places (every-all (λ p. ltb p count) places e) i h) }
+
+pub places-wider : (a b : ℕ) (places : List ℕ) → a ≤ b → PlacesFit a places → PlacesFit b places
+places-wider a b places h f = record { below = λ i k. omega (arith, f .below i k) }
+
+pub contracts-fit : (head book places : List ℕ) → BookFit head book → PlacesFit (orderCountIn head) places → ContractsFit book places
+contracts-fit head book places b f = record { long = b .long; contract-below = λ i h. b .order-fit (getD places i 0) (f .below i h) .contract-below }
+
 module _ (count : ℕ) (book orders lots prices : List ℕ) where
   abbrev legs : List Leg
   legs = columnLegs orders lots prices
@@ -122,12 +132,9 @@ module _ (count : ℕ) (book orders lots prices : List ℕ) where
   place-at : (i : ℕ) → i < length orders → getD placesIn i 0 ≡ placeOf (getD orders i 0) os
   place-at i h = map-at (λ n. placeOf n os) orders i 0 0 h
 
-  pub places-below : every (λ p. ltb p count) placesIn ≡ true → (i : ℕ) → i < length placesIn → getD placesIn i 0 < count
-  places-below e i h = ltb-true _ count (all-place (λ p. ltb p count ≡ true) 0 placesIn (every-all (λ p. ltb p count) placesIn e) i h)
-
   order-at : (i : ℕ) → every (λ p. ltb p count) placesIn ≡ true → i < length orders → getD os (placeOf (getD orders i 0) os) (orderAt book 0) ≡ orderAt book (getD placesIn i 0)
   order-at i e h =
-      let below = places-below e i (omega (arith, length-map orders (λ n. placeOf n os))) in
+      let below = found-fit count placesIn e .below i (omega (arith, length-map orders (λ n. placeOf n os))) in
       rw (← place-at i h) (order-there count book (getD placesIn i 0) (orderAt book 0) below)
 
   pub named-columns : every (λ p. ltb p count) placesIn ≡ true → namedLegs os legs ≡ namedTo book placesIn orders lots prices
