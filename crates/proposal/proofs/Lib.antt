@@ -4,3 +4,5 @@ pub mod Together
 pub mod Rising
 pub mod Months
 pub mod Checks
+pub mod Takes
+pub mod Taken

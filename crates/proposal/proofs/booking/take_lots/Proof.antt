@@ -1,0 +1,93 @@
+use Rattle.proposal.proofs.booking.take_lots.Statement.{statement}
+use Rattle.proposal.proofs.booking.take_lots.Tie as tie
+use Rattle.proposal.proofs.booking.take_lots.Reads as reads
+use Rattle.proposal.proofs.booking.take_lots.Lts as lts
+use Rattle.proposal.proofs.booking.less.Reads as less-reads
+
+abbrev Inv-loop : tie.InvT-loop
+Inv-loop left₀ places lots i₀ left i = ?
+
+abbrev μ-loop : tie.MeasureT-loop
+μ-loop left₀ places lots i₀ left i = ?
+
+-- src/booking.rt:95:5
+loop-holds : tie.Need-loop-holds Inv-loop μ-loop
+loop-holds c = ?
+
+-- src/booking.rt:96:21
+mul-place : tie.Need-mul-place Inv-loop μ-loop
+mul-place c = ?
+
+-- src/booking.rt:96:21
+shared-slice-read-place : tie.Need-shared-slice-read-place Inv-loop μ-loop
+shared-slice-read-place c = ?
+
+-- src/booking.rt:97:28
+mul-less : tie.Need-mul-less Inv-loop μ-loop
+mul-less c = ?
+
+-- src/booking.rt:97:28
+slice-read-less : tie.Need-slice-read-less Inv-loop μ-loop
+slice-read-less c = ?
+
+-- src/booking.rt:97:41
+mul-less-2 : tie.Need-mul-less-2 Inv-loop μ-loop
+mul-less-2 c = ?
+
+-- src/booking.rt:97:41
+shared-slice-read-less : tie.Need-shared-slice-read-less Inv-loop μ-loop
+shared-slice-read-less c = ?
+
+-- src/booking.rt:97:23
+less-requires : tie.Need-less-requires Inv-loop μ-loop
+less-requires c κs = ?
+
+-- src/booking.rt:97:9
+mul-left : tie.Need-mul-left Inv-loop μ-loop
+mul-left c = ?
+
+-- src/booking.rt:97:9
+slice-write-left : tie.Need-slice-write-left Inv-loop μ-loop
+slice-write-left c = ?
+
+-- src/booking.rt:98:9
+add-i : tie.Need-add-i Inv-loop μ-loop
+add-i c = ?
+
+-- src/booking.rt:95:5
+loop-less : tie.Need-loop-less Inv-loop μ-loop
+loop-less c = ?
+
+-- src/booking.rt:95:5
+loop-again : tie.Need-loop-again Inv-loop μ-loop
+loop-again c = ?
+
+-- src/booking.rt:90:1
+same-length : tie.Need-same-length Inv-loop μ-loop
+same-length c = ?
+
+-- src/booking.rt:90:1
+returns : tie.Need-returns Inv-loop μ-loop
+returns c = ?
+
+pub take-lots-spec : {M : Type 1} → statement M
+take-lots-spec =
+    tie.close
+    (tie.spec
+    Inv-loop
+    μ-loop
+    loop-holds
+    mul-place
+    shared-slice-read-place
+    mul-less
+    slice-read-less
+    mul-less-2
+    shared-slice-read-less
+    less-requires
+    mul-left
+    slice-write-left
+    add-i
+    loop-less
+    loop-again
+    same-length
+    returns)
