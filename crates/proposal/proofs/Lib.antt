@@ -6,3 +6,5 @@ pub mod Months
 pub mod Checks
 pub mod Takes
 pub mod Taken
+pub mod Printed
+pub mod LegLines

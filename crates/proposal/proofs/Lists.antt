@@ -5,9 +5,11 @@ use mathlib.Core.List.{List, [], _∷_, map}
 use Prim.Native.Nat.{ℕ, zero, suc, _+_, _-_, _<_, _≤_}
 use native.Mathlib.Omega.{arith}
 use native.Mathlib.Nat.{zero-add, sub-zero}
+use native.Mathlib.Numerals.{add-one}
 use lib.ListN.{length, getD, length-map}
 use lib.Seq.{ext-getD}
 use Rattle.arith.specs.Lists.{every, any, total, from}
+use Rattle.arith.specs.Ranges.{total-more}
 use Rattle.arith.specs.Tests.{and-true, or-false}
 use Rattle.arith.proofs.Scans.{from-next, from-end}
 use Rattle.arith.proofs.Appends.{from-length, map-at, from-at}
@@ -71,3 +73,7 @@ pub total-same : (f g : ℕ → ℕ) (a n : ℕ) → ((i : ℕ) → a ≤ i → 
 unfolding total from
 total-same f g a zero e = refl
 total-same f g a (suc n) e = rw (e a (omega arith) (omega arith), total-same f g (suc a) n (λ i l u. e i (omega arith) (omega arith)))
+
+-- ---- a sum of what stands at the first i places
+pub sum-next : (f : ℕ → ℕ) (i sum : ℕ) → sum ≡ total f (from 0 i) → sum + f i ≡ total f (from 0 (i + 1))
+sum-next f i sum e = rw (add-one i, total-more f 0 i, zero-add i, e)

@@ -88,7 +88,7 @@ fn write_lots(book: &[u64], left: &mut [u64])
 
 // Each leg takes its lots from its order.
 fn take_lots(left: &mut [u64], places: &[usize], lots: &[u64])
-    requires { ⌜ PlacesFit (length (now left)) (now places) × (length (now lots) ≡ length (now places)) ⌝ }
+    requires { ⌜ (length (now left) ≤ mostOrders) × PlacesFit (length (now left)) (now places) × (length (now lots) ≡ length (now places)) ⌝ }
     ensures { λ _. ⌜ now (left .exit) ≡ leftAfter (now (places .entry)) (now (lots .entry)) (length (now (places .entry))) (now (left .entry)) ⌝ }
 {
     let mut i: usize = 0;
