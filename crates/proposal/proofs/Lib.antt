@@ -8,3 +8,4 @@ pub mod Takes
 pub mod Taken
 pub mod Printed
 pub mod LegLines
+pub mod Accepted

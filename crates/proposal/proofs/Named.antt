@@ -1,18 +1,20 @@
 -- The orders that the legs name, by their places. Assumes nothing.
 use mathlib.Core.Path.{_≡_, refl, sym, ap, _∙_}
 use mathlib.Core.Bool.{Bool, true, false, cond, _&&_}
-use mathlib.Core.List.{List, [], _∷_, map}
+use mathlib.Core.List.{List, [], _∷_, _++_, map}
 use mathlib.Core.Option.{Option, none, some}
 use Prim.Native.Nat.{ℕ, zero, suc, _+_, _*_, _-_, _<_, _≤_}
 use native.Mathlib.Omega.{arith}
 use native.Mathlib.Nat.{zero-add, add-zero}
 use lib.Dec.{eqb, leb, ltb}
-use lib.ListN.{length, getD, length-map}
+use lib.ListN.{length, getD, take, drop, length-map}
+use lib.Seq.{length-take-le}
 use borrow.Author.Tests.{ltb-true, ltb-false, eq-eqb, ne-eqb}
 use Rattle.arith.specs.Alls.{every-all, all-place}
 use Rattle.arith.specs.Lists.{every, from}
 use Rattle.arith.specs.Tests.{by-bool, true-or, le-or-lt, and-left, and-right, never}
 use Rattle.arith.proofs.Appends.{from-length, map-at, from-at}
+use Rattle.arith.proofs.Writes.{again-long, again-front, again-many}
 use Rattle.arith.proofs.Scans.{from-next, from-end, every-map, map-map}
 use Rattle.rules.specs.declared.event.Leg.{Leg}
 use Rattle.rules.specs.declared.order.Order.{Order}
@@ -146,6 +148,20 @@ module _ (count : ℕ) (book orders lots prices : List ℕ) where
 
   pub not-named : every (λ p. ltb p count) placesIn ≡ false → eqb (length (namedLegs os legs)) (length legs) ≡ false
   not-named e = named-not os (orderAt book 0) legs (sym found-same ∙ e)
+
+-- the column of places as it is lent: the first places of an array
+module _ (count : ℕ) (book numbers ys l : List ℕ) (e : ys ≡ placesOf count book numbers) (room : length numbers ≤ length l) where
+  as-lent : length ys ≡ length (take (length numbers) l)
+  as-lent = ap length e ∙ length-map numbers (λ n. placeOf n (ordersIn count book)) ∙ sym (length-take-le (length numbers) l room)
+
+  pub places-long : length numbers ≤ length (ys ++ drop (length numbers) l)
+  places-long = again-long (length numbers) ys l as-lent room
+
+  pub places-as-many : length numbers ≡ length (take (length numbers) (ys ++ drop (length numbers) l))
+  places-as-many = again-many (length numbers) ys l as-lent room
+
+  pub places-front : take (length numbers) (ys ++ drop (length numbers) l) ≡ placesOf count book numbers
+  places-front = again-front (length numbers) ys l as-lent room ∙ e
 
 -- ---- a leg and its order as the code reads them
 pub within-same : (t : Tables) (g h : Leg) (o p : Order) (b : Bool) → g ≡ h → o ≡ p → b ≡ priceAllowed t (record { leg = g; order = o })

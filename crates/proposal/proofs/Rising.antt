@@ -48,4 +48,3 @@ short-rising (x ∷ y ∷ l) h = absurd (omega arith)
 
 pub rising-end : (l : List ℕ) (i : ℕ) (ok : Bool) → ok && rising (drop i l) ≡ rising l → length l ≤ i + 1 → ok ≡ rising l
 rising-end l i ok known h = sym (and-true ok) ∙ rw (short-rising (drop i l) (rw (length-drop i l) (omega arith))) at known
-

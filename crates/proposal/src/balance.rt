@@ -45,8 +45,7 @@ fn amount_of(held: MonthContracts, order: Order, side: Side, amount: u64) -> u64
 {
     let contract = order.contract;
     let of = order.side;
-    let holds = (held.year == contract)
-        | ((held.quarter == contract) | (held.month == contract));
+    let holds = (held.year == contract) | ((held.quarter == contract) | (held.month == contract));
     if is_same_side(of, side) & holds {
         return amount;
     }

@@ -56,9 +56,12 @@ loop-less c = search needs
 loop-again : tie.Need-loop-again Inv-loop μ-loop
 loop-again c = let a = c .before .before .before .before .before .before .before .args in let l = c .before .before .before .loop in
     let all = map (λ n. placeOf n (ordersIn (a .count) (a .book .now))) (a .orders .now) in
-    let here = c .place-of .ensures ∙ sym (map-at (λ n. placeOf n (ordersIn (a .count) (a .book .now))) (a .orders .now) (l .i) 0 0 (c .before .before .loop-test .taken)) in
-    (length-set (l .places) (l .i) (c .place-of .result) ∙ l .inv .0, omega arith, rw (here, l .inv .2)
-        (front-next (l .i) all (a .places .now) 0 (omega (arith, length-map (a .orders .now) (λ n. placeOf n (ordersIn (a .count) (a .book .now))))) (omega arith)))
+    let here = c .place-of .ensures ∙ sym (map-at (λ n. placeOf n (ordersIn (a .count) (a .book .now))) (a .orders .now) (l .i) 0 0 (c .before .before .loop-test .taken)) in (
+      length-set (l .places) (l .i) (c .place-of .result) ∙ l .inv .0,
+      omega arith,
+      rw (here, l .inv .2)
+          (front-next (l .i) all (a .places .now) 0 (omega (arith, length-map (a .orders .now) (λ n. placeOf n (ordersIn (a .count) (a .book .now))))) (omega arith)),
+    )
 
 -- src/places.rt:31:1
 same-length : tie.Need-same-length Inv-loop μ-loop
