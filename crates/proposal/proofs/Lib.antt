@@ -1,0 +1,11 @@
+pub mod Lists
+pub mod Named
+pub mod Together
+pub mod Rising
+pub mod Months
+pub mod Checks
+pub mod Takes
+pub mod Taken
+pub mod Printed
+pub mod LegLines
+pub mod Accepted

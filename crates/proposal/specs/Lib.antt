@@ -1,0 +1,3 @@
+-- What the code of a proposal is stated with.
+pub mod Columns
+pub mod Booking

@@ -1,0 +1,122 @@
+// A proposal is booked: one line a leg, and each leg's lots taken from its order.
+ghost use mathlib.Core.Path.{_≡_};
+ghost use Prim.Native.Nat.{_-_, _≤_};
+ghost use lib.ListN.{length, getD};
+ghost use Rattle.arith.specs.Lists.{total, from};
+ghost use Rattle.rules.specs.Ranges.{mostOrders};
+ghost use Rattle.rules.specs.Ledger.{Tables, withHead, withRows, withBook, withLines, withOrders, headLength, bookLength, booked};
+ghost use Rattle.tables.specs.Fit.{BookFit, ordersIn, orderCountIn};
+ghost use Rattle.tables.specs.Left.{leftOver};
+ghost use Rattle.proposal.specs.Columns.{LegsFit, PlacesFit};
+ghost use Rattle.proposal.specs.Booking.{Bookable, linesTo, leftAfter, lotsIn};
+use rules::Kurus;
+use rules::Lots;
+use rules::layout::ORDER_COUNT;
+use tables::DealLine;
+use tables::book_line;
+use tables::keep_orders;
+use tables::order_at;
+
+// The lots of all legs together.
+pub fn total_lots(lots: &[u64], prices: &[u64]) -> u64
+    requires { ⌜ LegsFit (length (now lots)) (now lots) (now prices) ⌝ }
+    ensures { λ r. ⌜ (r ≡ total (λ i. getD (now (lots .entry)) i 0) (from 0 (length (now (lots .entry))))) × (r ≤ 1200) ⌝ }
+{
+    let mut sum: u64 = 0;
+    let mut i: usize = 0;
+    while i < lots.len() {
+        sum += lots[i];
+        i += 1;
+    }
+    sum
+}
+
+// One line a leg, in order, at the leg's price.
+pub fn book_legs(
+    head: &mut [u64],
+    lots: &mut [i64],
+    value: &mut [i64],
+    lines: &mut [i64],
+    book: &[u64],
+    places: &[usize],
+    leg_lots: &[u64],
+    leg_prices: &[u64],
+)
+    requires { ⌜ BookFit (now head) (now book) × PlacesFit (orderCountIn (now head)) (now places) × LegsFit (length (now places)) (now «leg_lots») (now «leg_prices») ⌝ }
+    requires { ⌜ Bookable (total (λ i. getD (now «leg_lots») i 0) (from 0 (length (now places)))) (now head) (now lots) (now value) (now lines) ⌝ }
+    ensures { λ _. ⌜ ((t : Tables) → withHead (now (head .exit)) (withRows (now (lots .exit)) (now (value .exit)) (withLines (now (lines .exit)) t))
+        ≡ booked (linesTo (now (book .entry)) (now (places .entry)) (now («leg_lots» .entry)) (now («leg_prices» .entry)) (length (now (places .entry))))
+        (withHead (now (head .entry)) (withRows (now (lots .entry)) (now (value .entry)) (withLines (now (lines .entry)) t))) .after) ⌝ }
+{
+    let mut i: usize = 0;
+    while i < places.len() {
+        let order = order_at(book, places[i]);
+        let side = order.side;
+        let line = DealLine {
+            member: order.member,
+            contract: order.contract,
+            side: side,
+            lots: Lots(leg_lots[i]),
+            price: Kurus(leg_prices[i]),
+        };
+        book_line(&mut *head, &mut *lots, &mut *value, &mut *lines, i, line);
+        i += 1;
+    }
+}
+
+fn less(left: u64, lots: u64) -> u64
+    ensures { λ r. ⌜ r ≡ left - lots ⌝ }
+{
+    if left <= lots {
+        return 0;
+    }
+    left - lots
+}
+
+// The lots of each order.
+fn write_lots(book: &[u64], left: &mut [u64])
+    requires { ⌜ (length (now left) ≤ mostOrders) × (bookLength ≤ length (now book)) ⌝ }
+    ensures { λ _. ⌜ now (left .exit) ≡ lotsIn (length (now (left .entry))) (now (book .entry)) ⌝ }
+{
+    let mut i: usize = 0;
+    while i < left.len() {
+        let order = order_at(book, i);
+        left[i] = order.lots.0;
+        i += 1;
+    }
+}
+
+// Each leg takes its lots from its order.
+fn take_lots(left: &mut [u64], places: &[usize], lots: &[u64])
+    requires { ⌜ (length (now left) ≤ mostOrders) × PlacesFit (length (now left)) (now places) × (length (now lots) ≡ length (now places)) ⌝ }
+    ensures { λ _. ⌜ now (left .exit) ≡ leftAfter (now (places .entry)) (now (lots .entry)) (length (now (places .entry))) (now (left .entry)) ⌝ }
+{
+    let mut i: usize = 0;
+    while i < places.len() {
+        let place = places[i];
+        left[place] = less(left[place], lots[i]);
+        i += 1;
+    }
+}
+
+// What the legs leave of each order.
+fn write_left(book: &[u64], left: &mut [u64], places: &[usize], lots: &[u64])
+    requires { ⌜ (length (now left) ≤ mostOrders) × (bookLength ≤ length (now book)) × PlacesFit (length (now left)) (now places) × (length (now lots) ≡ length (now places)) ⌝ }
+    ensures { λ _. ⌜ now (left .exit) ≡ leftAfter (now (places .entry)) (now (lots .entry)) (length (now (places .entry))) (lotsIn (length (now (left .entry))) (now (book .entry))) ⌝ }
+{
+    write_lots(book, &mut *left);
+    take_lots(&mut *left, places, lots);
+}
+
+// Orders used up leave the book, the others keep what is left of them.
+pub fn use_orders(head: &mut [u64], book: &mut [u64], places: &[usize], lots: &[u64])
+    requires { ⌜ (headLength ≤ length (now head)) × (orderCountIn (now head) ≤ mostOrders) × (bookLength ≤ length (now book)) × PlacesFit (orderCountIn (now head)) (now places) × (length (now lots) ≡ length (now places)) ⌝ }
+    ensures { λ _. ⌜ ((t : Tables) → withHead (now (head .exit)) (withBook (now (book .exit)) t)
+        ≡ withOrders (leftOver (leftAfter (now (places .entry)) (now (lots .entry)) (length (now (places .entry))) (lotsIn (orderCountIn (now (head .entry))) (now (book .entry)))) (ordersIn (orderCountIn (now (head .entry))) (now (book .entry))))
+        (withHead (now (head .entry)) (withBook (now (book .entry)) t))) ⌝ }
+{
+    let count = head[ORDER_COUNT] as usize;
+    let mut left = [0u64; 256];
+    write_left(&*book, &mut left[..count], places, lots);
+    keep_orders(&mut *head, &mut *book, &left[..count]);
+}
