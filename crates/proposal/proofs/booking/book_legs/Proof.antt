@@ -56,7 +56,7 @@ book-line-requires : tie.Need-book-line-requires Inv-loop μ-loop
 book-line-requires c κs = let a = c .before .before .before .before .before .before .before .before .before .before .before .before .before .before .before .args in let l = c .before .before .before .before .before .before .before .before .before .loop in
     let able = l .inv .1 .able in
     let fit = leg-line-fit (a .book .now) (a .places .now) (a .leg-lots .now) (a .leg-prices .now) (a .head .now) (a .lots .now) (a .value .now) (a .lines .now) (c .before .before .before .before .before .before .before .before .before .before .before .before .before .before .before .pre .0 .2) (c .before .before .before .before .before .before .before .before .before .before .before .before .before .before .before .pre .0 .0) (c .before .before .before .before .before .before .before .before .before .before .before .before .before .before .before .pre .0 .1) (omega (arith, c .before .before .before .before .before .before .before .before .before .before .before .before .before .before .before .pre .1 .head-fit .long)) (l .i) (c .before .before .before .before .before .before .before .before .loop-test .taken) (l .head) (l .lots) (l .value) (l .lines) (l .inv .1) (c .before .before .before .before .before .before .order-at .result) (c .before .before .before .before .before .before .order-at .ensures) in
-    ((able .head-fit, fit), ((able .lots-fit, able .value-fit), (omega (arith, c .before .before .before .before .before .before .before .before .loop-test .taken, c .before .before .before .before .before .before .before .before .before .before .before .before .before .before .before .pre .0 .2 .most-legs), able .lines-long)))
+    ((able .head-fit .long, able .head-fit .most-members, fit), ((able .lots-fit, able .value-fit), (omega (arith, c .before .before .before .before .before .before .before .before .loop-test .taken, c .before .before .before .before .before .before .before .before .before .before .before .before .before .before .before .pre .0 .2 .most-legs), able .lines-long)))
 
 -- src/booking.rt:63:9
 add-i : tie.Need-add-i Inv-loop μ-loop
