@@ -1,0 +1,101 @@
+-- The loops of the cascade, one turn at a time: no row comes near the end of its place. Assumes nothing.
+use mathlib.Core.Path.{_≡_, refl, sym, ap, _∙_}
+use mathlib.Core.Bool.{Bool, true, false, cond}
+use mathlib.Core.List.{List, [], _∷_, _++_, map, zipWith}
+use Prim.Native.Nat.{ℕ, zero, suc, _+_, _*_, _-_, _/_, _%_, _^_, _≤_, _<_}
+use native.Mathlib.Omega.{arith}
+use native.Mathlib.Nat.{add-zero}
+use lib.Dec.{eqb}
+use lib.ListN.{length, take, drop, getD}
+use lib.Seq.{length-take-le, getD-append-add, getD-drop, getD-take, ext-getD}
+use lib.IntN.{ℤ, pos, natAbs, _+ℤ_}
+use borrow.Author.Tests.{ne-eqb}
+use Rattle.arith.specs.Ints.{when}
+use Rattle.arith.specs.Lists.{any, from, over, kept}
+use Rattle.arith.specs.Among.{not-among}
+use Rattle.arith.specs.Sizes.{abs-plus, abs-when}
+use Rattle.arith.specs.Tests.{by-bool, true-or, le-or-lt}
+use Rattle.arith.proofs.Scans.{from-next}
+use Rattle.rules.specs.declared.contract.ContractKind.{ContractKind}
+use Rattle.rules.specs.declared.contract.ContractKind.the-variants.{Year, Quarter, Month}
+use Rattle.rules.specs.Contracts.{childrenOf}
+use Rattle.rules.specs.CalendarLaws.{numberOf, sizeOf, firstMonthOf}
+use Rattle.rules.specs.HourLaws.{Cascading, year, quarter, cascading}
+use Rattle.rules.specs.CloseOfDay.{contractRows, addedTo, cascaded, allCascaded}
+use Rattle.rules.proofs.Cascade.{rowOf, rows-length, rows-at, put-length, put-row, sums, sums-length, cascaded-length, cascaded-row}
+use Rattle.tables.specs.Fit.{RowsFit}
+use Rattle.close_of_day.specs.Phases.{closes, mostRow}
+
+-- ---- lists
+pub zip-take : {A : Type 0} (f : A → A → A) (n : ℕ) (xs ys : List A) → length xs ≤ n → zipWith f xs (take n ys) ≡ zipWith f xs ys
+unfolding zipWith
+zip-take f n [] ys h = refl
+zip-take f zero (x ∷ xs) ys h = absurd (omega arith)
+zip-take f (suc n) (x ∷ xs) [] h = refl
+zip-take f (suc n) (x ∷ xs) (y ∷ ys) h = ap (λ r. f x y ∷ r) (zip-take f n xs ys (omega arith))
+
+-- behind what is written so far stands what stood there
+pub front-rest : {A : Type 0} (n : ℕ) (s d : List A) (z : A) → n ≤ length s → getD (take n s ++ drop n d) n z ≡ getD d n z
+front-rest n s d z h =
+    let e : n ≡ length (take n s) + 0 = omega (arith, length-take-le n s h) in
+    ap (λ i. getD (take n s ++ drop n d) i z) e ∙ getD-append-add (take n s) (drop n d) 0 z ∙ getD-drop n d 0 z ∙ ap (λ i. getD d i z) (add-zero n)
+
+-- ---- a parent's rows added to one child after the other
+-- A parent's rows stay where a later contract's are written.
+parent-stays : (n p c : ℕ) (xs l : List ℤ) → 3264 ≤ length l → p < c → c < 102 → n ≤ 32 → length xs ≡ n → contractRows n p (over (c * 32) xs l) ≡ contractRows n p l
+parent-stays n p c xs l s h b q e =
+    let put = over (c * 32) xs l in
+    let long : 3264 ≤ length put = omega (arith, put-length n c l s b q xs e) in
+    let many = rows-length n p put long (omega arith) q in
+    ext-getD (pos 0) (contractRows n p put) (contractRows n p l) (many ∙ sym (rows-length n p l s (omega arith) q))
+    (λ m k. let k′ : m < n = omega (arith, many) in
+    rows-at n p put long (omega arith) q m k′ ∙ put-row n c l s b q xs e p m k′ ∙ rw (ne-eqb c p (omega arith)) (sym (rows-at n p l s (omega arith) q m k′)))
+
+pub record Adding (n p end size : ℕ) (all parent : List ℤ) (child : ℕ) (rows : List ℤ) : Type 0 where
+  pub after : p < child
+  pub most : child ≤ end
+  pub same : length rows ≡ size
+  pub lent : take n parent ≡ contractRows n p rows
+  pub parent-fit : (m : ℕ) → m < n → natAbs (getD parent m (pos 0)) ≤ 2 ^ 61
+  pub rest-fit : (c m : ℕ) → child ≤ c → c < 102 → m < n → natAbs (rowOf rows c m) ≤ 2 ^ 61
+  pub known : addedTo n p (from child (end - child)) rows ≡ all
+
+module _ (n p end size : ℕ) (all parent : List ℤ) (few : n ≤ 32) (last : end ≤ 102) (long : 3264 ≤ size) where
+  pub adding-next : (child : ℕ) (rows : List ℤ) → child < end → Adding n p end size all parent child rows
+      → Adding n p end size all parent (child + 1) (over (child * 32) (zipWith _+ℤ_ (contractRows n child rows) parent) rows)
+  unfolding addedTo
+  adding-next child rows h a =
+      let s : 3264 ≤ length rows = omega (arith, a .same) in
+      let hp : p < 102 = omega (arith, a .after) in
+      let b : child < 102 = omega arith in
+      let mine = contractRows n child rows in
+      let xs = sums n p hp few child rows s b (a .after) in
+      let many = sums-length n p hp few child rows s b (a .after) in
+      let is : zipWith _+ℤ_ mine parent ≡ xs = sym (zip-take _+ℤ_ n mine parent (omega (arith, rows-length n child rows s b few))) ∙ ap (zipWith _+ℤ_ mine) (a .lent) in
+      rw is (record {
+        after = omega (arith, a .after);
+        most = omega arith;
+        same = put-length n child rows s b few xs many ∙ a .same;
+        lent = a .lent ∙ sym (parent-stays n p child xs rows s (a .after) b few many);
+        parent-fit = a .parent-fit;
+        rest-fit = λ c m l u k. rw (put-row n child rows s b few xs many c m k, ne-eqb child c (omega arith)) (a .rest-fit c m (omega arith) u k);
+        known = rw (from-next child end h) at (a .known);
+      })
+
+-- ---- contracts of a kind, one after the other
+-- No contract of a kind is a child of another.
+not-child : (s : ContractKind) (i j : ℕ) → sizeOf s ≤ 24 → numberOf s i < 102 → any (λ x. eqb x (numberOf s j)) (childrenOf (numberOf s i)) ≡ false
+not-child Year i j f b = go (cascading (17 * i) (omega arith))
+  where
+    go : Cascading (17 * i) → any (λ x. eqb x (17 * j)) (childrenOf (17 * i)) ≡ false
+    go (year z e) = rw e (not-among (17 * i + 1) 4 (17 * j) (λ l u. le-or-lt j i (λ q. omega arith) (λ q. omega arith)))
+    go (quarter z y e) = absurd (omega arith)
+not-child Quarter i j f b = go (cascading (numberOf Quarter i) (omega arith))
+  where
+    go : Cascading (numberOf Quarter i) → any (λ x. eqb x (numberOf Quarter j)) (childrenOf (numberOf Quarter i)) ≡ false
+    go (year z e) = absurd (omega arith)
+    go (quarter z y e) =
+        let y : numberOf Quarter i / 17 ≡ i / 4 = omega arith in
+        let r : numberOf Quarter i % 17 ≡ 1 + i % 4 = omega arith in
+        rw e (not-among (firstMonthOf (numberOf Quarter i)) 3 (numberOf Quarter j) (λ l u. le-or-lt (j / 4) (i / 4) (λ q. omega arith) (λ q. omega arith)))
+not-child Month i j f b = absurd (omega arith)
