@@ -4,11 +4,12 @@ use mathlib.Core.Bool.{Bool, true, false, cond}
 use mathlib.Core.List.{List, [], _∷_, _++_, map, zipWith}
 use Prim.Native.Nat.{ℕ, zero, suc, _+_, _*_, _-_, _/_, _%_, _^_, _≤_, _<_}
 use native.Mathlib.Omega.{arith}
-use native.Mathlib.Nat.{add-zero}
+use native.Mathlib.Nat.{add-zero, suc-mul}
+use native.Mathlib.Numerals.{add-one}
 use lib.Dec.{eqb}
-use lib.ListN.{length, take, drop, getD}
-use lib.Seq.{length-take-le, getD-append-add, getD-drop, getD-take, ext-getD}
-use lib.IntN.{ℤ, pos, natAbs, _+ℤ_}
+use lib.ListN.{length, take, drop, getD, set}
+use lib.Seq.{take-suc, take-suc-set, length-take-le, getD-append-add, getD-drop, ext-getD}
+use lib.IntN.{ℤ, pos, natAbs, _+ℤ_, +ℤ-idr}
 use borrow.Author.Tests.{ne-eqb}
 use Rattle.arith.specs.Ints.{when}
 use Rattle.arith.specs.Lists.{any, from, over, kept}
@@ -24,7 +25,7 @@ use Rattle.rules.specs.HourLaws.{Cascading, year, quarter, cascading}
 use Rattle.rules.specs.CloseOfDay.{contractRows, addedTo, cascaded, allCascaded}
 use Rattle.rules.proofs.Cascade.{rowOf, rows-length, rows-at, put-length, put-row, sums, sums-length, cascaded-length, cascaded-row}
 use Rattle.tables.specs.Fit.{RowsFit}
-use Rattle.close_of_day.specs.Phases.{closes, mostRow}
+use Rattle.close_of_day.specs.Phases.{closes}
 
 -- ---- lists
 pub zip-take : {A : Type 0} (f : A → A → A) (n : ℕ) (xs ys : List A) → length xs ≤ n → zipWith f xs (take n ys) ≡ zipWith f xs ys
@@ -33,6 +34,16 @@ zip-take f n [] ys h = refl
 zip-take f zero (x ∷ xs) ys h = absurd (omega arith)
 zip-take f (suc n) (x ∷ xs) [] h = refl
 zip-take f (suc n) (x ∷ xs) (y ∷ ys) h = ap (λ r. f x y ∷ r) (zip-take f n xs ys (omega arith))
+
+pub zip-short : {A : Type 0} (f : A → A → A) (xs ys : List A) → length xs ≤ length ys → length (zipWith f xs ys) ≡ length xs
+unfolding zipWith
+zip-short f [] ys h = refl
+zip-short f (x ∷ xs) [] h = absurd (omega arith)
+zip-short f (x ∷ xs) (y ∷ ys) h = ap suc (zip-short f xs ys (omega arith))
+
+-- one more element copied
+pub take-more : {A : Type 0} (l s : List A) (i : ℕ) (z : A) → i < length l → i < length s → take i l ≡ take i s → take (i + 1) (set l i (getD s i z)) ≡ take (i + 1) s
+take-more l s i z h g e = rw (add-one, take-suc-set l i (getD s i z) h, take-suc s i z g, e)
 
 -- behind what is written so far stands what stood there
 pub front-rest : {A : Type 0} (n : ℕ) (s d : List A) (z : A) → n ≤ length s → getD (take n s ++ drop n d) n z ≡ getD d n z
@@ -99,3 +110,65 @@ not-child Quarter i j f b = go (cascading (numberOf Quarter i) (omega arith))
         let r : numberOf Quarter i % 17 ≡ 1 + i % 4 = omega arith in
         rw e (not-among (firstMonthOf (numberOf Quarter i)) 3 (numberOf Quarter j) (λ l u. le-or-lt (j / 4) (i / 4) (λ q. omega arith) (λ q. omega arith)))
 not-child Month i j f b = absurd (omega arith)
+
+pub number-below : (s : ContractKind) (i : ℕ) → i < sizeOf s → numberOf s i < 102
+number-below Year i h = omega arith
+number-below Quarter i h = omega arith
+number-below Month i h = omega arith
+
+pub number-parent : (s : ContractKind) (i : ℕ) → sizeOf s ≤ 24 → numberOf s i % 17 ≤ 4
+number-parent Year i h = omega arith
+number-parent Quarter i h = omega arith
+number-parent Month i h = absurd (omega arith)
+
+-- a cascade adds a parent's row to another at most once
+module _ (n c x b : ℕ) (l : List ℤ) (few : n ≤ 32) (below : c < 102) (parent : c % 17 ≤ 4) (fit : RowsFit n x l) where
+  pub cascade-fit : ((m : ℕ) → m < n → natAbs (rowOf l c m) ≤ b) → RowsFit n (x + b) (cascaded n c l)
+  cascade-fit h =
+      record {
+        long = omega (arith, cascaded-length n c l (fit .long) below few, fit .long);
+        within = λ d m u k. rw (cascaded-row n c l (fit .long) below few d m (omega arith) k)
+            (by-bool (λ t. natAbs (cond t (pos 0) (rowOf l d m +ℤ when (any (λ x. eqb x d) (childrenOf c)) (rowOf l c m))) ≤ x + b) (eqb c d)
+            (λ _. omega arith)
+            (λ _. omega (arith, abs-plus (rowOf l d m) (when (any (λ x. eqb x d) (childrenOf c)) (rowOf l c m)), abs-when (any (λ x. eqb x d) (childrenOf c)) (rowOf l c m), fit .within d m u k, h m k)));
+      }
+
+  pub cascade-other : (d m : ℕ) → m < n → any (λ x. eqb x d) (childrenOf c) ≡ false → natAbs (rowOf l d m) ≤ b → natAbs (rowOf (cascaded n c l) d m) ≤ b
+  cascade-other d m k e h =
+      rw (cascaded-row n c l (fit .long) below few d m (omega arith) k, e)
+      (by-bool (λ t. natAbs (cond t (pos 0) (rowOf l d m +ℤ pos 0)) ≤ b) (eqb c d) (λ _. omega arith) (λ _. rw (+ℤ-idr (rowOf l d m)) h))
+
+-- the first i contracts of a kind are done: no row has grown by more than one parent's for each
+pub record KindRun (n size b : ℕ) (s : ContractKind) (column : List ℕ) (all : List ℤ) (i : ℕ) (rows : List ℤ) : Type 0 where
+  pub most : i ≤ sizeOf s
+  pub same : length rows ≡ size
+  pub fit : RowsFit n ((i + 1) * b) rows
+  pub kind-fit : (j m : ℕ) → j < sizeOf s → m < n → natAbs (rowOf rows (numberOf s j) m) ≤ b
+  pub known : allCascaded n (kept (closes column) (map (numberOf s) (from i (sizeOf s - i)))) rows ≡ all
+
+module _ (n size b : ℕ) (s : ContractKind) (column : List ℕ) (all : List ℤ) (few : n ≤ 32) (parents : sizeOf s ≤ 24) where
+  pub kind-next : (i : ℕ) (rows : List ℤ) → i < sizeOf s → KindRun n size b s column all i rows
+      → KindRun n size b s column all (i + 1) (cond (closes column (numberOf s i)) (cascaded n (numberOf s i) rows) rows)
+  unfolding kept allCascaded
+  kind-next i rows h r =
+      let c = numberOf s i in
+      let below = number-below s i h in
+      let parent = number-parent s i parents in
+      let grown : (i + 1 + 1) * b ≡ (i + 1) * b + b = rw (add-one (i + 1), suc-mul (i + 1) b) in
+      let rest = map (numberOf s) (from (i + 1) (sizeOf s - (i + 1))) in
+      let known = rw (from-next i (sizeOf s) h) at (r .known) in
+      true-or (closes column c)
+      (λ e. rw e (record {
+        most = omega arith;
+        same = cascaded-length n c rows (r .fit .long) below few ∙ r .same;
+        fit = rw grown (cascade-fit n c ((i + 1) * b) b rows few below parent (r .fit) (λ m k. r .kind-fit i m h k));
+        kind-fit = λ j m u k. cascade-other n c ((i + 1) * b) b rows few below parent (r .fit) (numberOf s j) m k (not-child s i j parents below) (r .kind-fit j m u k);
+        known = rw e at known;
+      }))
+      (λ e. rw e (record {
+        most = omega arith;
+        same = r .same;
+        fit = record { long = r .fit .long; within = λ d m u k. omega (arith, grown, r .fit .within d m u k) };
+        kind-fit = r .kind-fit;
+        known = rw e at known;
+      }))

@@ -1,1 +1,4 @@
 pub mod Cascades
+pub mod Phases
+pub mod BestPrices
+pub mod Ggfs

@@ -1,2 +1,2 @@
 pub mod Phases
-pub mod Quotes
+pub mod Columns

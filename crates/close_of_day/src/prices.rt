@@ -8,7 +8,7 @@ ghost use Rattle.rules.specs.Ranges.{contractCount, mostPrice, mostLotsRun};
 ghost use Rattle.rules.specs.Ledger.{pricesLength, ggfPlace};
 ghost use Rattle.rules.specs.CloseOfDay.{roundedHalfUp, withoutDeals};
 ghost use Rattle.close_of_day.specs.Phases.{openIn};
-ghost use Rattle.close_of_day.specs.Quotes.{DealsFit, ColumnFit, quotedFrom, priceFrom, ggfFrom, ggfsFrom, allOpenIn};
+ghost use Rattle.close_of_day.specs.Columns.{DealsFit, ColumnFit, quotedFrom, priceFrom, ggfFrom, ggfsFrom, allOpenIn};
 use crate::contracts::CLOSED;
 use crate::contracts::contract_of;
 use crate::contracts::contracts_in;

@@ -6,7 +6,7 @@ ghost use lib.ListN.{length, getD, set, replicate};
 ghost use Rattle.rules.specs.Ranges.{contractCount, lastSecond};
 ghost use Rattle.rules.specs.Matching.{sameSide};
 ghost use Rattle.tables.specs.Fit.{ordersIn};
-ghost use Rattle.close_of_day.specs.Quotes.{QuotesFit, quotesAt, bestPrice, betterQuote};
+ghost use Rattle.close_of_day.specs.Columns.{QuotesFit, quotesAt, bestPrice, betterQuote};
 use rules::DayNo;
 use rules::Kurus;
 use rules::Order;

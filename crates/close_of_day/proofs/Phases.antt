@@ -1,0 +1,86 @@
+-- What a column of phases says: which contracts close on the day and which are open. Assumes nothing.
+use mathlib.Core.Path.{_≡_, refl, sym, ap, _∙_}
+use mathlib.Core.Bool.{Bool, cond}
+use mathlib.Core.List.{List, [], _∷_, _++_, map}
+use Prim.Native.Nat.{ℕ, zero, suc, _+_, _≤_, _<_}
+use native.Mathlib.Omega.{arith}
+use native.Mathlib.Nat.{zero-add}
+use lib.Dec.{eqb, ltb}
+use lib.ListN.{length, getD, length-map}
+use borrow.Author.Tests.{lt-ltb, le-ltb, le-leb, lt-leb, eq-eqb, ne-eqb}
+use Rattle.arith.specs.Alls.{All, all-map, all-append, all-kept}
+use Rattle.arith.specs.Lists.{from, kept}
+use Rattle.arith.specs.Tests.{true-or, le-or-lt, same-or}
+use Rattle.arith.proofs.Appends.{map-at, from-at, from-length}
+use Rattle.rules.specs.declared.contract.ContractKind.{ContractKind}
+use Rattle.rules.specs.declared.contract.ContractKind.the-variants.{Year, Quarter, Month}
+use Rattle.rules.specs.declared.units.Day.{Day}
+use Rattle.rules.specs.declared.units.Day.the-variants.{On, NoDay}
+use Rattle.rules.specs.Days.{Calendar}
+use Rattle.rules.specs.Contracts.{kindOf, termOf, sameKind, contractsOf, closingDay, closesOn, isOn, notBefore, stillToClose, openOfKind, openContracts}
+use Rattle.close_of_day.specs.Phases.{phaseOf, phases, closes, waits, openIn, closing}
+use Rattle.close_of_day.specs.Columns.{allOpenIn}
+
+-- ---- one contract
+phase-closes : (z : Day) (d : ℕ) → eqb (phaseOf z d) 1 ≡ isOn z d
+phase-closes (On x) d =
+    same-or (x .0) d (λ e. rw (eq-eqb (x .0) d e, le-ltb (x .0) d (omega arith)))
+    (λ e. le-or-lt d (x .0) (λ l. rw (ne-eqb (x .0) d e, le-ltb (x .0) d l)) (λ l. rw (ne-eqb (x .0) d e, lt-ltb (x .0) d l)))
+phase-closes NoDay d = refl
+
+phase-waits : (z : Day) (d : ℕ) → ltb 0 (phaseOf z d) ≡ notBefore z d
+phase-waits (On x) d =
+    same-or (x .0) d (λ e. rw (eq-eqb (x .0) d e, le-ltb (x .0) d (omega arith), le-leb d (x .0) (omega arith)))
+    (λ e. le-or-lt d (x .0) (λ l. rw (ne-eqb (x .0) d e, le-ltb (x .0) d l, le-leb d (x .0) l)) (λ l. rw (lt-ltb (x .0) d l, lt-leb d (x .0) l)))
+phase-waits NoDay d = refl
+
+module _ (k : Calendar) (d : ℕ) where
+  pub phases-length : length (phases k d) ≡ 102
+  unfolding phases
+  phases-length = length-map (from 0 102) (λ c. phaseOf (closingDay k c) d) ∙ from-length 0 102
+
+  pub phases-at : (c : ℕ) → c < 102 → getD (phases k d) c 0 ≡ phaseOf (closingDay k c) d
+  unfolding phases
+  phases-at c h =
+      map-at (λ c. phaseOf (closingDay k c) d) (from 0 102) c 0 0 (omega (arith, from-length 0 102))
+      ∙ ap (λ c. phaseOf (closingDay k c) d) (from-at 0 102 c 0 h ∙ zero-add c)
+
+  pub closes-is : (c : ℕ) → c < 102 → closes (phases k d) c ≡ closesOn k c d
+  closes-is c h = ap (λ x. eqb x 1) (phases-at c h) ∙ phase-closes (closingDay k c) d
+
+  waits-is : (c : ℕ) → c < 102 → waits (phases k d) c ≡ stillToClose k d (termOf c)
+  unfolding stillToClose
+  waits-is c h = ap (λ x. ltb 0 x) (phases-at c h) ∙ phase-waits (closingDay k c) d
+
+-- ---- all contracts
+all-from : (P : ℕ → Type 0) (a n : ℕ) → ((i : ℕ) → a ≤ i → i < a + n → P i) → All P (from a n)
+unfolding from
+all-from P a zero f = tt
+all-from P a (suc n) f = (f a (omega arith) (omega arith), all-from P (suc a) n (λ i l u. f i (omega arith) (omega arith)))
+
+pub listed : (P : ℕ → Type 0) → ((c : ℕ) → c < 102 → P c) → (s : ContractKind) → All P (contractsOf s)
+unfolding contractsOf
+listed P f s =
+    let test = λ (c : ℕ). sameKind (kindOf c) s in
+    all-map (λ c. P c × (test c ≡ _)) P (kept test (from 0 102)) (λ c h. h .0) (all-kept P test (from 0 102) (all-from P 0 102 (λ i l u. f i (omega arith))))
+
+kept-same : (p q : ℕ → Bool) (l : List ℕ) → All (λ c. p c ≡ q c) l → kept p l ≡ kept q l
+unfolding kept
+kept-same p q [] a = refl
+kept-same p q (x ∷ l) a = rw (a .0, kept-same p q l (a .1))
+
+module _ (k : Calendar) (d : ℕ) where
+  pub closing-is : closing (phases k d) ≡ kept (λ c. closesOn k c d) (contractsOf Year ++ (contractsOf Quarter ++ contractsOf Month))
+  unfolding closing
+  closing-is =
+      let same = listed (λ c. closes (phases k d) c ≡ closesOn k c d) (closes-is k d) in
+      kept-same (closes (phases k d)) (λ c. closesOn k c d) (contractsOf Year ++ (contractsOf Quarter ++ contractsOf Month))
+      (all-append _ (contractsOf Year) _ (same Year) (all-append _ (contractsOf Quarter) _ (same Quarter) (same Month)))
+
+  open-of-kind : (s : ContractKind) → openIn (phases k d) s ≡ openOfKind k d s
+  unfolding openIn openOfKind
+  open-of-kind s = rw (kept-same (waits (phases k d)) (λ c. stillToClose k d (termOf c)) (contractsOf s) (listed (λ c. waits (phases k d) c ≡ stillToClose k d (termOf c)) (waits-is k d) s))
+
+  pub open-is : allOpenIn (phases k d) ≡ openContracts k d
+  unfolding allOpenIn openContracts
+  open-is = rw (open-of-kind Year, open-of-kind Quarter, open-of-kind Month)
