@@ -1,15 +1,16 @@
 -- The best price that quotes, order by order. Assumes nothing.
 use mathlib.Core.Path.{_≡_, refl, sym, ap, _∙_}
 use mathlib.Core.Bool.{Bool, true, false, cond, _&&_, _||_}
-use mathlib.Core.List.{List, [], _∷_}
+use mathlib.Core.List.{List, [], _∷_, map}
 use mathlib.Core.Option.{Option, none, some}
-use Prim.Native.Nat.{ℕ, _≤_, _<_}
+use Prim.Native.Nat.{ℕ, zero, suc, _+_, _≤_, _<_}
 use native.Mathlib.Omega.{arith}
 use lib.Dec.{eqb, leb, ltb}
 use lib.ListN.{length, getD, set}
 use lib.Seq.{getD-set-same, getD-set-other}
 use borrow.Author.Tests.{lt-ltb, le-ltb, eq-eqb, ne-eqb}
 use Rattle.arith.specs.Alls.{All, all-map}
+use Rattle.arith.specs.Lists.{from}
 use Rattle.arith.specs.Tests.{never, by-bool, true-or, by-eqb, le-or-lt, same-or, and-left, and-right}
 use Rattle.rules.specs.declared.order.Order.{Order}
 use Rattle.rules.specs.declared.order.Side.{Side}
@@ -74,7 +75,7 @@ module _ (d s : ℕ) (side : Side) where
       → bestPrice d s side (o ∷ os) c ≡ cond (eqb (o .contract) c && quotesAt d s side o) (betterQuote side (o .price .0) (bestPrice d s side os c)) (bestPrice d s side os c)
   unfolding bestPrice best
   price-more o os c a =
-      let p = λ (o : Order). eqb (o .contract) c && quotesAt d s side o in
+      let p : Order → Bool = λ o. eqb (o .contract) c && quotesAt d s side o in
       let held = best-holds (λ b. (b .side ≡ side) × (1 ≤ b .price .0)) p os (all-map (λ o. 1 ≤ o .price .0) (λ o. p o ≡ true → (o .side ≡ side) × (1 ≤ o .price .0)) os (λ o l e. (quotes-side c o e, l)) a) in
       by-bool (λ t. quoteOf (cond t (better o (best p os)) (best p os)) ≡ cond t (betterQuote side (o .price .0) (quoteOf (best p os))) (quoteOf (best p os))) (p o)
       (λ _. quote-better side o (best p os) held) (λ _. refl)
@@ -103,9 +104,15 @@ module _ (d s : ℕ) (side : Side) where
   pub price-most : (os : List Order) (c : ℕ) → All (λ o. o .price .0 ≤ 1000000) os → bestPrice d s side os c ≤ 1000000
   unfolding bestPrice
   price-most os c a =
-      let p = λ (o : Order). eqb (o .contract) c && quotesAt d s side o in
+      let p : Order → Bool = λ o. eqb (o .contract) c && quotesAt d s side o in
       go (best p os) (best-holds (λ b. b .price .0 ≤ 1000000) p os (all-map (λ o. o .price .0 ≤ 1000000) (λ o. p o ≡ true → o .price .0 ≤ 1000000) os (λ o l e. l) a))
     where
       go : (x : Option Order) → Holds (λ b. b .price .0 ≤ 1000000) x → quoteOf x ≤ 1000000
       go none h = omega arith
       go (some b) h = h
+
+-- ---- what holds at each of some places
+pub all-from-place : (P : Order → Type 0) (f : ℕ → Order) (a n : ℕ) → ((i : ℕ) → a ≤ i → i < a + n → P (f i)) → All P (map f (from a n))
+unfolding from
+all-from-place P f a zero h = tt
+all-from-place P f a (suc n) h = (h a (omega arith) (omega arith), all-from-place P f (suc a) n (λ i l u. h i (omega arith) (omega arith)))

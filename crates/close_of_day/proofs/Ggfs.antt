@@ -5,6 +5,7 @@ use mathlib.Core.List.{List, [], _∷_, _++_}
 use mathlib.Core.Option.{Option, none, some}
 use Prim.Native.Nat.{ℕ, zero, suc, _+_, _*_, _-_, _≤_, _<_}
 use native.Mathlib.Omega.{arith}
+use native.Mathlib.Nat.{mul-le-mul}
 use lib.Dec.{eqb, leb, ltb}
 use lib.ListN.{length, getD, set, take, length-set}
 use lib.Seq.{getD-set-same, getD-set-other}
@@ -12,6 +13,8 @@ use borrow.Author.Tests.{ne-eqb, eq-eqb, lt-ltb, le-ltb, eqb-true}
 use Rattle.arith.specs.Alls.{All, all-map}
 use Rattle.arith.specs.Lists.{kept}
 use Rattle.arith.specs.Tests.{by-bool, true-or, same-or, by-eqb, never}
+use Rattle.rules.specs.declared.contract.ContractKind.{ContractKind}
+use Rattle.rules.specs.declared.contract.ContractKind.the-variants.{Year, Quarter, Month}
 use Rattle.rules.specs.declared.order.Order.{Order}
 use Rattle.rules.specs.declared.order.Side.{Side}
 use Rattle.rules.specs.declared.order.Side.the-variants.{Buy, Sell}
@@ -78,13 +81,22 @@ ggfs-are t s buys sells (c ∷ cs) l long below same =
     ∙ ap (λ p. withGgfs t s cs (set l (c * 5) p)) (same c (below .0))
 
 -- ---- the loop over a kind's contracts
-pub deals-set : (l : List ℕ) (c v : ℕ) → DealsFit l → DealsFit (set l (c * 5) v)
+deals-set : (l : List ℕ) (c v : ℕ) → DealsFit l → DealsFit (set l (c * 5) v)
 deals-set l c v d =
     record {
       long = rw (length-set l (c * 5) v) (d .long);
       most-lots = λ x h. rw (getD-set-other l (c * 5) (x * 5 + 3) v 0 (omega arith)) (d .most-lots x h);
       most-value = λ x h. rw (getD-set-other l (c * 5) (x * 5 + 4) v 0 (omega arith)) (d .most-value x h);
     }
+
+pub deals-if : (t : Bool) (l : List ℕ) (c v : ℕ) → DealsFit l → DealsFit (cond t (set l (c * 5) v) l)
+deals-if true l c v d = deals-set l c v d
+deals-if false l c v d = d
+
+pub deals-ggfs : (buys sells cs l : List ℕ) → DealsFit l → DealsFit (ggfsFrom buys sells cs l)
+unfolding ggfsFrom
+deals-ggfs buys sells [] l d = d
+deals-ggfs buys sells (c ∷ cs) l d = deals-ggfs buys sells cs (set l (c * 5) (ggfFrom buys sells l c)) (deals-set l c (ggfFrom buys sells l c) d)
 
 pub ggfs-append : (buys sells xs ys l : List ℕ) → ggfsFrom buys sells (xs ++ ys) l ≡ ggfsFrom buys sells ys (ggfsFrom buys sells xs l)
 unfolding ggfsFrom
@@ -95,5 +107,16 @@ ggfs-append buys sells (c ∷ xs) ys l = ggfs-append buys sells xs ys (set l (c 
 pub open-next : (buys sells l all : List ℕ) (w : ℕ → Bool) (more c : ℕ) (rest : List ℕ) → ggfsFrom buys sells (take more (kept w (c ∷ rest))) l ≡ all
     → ggfsFrom buys sells (take (cond (w c) (more - 1) more) (kept w rest)) (cond (w c && ltb 0 more) (set l (c * 5) (ggfFrom buys sells l c)) l) ≡ all
 unfolding ggfsFrom kept
-open-next buys sells l all w zero c rest e = true-or (w c) (λ t. rw t (rw t at e)) (λ t. rw t (rw t at e))
-open-next buys sells l all w (suc more) c rest e = true-or (w c) (λ t. rw (t, lt-ltb 0 (suc more) (omega arith)) (rw t at e)) (λ t. rw t (rw t at e))
+open-next buys sells l all w zero c rest e = true-or (w c) (λ t. rw t e) (λ t. rw t e)
+open-next buys sells l all w (suc more) c rest e =
+    let less : suc more - 1 ≡ more = omega arith in
+    true-or (w c) (λ t. rw (t, lt-ltb 0 (suc more) (omega arith), less) (rw t at e)) (λ t. rw t (rw t at e))
+
+pub least-threshold : (s : ContractKind) → 1 ≤ thresholdOf s
+least-threshold Year = omega arith
+least-threshold Quarter = omega arith
+least-threshold Month = omega arith
+
+-- no product passes its place
+pub quoted-most : (m b s : ℕ) → m ≤ 5000000 → b ≤ 1000000 → s ≤ 1000000 → m * (b + s) ≤ 10000000000000
+quoted-most m b s h g k = let both : b + s ≤ 2000000 = omega arith in mul-le-mul h both

@@ -2,3 +2,4 @@ pub mod Cascades
 pub mod Phases
 pub mod BestPrices
 pub mod Ggfs
+pub mod Blocks

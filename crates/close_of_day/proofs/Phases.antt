@@ -1,6 +1,6 @@
 -- What a column of phases says: which contracts close on the day and which are open. Assumes nothing.
 use mathlib.Core.Path.{_≡_, refl, sym, ap, _∙_}
-use mathlib.Core.Bool.{Bool, cond}
+use mathlib.Core.Bool.{Bool, true, cond}
 use mathlib.Core.List.{List, [], _∷_, _++_, map}
 use Prim.Native.Nat.{ℕ, zero, suc, _+_, _≤_, _<_}
 use native.Mathlib.Omega.{arith}
@@ -61,8 +61,8 @@ all-from P a (suc n) f = (f a (omega arith) (omega arith), all-from P (suc a) n 
 pub listed : (P : ℕ → Type 0) → ((c : ℕ) → c < 102 → P c) → (s : ContractKind) → All P (contractsOf s)
 unfolding contractsOf
 listed P f s =
-    let test = λ (c : ℕ). sameKind (kindOf c) s in
-    all-map (λ c. P c × (test c ≡ _)) P (kept test (from 0 102)) (λ c h. h .0) (all-kept P test (from 0 102) (all-from P 0 102 (λ i l u. f i (omega arith))))
+    let test : ℕ → Bool = λ c. sameKind (kindOf c) s in
+    all-map (λ c. P c × (test c ≡ true)) P (kept test (from 0 102)) (λ c h. h .0) (all-kept P test (from 0 102) (all-from P 0 102 (λ i l u. f i (omega arith))))
 
 kept-same : (p q : ℕ → Bool) (l : List ℕ) → All (λ c. p c ≡ q c) l → kept p l ≡ kept q l
 unfolding kept

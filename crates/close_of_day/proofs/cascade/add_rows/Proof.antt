@@ -45,10 +45,10 @@ add-child : tie.Need-add-child Inv-loop μ-loop
 add-child c =
     let a = c .before .before .before .before .args in
     let l = c .before .before .before .loop in
-    let sums = zipWith _+ℤ_ (a .child .now) (a .parent) in
-    let many = zip-short _+ℤ_ (a .child .now) (a .parent) (omega arith) in
+    let sums = zipWith _+ℤ_ (a .child .now) (a .t2) in
+    let many = zip-short _+ℤ_ (a .child .now) (a .t2) (omega arith) in
     let e : getD (l .child) (l .i) (pos 0) ≡ getD (a .child .now) (l .i) (pos 0) = rw (l .inv .2) (front-rest (l .i) sums (a .child .now) (pos 0) (omega arith)) in
-    add-ok (getD (l .child) (l .i) (pos 0)) (getD (a .parent) (l .i) (pos 0)) (rw e (c .before .before .before .before .pre .1 (l .i) (omega arith)))
+    add-ok (getD (l .child) (l .i) (pos 0)) (getD (a .t2) (l .i) (pos 0)) (rw e (c .before .before .before .before .pre .1 (l .i) (omega arith)))
 
 -- src/cascade.rt:47:9
 mul-t7 : tie.Need-mul-t7 Inv-loop μ-loop
@@ -72,11 +72,11 @@ loop-again c =
     let a = c .before .before .before .before .args in
     let l = c .before .before .before .loop in
     let x = getD (l .child) (l .i) (pos 0) in
-    let y = getD (a .parent) (l .i) (pos 0) in
-    let sums = zipWith _+ℤ_ (a .child .now) (a .parent) in
-    let many = zip-short _+ℤ_ (a .child .now) (a .parent) (omega arith) in
+    let y = getD (a .t2) (l .i) (pos 0) in
+    let sums = zipWith _+ℤ_ (a .child .now) (a .t2) in
+    let many = zip-short _+ℤ_ (a .child .now) (a .t2) (omega arith) in
     let e : x ≡ getD (a .child .now) (l .i) (pos 0) = rw (l .inv .2) (front-rest (l .i) sums (a .child .now) (pos 0) (omega arith)) in
-    let here = add-is x y (rw e (c .before .before .before .before .pre .1 (l .i) (omega arith))) ∙ ap (λ v. v +ℤ y) e ∙ sym (zip-at _+ℤ_ (a .child .now) (a .parent) (l .i) (pos 0) (omega arith) (omega arith)) in
+    let here = add-is x y (rw e (c .before .before .before .before .pre .1 (l .i) (omega arith))) ∙ ap (λ v. v +ℤ y) e ∙ sym (zip-at _+ℤ_ (a .child .now) (a .t2) (l .i) (pos 0) (omega arith) (omega arith)) in
     (omega arith, simp length-set (omega arith),
       ap (set (l .child) (l .i)) here ∙ ap (λ r. set r (l .i) (getD sums (l .i) (pos 0))) (l .inv .2) ∙ front-next (l .i) sums (a .child .now) (pos 0) (omega arith) (omega arith))
 
@@ -89,8 +89,8 @@ returns : tie.Need-returns Inv-loop μ-loop
 returns c =
     let a = c .before .before .args in
     let l = c .before .loop in
-    let many = zip-short _+ℤ_ (a .child .now) (a .parent) (omega arith) in
-    l .inv .2 ∙ front-end (l .i) (zipWith _+ℤ_ (a .child .now) (a .parent)) (a .child .now) (omega arith) (omega arith)
+    let many = zip-short _+ℤ_ (a .child .now) (a .t2) (omega arith) in
+    l .inv .2 ∙ front-end (l .i) (zipWith _+ℤ_ (a .child .now) (a .t2)) (a .child .now) (omega arith) (omega arith)
 
 pub add-rows-spec : {M : Type 1} → statement M
 add-rows-spec =

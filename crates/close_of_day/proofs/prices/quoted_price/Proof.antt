@@ -1,5 +1,5 @@
+use Rattle.close_of_day.proofs.Ggfs.{quoted-most}
 use native.Mathlib.Omega.{arith}
-use native.Mathlib.Nat.{mul-le-mul}
 use borrow.Author.Tests.{lt-ltb, le-ltb, eq-eqb, ne-eqb}
 use Rattle.close_of_day.specs.Columns.{quotedFrom}
 use borrow.Author.Needs.{needs}
@@ -24,11 +24,11 @@ mul-rounded c = search needs
 
 -- src/prices.rt:41:36
 mul-rounded-2 : tie.Need-mul-rounded-2
-mul-rounded-2 c = ?
+mul-rounded-2 c = let a = c .before .before .args in omega (arith, quoted-most (a .lots) (a .buy) (a .sell) (omega arith) (omega arith) (omega arith))
 
 -- src/prices.rt:41:24
 add-rounded : tie.Need-add-rounded
-add-rounded c = ?
+add-rounded c = let a = c .before .before .args in omega (arith, quoted-most (a .lots) (a .buy) (a .sell) (omega arith) (omega arith) (omega arith))
 
 -- src/prices.rt:41:49
 mul-rounded-3 : tie.Need-mul-rounded-3
@@ -36,7 +36,7 @@ mul-rounded-3 c = search needs
 
 -- src/prices.rt:41:9
 rounded-requires : tie.Need-rounded-requires
-rounded-requires c κs = search needs
+rounded-requires c κs = let a = c .before .before .args in let most = quoted-most (a .lots) (a .buy) (a .sell) (omega arith) (omega arith) (omega arith) in (omega arith, omega arith, omega arith)
 
 -- src/prices.rt:41:9
 returns-2 : tie.Need-returns-2

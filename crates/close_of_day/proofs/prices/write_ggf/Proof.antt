@@ -1,3 +1,10 @@
+use mathlib.Core.Path.{_≡_, sym, ap, _∙_}
+use Prim.Native.Nat.{_≤_}
+use native.Mathlib.Omega.{arith}
+use Rattle.rules.specs.declared.contract.ContractKind.{ContractKind}
+use Rattle.rules.specs.Contracts.{thresholdOf, kindOf}
+use Rattle.close_of_day.specs.Columns.{ggfFrom}
+use Rattle.close_of_day.proofs.Ggfs.{least-threshold}
 use borrow.Author.Needs.{needs}
 use Rattle.close_of_day.proofs.prices.write_ggf.Statement.{statement}
 use Rattle.close_of_day.proofs.prices.write_ggf.Tie as tie
@@ -73,7 +80,10 @@ shared-slice-read-reference-price-2 c = search needs
 
 -- src/prices.rt:63:9
 reference-price-requires : tie.Need-reference-price-requires
-reference-price-requires c κs = ?
+reference-price-requires c κs =
+    let a = c .before .before .before .before .before .before .before .before .before .before .args in
+    let h = c .before .before .before .before .before .before .before .before .before .before .pre .3 in
+    (rw (c .before .before .before .before .before .threshold .ensures) (least-threshold (c .before .before .before .before .before .before .kind-of .result)), c .before .before .before .before .before .before .before .before .before .before .pre .0 .most-lots (a .contract) h, c .before .before .before .before .before .before .before .before .before .before .pre .0 .most-value (a .contract) h, c .before .before .before .before .before .before .before .before .before .before .pre .1 .most (a .contract) h, c .before .before .before .before .before .before .before .before .before .before .pre .2 .most (a .contract) h)
 
 -- src/prices.rt:71:12
 add-prices : tie.Need-add-prices
@@ -93,7 +103,8 @@ same-length c = search needs
 
 -- src/prices.rt:56:1
 returns : tie.Need-returns
-returns c = ?
+unfolding ggfFrom
+returns c = rw (c .reference-price .ensures, c .before .before .before .before .before .before .threshold .ensures, c .before .before .before .before .before .before .before .kind-of .ensures)
 
 pub write-ggf-spec : {M : Type 1} → statement M
 write-ggf-spec =
