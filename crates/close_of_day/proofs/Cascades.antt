@@ -1,10 +1,10 @@
 -- The loops of the cascade, one turn at a time: no row comes near the end of its place. Assumes nothing.
-use mathlib.Core.Path.{_≡_, refl, sym, ap, _∙_}
+use mathlib.Core.Path.{_≡_, refl, sym, ap, subst, _∙_}
 use mathlib.Core.Bool.{Bool, true, false, cond}
 use mathlib.Core.List.{List, [], _∷_, _++_, map, zipWith}
 use Prim.Native.Nat.{ℕ, zero, suc, _+_, _*_, _-_, _/_, _%_, _^_, _≤_, _<_}
 use native.Mathlib.Omega.{arith}
-use native.Mathlib.Nat.{add-zero, suc-mul}
+use native.Mathlib.Nat.{add-zero, sub-zero, suc-mul}
 use native.Mathlib.Numerals.{add-one}
 use lib.Dec.{eqb}
 use lib.ListN.{length, take, drop, getD, set}
@@ -16,16 +16,17 @@ use Rattle.arith.specs.Lists.{any, from, over, kept}
 use Rattle.arith.specs.Among.{not-among}
 use Rattle.arith.specs.Sizes.{abs-plus, abs-when}
 use Rattle.arith.specs.Tests.{by-bool, true-or, le-or-lt}
-use Rattle.arith.proofs.Scans.{from-next}
+use Rattle.arith.proofs.Scans.{from-next, from-end}
+use Rattle.arith.proofs.Appends.{kept-append}
 use Rattle.rules.specs.declared.contract.ContractKind.{ContractKind}
 use Rattle.rules.specs.declared.contract.ContractKind.the-variants.{Year, Quarter, Month}
-use Rattle.rules.specs.Contracts.{childrenOf}
-use Rattle.rules.specs.CalendarLaws.{numberOf, sizeOf, firstMonthOf}
+use Rattle.rules.specs.Contracts.{childrenOf, contractsOf}
+use Rattle.rules.specs.CalendarLaws.{numberOf, sizeOf, firstMonthOf, contracts-of}
 use Rattle.rules.specs.HourLaws.{Cascading, year, quarter, cascading}
 use Rattle.rules.specs.CloseOfDay.{contractRows, addedTo, cascaded, allCascaded}
-use Rattle.rules.proofs.Cascade.{rowOf, rows-length, rows-at, put-length, put-row, sums, sums-length, cascaded-length, cascaded-row}
+use Rattle.rules.proofs.Cascade.{rowOf, rows-length, rows-at, put-length, put-row, sums, sums-length, cascaded-month, cascaded-length, cascaded-row}
 use Rattle.tables.specs.Fit.{RowsFit}
-use Rattle.close_of_day.specs.Phases.{closes}
+use Rattle.close_of_day.specs.Phases.{closes, closing}
 
 -- ---- lists
 pub zip-take : {A : Type 0} (f : A → A → A) (n : ℕ) (xs ys : List A) → length xs ≤ n → zipWith f xs (take n ys) ≡ zipWith f xs ys
@@ -172,3 +173,56 @@ module _ (n size b : ℕ) (s : ContractKind) (column : List ℕ) (all : List ℤ
         kind-fit = r .kind-fit;
         known = rw e at known;
       }))
+
+  pub kind-start : (rows : List ℤ) → length rows ≡ size → RowsFit n b rows → allCascaded n (kept (closes column) (contractsOf s)) rows ≡ all → KindRun n size b s column all 0 rows
+  kind-start rows same fit known =
+      let one : (0 + 1) * b ≡ b = omega arith in
+      record {
+        most = omega arith;
+        same = same;
+        fit = rw one fit;
+        kind-fit = λ j m u k. fit .within (numberOf s j) m (number-below s j u) k;
+        known = rw (contracts-of s, ← sub-zero (sizeOf s)) at known;
+      }
+
+  pub kind-end : (i : ℕ) (rows : List ℤ) → sizeOf s ≤ i → KindRun n size b s column all i rows → rows ≡ all
+  unfolding kept allCascaded
+  kind-end i rows h r = rw (from-end i (sizeOf s) h) at (r .known)
+
+  run-fit : (k i : ℕ) (rows : List ℤ) → i + k ≡ sizeOf s → KindRun n size b s column all i rows → RowsFit n ((sizeOf s + 1) * b) all
+  run-fit zero i rows e r =
+      let last : i ≡ sizeOf s = omega arith in
+      subst (RowsFit n ((sizeOf s + 1) * b)) (kind-end i rows (omega arith) r) (rw last at (r .fit))
+  run-fit (suc k) i rows e r = run-fit k (i + 1) _ (omega arith) (kind-next i rows (omega arith) r)
+
+-- after the contracts of a kind no row has grown by more than one parent's for each
+pub kind-fit-after : (n b : ℕ) (s : ContractKind) (column : List ℕ) (rows : List ℤ) → n ≤ 32 → sizeOf s ≤ 24 → RowsFit n b rows
+    → RowsFit n ((sizeOf s + 1) * b) (allCascaded n (kept (closes column) (contractsOf s)) rows)
+kind-fit-after n b s column rows few parents fit =
+    run-fit n (length rows) b s column _ few parents (sizeOf s) 0 rows (omega arith) (kind-start n (length rows) b s column _ few parents rows refl fit refl)
+
+-- ---- all closing contracts
+cascaded-append : (n : ℕ) (xs ys : List ℕ) (l : List ℤ) → allCascaded n (xs ++ ys) l ≡ allCascaded n ys (allCascaded n xs l)
+unfolding allCascaded
+cascaded-append n [] ys l = refl
+cascaded-append n (x ∷ xs) ys l = cascaded-append n xs ys (cascaded n x l)
+
+months-stay : (n : ℕ) (p : ℕ → Bool) (k i : ℕ) (l : List ℤ) → allCascaded n (kept p (map (numberOf Month) (from i k))) l ≡ l
+unfolding allCascaded kept from
+months-stay n p zero i l = refl
+months-stay n p (suc k) i l =
+    true-or (p (numberOf Month i)) (λ e. rw e (months-stay n p k (suc i) (cascaded n (numberOf Month i) l) ∙ cascaded-month n (numberOf Month i) l (omega arith))) (λ e. rw e (months-stay n p k (suc i) l))
+
+pub all-closed : (n : ℕ) (column : List ℕ) (rows : List ℤ)
+    → allCascaded n (closing column) rows ≡ allCascaded n (kept (closes column) (contractsOf Quarter)) (allCascaded n (kept (closes column) (contractsOf Year)) rows)
+unfolding closing
+all-closed n column rows =
+    let p = closes column in
+    rw (
+      kept-append p (contractsOf Year) (contractsOf Quarter ++ contractsOf Month),
+      kept-append p (contractsOf Quarter) (contractsOf Month),
+      cascaded-append n (kept p (contractsOf Year)) (kept p (contractsOf Quarter) ++ kept p (contractsOf Month)) rows,
+      cascaded-append n (kept p (contractsOf Quarter)) (kept p (contractsOf Month)) (allCascaded n (kept p (contractsOf Year)) rows),
+      contracts-of Month,
+    )
+    (months-stay n p 72 0 _)

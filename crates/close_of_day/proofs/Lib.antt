@@ -3,3 +3,4 @@ pub mod Phases
 pub mod BestPrices
 pub mod Ggfs
 pub mod Blocks
+pub mod Closes

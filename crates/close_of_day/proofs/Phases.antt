@@ -1,6 +1,6 @@
 -- What a column of phases says: which contracts close on the day and which are open. Assumes nothing.
 use mathlib.Core.Path.{_≡_, refl, sym, ap, _∙_}
-use mathlib.Core.Bool.{Bool, true, cond}
+use mathlib.Core.Bool.{Bool, true, cond, _&&_, _||_}
 use mathlib.Core.List.{List, [], _∷_, _++_, map}
 use Prim.Native.Nat.{ℕ, zero, suc, _+_, _≤_, _<_}
 use native.Mathlib.Omega.{arith}
@@ -9,8 +9,9 @@ use lib.Dec.{eqb, ltb}
 use lib.ListN.{length, getD, length-map}
 use borrow.Author.Tests.{lt-ltb, le-ltb, le-leb, lt-leb, eq-eqb, ne-eqb}
 use Rattle.arith.specs.Alls.{All, all-map, all-append, all-kept}
-use Rattle.arith.specs.Lists.{from, kept}
-use Rattle.arith.specs.Tests.{true-or, le-or-lt, same-or}
+use Rattle.arith.specs.Lists.{any, from, kept}
+use Rattle.arith.specs.Among.{by-among}
+use Rattle.arith.specs.Tests.{true-or, le-or-lt, same-or, and-true, and-false, any-append}
 use Rattle.arith.proofs.Appends.{map-at, from-at, from-length}
 use Rattle.rules.specs.declared.contract.ContractKind.{ContractKind}
 use Rattle.rules.specs.declared.contract.ContractKind.the-variants.{Year, Quarter, Month}
@@ -64,7 +65,7 @@ listed P f s =
     let test : ℕ → Bool = λ c. sameKind (kindOf c) s in
     all-map (λ c. P c × (test c ≡ true)) P (kept test (from 0 102)) (λ c h. h .0) (all-kept P test (from 0 102) (all-from P 0 102 (λ i l u. f i (omega arith))))
 
-kept-same : (p q : ℕ → Bool) (l : List ℕ) → All (λ c. p c ≡ q c) l → kept p l ≡ kept q l
+pub kept-same : {A : Type 0} (p q : A → Bool) (l : List A) → All (λ c. p c ≡ q c) l → kept p l ≡ kept q l
 unfolding kept
 kept-same p q [] a = refl
 kept-same p q (x ∷ l) a = rw (a .0, kept-same p q l (a .1))
@@ -84,3 +85,30 @@ module _ (k : Calendar) (d : ℕ) where
   pub open-is : allOpenIn (phases k d) ≡ openContracts k d
   unfolding allOpenIn openContracts
   open-is = rw (open-of-kind Year, open-of-kind Quarter, open-of-kind Month)
+
+-- ---- orders of closing contracts
+any-kept : (p : ℕ → Bool) (x : ℕ) (l : List ℕ) → any (λ c. eqb c x) (kept p l) ≡ p x && any (λ c. eqb c x) l
+unfolding any kept
+any-kept p x [] = sym (and-false (p x))
+any-kept p x (c ∷ l) =
+    same-or c x
+    (λ e. rw (e, eq-eqb x x refl) (true-or (p x) (λ t. rw (t, eq-eqb x x refl)) (λ t. rw t (any-kept p x l ∙ rw t))))
+    (λ e. rw (ne-eqb c x e) (true-or (p c) (λ t. rw (t, ne-eqb c x e) (any-kept p x l)) (λ t. rw t (any-kept p x l))))
+
+any-of-kind : (s : ContractKind) (x : ℕ) → x < 102 → any (λ c. eqb c x) (contractsOf s) ≡ sameKind (kindOf x) s
+unfolding contractsOf
+any-of-kind s x h =
+    any-kept (λ c. sameKind (kindOf c) s) x (from 0 102)
+    ∙ ap (λ t. sameKind (kindOf x) s && t) (by-among (λ t. t ≡ true) 0 102 x (λ l u. refl) (λ out. absurd (out (omega arith) (omega arith)))) ∙ and-true (sameKind (kindOf x) s)
+
+some-kind : (k : ContractKind) → sameKind k Year || (sameKind k Quarter || sameKind k Month) ≡ true
+some-kind Year = refl
+some-kind Quarter = refl
+some-kind Month = refl
+
+pub closing-order : (column : List ℕ) (x : ℕ) → x < 102 → any (λ c. eqb c x) (closing column) ≡ closes column x
+unfolding closing
+closing-order column x h =
+    any-kept (closes column) x (contractsOf Year ++ (contractsOf Quarter ++ contractsOf Month))
+    ∙ rw (any-append (λ c. eqb c x) (contractsOf Year) (contractsOf Quarter ++ contractsOf Month), any-append (λ c. eqb c x) (contractsOf Quarter) (contractsOf Month), any-of-kind Year x h, any-of-kind Quarter x h, any-of-kind Month x h, some-kind (kindOf x))
+    (and-true (closes column x))

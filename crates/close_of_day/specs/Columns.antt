@@ -11,9 +11,9 @@ use Rattle.rules.specs.declared.order.Order.{Order}
 use Rattle.rules.specs.declared.order.Side.{Side}
 use Rattle.rules.specs.Ranges.{contractCount, mostOrders, mostPrice, mostLotsRun, lastSecond}
 use Rattle.rules.specs.Contracts.{thresholdOf, kindOf}
-use Rattle.rules.specs.Ledger.{pricesLength, bookLength, ggfPlace, dayLotsPlace, dayValuePlace, orderAt}
+use Rattle.rules.specs.Ledger.{Tables, pricesLength, bookLength, ggfPlace, dayLotsPlace, dayValuePlace, orderAt}
 use Rattle.rules.specs.Matching.{sameSide, betterPrice, best}
-use Rattle.rules.specs.CloseOfDay.{enteredBefore, roundedHalfUp}
+use Rattle.rules.specs.CloseOfDay.{enteredBefore, roundedHalfUp, priced, closingContracts, withClosed, onDay}
 use Rattle.close_of_day.specs.Phases.{openIn}
 
 -- The order quotes for its contract at a close on day d at second s.
@@ -54,11 +54,12 @@ ggfsFrom buys sells (c ∷ cs) l = ggfsFrom buys sells cs (set l (ggfPlace c) (g
 unfoldable pub allOpenIn : List ℕ → List ℕ
 allOpenIn column = openIn column Year ++ (openIn column Quarter ++ openIn column Month)
 
--- Orders that can be read and compared.
-pub record QuotesFit (count : ℕ) (book : List ℕ) : Type 0 where
+-- Orders that can be read, each with lots.
+pub record BookReads (count : ℕ) (book : List ℕ) : Type 0 where
   pub most-orders : count ≤ mostOrders
   pub long : bookLength ≤ length book
   pub contract-below : (i : ℕ) → i < count → orderAt book i .contract < contractCount
+  pub least-lots : (i : ℕ) → i < count → 1 ≤ orderAt book i .lots .0
   pub least-price : (i : ℕ) → i < count → 1 ≤ orderAt book i .price .0
   pub most-price : (i : ℕ) → i < count → orderAt book i .price .0 ≤ mostPrice
   pub most-time : (i : ℕ) → i < count → orderAt book i .time ≤ lastSecond
@@ -73,3 +74,7 @@ pub record DealsFit (prices : List ℕ) : Type 0 where
 pub record ColumnFit (column : List ℕ) : Type 0 where
   pub all : length column ≡ contractCount
   pub most : (c : ℕ) → c < contractCount → getD column c 0 ≤ mostPrice
+
+-- The tables after an accepted close, on day d.
+unfoldable pub closed : ℕ → ℕ → Tables → Tables
+closed s d t = onDay d (withClosed (closingContracts t) (priced s t))

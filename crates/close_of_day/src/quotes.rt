@@ -6,7 +6,7 @@ ghost use lib.ListN.{length, getD, set, replicate};
 ghost use Rattle.rules.specs.Ranges.{contractCount, lastSecond};
 ghost use Rattle.rules.specs.Matching.{sameSide};
 ghost use Rattle.tables.specs.Fit.{ordersIn};
-ghost use Rattle.close_of_day.specs.Columns.{QuotesFit, quotesAt, bestPrice, betterQuote};
+ghost use Rattle.close_of_day.specs.Columns.{BookReads, quotesAt, bestPrice, betterQuote};
 use rules::DayNo;
 use rules::Kurus;
 use rules::Order;
@@ -75,7 +75,7 @@ fn note_quote(quotes: &mut [u64], o: Order, side: Side, day: DayNo, time: u64)
 
 // One pass over the book for all contracts, from the last order to the first.
 pub fn write_quotes(book: &[u64], count: usize, side: Side, day: DayNo, time: u64, quotes: &mut [u64])
-    requires { ⌜ QuotesFit count (now book) × (now quotes ≡ replicate contractCount 0) ⌝ }
+    requires { ⌜ BookReads count (now book) × (now quotes ≡ replicate contractCount 0) ⌝ }
     ensures { λ _. ⌜ ((c : ℕ) → c < contractCount → getD (now (quotes .exit)) c 0 ≡ bestPrice (day .0) time side (ordersIn count (now (book .entry))) c) ⌝ }
 {
     let mut i = count;

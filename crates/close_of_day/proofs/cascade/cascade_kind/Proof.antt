@@ -1,3 +1,4 @@
+use Rattle.close_of_day.proofs.Cascades.{kind-start, kind-end}
 use borrow.Author.Needs.{needs}
 use mathlib.Core.Path.{_≡_, refl}
 use Prim.Native.Nat.{_+_, _*_, _-_, _<_}
@@ -32,15 +33,8 @@ contracts-in-requires c κs = search needs
 -- src/cascade.rt:122:5
 loop-holds : tie.Need-loop-holds Inv-loop μ-loop
 loop-holds c =
-    let s = c .before .before .args .kind in
-    let fit = c .before .before .pre .0 .0 in
-    record {
-      most = omega arith;
-      same = refl;
-      fit = fit;
-      kind-fit = λ j m u k. fit .within (numberOf s j) m (number-below s j u) k;
-      known = rw (contracts-of s, sub-zero (sizeOf s));
-    }
+    let a = c .before .before .args in
+    kind-start (a .members) (length (a .rows .now)) (7 * mostRow) (a .kind) (a .column .now) _ (omega arith) (omega arith) (a .rows .now) refl (c .before .before .pre .0 .0) refl
 
 -- src/cascade.rt:123:24
 contract-of-requires : tie.Need-contract-of-requires Inv-loop μ-loop
@@ -85,11 +79,10 @@ same-length c = c .before .loop .inv .same
 
 -- src/cascade.rt:115:1
 returns : tie.Need-returns Inv-loop μ-loop
-unfolding kept allCascaded
 returns c =
+    let a = c .before .before .before .before .args in
     let l = c .before .loop in
-    let s = c .before .before .before .before .args .kind in
-    rw (from-end (l .i) (sizeOf s) (omega (arith, c .before .before .contracts-in .ensures))) at (l .inv .known)
+    kind-end (a .members) (length (a .rows .now)) (7 * mostRow) (a .kind) (a .column .now) _ (omega arith) (omega arith) (l .i) (l .rows) (omega (arith, c .before .before .contracts-in .ensures)) (l .inv)
 
 pub cascade-kind-spec : {M : Type 1} → statement M
 cascade-kind-spec =

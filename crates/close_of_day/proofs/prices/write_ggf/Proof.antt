@@ -1,5 +1,6 @@
 use mathlib.Core.Path.{_≡_, sym, ap, _∙_}
-use Prim.Native.Nat.{_≤_}
+use Prim.Native.Nat.{_*_, _≤_}
+use native.Mathlib.Nat.{add-zero}
 use native.Mathlib.Omega.{arith}
 use Rattle.rules.specs.declared.contract.ContractKind.{ContractKind}
 use Rattle.rules.specs.Contracts.{thresholdOf, kindOf}
@@ -104,7 +105,7 @@ same-length c = search needs
 -- src/prices.rt:56:1
 returns : tie.Need-returns
 unfolding ggfFrom
-returns c = rw (c .reference-price .ensures, c .before .before .before .before .before .before .threshold .ensures, c .before .before .before .before .before .before .before .kind-of .ensures)
+returns c = rw (c .reference-price .ensures, c .before .before .before .before .before .before .threshold .ensures, c .before .before .before .before .before .before .before .kind-of .ensures, add-zero (c .before .before .before .before .before .before .before .before .before .before .before .args .contract * 5))
 
 pub write-ggf-spec : {M : Type 1} → statement M
 write-ggf-spec =

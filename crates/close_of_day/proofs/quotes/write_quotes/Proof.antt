@@ -30,7 +30,7 @@ loop-holds : tie.Need-loop-holds Inv-loop μ-loop
 loop-holds c =
     let a = c .before .before .args in
     let n = a .count in
-    (omega arith, rw (c .before .before .pre .1) (length-replicate {A = ℕ} 102 0), λ c h. rw (c .before .before .pre .1, getD-replicate 102 c 0 0 h, from-end n n (omega arith)) (sym (quotes-none (a .day .0) (a .time) (a .side) c)))
+    (omega arith, rw (c .before .before .pre .1) (length-replicate {A = ℕ} 102 0), λ x h. rw (c .before .before .pre .1, getD-replicate {A = ℕ} 102 x 0 0 h, from-end n n (omega arith)) (sym (quotes-none (a .day .0) (a .time) (a .side) x)))
 
 -- src/quotes.rt:83:9
 sub-i : tie.Need-sub-i Inv-loop μ-loop

@@ -1,0 +1,76 @@
+-- What undamaged tables give the parts of a close, and the parts put together. Assumes nothing.
+use mathlib.Core.Path.{_≡_, refl, sym, ap, _∙_}
+use mathlib.Core.Bool.{Bool, true, not}
+use mathlib.Core.List.{List, [], _∷_, _++_, map}
+use Prim.Native.Nat.{ℕ, zero, suc, _+_, _*_, _≤_, _<_}
+use native.Mathlib.Omega.{arith}
+use lib.ListN.{length, getD, take}
+use lib.Dec.{eqb}
+use Rattle.arith.specs.Alls.{All, all-map, all-append, all-kept}
+use Rattle.arith.specs.Lists.{from, kept}
+use Rattle.rules.specs.declared.contract.ContractKind.{ContractKind}
+use Rattle.rules.specs.declared.contract.ContractKind.the-variants.{Year, Quarter, Month}
+use Rattle.rules.specs.declared.order.Order.{Order}
+use Rattle.rules.specs.declared.order.Side.the-variants.{Buy, Sell}
+use Rattle.rules.specs.Contracts.{contractsOf}
+use Rattle.rules.specs.Ledger.{Tables, day, calendar, orders, orderAt}
+use Rattle.rules.specs.CloseOfDay.{priced, withoutDeals, isOfAny}
+use Rattle.tables.specs.Fit.{HeadFit, PricesFit, BookFit, orderCountIn, lotsRunIn, ordersIn}
+use Rattle.tables.proofs.Left.{all-orders}
+use Rattle.close_of_day.specs.Phases.{phases, waits, closes, closing, openIn}
+use Rattle.close_of_day.specs.Columns.{BookReads, DealsFit, bestPrice, ggfsFrom, allOpenIn}
+use Rattle.close_of_day.proofs.Ggfs.{ggf-is, ggfs-are}
+use Rattle.close_of_day.proofs.Phases.{listed, kept-same, closing-order, open-is}
+
+-- ---- undamaged tables
+pub book-reads : (head book : List ℕ) → HeadFit head → BookFit head book → BookReads (orderCountIn head) book
+book-reads head book h b =
+    record {
+      most-orders = h .most-orders;
+      long = b .long;
+      contract-below = λ i k. b .order-fit i k .contract-below;
+      least-lots = λ i k. b .order-fit i k .least-lots;
+      least-price = λ i k. b .order-fit i k .least-price;
+      most-price = λ i k. b .order-fit i k .most-price;
+      most-time = λ i k. b .order-fit i k .most-time;
+    }
+
+pub deals-fit : (head prices : List ℕ) → HeadFit head → PricesFit (lotsRunIn head) prices → DealsFit prices
+deals-fit head prices h p =
+    record {
+      long = p .long;
+      most-lots = λ c k. omega (arith, p .contract-fit c k .most-day-lots, h .most-run);
+      most-value = λ c k. omega (arith, p .contract-fit c k .most-day-value, p .contract-fit c k .most-day-lots, h .most-run);
+    }
+
+-- ---- prices
+all-take : (P : ℕ → Type 0) (n : ℕ) (l : List ℕ) → All P l → All P (take n l)
+all-take P zero l a = tt
+all-take P (suc n) [] a = tt
+all-take P (suc n) (x ∷ l) a = (a .0, all-take P n l (a .1))
+
+open-below : (column : List ℕ) → All (λ c. c < 102) (allOpenIn column)
+unfolding allOpenIn openIn
+open-below column = all-append _ (openIn column Year) _ (of Year) (all-append _ (openIn column Quarter) _ (of Quarter) (of Month))
+  where
+    of : (s : ContractKind) → All (λ c. c < 102) (openIn column s)
+    of s =
+        all-take (λ c. c < 102) _ (kept (waits column) (contractsOf s))
+        (all-map (λ c. (c < 102) × (waits column c ≡ true)) (λ c. c < 102) (kept (waits column) (contractsOf s)) (λ c h. h .0) (all-kept (λ c. c < 102) (waits column) (contractsOf s) (listed (λ c. c < 102) (λ c h. h) s)))
+
+pub priced-is : (t : Tables) (s : ℕ) (buys sells : List ℕ) → 510 ≤ length (t .prices) → All (λ o. 1 ≤ o .price .0) (orders t)
+    → ((c : ℕ) → c < 102 → getD buys c 0 ≡ bestPrice (day t) s Buy (orders t) c) → ((c : ℕ) → c < 102 → getD sells c 0 ≡ bestPrice (day t) s Sell (orders t) c)
+    → withoutDeals (ggfsFrom buys sells (allOpenIn (phases (calendar t) (day t))) (t .prices)) ≡ priced s t .prices
+unfolding priced
+priced-is t s buys sells long priced-orders e f =
+    let column = phases (calendar t) (day t) in
+    ap withoutDeals (ggfs-are t s buys sells (allOpenIn column) (t .prices) long (open-below column) (λ c h. ggf-is t s priced-orders buys sells c (e c h) (f c h)))
+    ∙ rw (open-is (calendar t) (day t))
+
+-- ---- orders
+pub orders-closed : (column book : List ℕ) (n : ℕ) → BookReads n book
+    → kept (λ o. not (isOfAny (closing column) o)) (ordersIn n book) ≡ kept (λ o. not (closes column (o .contract))) (ordersIn n book)
+unfolding isOfAny
+orders-closed column book n r =
+    kept-same (λ o. not (isOfAny (closing column) o)) (λ o. not (closes column (o .contract))) (ordersIn n book)
+    (all-orders (λ o. not (isOfAny (closing column) o) ≡ not (closes column (o .contract))) book n (λ i h. ap not (closing-order column (orderAt book i .contract) (r .contract-below i h))))
