@@ -5,22 +5,22 @@ use mathlib.Core.List.{List, [], _∷_, _++_, map}
 use Prim.Native.Nat.{ℕ, zero, suc, _+_, _*_, _≤_, _<_}
 use native.Mathlib.Omega.{arith}
 use lib.ListN.{length, getD, take}
-use lib.Dec.{eqb}
+use lib.IntN.{ℤ}
 use Rattle.arith.specs.Alls.{All, all-map, all-append, all-kept}
 use Rattle.arith.specs.Lists.{from, kept}
 use Rattle.rules.specs.declared.contract.ContractKind.{ContractKind}
 use Rattle.rules.specs.declared.contract.ContractKind.the-variants.{Year, Quarter, Month}
 use Rattle.rules.specs.declared.order.Order.{Order}
 use Rattle.rules.specs.declared.order.Side.the-variants.{Buy, Sell}
-use Rattle.rules.specs.Contracts.{contractsOf}
-use Rattle.rules.specs.Ledger.{Tables, day, calendar, orders, orderAt}
-use Rattle.rules.specs.CloseOfDay.{priced, withoutDeals, isOfAny}
+use Rattle.rules.specs.Contracts.{openCount, contractsOf}
+use Rattle.rules.specs.Ledger.{Tables, withPrices, withRows, members, day, calendar, orderCount, orders, withOrders, orderAt}
+use Rattle.rules.specs.CloseOfDay.{priced, withoutDeals, closingContracts, allCascaded, isOfAny, withClosed, onDay}
 use Rattle.tables.specs.Fit.{HeadFit, PricesFit, BookFit, orderCountIn, lotsRunIn, ordersIn}
 use Rattle.tables.proofs.Left.{all-orders}
 use Rattle.close_of_day.specs.Phases.{phases, waits, closes, closing, openIn}
-use Rattle.close_of_day.specs.Columns.{BookReads, DealsFit, bestPrice, ggfsFrom, allOpenIn}
+use Rattle.close_of_day.specs.Columns.{BookReads, DealsFit, bestPrice, ggfsFrom, allOpenIn, closed}
 use Rattle.close_of_day.proofs.Ggfs.{ggf-is, ggfs-are}
-use Rattle.close_of_day.proofs.Phases.{listed, kept-same, closing-order, open-is}
+use Rattle.close_of_day.proofs.Phases.{listed, kept-same, closing-order, closing-is, open-is}
 
 -- ---- undamaged tables
 pub book-reads : (head book : List ℕ) → HeadFit head → BookFit head book → BookReads (orderCountIn head) book
@@ -51,11 +51,13 @@ all-take P (suc n) (x ∷ l) a = (a .0, all-take P n l (a .1))
 
 open-below : (column : List ℕ) → All (λ c. c < 102) (allOpenIn column)
 unfolding allOpenIn openIn
-open-below column = all-append _ (openIn column Year) _ (of Year) (all-append _ (openIn column Quarter) _ (of Quarter) (of Month))
+open-below column =
+    all-append (λ c. c < 102) (openIn column Year) (openIn column Quarter ++ openIn column Month) (of Year)
+    (all-append (λ c. c < 102) (openIn column Quarter) (openIn column Month) (of Quarter) (of Month))
   where
     of : (s : ContractKind) → All (λ c. c < 102) (openIn column s)
     of s =
-        all-take (λ c. c < 102) _ (kept (waits column) (contractsOf s))
+        all-take (λ c. c < 102) (openCount s) (kept (waits column) (contractsOf s))
         (all-map (λ c. (c < 102) × (waits column c ≡ true)) (λ c. c < 102) (kept (waits column) (contractsOf s)) (λ c h. h .0) (all-kept (λ c. c < 102) (waits column) (contractsOf s) (listed (λ c. c < 102) (λ c h. h) s)))
 
 pub priced-is : (t : Tables) (s : ℕ) (buys sells : List ℕ) → 510 ≤ length (t .prices) → All (λ o. 1 ≤ o .price .0) (orders t)
@@ -74,3 +76,11 @@ unfolding isOfAny
 orders-closed column book n r =
     kept-same (λ o. not (isOfAny (closing column) o)) (λ o. not (closes column (o .contract))) (ordersIn n book)
     (all-orders (λ o. not (isOfAny (closing column) o) ≡ not (closes column (o .contract))) book n (λ i h. ap not (closing-order column (orderAt book i .contract) (r .contract-below i h))))
+
+-- ---- the parts put together
+pub closed-is : (u : Tables) (s d : ℕ) (prices : List ℕ) (lots value : List ℤ) → BookReads (orderCount u) (u .book) → prices ≡ priced s u .prices
+    → lots ≡ allCascaded (members u) (closing (phases (calendar u) (day u))) (u .lots) → value ≡ allCascaded (members u) (closing (phases (calendar u) (day u))) (u .value)
+    → onDay d (withOrders (kept (λ o. not (closes (phases (calendar u) (day u)) (o .contract))) (orders u)) (withPrices prices (withRows lots value u))) ≡ closed s d u
+unfolding closed withClosed priced closingContracts orders withOrders
+closed-is u s d prices lots value r ep el ev =
+    rw (ep, el, ev, ← orders-closed (phases (calendar u) (day u)) (u .book) (orderCount u) r, closing-is (calendar u) (day u))

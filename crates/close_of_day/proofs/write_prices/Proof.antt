@@ -74,12 +74,14 @@ returns : tie.Need-returns
 unfolding priced orders
 returns c =
     let a = c .before .before .before .before .before .before .before .before .before .before .before .before .before .before .before .before .before .before .before .before .before .before .args in
+    let buys = c .before .before .before .before .before .before .before .before .before .before .before .before .before .before .write-quotes .last .1 .1 .1 .1 .1 .0 in
+    let sells = c .before .before .before .before .before .before .before .before .before .before .before .write-quotes2 .last .1 .1 .1 .1 .1 .0 in
     λ t.
     let u = withHead (a .head .now) (withPrices (a .prices .now) (withBook (a .book .now) t)) in
     let least = all-orders (λ o. 1 ≤ o .price .0) (a .book .now) (getD (a .head .now) 7 0) (λ i h. c .before .before .before .before .before .before .before .before .before .before .before .before .before .before .before .before .before .before .before .before .before .before .pre .0 .2 .order-fit i h .least-price) in
     ap (λ p. withPrices p u)
-    (c .before .before .clear-deals .ensures ∙ ap withoutDeals (c .before .before .before .before .before .before .write-ggfs .ensures ∙ ap (λ k. ggfsFrom _ _ (allOpenIn k) (a .prices .now)) (c .before .before .before .before .before .before .before .before .before .before .before .before .before .before .before .before .before .before .before .before .before .before .pre .1))
-    ∙ priced-is u (a .time) _ _ (c .before .before .before .before .before .before .before .before .before .before .before .before .before .before .before .before .before .before .before .before .before .before .pre .0 .1 .long) least (c .before .before .before .before .before .before .before .before .before .before .before .before .before .before .write-quotes .ensures) (c .before .before .before .before .before .before .before .before .before .before .before .write-quotes2 .ensures))
+    (c .before .before .clear-deals .ensures ∙ ap withoutDeals (c .before .before .before .before .before .before .write-ggfs .ensures ∙ ap (λ k. ggfsFrom buys sells (allOpenIn k) (a .prices .now)) (c .before .before .before .before .before .before .before .before .before .before .before .before .before .before .before .before .before .before .before .before .before .before .pre .1))
+    ∙ priced-is u (a .time) buys sells (c .before .before .before .before .before .before .before .before .before .before .before .before .before .before .before .before .before .before .before .before .before .before .pre .0 .1 .long) least (c .before .before .before .before .before .before .before .before .before .before .before .before .before .before .write-quotes .ensures) (c .before .before .before .before .before .before .before .before .before .before .before .write-quotes2 .ensures))
 
 pub write-prices-spec : {M : Type 1} → statement M
 write-prices-spec =
