@@ -1,10 +1,11 @@
 -- What undamaged tables give the parts of a close, and the parts put together. Assumes nothing.
 use mathlib.Core.Path.{_≡_, refl, sym, ap, _∙_}
-use mathlib.Core.Bool.{Bool, true, not}
+use mathlib.Core.Bool.{Bool, true, false, not}
 use mathlib.Core.List.{List, [], _∷_, _++_, map}
 use Prim.Native.Nat.{ℕ, zero, suc, _+_, _*_, _≤_, _<_}
 use native.Mathlib.Omega.{arith}
 use lib.ListN.{length, getD, take}
+use borrow.Author.Tests.{le-ltb}
 use lib.IntN.{ℤ}
 use Rattle.arith.specs.Alls.{All, all-map, all-append, all-kept}
 use Rattle.arith.specs.Lists.{from, kept}
@@ -12,9 +13,14 @@ use Rattle.rules.specs.declared.contract.ContractKind.{ContractKind}
 use Rattle.rules.specs.declared.contract.ContractKind.the-variants.{Year, Quarter, Month}
 use Rattle.rules.specs.declared.order.Order.{Order}
 use Rattle.rules.specs.declared.order.Side.the-variants.{Buy, Sell}
+use Rattle.rules.specs.declared.answer.Answer.the-variants.{Accepted, NoLaterDay}
+use Rattle.rules.specs.declared.units.DayNo.{DayNo}
+use Rattle.rules.specs.declared.units.Day.the-variants.{On, NoDay}
+use Rattle.rules.specs.Days.{nextBusinessDay}
 use Rattle.rules.specs.Contracts.{openCount, contractsOf}
-use Rattle.rules.specs.Ledger.{Tables, withPrices, withRows, members, day, calendar, orderCount, orders, withOrders, orderAt}
-use Rattle.rules.specs.CloseOfDay.{priced, withoutDeals, closingContracts, allCascaded, isOfAny, withClosed, onDay}
+use Rattle.rules.specs.Ledger.{Tables, withPrices, withRows, members, day, time, calendar, orderCount, orders, withOrders, orderAt}
+use Rattle.rules.specs.CloseOfDay.{priced, withoutDeals, closingContracts, allCascaded, isOfAny, withClosed, onDay, hasNextDay, nextDay, closeBooked}
+use Rattle.rules.specs.Refusals.{closeSpec}
 use Rattle.tables.specs.Fit.{HeadFit, PricesFit, BookFit, orderCountIn, lotsRunIn, ordersIn}
 use Rattle.tables.proofs.Left.{all-orders}
 use Rattle.close_of_day.specs.Phases.{phases, waits, closes, closing, openIn}
@@ -84,3 +90,25 @@ pub closed-is : (u : Tables) (s d : ℕ) (prices : List ℕ) (lots value : List 
 unfolding closed withClosed priced closingContracts orders withOrders
 closed-is u s d prices lots value r ep el ev =
     rw (ep, el, ev, ← orders-closed (phases (calendar u) (day u)) (u .book) (orderCount u) r, closing-is (calendar u) (day u))
+
+-- ---- the causes
+module _ (t : Tables) where
+  no-next : nextBusinessDay (calendar t) (day t) ≡ NoDay → hasNextDay t ≡ false
+  unfolding hasNextDay
+  no-next e = ap (λ z. elim z [ On d ↦ true | NoDay ↦ false ]) e
+
+  has-next : (d : DayNo) → nextBusinessDay (calendar t) (day t) ≡ On d → hasNextDay t ≡ true
+  unfolding hasNextDay
+  has-next d e = ap (λ z. elim z [ On x ↦ true | NoDay ↦ false ]) e
+
+  next-is : (d : DayNo) → nextBusinessDay (calendar t) (day t) ≡ On d → nextDay t ≡ d .0
+  unfolding nextDay
+  next-is d e = ap (λ z. elim z [ On x ↦ x .0 | NoDay ↦ day t ]) e
+
+  pub close-last : (s : ℕ) → time t ≤ s → nextBusinessDay (calendar t) (day t) ≡ NoDay → closeSpec t s ≡ record { answer = NoLaterDay; after = t }
+  unfolding closeSpec
+  close-last s h e = rw (le-ltb s (time t) h, no-next e)
+
+  pub close-next : (s : ℕ) (d : DayNo) → time t ≤ s → nextBusinessDay (calendar t) (day t) ≡ On d → closeSpec t s ≡ record { answer = Accepted 0; after = closed s (d .0) t }
+  unfolding closeSpec closeBooked closed
+  close-next s d h e = rw (le-ltb s (time t) h, has-next d e, next-is d e)

@@ -72,7 +72,14 @@ fn write_ggf(prices: &mut [u64], buys: &[u64], sells: &[u64], contract: usize)
 }
 
 // A contract that is still to close is open while fewer than its kind's count are; the answer is how many more can be.
-fn write_if_open(prices: &mut [u64], buys: &[u64], sells: &[u64], contract: usize, phase: u64, more: u64) -> u64
+fn write_if_open(
+    prices: &mut [u64],
+    buys: &[u64],
+    sells: &[u64],
+    contract: usize,
+    phase: u64,
+    more: u64,
+) -> u64
     requires { ⌜ DealsFit (now prices) × ColumnFit (now buys) × ColumnFit (now sells) × (contract < contractCount) ⌝ }
     ensures { λ r. ⌜ r ≡ cond (ltb 0 phase) (more - 1) more ⌝ }
     ensures { λ _. ⌜ now (prices .exit)
@@ -88,7 +95,13 @@ fn write_if_open(prices: &mut [u64], buys: &[u64], sells: &[u64], contract: usiz
     more - 1
 }
 
-fn write_kind_ggfs(prices: &mut [u64], column: &[u64], buys: &[u64], sells: &[u64], kind: ContractKind)
+fn write_kind_ggfs(
+    prices: &mut [u64],
+    column: &[u64],
+    buys: &[u64],
+    sells: &[u64],
+    kind: ContractKind,
+)
     requires { ⌜ DealsFit (now prices) × ColumnFit (now buys) × ColumnFit (now sells) × (length (now column) ≡ contractCount) ⌝ }
     ensures { λ _. ⌜ now (prices .exit) ≡ ggfsFrom (now (buys .entry)) (now (sells .entry)) (openIn (now (column .entry)) kind) (now (prices .entry)) ⌝ }
 {

@@ -74,7 +74,14 @@ fn note_quote(quotes: &mut [u64], o: Order, side: Side, day: DayNo, time: u64)
 }
 
 // One pass over the book for all contracts, from the last order to the first.
-pub fn write_quotes(book: &[u64], count: usize, side: Side, day: DayNo, time: u64, quotes: &mut [u64])
+pub fn write_quotes(
+    book: &[u64],
+    count: usize,
+    side: Side,
+    day: DayNo,
+    time: u64,
+    quotes: &mut [u64],
+)
     requires { ⌜ BookReads count (now book) × (now quotes ≡ replicate contractCount 0) ⌝ }
     ensures { λ _. ⌜ ((c : ℕ) → c < contractCount → getD (now (quotes .exit)) c 0 ≡ bestPrice (day .0) time side (ordersIn count (now (book .entry))) c) ⌝ }
 {

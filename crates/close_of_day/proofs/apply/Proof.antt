@@ -1,11 +1,11 @@
+use Rattle.rules.specs.Ledger.{Tables, withHead, withPrices, withRows, withBook}
+use Rattle.close_of_day.proofs.Closes.{close-last, close-next}
 use mathlib.Core.Path.{_≡_, refl, sym, ap, _∙_}
 use Prim.Native.Nat.{_+_, _-_}
 use native.Mathlib.Omega.{arith}
 use lib.ListN.{getD}
 use borrow.Author.Tests.{lt-ltb, le-ltb}
-use Rattle.rules.specs.CloseOfDay.{hasNextDay, nextDay, closeBooked}
 use Rattle.rules.specs.Refusals.{closeSpec}
-use Rattle.close_of_day.specs.Columns.{closed}
 use borrow.Author.Needs.{needs}
 use Rattle.close_of_day.proofs.apply.Statement.{statement}
 use Rattle.close_of_day.proofs.apply.Tie as tie
@@ -89,13 +89,14 @@ same-length-5 c = search needs
 
 -- src/lib.rt:98:1
 returns-2 : tie.Need-returns-2
-unfolding closeSpec closeBooked hasNextDay nextDay closed
 returns-2 c =
     let a = c .before .before .before .before .before .before .before .before .before .before .before .before .before .before .before .before .before .before .before .before .before .before .before .before .before .before .before .args in
     let h = a .head .now in
     let cut : 8 + getD h 2 0 - 8 ≡ getD h 2 0 = omega arith in
     let found = rw cut at (sym (c .before .before .before .before .before .before .before .before .before .before .before .before .before .before .before .before .before .next-business-day .ensures) ∙ c .before .before .before .before .before .before .before .before .before .before .before .before .before .before .before .next .given .1) in
-    λ t. rw (le-ltb (a .time) (getD h 4 0) (c .before .before .before .before .before .before .before .before .before .before .before .before .before .before .before .before .before .before .before .before .before .before .if1 .left), found, c .before .before .before .before .before .before .before .before .close .ensures t)
+    λ t.
+    let u = withHead h (withPrices (a .prices .now) (withRows (a .lots .now) (a .value .now) (withBook (a .book .now) t))) in
+    rw (c .before .before .before .before .before .before .before .before .close .ensures t) (sym (close-next u (a .time) _ (c .before .before .before .before .before .before .before .before .before .before .before .before .before .before .before .before .before .before .before .before .before .before .if1 .left) found))
 
 -- src/lib.rt:98:1
 same-length-6 : tie.Need-same-length-6
@@ -103,13 +104,14 @@ same-length-6 c = search needs
 
 -- src/lib.rt:98:1
 returns-3 : tie.Need-returns-3
-unfolding closeSpec hasNextDay
 returns-3 c =
     let a = c .before .before .before .before .before .before .before .before .before .before .before .before .args in
     let h = a .head .now in
     let cut : 8 + getD h 2 0 - 8 ≡ getD h 2 0 = omega arith in
-    let found = rw cut at (sym (c .before .before .next-business-day .ensures) ∙ c .enum-told .given .1) in
-    λ t. rw (le-ltb (a .time) (getD h 4 0) (c .before .before .before .before .before .before .before .if1 .left), found)
+    let none = rw cut at (sym (c .before .before .next-business-day .ensures) ∙ c .enum-told .given .1) in
+    λ t.
+    let u = withHead h (withPrices (a .prices .now) (withRows (a .lots .now) (a .value .now) (withBook (a .book .now) t))) in
+    sym (close-last u (a .time) (c .before .before .before .before .before .before .before .if1 .left) none)
 
 pub apply-spec : {M : Type 1} → statement M
 apply-spec =

@@ -55,11 +55,12 @@ write-ggfs-requires : tie.Need-write-ggfs-requires
 write-ggfs-requires c κs =
     let a = c .before .before .before .before .before .before .before .before .before .before .before .before .before .before .before .args in
     let n = getD (a .head .now) 7 0 in
-    let most = all-orders (λ o. o .price .0 ≤ 1000000) (a .book .now) n (λ i h. c .before .before .before .before .before .before .before .before .before .before .before .before .before .before .before .pre .0 .2 .order-fit i h .most-price) in
-    (deals-fit (a .head .now) (a .prices .now) (c .before .before .before .before .before .before .before .before .before .before .before .before .before .before .before .pre .0 .0) (c .before .before .before .before .before .before .before .before .before .before .before .before .before .before .before .pre .0 .1),
+    let most = all-orders (λ o. o .price .0 ≤ 1000000) (a .book .now) n (λ i h. c .before .before .before .before .before .before .before .before .before .before .before .before .before .before .before .pre .0 .2 .order-fit i h .most-price) in (
+      deals-fit (a .head .now) (a .prices .now) (c .before .before .before .before .before .before .before .before .before .before .before .before .before .before .before .pre .0 .0) (c .before .before .before .before .before .before .before .before .before .before .before .before .before .before .before .pre .0 .1),
       record { all = search needs; most = λ x h. rw (c .before .before .before .before .before .before .before .write-quotes .ensures x h) (price-most _ _ _ _ x most) },
       record { all = search needs; most = λ x h. rw (c .before .before .before .before .write-quotes2 .ensures x h) (price-most _ _ _ _ x most) },
-      ap length (c .before .before .before .before .before .before .before .before .before .before .before .before .before .before .before .pre .1) ∙ phases-length _ _)
+      ap length (c .before .before .before .before .before .before .before .before .before .before .before .before .before .before .before .pre .1) ∙ phases-length _ _,
+    )
 
 -- src/lib.rt:59:5
 clear-deals-requires : tie.Need-clear-deals-requires

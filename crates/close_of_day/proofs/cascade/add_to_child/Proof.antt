@@ -45,8 +45,10 @@ add-rows-requires c κs =
     let t = a .rows .now in
     let cut : a .child * 32 + a .members - a .child * 32 ≡ a .members = omega arith in
     let many = rows-length (a .members) (a .child) t (c .before .pre .0 .0) (c .before .pre .0 .2) (c .before .pre .0 .1) in
-    rw cut (omega arith,
-      λ m h. let k = rw many at h in rw (rows-at (a .members) (a .child) t (c .before .pre .0 .0) (c .before .pre .0 .2) (c .before .pre .0 .1) m k) (c .before .pre .1 m k))
+    rw cut (
+      omega arith,
+      λ m h. let k = rw many at h in rw (rows-at (a .members) (a .child) t (c .before .pre .0 .0) (c .before .pre .0 .2) (c .before .pre .0 .1) m k) (c .before .pre .1 m k),
+    )
 
 -- src/cascade.rt:53:1
 same-length : tie.Need-same-length

@@ -55,10 +55,12 @@ loop-again : tie.Need-loop-again Inv-loop μ-loop
 loop-again c =
     let a = c .before .before .before .args in
     let l = c .before .before .loop in
-    let s = drop (a .at) (a .rows .now) in
-    (omega arith, simp length-set (omega arith),
+    let s = drop (a .at) (a .rows .now) in (
+      omega arith,
+      simp length-set (omega arith),
       rw (back-mag (getD (a .rows .now) (a .at + l .i) (pos 0)) (c .x .given), ← getD-drop (a .at) (a .rows .now) (l .i) (pos 0))
-      (take-more (l .copied) s (l .i) (pos 0) (omega arith) (simp length-drop (omega arith)) (l .inv .2)))
+          (take-more (l .copied) s (l .i) (pos 0) (omega arith) (simp length-drop (omega arith)) (l .inv .2)),
+    )
 
 -- src/cascade.rt:24:1
 returns : tie.Need-returns Inv-loop μ-loop

@@ -52,9 +52,12 @@ keep-orders-requires : tie.Need-keep-orders-requires
 keep-orders-requires c κs =
     let a = c .before .before .before .before .before .before .before .before .before .before .before .args in
     let n = getD (a .head .now) 7 0 in
-    let p : Order → Bool = λ o. closes (a .column .now) (o .contract) in
-    (c .before .before .before .before .before .before .before .before .before .before .before .pre .0, c .before .before .before .before .before .before .before .before .before .before .before .pre .1 .long, c .before .before .before .before .before .before .before .before .before .before .before .pre .1 .most-orders,
-      rw (← column-many p n (c .before .before .before .before .write-left .last .1 .1 .0) (replicate 256 0) (a .book .now) (c .before .before .before .before .before .before .before .before .before .before .before .pre .1 .most-orders) (c .before .before .before .before .write-left .ensures)) (omega arith))
+    let p : Order → Bool = λ o. closes (a .column .now) (o .contract) in (
+      c .before .before .before .before .before .before .before .before .before .before .before .pre .0,
+      c .before .before .before .before .before .before .before .before .before .before .before .pre .1 .long,
+      c .before .before .before .before .before .before .before .before .before .before .before .pre .1 .most-orders,
+      rw (← column-many p n (c .before .before .before .before .write-left .last .1 .1 .0) (replicate 256 0) (a .book .now) (c .before .before .before .before .before .before .before .before .before .before .before .pre .1 .most-orders) (c .before .before .before .before .write-left .ensures)) (omega arith),
+    )
 
 -- src/orders.rt:41:1
 same-length : tie.Need-same-length

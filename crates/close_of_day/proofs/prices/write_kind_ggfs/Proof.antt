@@ -82,11 +82,12 @@ loop-again c =
     let x = numberOf (a .kind) (l .i) in
     let rest = map (numberOf (a .kind)) (from (l .i + 1) (size - (l .i + 1))) in
     let known = rw (from-next (l .i) size h) at (l .inv .3) in
-    let v = ggfFrom (a .buys .now) (a .sells .now) (l .prices) x in
-    (rw (c .before .before .write-if-open .ensures .1, c .before .before .before .before .before .contract-of .ensures) (deals-if (waits (a .column .now) x && ltb 0 (l .more)) (l .prices) x v (l .inv .0)),
-     omega (arith, c .before .before .write-if-open .kept .0),
-     omega arith,
-     rw (c .before .before .write-if-open .ensures .0, c .before .before .write-if-open .ensures .1, c .before .before .before .before .before .contract-of .ensures) (open-next (a .buys .now) (a .sells .now) (l .prices) _ (waits (a .column .now)) (l .more) x rest known))
+    let v = ggfFrom (a .buys .now) (a .sells .now) (l .prices) x in (
+      rw (c .before .before .write-if-open .ensures .1, c .before .before .before .before .before .contract-of .ensures) (deals-if (waits (a .column .now) x && ltb 0 (l .more)) (l .prices) x v (l .inv .0)),
+      omega (arith, c .before .before .write-if-open .kept .0),
+      omega arith,
+      rw (c .before .before .write-if-open .ensures .0, c .before .before .write-if-open .ensures .1, c .before .before .before .before .before .contract-of .ensures) (open-next (a .buys .now) (a .sells .now) (l .prices) _ (waits (a .column .now)) (l .more) x rest known),
+    )
 
 -- src/prices.rt:91:1
 same-length : tie.Need-same-length Inv-loop μ-loop

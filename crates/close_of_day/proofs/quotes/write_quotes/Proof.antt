@@ -66,7 +66,7 @@ loop-again c =
       omega (arith, c .before .before .note-quote .kept .0),
       λ x h. rw (c .before .before .note-quote .ensures, c .before .before .before .before .order-at .ensures, more)
           (quotes-next (a .day .0) (a .time) (a .side) (l .quotes) (orderAt b i) rest (all-from-place (λ o. 1 ≤ o .price .0) (orderAt b) (l .i) (a .count - l .i) (λ j u v. fit .least-price j (omega arith)))
-              (omega (arith, fit .contract-below i (omega arith))) (l .inv .2) x h),
+          (omega (arith, fit .contract-below i (omega arith))) (l .inv .2) x h),
     )
 
 -- src/quotes.rt:77:1
