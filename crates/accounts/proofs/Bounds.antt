@@ -26,7 +26,7 @@ use Rattle.rules.specs.Refusals.{everyRow, rowsSound}
 use Rattle.rules.specs.Accounts.{Column, lots, value, row, amount}
 use Rattle.rules.proofs.SoundHeaders.{SoundHeader}
 use Rattle.accounts.proofs.Lines.{rowTotal}
-use Rattle.accounts.proofs.Rows.{cascaded-month, cascaded-length, cascaded-row}
+use Rattle.rules.proofs.Cascade.{cascaded-month, cascaded-length, cascaded-row}
 use Rattle.accounts.proofs.Cascade.{year-no-child, quarter-child, month-child}
 use Rattle.accounts.proofs.Fresh.{fresh-zero, fresh-runs}
 

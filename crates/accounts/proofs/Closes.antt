@@ -31,7 +31,7 @@ use Rattle.rules.specs.Accounts.{Column, lots, value, row}
 use Rattle.accounts.proofs.Cascade.{cascade-keeps}
 use Rattle.accounts.proofs.Heads.{SameHeader, field, changing, same-header, then-same, set-other, over-other, but-the-day}
 use Rattle.accounts.proofs.Holds.{Rows, Holds, holds-same}
-use Rattle.accounts.proofs.Rows.{cascaded-month, cascaded-length, cascaded-row}
+use Rattle.rules.proofs.Cascade.{cascaded-month, cascaded-length, cascaded-row}
 use Rattle.accounts.proofs.Runs.{InOpen, Runs, Sound, runs-calendar, runs-with, orders-same}
 use Rattle.accounts.proofs.Calls.{rowsOf, Does}
 use Rattle.accounts.proofs.Written.{orders-written}

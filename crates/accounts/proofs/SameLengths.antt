@@ -37,7 +37,8 @@ use Rattle.rules.proofs.SoundEvents.{submission, proposal}
 use Rattle.accounts.specs.Lengths.{SameLengths, LengthsStay, MakingKeepsLengths, AtMost200Lines}
 use Rattle.rules.proofs.SoundHeaders.{SoundHeader, header-gives, begun}
 use Rattle.accounts.proofs.Runs.{orders-same}
-use Rattle.accounts.proofs.Rows.{posted-length, cascaded-length}
+use Rattle.rules.proofs.Cascade.{cascaded-length}
+use Rattle.accounts.proofs.Rows.{posted-length}
 use Rattle.accounts.proofs.Fresh.{head-length}
 use Rattle.accounts.proofs.Closes.{closing-today}
 use Rattle.accounts.proofs.CloseOutLines.{close-out-few}

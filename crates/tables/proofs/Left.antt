@@ -19,9 +19,8 @@ use Rattle.arith.proofs.Writes.{over-more, again-long, again-front, again-many}
 use Rattle.rules.specs.declared.order.Order.{Order}
 use Rattle.rules.specs.Ledger.{orderAt, orderPlaces}
 use Rattle.rules.specs.Matching.{withLots}
-use Rattle.tables.specs.declared.leaving.Leaving.{Leaving}
 use Rattle.tables.specs.Fit.{ordersIn}
-use Rattle.tables.specs.Left.{leftOver, leaves, staying}
+use Rattle.tables.specs.Left.{leftOver, staying}
 
 -- ---- one more order
 pub left-nothing : (qs : List ℕ) → leftOver qs [] ≡ []
@@ -60,28 +59,28 @@ all-orders P b n h = go 0 n (λ i l u. h i (omega arith))
     go a (suc k) f = (f a (omega arith) (omega arith), go (suc a) k (λ i l u. f i (omega arith) (omega arith)))
 
 -- ---- orders that leave: where each of them has lots, those that stay are the ones kept
-pub staying-kept : (w : Leaving) (os : List Order) → All (λ o. 1 ≤ o .lots .0) os → leftOver (staying w os) os ≡ kept (λ o. not (leaves w o)) os
+pub staying-kept : (p : Order → Bool) (os : List Order) → All (λ o. 1 ≤ o .lots .0) os → leftOver (staying p os) os ≡ kept (λ o. not (p o)) os
 unfolding leftOver staying kept
-staying-kept w [] a = refl
-staying-kept w (o ∷ os) a =
-    true-or (leaves w o) (λ e. rw (e, staying-kept w os (a .1)))
-    (λ e. rw (e, ne-eqb (o .lots .0) 0 (λ z. omega (arith, a .0)), staying-kept w os (a .1)))
+staying-kept p [] a = refl
+staying-kept p (o ∷ os) a =
+    true-or (p o) (λ e. rw (e, staying-kept p os (a .1)))
+    (λ e. rw (e, ne-eqb (o .lots .0) 0 (λ z. omega (arith, a .0)), staying-kept p os (a .1)))
 
-module _ (w : Leaving) (n : ℕ) (b : List ℕ) where
-  pub staying-length : length (staying w (ordersIn n b)) ≡ n
+module _ (p : Order → Bool) (n : ℕ) (b : List ℕ) where
+  pub staying-length : length (staying p (ordersIn n b)) ≡ n
   unfolding staying
-  staying-length = length-map (ordersIn n b) (λ o. cond (leaves w o) 0 (o .lots .0)) ∙ orders-length b n
+  staying-length = length-map (ordersIn n b) (λ o. cond (p o) 0 (o .lots .0)) ∙ orders-length b n
 
-  pub staying-at : (i : ℕ) → i < n → getD (staying w (ordersIn n b)) i 0 ≡ cond (leaves w (orderAt b i)) 0 (orderAt b i .lots .0)
+  pub staying-at : (i : ℕ) → i < n → getD (staying p (ordersIn n b)) i 0 ≡ cond (p (orderAt b i)) 0 (orderAt b i .lots .0)
   unfolding staying
   staying-at i h =
-      map-at (λ o. cond (leaves w o) 0 (o .lots .0)) (ordersIn n b) i (orderAt b i) 0 (omega (arith, orders-length b n))
-      ∙ ap (λ o. cond (leaves w o) 0 (o .lots .0)) (map-at (orderAt b) (from 0 n) i 0 (orderAt b i) (omega (arith, from-length 0 n)) ∙ ap (orderAt b) (from-at 0 n i 0 h ∙ zero-add i))
+      map-at (λ o. cond (p o) 0 (o .lots .0)) (ordersIn n b) i (orderAt b i) 0 (omega (arith, orders-length b n))
+      ∙ ap (λ o. cond (p o) 0 (o .lots .0)) (map-at (orderAt b) (from 0 n) i 0 (orderAt b i) (omega (arith, from-length 0 n)) ∙ ap (orderAt b) (from-at 0 n i 0 h ∙ zero-add i))
 
 -- the column as `remove_orders` lends it: the first n places of an array
-module _ (w : Leaving) (n : ℕ) (ys l b : List ℕ) (fits : n ≤ length l) (e : ys ≡ staying w (ordersIn (length (take n l)) b)) where
+module _ (p : Order → Bool) (n : ℕ) (ys l b : List ℕ) (fits : n ≤ length l) (e : ys ≡ staying p (ordersIn (length (take n l)) b)) where
   as-lent : length ys ≡ length (take n l)
-  as-lent = ap length e ∙ staying-length w (length (take n l)) b
+  as-lent = ap length e ∙ staying-length p (length (take n l)) b
 
   pub column-long : n ≤ length (ys ++ drop n l)
   column-long = again-long n ys l as-lent fits
@@ -89,8 +88,8 @@ module _ (w : Leaving) (n : ℕ) (ys l b : List ℕ) (fits : n ≤ length l) (e 
   pub column-many : n ≡ length (take n (ys ++ drop n l))
   column-many = again-many n ys l as-lent fits
 
-  pub column-kept : All (λ o. 1 ≤ o .lots .0) (ordersIn n b) → leftOver (take n (ys ++ drop n l)) (ordersIn n b) ≡ kept (λ o. not (leaves w o)) (ordersIn n b)
-  column-kept a = rw (again-front n ys l as-lent fits, e, length-take-le n l fits) (staying-kept w (ordersIn n b) a)
+  pub column-kept : All (λ o. 1 ≤ o .lots .0) (ordersIn n b) → leftOver (take n (ys ++ drop n l)) (ordersIn n b) ≡ kept (λ o. not (p o)) (ordersIn n b)
+  column-kept a = rw (again-front n ys l as-lent fits, e, length-take-le n l fits) (staying-kept p (ordersIn n b) a)
 
 -- ---- one step
 -- An order behind what was written is read as it was.

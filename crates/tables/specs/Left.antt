@@ -18,6 +18,6 @@ abbrev pub leaves : Leaving → Order → Bool
 leaves (Numbered n m) o = eqb (o .number) n && eqb (o .member) m
 leaves (OfMember m) o = eqb (o .member) m
 
--- What is left of each where these leave.
-unfoldable pub staying : Leaving → List Order → List ℕ
-staying w os = map (λ o. cond (leaves w o) 0 (o .lots .0)) os
+-- What is left of each where those that pass a test leave.
+unfoldable pub staying : (Order → Bool) → List Order → List ℕ
+staying p os = map (λ o. cond (p o) 0 (o .lots .0)) os

@@ -32,7 +32,8 @@ use rules::layout::SUBMITS;
 use rules::layout::TIME;
 use rules::ranges::MOST_PRICE;
 
-fn clear_rows(rows: &mut [i64])
+// Rows set to zero.
+pub fn clear_rows(rows: &mut [i64])
     ensures { λ _. ⌜ now (rows .exit) ≡ replicate (length (now (rows .entry))) (pos 0) ⌝ }
 {
     let mut i: usize = 0;
@@ -102,6 +103,7 @@ fn write_at(head: &mut [u64], at: usize, list: &[u64])
     copy(&mut head[at..end], list);
 }
 
+// So many places set to zero, from one on.
 pub fn clear_at(head: &mut [u64], at: usize, count: usize)
     requires { ⌜ at + count ≤ length (now head) ⌝ }
     ensures { λ _. ⌜ now (head .exit) ≡ over at (replicate count 0) (now (head .entry)) ⌝ }

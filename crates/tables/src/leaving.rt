@@ -62,7 +62,7 @@ fn left_of(w: Leaving, o: Order) -> u64
 // What is left of each order: nothing of those that leave.
 fn write_left(book: &[u64], left: &mut [u64], w: Leaving)
     requires { ⌜ (length (now left) ≤ mostOrders) × (bookLength ≤ length (now book)) ⌝ }
-    ensures { λ _. ⌜ now (left .exit) ≡ staying w (ordersIn (length (now (left .entry))) (now (book .entry))) ⌝ }
+    ensures { λ _. ⌜ now (left .exit) ≡ staying (leaves w) (ordersIn (length (now (left .entry))) (now (book .entry))) ⌝ }
 {
     let mut i: usize = 0;
     while i < left.len() {

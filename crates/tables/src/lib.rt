@@ -7,6 +7,8 @@ mod lines;
 
 pub use book::order_at;
 pub use book::put_order;
+pub use fresh::clear_at;
+pub use fresh::clear_rows;
 pub use fresh::write_fresh;
 pub use head::is_contract_open;
 pub use head::set_time;

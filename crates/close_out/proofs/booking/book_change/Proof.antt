@@ -16,7 +16,7 @@ sub-t16 c = search needs
 
 book-line-requires : tie.Need-book-line-requires
 book-line-requires c κs = let f = c .before .before .before .before .before .before .before .pre .0 in
-    ((f .head-fit, record { member-below = c .before .before .before .before .before .before .before .pre .1 .3; contract-below = c .before .before .before .before .before .before .before .pre .1 .1; most-price = c .before .before .before .before .before .before .before .pre .1 .2; most-lots = omega (arith, f .most-run) }), ((f .lots-fit, f .value-fit), (c .before .before .before .before .before .before .before .pre .1 .0, f .lines-long)))
+    ((f .head-fit .long, f .head-fit .most-members, record { member-below = c .before .before .before .before .before .before .before .pre .1 .3; contract-below = c .before .before .before .before .before .before .before .pre .1 .1; most-price = c .before .before .before .before .before .before .before .pre .1 .2; most-lots = omega (arith, f .most-run) }), ((f .lots-fit, f .value-fit), (c .before .before .before .before .before .before .before .pre .1 .0, f .lines-long)))
 
 add-result : tie.Need-add-result
 add-result c = search needs
@@ -40,7 +40,7 @@ returns-2 c = let a = c .before .before .before .before .before .before .before 
 
 book-line-requires-2 : tie.Need-book-line-requires-2
 book-line-requires-2 c κs = let f = c .before .before .before .before .before .before .before .pre .0 in
-    ((f .head-fit, record { member-below = c .before .before .before .before .before .before .before .pre .1 .3; contract-below = c .before .before .before .before .before .before .before .pre .1 .1; most-price = c .before .before .before .before .before .before .before .pre .1 .2; most-lots = omega (arith, f .most-run) }), ((f .lots-fit, f .value-fit), (c .before .before .before .before .before .before .before .pre .1 .0, f .lines-long)))
+    ((f .head-fit .long, f .head-fit .most-members, record { member-below = c .before .before .before .before .before .before .before .pre .1 .3; contract-below = c .before .before .before .before .before .before .before .pre .1 .1; most-price = c .before .before .before .before .before .before .before .pre .1 .2; most-lots = omega (arith, f .most-run) }), ((f .lots-fit, f .value-fit), (c .before .before .before .before .before .before .before .pre .1 .0, f .lines-long)))
 
 add-result-2 : tie.Need-add-result-2
 add-result-2 c = search needs

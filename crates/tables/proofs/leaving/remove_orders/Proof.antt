@@ -11,7 +11,7 @@ use lib.ListN.{getD, length}
 use Rattle.arith.proofs.Writes.{again-long, again-front, again-many}
 use Rattle.tables.specs.Fit.{ordersIn}
 use Rattle.tables.proofs.Left.{staying-length, staying-kept, all-orders}
-use Rattle.tables.specs.Left.{leftOver}
+use Rattle.tables.specs.Left.{leftOver, leaves}
 use borrow.Author.Needs.{needs}
 use Rattle.tables.proofs.leaving.remove_orders.Statement.{statement}
 use Rattle.tables.proofs.leaving.remove_orders.Tie as tie
@@ -38,18 +38,18 @@ write-left-requires c κs = (rw (length-take-le _ _ (c .before .before .before .
 
 -- src/leaving.rt:140:41
 array-share-prefix-left : tie.Need-array-share-prefix-left
-array-share-prefix-left c = let a = c .before .before .before .before .before .before .before .before .before .args in column-long (a .w) (getD (a .head .now) 7 0) (c .before .before .before .write-left .last .1 .0) (replicate 256 0) (a .book .now) (c .before .before .before .before .before .before .before .before .before .pre .1 .most-orders) (c .before .before .before .write-left .ensures)
+array-share-prefix-left c = let a = c .before .before .before .before .before .before .before .before .before .args in column-long (leaves (a .w)) (getD (a .head .now) 7 0) (c .before .before .before .write-left .last .1 .0) (replicate 256 0) (a .book .now) (c .before .before .before .before .before .before .before .before .before .pre .1 .most-orders) (c .before .before .before .write-left .ensures)
 
 -- src/leaving.rt:140:41
 slice-aggregate-keep-orders : tie.Need-slice-aggregate-keep-orders
-slice-aggregate-keep-orders c = let a = c .before .before .before .before .before .before .before .before .before .before .args in column-many (a .w) (getD (a .head .now) 7 0) (c .before .before .before .before .write-left .last .1 .0) (replicate 256 0) (a .book .now) (c .before .before .before .before .before .before .before .before .before .before .pre .1 .most-orders) (c .before .before .before .before .write-left .ensures)
+slice-aggregate-keep-orders c = let a = c .before .before .before .before .before .before .before .before .before .before .args in column-many (leaves (a .w)) (getD (a .head .now) 7 0) (c .before .before .before .before .write-left .last .1 .0) (replicate 256 0) (a .book .now) (c .before .before .before .before .before .before .before .before .before .before .pre .1 .most-orders) (c .before .before .before .before .write-left .ensures)
 
 -- src/leaving.rt:140:5
 keep-orders-requires : tie.Need-keep-orders-requires
 keep-orders-requires c κs =
     let a = c .before .before .before .before .before .before .before .before .before .before .args in
     let n = getD (a .head .now) 7 0 in
-    (c .before .before .before .before .before .before .before .before .before .before .pre .0, c .before .before .before .before .before .before .before .before .before .before .pre .1 .long, c .before .before .before .before .before .before .before .before .before .before .pre .1 .most-orders, rw (← column-many (a .w) n (c .before .before .before .before .write-left .last .1 .0) (replicate 256 0) (a .book .now) (c .before .before .before .before .before .before .before .before .before .before .pre .1 .most-orders) (c .before .before .before .before .write-left .ensures)) (omega arith))
+    (c .before .before .before .before .before .before .before .before .before .before .pre .0, c .before .before .before .before .before .before .before .before .before .before .pre .1 .long, c .before .before .before .before .before .before .before .before .before .before .pre .1 .most-orders, rw (← column-many (leaves (a .w)) n (c .before .before .before .before .write-left .last .1 .0) (replicate 256 0) (a .book .now) (c .before .before .before .before .before .before .before .before .before .before .pre .1 .most-orders) (c .before .before .before .before .write-left .ensures)) (omega arith))
 
 -- src/leaving.rt:132:1
 same-length : tie.Need-same-length
@@ -65,7 +65,7 @@ returns c =
     let a = c .before .before .before .before .before .before .before .before .before .before .before .before .before .before .before .args in
     λ t. c .before .before .before .before .keep-orders .ensures t
     ∙ ap (λ os. withOrders os (withHead (a .head .now) (withBook (a .book .now) t)))
-    (column-kept (a .w) (getD (a .head .now) 7 0) _ (replicate 256 0) (a .book .now) (c .before .before .before .before .before .before .before .before .before .before .before .before .before .before .before .pre .1 .most-orders) (c .before .before .before .before .before .before .before .before .before .write-left .ensures)
+    (column-kept (leaves (a .w)) (getD (a .head .now) 7 0) _ (replicate 256 0) (a .book .now) (c .before .before .before .before .before .before .before .before .before .before .before .before .before .before .before .pre .1 .most-orders) (c .before .before .before .before .before .before .before .before .before .write-left .ensures)
     (all-orders (λ o. 1 ≤ o .lots .0) (a .book .now) (getD (a .head .now) 7 0) (λ i h. c .before .before .before .before .before .before .before .before .before .before .before .before .before .before .before .pre .1 .least-lots i h)))
 
 pub remove-orders-spec : {M : Type 1} → statement M

@@ -19,7 +19,7 @@ use Rattle.tables.proofs.book.order_at.Reads as order-at-reads
 use Rattle.tables.proofs.leaving.left_of.Reads as left-of-reads
 
 abbrev Inv-loop : tie.InvT-loop
-Inv-loop book left₀ w i₀ left i = (length left ≡ length left₀) × (i ≤ length left₀) × (left ≡ take i (staying w (ordersIn (length left₀) book)) ++ drop i left₀)
+Inv-loop book left₀ w i₀ left i = (length left ≡ length left₀) × (i ≤ length left₀) × (left ≡ take i (staying (leaves w) (ordersIn (length left₀) book)) ++ drop i left₀)
 
 abbrev μ-loop : tie.MeasureT-loop
 μ-loop book left₀ w i₀ left i = length left₀ - i
@@ -58,13 +58,13 @@ loop-again c =
     let a = c .before .before .before .before .before .before .args in
     let l = c .before .before .before .loop in
     let n = length (a .left .now) in
-    let all = staying (a .w) (ordersIn n (a .book .now)) in
+    let all = staying (leaves (a .w)) (ordersIn n (a .book .now)) in
     let here : c .left-of .result ≡ getD all (l .i) 0
-    = c .left-of .ensures ∙ ap (λ o. cond (leaves (a .w) o) 0 (o .lots .0)) (c .before .order-at .ensures) ∙ sym (staying-at (a .w) n (a .book .now) (l .i) (omega arith)) in (
+    = c .left-of .ensures ∙ ap (λ o. cond (leaves (a .w) o) 0 (o .lots .0)) (c .before .order-at .ensures) ∙ sym (staying-at (leaves (a .w)) n (a .book .now) (l .i) (omega arith)) in (
       length-set (l .left) (l .i) (c .left-of .result) ∙ l .inv .0,
       omega arith,
       rw (here, l .inv .2)
-          (front-next (l .i) all (a .left .now) 0 (omega (arith, staying-length (a .w) n (a .book .now))) (omega arith)),
+          (front-next (l .i) all (a .left .now) 0 (omega (arith, staying-length (leaves (a .w)) n (a .book .now))) (omega arith)),
     )
 
 -- src/leaving.rt:63:1
@@ -77,7 +77,7 @@ returns c =
     let a = c .before .before .before .before .args in
     let l = c .before .loop in
     let n = length (a .left .now) in
-    l .inv .2 ∙ front-end (l .i) (staying (a .w) (ordersIn n (a .book .now))) (a .left .now) (omega (arith, staying-length (a .w) n (a .book .now))) (omega arith)
+    l .inv .2 ∙ front-end (l .i) (staying (leaves (a .w)) (ordersIn n (a .book .now))) (a .left .now) (omega (arith, staying-length (leaves (a .w)) n (a .book .now))) (omega arith)
 
 pub write-left-spec : {M : Type 1} → statement M
 write-left-spec =

@@ -1,0 +1,115 @@
+use borrow.Author.Needs.{needs}
+use mathlib.Core.Path.{_≡_, refl, sym, _∙_, ap}
+use mathlib.Core.List.{_++_, zipWith}
+use Prim.Native.Nat.{_+_, _-_, _≤_}
+use native.Mathlib.Omega.{arith}
+use lib.ListN.{length, getD, take, drop, set, length-set}
+use lib.IntN.{pos, _+ℤ_}
+use Rattle.arith.specs.Overs.{zip-at}
+use Rattle.arith.proofs.Signed.{add-ok, add-is}
+use Rattle.arith.proofs.Writes.{front-next, front-end}
+use Rattle.close_of_day.proofs.Cascades.{zip-short, front-rest}
+use Rattle.close_of_day.proofs.cascade.add_rows.Statement.{statement}
+use Rattle.close_of_day.proofs.cascade.add_rows.Tie as tie
+use Rattle.close_of_day.proofs.cascade.add_rows.Reads as reads
+use Rattle.close_of_day.proofs.cascade.add_rows.Lts as lts
+
+abbrev Inv-loop : tie.InvT-loop
+Inv-loop child₀ parent i₀ child i = (i ≤ length child₀) × (length child ≡ length child₀) × (child ≡ take i (zipWith _+ℤ_ child₀ parent) ++ drop i child₀)
+
+abbrev μ-loop : tie.MeasureT-loop
+μ-loop child₀ parent i₀ child i = length child₀ - i
+
+-- src/cascade.rt:44:5
+loop-holds : tie.Need-loop-holds Inv-loop μ-loop
+loop-holds c = (omega arith, refl, refl)
+
+-- src/cascade.rt:45:17
+mul-x : tie.Need-mul-x Inv-loop μ-loop
+mul-x c = search needs
+
+-- src/cascade.rt:45:17
+slice-copy-out-x : tie.Need-slice-copy-out-x Inv-loop μ-loop
+slice-copy-out-x c = search needs
+
+-- src/cascade.rt:46:17
+mul-y : tie.Need-mul-y Inv-loop μ-loop
+mul-y c = search needs
+
+-- src/cascade.rt:46:17
+array-copy-out-y : tie.Need-array-copy-out-y Inv-loop μ-loop
+array-copy-out-y c = search needs
+
+-- src/cascade.rt:47:20
+add-child : tie.Need-add-child Inv-loop μ-loop
+add-child c =
+    let a = c .before .before .before .before .args in
+    let l = c .before .before .before .loop in
+    let sums = zipWith _+ℤ_ (a .child .now) (a .t2) in
+    let many = zip-short _+ℤ_ (a .child .now) (a .t2) (omega arith) in
+    let e : getD (l .child) (l .i) (pos 0) ≡ getD (a .child .now) (l .i) (pos 0) = rw (l .inv .2) (front-rest (l .i) sums (a .child .now) (pos 0) (omega arith)) in
+    add-ok (getD (l .child) (l .i) (pos 0)) (getD (a .t2) (l .i) (pos 0)) (rw e (c .before .before .before .before .pre .1 (l .i) (omega arith)))
+
+-- src/cascade.rt:47:9
+mul-t7 : tie.Need-mul-t7 Inv-loop μ-loop
+mul-t7 c = search needs
+
+-- src/cascade.rt:47:9
+slice-set-from-child : tie.Need-slice-set-from-child Inv-loop μ-loop
+slice-set-from-child c = search needs
+
+-- src/cascade.rt:48:9
+add-i : tie.Need-add-i Inv-loop μ-loop
+add-i c = search needs
+
+-- src/cascade.rt:44:5
+loop-less : tie.Need-loop-less Inv-loop μ-loop
+loop-less c = search needs
+
+-- src/cascade.rt:44:5
+loop-again : tie.Need-loop-again Inv-loop μ-loop
+loop-again c =
+    let a = c .before .before .before .before .args in
+    let l = c .before .before .before .loop in
+    let x = getD (l .child) (l .i) (pos 0) in
+    let y = getD (a .t2) (l .i) (pos 0) in
+    let sums = zipWith _+ℤ_ (a .child .now) (a .t2) in
+    let many = zip-short _+ℤ_ (a .child .now) (a .t2) (omega arith) in
+    let e : x ≡ getD (a .child .now) (l .i) (pos 0) = rw (l .inv .2) (front-rest (l .i) sums (a .child .now) (pos 0) (omega arith)) in
+    let here = add-is x y (rw e (c .before .before .before .before .pre .1 (l .i) (omega arith))) ∙ ap (λ v. v +ℤ y) e ∙ sym (zip-at _+ℤ_ (a .child .now) (a .t2) (l .i) (pos 0) (omega arith) (omega arith)) in (
+      omega arith,
+      simp length-set (omega arith),
+      ap (set (l .child) (l .i)) here ∙ ap (λ r. set r (l .i) (getD sums (l .i) (pos 0))) (l .inv .2) ∙ front-next (l .i) sums (a .child .now) (pos 0) (omega arith) (omega arith),
+    )
+
+-- src/cascade.rt:38:1
+same-length : tie.Need-same-length Inv-loop μ-loop
+same-length c = search needs
+
+-- src/cascade.rt:38:1
+returns : tie.Need-returns Inv-loop μ-loop
+returns c =
+    let a = c .before .before .args in
+    let l = c .before .loop in
+    let many = zip-short _+ℤ_ (a .child .now) (a .t2) (omega arith) in
+    l .inv .2 ∙ front-end (l .i) (zipWith _+ℤ_ (a .child .now) (a .t2)) (a .child .now) (omega arith) (omega arith)
+
+pub add-rows-spec : {M : Type 1} → statement M
+add-rows-spec =
+    tie.close
+    (tie.spec
+    Inv-loop
+    μ-loop
+    loop-holds
+    mul-x
+    slice-copy-out-x
+    mul-y
+    array-copy-out-y
+    add-child
+    mul-t7
+    slice-set-from-child
+    add-i
+    loop-less
+    loop-again
+    same-length
+    returns)

@@ -1,0 +1,37 @@
+use mathlib.Core.Path.{_≡_, sym, ap, _∙_}
+use native.Mathlib.Omega.{arith}
+use Rattle.rules.specs.declared.contract.ContractKind.the-variants.{Year, Quarter}
+use Rattle.close_of_day.specs.Phases.{mostRow}
+use Rattle.close_of_day.proofs.Cascades.{kind-fit-after, all-closed}
+use borrow.Author.Needs.{needs}
+use Rattle.close_of_day.proofs.cascade.cascade_all.Statement.{statement}
+use Rattle.close_of_day.proofs.cascade.cascade_all.Tie as tie
+use Rattle.close_of_day.proofs.cascade.cascade_all.Reads as reads
+use Rattle.close_of_day.proofs.cascade.cascade_all.Lts as lts
+use Rattle.close_of_day.proofs.cascade.cascade_kind.Reads as cascade-kind-reads
+
+-- src/cascade.rt:134:5
+cascade-kind-requires : tie.Need-cascade-kind-requires
+cascade-kind-requires c κs =
+    let fit = c .before .before .pre .0 in
+    ((record { long = fit .long; within = λ x m u k. omega (arith, fit .within x m u k) }, omega arith), (omega arith, c .before .before .pre .2))
+
+-- src/cascade.rt:135:5
+cascade-kind-requires-2 : tie.Need-cascade-kind-requires-2
+cascade-kind-requires-2 c κs =
+    let a = c .before .before .before .before .before .args in
+    ((rw (c .before .before .cascade-kind .ensures) (kind-fit-after (a .members) mostRow Year (a .column .now) (a .rows .now) (omega arith) (omega arith) (c .before .before .before .before .before .pre .0)), omega arith), (omega arith, c .before .before .before .before .before .pre .2))
+
+-- src/cascade.rt:130:1
+same-length : tie.Need-same-length
+same-length c = search needs
+
+-- src/cascade.rt:130:1
+returns : tie.Need-returns
+returns c =
+    let a = c .before .before .before .before .before .before .before .args in
+    rw (c .before .cascade-kind2 .ensures, c .before .before .before .before .cascade-kind .ensures) (sym (all-closed (a .members) (a .column .now) (a .rows .now)))
+
+pub cascade-all-spec : {M : Type 1} → statement M
+cascade-all-spec =
+    tie.close (tie.spec cascade-kind-requires cascade-kind-requires-2 same-length returns)

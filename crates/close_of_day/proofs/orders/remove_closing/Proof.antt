@@ -1,0 +1,93 @@
+use mathlib.Core.Bool.{Bool}
+use mathlib.Core.Path.{_≡_, sym, ap, _∙_}
+use Prim.Native.Nat.{ℕ, _≤_}
+use native.Mathlib.Omega.{arith}
+use lib.ListN.{getD, length, replicate}
+use lib.Seq.{length-take-le}
+use Rattle.rules.specs.declared.order.Order.{Order}
+use Rattle.rules.specs.Ledger.{withHead, withBook, withOrders}
+use Rattle.tables.proofs.Left.{all-orders, column-long, column-many, column-kept}
+use Rattle.close_of_day.specs.Phases.{closes}
+use Rattle.close_of_day.specs.Columns.{BookReads}
+use borrow.Author.Needs.{needs}
+use Rattle.close_of_day.proofs.orders.remove_closing.Statement.{statement}
+use Rattle.close_of_day.proofs.orders.remove_closing.Tie as tie
+use Rattle.close_of_day.proofs.orders.remove_closing.Reads as reads
+use Rattle.close_of_day.proofs.orders.remove_closing.Lts as lts
+use Rattle.close_of_day.proofs.orders.write_left.Reads as write-left-reads
+use Rattle.tables.proofs.keep_orders.Reads as keep-orders-reads
+
+-- src/orders.rt:46:17
+slice-read-count : tie.Need-slice-read-count
+slice-read-count c = search needs
+
+-- src/orders.rt:48:32
+array-borrow-prefix-left : tie.Need-array-borrow-prefix-left
+array-borrow-prefix-left c = search needs
+
+-- src/orders.rt:48:32
+slice-aggregate-write-left : tie.Need-slice-aggregate-write-left
+slice-aggregate-write-left c = sym (length-take-le _ _ (c .before .before .before .before .before .before .pre .1 .most-orders))
+
+-- src/orders.rt:48:5
+write-left-requires : tie.Need-write-left-requires
+write-left-requires c κs = let a = c .before .before .before .before .before .before .args in (rw (length-take-le {A = ℕ} (getD (a .head .now) 7 0) (replicate 256 0) (c .before .before .before .before .before .before .pre .1 .most-orders)) (c .before .before .before .before .before .before .pre .1), c .before .before .before .before .before .before .pre .2)
+
+-- src/orders.rt:49:49
+array-share-prefix-left : tie.Need-array-share-prefix-left
+array-share-prefix-left c =
+    let a = c .before .before .before .before .before .before .before .before .before .before .args in
+    let p : Order → Bool = λ o. closes (a .column .now) (o .contract) in
+    column-long p (getD (a .head .now) 7 0) _ (replicate 256 0) (a .book .now) (c .before .before .before .before .before .before .before .before .before .before .pre .1 .most-orders) (c .before .before .before .write-left .ensures)
+
+-- src/orders.rt:49:49
+slice-aggregate-keep-orders : tie.Need-slice-aggregate-keep-orders
+slice-aggregate-keep-orders c =
+    let a = c .before .before .before .before .before .before .before .before .before .before .before .args in
+    let p : Order → Bool = λ o. closes (a .column .now) (o .contract) in
+    column-many p (getD (a .head .now) 7 0) _ (replicate 256 0) (a .book .now) (c .before .before .before .before .before .before .before .before .before .before .before .pre .1 .most-orders) (c .before .before .before .before .write-left .ensures)
+
+-- src/orders.rt:49:5
+keep-orders-requires : tie.Need-keep-orders-requires
+keep-orders-requires c κs =
+    let a = c .before .before .before .before .before .before .before .before .before .before .before .args in
+    let n = getD (a .head .now) 7 0 in
+    let p : Order → Bool = λ o. closes (a .column .now) (o .contract) in (
+      c .before .before .before .before .before .before .before .before .before .before .before .pre .0,
+      c .before .before .before .before .before .before .before .before .before .before .before .pre .1 .long,
+      c .before .before .before .before .before .before .before .before .before .before .before .pre .1 .most-orders,
+      rw (← column-many p n (c .before .before .before .before .write-left .last .1 .1 .0) (replicate 256 0) (a .book .now) (c .before .before .before .before .before .before .before .before .before .before .before .pre .1 .most-orders) (c .before .before .before .before .write-left .ensures)) (omega arith),
+    )
+
+-- src/orders.rt:41:1
+same-length : tie.Need-same-length
+same-length c = search needs
+
+-- src/orders.rt:41:1
+same-length-2 : tie.Need-same-length-2
+same-length-2 c = search needs
+
+-- src/orders.rt:41:1
+returns : tie.Need-returns
+returns c =
+    let a = c .before .before .before .before .before .before .before .before .before .before .before .before .before .before .before .before .args in
+    let n = getD (a .head .now) 7 0 in
+    let p : Order → Bool = λ o. closes (a .column .now) (o .contract) in
+    λ t. c .before .before .before .before .keep-orders .ensures t
+    ∙ ap (λ os. withOrders os (withHead (a .head .now) (withBook (a .book .now) t)))
+    (column-kept p n _ (replicate 256 0) (a .book .now) (c .before .before .before .before .before .before .before .before .before .before .before .before .before .before .before .before .pre .1 .most-orders) (c .before .before .before .before .before .before .before .before .before .write-left .ensures) (all-orders (λ o. 1 ≤ o .lots .0) (a .book .now) n (c .before .before .before .before .before .before .before .before .before .before .before .before .before .before .before .before .pre .1 .least-lots)))
+
+pub remove-closing-spec : {M : Type 1} → statement M
+remove-closing-spec =
+    tie.close
+    (tie.spec
+    slice-read-count
+    array-borrow-prefix-left
+    slice-aggregate-write-left
+    write-left-requires
+    array-share-prefix-left
+    slice-aggregate-keep-orders
+    keep-orders-requires
+    same-length
+    same-length-2
+    returns)

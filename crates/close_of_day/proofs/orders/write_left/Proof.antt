@@ -1,0 +1,108 @@
+use borrow.Author.Needs.{needs}
+use mathlib.Core.Bool.{Bool, cond}
+use mathlib.Core.Path.{_≡_, refl, sym, ap, _∙_}
+use mathlib.Core.List.{_++_}
+use Prim.Native.Nat.{_-_, _≤_}
+use native.Mathlib.Omega.{arith}
+use lib.ListN.{length, take, drop, getD, length-set}
+use Rattle.arith.proofs.Writes.{front-next, front-end}
+use Rattle.rules.specs.declared.order.Order.{Order}
+use Rattle.tables.specs.Fit.{ordersIn}
+use Rattle.tables.specs.Left.{staying}
+use Rattle.tables.proofs.Left.{staying-length, staying-at}
+use Rattle.close_of_day.specs.Phases.{closes}
+use Rattle.close_of_day.proofs.orders.write_left.Statement.{statement}
+use Rattle.close_of_day.proofs.orders.write_left.Tie as tie
+use Rattle.close_of_day.proofs.orders.write_left.Reads as reads
+use Rattle.close_of_day.proofs.orders.write_left.Lts as lts
+use Rattle.close_of_day.proofs.orders.left_of.Reads as left-of-reads
+use Rattle.tables.proofs.order_at.Reads as order-at-reads
+
+abbrev Inv-loop : tie.InvT-loop
+Inv-loop book column left₀ i₀ left i = (length left ≡ length left₀) × (i ≤ length left₀) × (left ≡ take i (staying (λ o. closes column (o .contract)) (ordersIn (length left₀) book)) ++ drop i left₀)
+
+abbrev μ-loop : tie.MeasureT-loop
+μ-loop book column left₀ i₀ left i = length left₀ - i
+
+-- src/orders.rt:33:5
+loop-holds : tie.Need-loop-holds Inv-loop μ-loop
+loop-holds c = (refl, omega arith, refl)
+
+-- src/orders.rt:34:13
+order-at-requires : tie.Need-order-at-requires Inv-loop μ-loop
+order-at-requires c κs = (omega (arith, c .before .before .before .before .before .pre .0 .most-orders), c .before .before .before .before .before .pre .0 .long)
+
+-- src/orders.rt:36:30
+mul-left-of : tie.Need-mul-left-of Inv-loop μ-loop
+mul-left-of c = omega (arith, ap (λ o. o .contract) (c .order-at .ensures), c .before .before .before .before .before .before .pre .0 .contract-below (c .before .before .loop .i) (omega arith))
+
+-- src/orders.rt:36:30
+shared-slice-read-left-of : tie.Need-shared-slice-read-left-of Inv-loop μ-loop
+shared-slice-read-left-of c = omega (arith, ap (λ o. o .contract) (c .before .order-at .ensures), c .before .before .before .before .before .before .before .pre .0 .contract-below (c .before .before .before .loop .i) (omega arith))
+
+-- src/orders.rt:36:19
+left-of-requires : tie.Need-left-of-requires Inv-loop μ-loop
+left-of-requires c κs = search needs
+
+-- src/orders.rt:36:9
+mul-left : tie.Need-mul-left Inv-loop μ-loop
+mul-left c = search needs
+
+-- src/orders.rt:36:9
+slice-write-left : tie.Need-slice-write-left Inv-loop μ-loop
+slice-write-left c = search needs
+
+-- src/orders.rt:37:9
+add-i : tie.Need-add-i Inv-loop μ-loop
+add-i c = search needs
+
+-- src/orders.rt:33:5
+loop-less : tie.Need-loop-less Inv-loop μ-loop
+loop-less c = search needs
+
+-- src/orders.rt:33:5
+loop-again : tie.Need-loop-again Inv-loop μ-loop
+loop-again c =
+    let a = c .before .before .before .before .before .before .before .before .args in
+    let l = c .before .before .before .before .loop in
+    let n = length (a .left .now) in
+    let p : Order → Bool = λ o. closes (a .column .now) (o .contract) in
+    let all = staying p (ordersIn n (a .book .now)) in
+    let here : c .left-of .result ≡ getD all (l .i) 0
+    = c .left-of .ensures ∙ ap (λ o. cond (p o) 0 (o .lots .0)) (c .before .before .order-at .ensures) ∙ sym (staying-at p n (a .book .now) (l .i) (omega arith)) in (
+      length-set (l .left) (l .i) (c .left-of .result) ∙ l .inv .0,
+      omega arith,
+      rw (here, l .inv .2) (front-next (l .i) all (a .left .now) 0 (omega (arith, staying-length p n (a .book .now))) (omega arith)),
+    )
+
+-- src/orders.rt:28:1
+same-length : tie.Need-same-length Inv-loop μ-loop
+same-length c = search needs
+
+-- src/orders.rt:28:1
+returns : tie.Need-returns Inv-loop μ-loop
+returns c =
+    let a = c .before .before .before .before .before .args in
+    let l = c .before .loop in
+    let n = length (a .left .now) in
+    let p : Order → Bool = λ o. closes (a .column .now) (o .contract) in
+    l .inv .2 ∙ front-end (l .i) (staying p (ordersIn n (a .book .now))) (a .left .now) (omega (arith, staying-length p n (a .book .now))) (omega arith)
+
+pub write-left-spec : {M : Type 1} → statement M
+write-left-spec =
+    tie.close
+    (tie.spec
+    Inv-loop
+    μ-loop
+    loop-holds
+    order-at-requires
+    mul-left-of
+    shared-slice-read-left-of
+    left-of-requires
+    mul-left
+    slice-write-left
+    add-i
+    loop-less
+    loop-again
+    same-length
+    returns)

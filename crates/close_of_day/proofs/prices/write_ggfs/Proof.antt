@@ -1,0 +1,48 @@
+use mathlib.Core.Path.{_≡_, sym, ap, _∙_}
+use Rattle.rules.specs.declared.contract.ContractKind.the-variants.{Year, Quarter, Month}
+use Rattle.close_of_day.specs.Phases.{openIn}
+use Rattle.close_of_day.specs.Columns.{ggfsFrom, allOpenIn}
+use Rattle.close_of_day.proofs.Ggfs.{deals-ggfs, ggfs-append}
+use mathlib.Core.List.{_++_}
+use borrow.Author.Needs.{needs}
+use Rattle.close_of_day.proofs.prices.write_ggfs.Statement.{statement}
+use Rattle.close_of_day.proofs.prices.write_ggfs.Tie as tie
+use Rattle.close_of_day.proofs.prices.write_ggfs.Reads as reads
+use Rattle.close_of_day.proofs.prices.write_ggfs.Lts as lts
+use Rattle.close_of_day.proofs.prices.write_kind_ggfs.Reads as write-kind-ggfs-reads
+
+-- src/prices.rt:109:5
+write-kind-ggfs-requires : tie.Need-write-kind-ggfs-requires
+write-kind-ggfs-requires c κs = search needs
+
+-- src/prices.rt:110:5
+write-kind-ggfs-requires-2 : tie.Need-write-kind-ggfs-requires-2
+write-kind-ggfs-requires-2 c κs = (rw (c .before .before .before .write-kind-ggfs .ensures) (deals-ggfs _ _ _ _ (c .before .before .before .before .before .before .before .before .before .pre .0)), c .before .before .before .before .before .before .before .before .before .pre .1, c .before .before .before .before .before .before .before .before .before .pre .2, c .before .before .before .before .before .before .before .before .before .pre .3)
+
+-- src/prices.rt:111:5
+write-kind-ggfs-requires-3 : tie.Need-write-kind-ggfs-requires-3
+write-kind-ggfs-requires-3 c κs = (rw (c .before .before .before .write-kind-ggfs2 .ensures, c .before .before .before .before .before .before .before .write-kind-ggfs .ensures) (deals-ggfs _ _ _ _ (deals-ggfs _ _ _ _ (c .before .before .before .before .before .before .before .before .before .before .before .before .before .pre .0))), c .before .before .before .before .before .before .before .before .before .before .before .before .before .pre .1, c .before .before .before .before .before .before .before .before .before .before .before .before .before .pre .2, c .before .before .before .before .before .before .before .before .before .before .before .before .before .pre .3)
+
+-- src/prices.rt:105:1
+same-length : tie.Need-same-length
+same-length c = search needs
+
+-- src/prices.rt:105:1
+returns : tie.Need-returns
+unfolding allOpenIn
+returns c =
+    let a = c .before .before .before .before .before .before .before .before .before .before .before .before .before .before .before .before .args in
+    let b = a .buys .now in
+    let s = a .sells .now in
+    let listed = openIn (a .column .now) in
+    rw (c .before .before .write-kind-ggfs3 .ensures, c .before .before .before .before .before .before .write-kind-ggfs2 .ensures, c .before .before .before .before .before .before .before .before .before .before .write-kind-ggfs .ensures, ggfs-append b s (listed Year) (listed Quarter ++ listed Month) (a .prices .now), ggfs-append b s (listed Quarter) (listed Month) (ggfsFrom b s (listed Year) (a .prices .now)))
+
+pub write-ggfs-spec : {M : Type 1} → statement M
+write-ggfs-spec =
+    tie.close
+    (tie.spec
+    write-kind-ggfs-requires
+    write-kind-ggfs-requires-2
+    write-kind-ggfs-requires-3
+    same-length
+    returns)

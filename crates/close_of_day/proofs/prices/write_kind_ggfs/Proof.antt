@@ -1,0 +1,122 @@
+use borrow.Author.Needs.{needs}
+use mathlib.Core.Path.{_≡_, refl, sym, ap, _∙_}
+use mathlib.Core.List.{_∷_, map}
+use mathlib.Core.Bool.{cond, _&&_}
+use Prim.Native.Nat.{_+_, _-_, _≤_}
+use native.Mathlib.Omega.{arith}
+use native.Mathlib.Nat.{sub-zero}
+use lib.Dec.{ltb}
+use lib.ListN.{length, getD, take}
+use lib.Seq.{take-nil}
+use Prim.Native.Nat.{_<_}
+use Rattle.arith.specs.Lists.{from, kept}
+use Rattle.arith.proofs.Scans.{from-next, from-end}
+use Rattle.rules.specs.CalendarLaws.{numberOf, sizeOf, contracts-of}
+use Rattle.close_of_day.specs.Phases.{waits, openIn}
+use Rattle.close_of_day.specs.Columns.{DealsFit, ggfFrom, ggfsFrom}
+use Rattle.close_of_day.proofs.Cascades.{number-below}
+use Rattle.close_of_day.proofs.Ggfs.{deals-if, open-next}
+use Rattle.close_of_day.proofs.prices.write_kind_ggfs.Statement.{statement}
+use Rattle.close_of_day.proofs.prices.write_kind_ggfs.Tie as tie
+use Rattle.close_of_day.proofs.prices.write_kind_ggfs.Reads as reads
+use Rattle.close_of_day.proofs.prices.write_kind_ggfs.Lts as lts
+use Rattle.close_of_day.proofs.contracts.contract_of.Reads as contract-of-reads
+use Rattle.close_of_day.proofs.contracts.contracts_in.Reads as contracts-in-reads
+use Rattle.close_of_day.proofs.prices.write_if_open.Reads as write-if-open-reads
+use Rattle.rules.proofs.contract.ContractKind.open_count.Reads as open-count-reads
+
+abbrev Inv-loop : tie.InvT-loop
+Inv-loop prices₀ column buys sells kind count more₀ i₀ prices more i = DealsFit prices × (length prices ≡ length prices₀) × (i ≤ sizeOf kind) × (ggfsFrom buys sells (take more (kept (waits column) (map (numberOf kind) (from i (sizeOf kind - i))))) prices ≡ ggfsFrom buys sells (openIn column kind) prices₀)
+
+abbrev μ-loop : tie.MeasureT-loop
+μ-loop prices₀ column buys sells kind count more₀ i₀ prices more i = count - i
+
+-- src/prices.rt:95:9
+contracts-in-requires : tie.Need-contracts-in-requires Inv-loop μ-loop
+contracts-in-requires c κs = search needs
+
+-- src/prices.rt:96:9
+open-count-requires : tie.Need-open-count-requires Inv-loop μ-loop
+open-count-requires c κs = search needs
+
+-- src/prices.rt:98:5
+loop-holds : tie.Need-loop-holds Inv-loop μ-loop
+unfolding openIn
+loop-holds c =
+    let kind = c .before .before .before .before .before .before .args .kind in
+    (c .before .before .before .before .before .before .pre .0, refl, omega arith, rw (c .open-count .ensures, contracts-of kind, sub-zero (sizeOf kind)))
+
+-- src/prices.rt:99:24
+contract-of-requires : tie.Need-contract-of-requires Inv-loop μ-loop
+contract-of-requires c κs = omega (arith, c .before .before .before .contracts-in .ensures)
+
+-- src/prices.rt:100:67
+mul-write-if-open : tie.Need-mul-write-if-open Inv-loop μ-loop
+mul-write-if-open c = let b = number-below (c .before .before .before .before .before .before .before .before .before .before .args .kind) (c .before .before .before .loop .i) (omega (arith, c .before .before .before .before .before .contracts-in .ensures)) in omega (arith, c .before .contract-of .ensures)
+
+-- src/prices.rt:100:67
+shared-slice-read-write-if-open : tie.Need-shared-slice-read-write-if-open Inv-loop μ-loop
+shared-slice-read-write-if-open c = let b = number-below (c .before .before .before .before .before .before .before .before .before .before .before .args .kind) (c .before .before .before .before .loop .i) (omega (arith, c .before .before .before .before .before .before .contracts-in .ensures)) in omega (arith, c .before .before .contract-of .ensures)
+
+-- src/prices.rt:100:9
+write-if-open-requires : tie.Need-write-if-open-requires Inv-loop μ-loop
+write-if-open-requires c κs =
+    let b = number-below (c .before .before .before .before .before .before .before .before .before .before .before .args .kind) (c .before .before .before .before .loop .i) (omega (arith, c .before .before .before .before .before .before .contracts-in .ensures)) in
+    (c .before .before .before .before .loop .inv .0, c .before .before .before .before .before .before .before .before .before .before .before .pre .1, c .before .before .before .before .before .before .before .before .before .before .before .pre .2, omega (arith, c .before .before .contract-of .ensures))
+
+-- src/prices.rt:101:9
+add-i : tie.Need-add-i Inv-loop μ-loop
+add-i c = search needs
+
+-- src/prices.rt:98:5
+loop-less : tie.Need-loop-less Inv-loop μ-loop
+loop-less c = search needs
+
+-- src/prices.rt:98:5
+loop-again : tie.Need-loop-again Inv-loop μ-loop
+loop-again c =
+    let a = c .before .before .before .before .before .before .before .before .before .before .before .before .before .before .args in
+    let l = c .before .before .before .before .before .before .before .loop in
+    let size = sizeOf (a .kind) in
+    let h : l .i < size = omega (arith, c .before .before .before .before .before .before .before .before .before .contracts-in .ensures) in
+    let x = numberOf (a .kind) (l .i) in
+    let rest = map (numberOf (a .kind)) (from (l .i + 1) (size - (l .i + 1))) in
+    let known = rw (from-next (l .i) size h) at (l .inv .3) in
+    let v = ggfFrom (a .buys .now) (a .sells .now) (l .prices) x in (
+      rw (c .before .before .write-if-open .ensures .1, c .before .before .before .before .before .contract-of .ensures) (deals-if (waits (a .column .now) x && ltb 0 (l .more)) (l .prices) x v (l .inv .0)),
+      omega (arith, c .before .before .write-if-open .kept .0),
+      omega arith,
+      rw (c .before .before .write-if-open .ensures .0, c .before .before .write-if-open .ensures .1, c .before .before .before .before .before .contract-of .ensures) (open-next (a .buys .now) (a .sells .now) (l .prices) _ (waits (a .column .now)) (l .more) x rest known),
+    )
+
+-- src/prices.rt:91:1
+same-length : tie.Need-same-length Inv-loop μ-loop
+same-length c = c .before .loop .inv .1
+
+-- src/prices.rt:91:1
+returns : tie.Need-returns Inv-loop μ-loop
+unfolding ggfsFrom kept
+returns c =
+    let a = c .before .before .before .before .before .before .before .before .args in
+    let l = c .before .loop in
+    let size = sizeOf (a .kind) in
+    rw (take-nil (l .more)) at (rw (from-end (l .i) size (omega (arith, c .before .before .before .contracts-in .ensures))) at (l .inv .3))
+
+pub write-kind-ggfs-spec : {M : Type 1} → statement M
+write-kind-ggfs-spec =
+    tie.close
+    (tie.spec
+    Inv-loop
+    μ-loop
+    contracts-in-requires
+    open-count-requires
+    loop-holds
+    contract-of-requires
+    mul-write-if-open
+    shared-slice-read-write-if-open
+    write-if-open-requires
+    add-i
+    loop-less
+    loop-again
+    same-length
+    returns)

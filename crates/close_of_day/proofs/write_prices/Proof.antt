@@ -1,0 +1,102 @@
+use mathlib.Core.Path.{_≡_, refl, sym, ap, _∙_}
+use Prim.Native.Nat.{_≤_}
+use native.Mathlib.Omega.{arith}
+use lib.ListN.{getD, length}
+use Rattle.rules.specs.Ledger.{withHead, withPrices, withBook, orders}
+use Rattle.rules.specs.CloseOfDay.{priced, withoutDeals}
+use Rattle.tables.proofs.Left.{all-orders}
+use Rattle.close_of_day.specs.Columns.{ggfsFrom, allOpenIn}
+use Rattle.close_of_day.proofs.Phases.{phases-length}
+use Rattle.close_of_day.proofs.BestPrices.{price-most}
+use Rattle.close_of_day.proofs.Closes.{book-reads, deals-fit, priced-is}
+use borrow.Author.Needs.{needs}
+use Rattle.close_of_day.proofs.write_prices.Statement.{statement}
+use Rattle.close_of_day.proofs.write_prices.Tie as tie
+use Rattle.close_of_day.proofs.write_prices.Reads as reads
+use Rattle.close_of_day.proofs.write_prices.Lts as lts
+use Rattle.close_of_day.proofs.prices.clear_deals.Reads as clear-deals-reads
+use Rattle.close_of_day.proofs.prices.write_ggfs.Reads as write-ggfs-reads
+use Rattle.close_of_day.proofs.quotes.write_quotes.Reads as write-quotes-reads
+
+-- src/lib.rt:52:21
+shared-slice-read-count : tie.Need-shared-slice-read-count
+shared-slice-read-count c = search needs
+
+-- src/lib.rt:53:17
+shared-slice-read-count-2 : tie.Need-shared-slice-read-count-2
+shared-slice-read-count-2 c = search needs
+
+-- src/lib.rt:56:61
+slice-aggregate-write-quotes : tie.Need-slice-aggregate-write-quotes
+slice-aggregate-write-quotes c = search needs
+
+-- src/lib.rt:56:5
+write-quotes-requires : tie.Need-write-quotes-requires
+write-quotes-requires c κs = let a = c .before .before .before .before .before .before .before .args in (book-reads (a .head .now) (a .book .now) (c .before .before .before .before .before .before .before .pre .0 .0) (c .before .before .before .before .before .before .before .pre .0 .2), refl)
+
+-- src/lib.rt:57:62
+slice-aggregate-write-quotes-2 : tie.Need-slice-aggregate-write-quotes-2
+slice-aggregate-write-quotes-2 c = search needs
+
+-- src/lib.rt:57:5
+write-quotes-requires-2 : tie.Need-write-quotes-requires-2
+write-quotes-requires-2 c κs = let a = c .before .before .before .before .before .before .before .before .before .before .args in (book-reads (a .head .now) (a .book .now) (c .before .before .before .before .before .before .before .before .before .before .pre .0 .0) (c .before .before .before .before .before .before .before .before .before .before .pre .0 .2), refl)
+
+-- src/lib.rt:58:46
+slice-aggregate-write-ggfs : tie.Need-slice-aggregate-write-ggfs
+slice-aggregate-write-ggfs c = search needs
+
+-- src/lib.rt:58:57
+slice-aggregate-write-ggfs-2 : tie.Need-slice-aggregate-write-ggfs-2
+slice-aggregate-write-ggfs-2 c = search needs
+
+-- src/lib.rt:58:5
+write-ggfs-requires : tie.Need-write-ggfs-requires
+write-ggfs-requires c κs =
+    let a = c .before .before .before .before .before .before .before .before .before .before .before .before .before .before .before .args in
+    let n = getD (a .head .now) 7 0 in
+    let most = all-orders (λ o. o .price .0 ≤ 1000000) (a .book .now) n (λ i h. c .before .before .before .before .before .before .before .before .before .before .before .before .before .before .before .pre .0 .2 .order-fit i h .most-price) in (
+      deals-fit (a .head .now) (a .prices .now) (c .before .before .before .before .before .before .before .before .before .before .before .before .before .before .before .pre .0 .0) (c .before .before .before .before .before .before .before .before .before .before .before .before .before .before .before .pre .0 .1),
+      record { all = search needs; most = λ x h. rw (c .before .before .before .before .before .before .before .write-quotes .ensures x h) (price-most _ _ _ _ x most) },
+      record { all = search needs; most = λ x h. rw (c .before .before .before .before .write-quotes2 .ensures x h) (price-most _ _ _ _ x most) },
+      ap length (c .before .before .before .before .before .before .before .before .before .before .before .before .before .before .before .pre .1) ∙ phases-length _ _,
+    )
+
+-- src/lib.rt:59:5
+clear-deals-requires : tie.Need-clear-deals-requires
+clear-deals-requires c κs = search needs
+
+-- src/lib.rt:46:1
+same-length : tie.Need-same-length
+same-length c = search needs
+
+-- src/lib.rt:46:1
+returns : tie.Need-returns
+unfolding priced orders
+returns c =
+    let a = c .before .before .before .before .before .before .before .before .before .before .before .before .before .before .before .before .before .before .before .before .before .before .args in
+    let buys = c .before .before .before .before .before .before .before .before .before .before .before .before .before .before .write-quotes .last .1 .1 .1 .1 .1 .0 in
+    let sells = c .before .before .before .before .before .before .before .before .before .before .before .write-quotes2 .last .1 .1 .1 .1 .1 .0 in
+    λ t.
+    let u = withHead (a .head .now) (withPrices (a .prices .now) (withBook (a .book .now) t)) in
+    let least = all-orders (λ o. 1 ≤ o .price .0) (a .book .now) (getD (a .head .now) 7 0) (λ i h. c .before .before .before .before .before .before .before .before .before .before .before .before .before .before .before .before .before .before .before .before .before .before .pre .0 .2 .order-fit i h .least-price) in
+    ap (λ p. withPrices p u)
+    (c .before .before .clear-deals .ensures ∙ ap withoutDeals (c .before .before .before .before .before .before .write-ggfs .ensures ∙ ap (λ k. ggfsFrom buys sells (allOpenIn k) (a .prices .now)) (c .before .before .before .before .before .before .before .before .before .before .before .before .before .before .before .before .before .before .before .before .before .before .pre .1))
+    ∙ priced-is u (a .time) buys sells (c .before .before .before .before .before .before .before .before .before .before .before .before .before .before .before .before .before .before .before .before .before .before .pre .0 .1 .long) least (c .before .before .before .before .before .before .before .before .before .before .before .before .before .before .write-quotes .ensures) (c .before .before .before .before .before .before .before .before .before .before .before .write-quotes2 .ensures))
+
+pub write-prices-spec : {M : Type 1} → statement M
+write-prices-spec =
+    tie.close
+    (tie.spec
+    shared-slice-read-count
+    shared-slice-read-count-2
+    slice-aggregate-write-quotes
+    write-quotes-requires
+    slice-aggregate-write-quotes-2
+    write-quotes-requires-2
+    slice-aggregate-write-ggfs
+    slice-aggregate-write-ggfs-2
+    write-ggfs-requires
+    clear-deals-requires
+    same-length
+    returns)

@@ -1,0 +1,50 @@
+// The orders of all closing contracts leave the book at once.
+ghost use mathlib.Core.Path.{_≡_};
+ghost use mathlib.Core.Bool.{cond, not};
+ghost use Prim.Native.Nat.{_≤_};
+ghost use lib.Dec.{eqb};
+ghost use lib.ListN.{length};
+ghost use Rattle.arith.specs.Lists.{kept};
+ghost use Rattle.rules.specs.Ranges.{contractCount};
+ghost use Rattle.rules.specs.Ledger.{Tables, withHead, withBook, headLength, withOrders};
+ghost use Rattle.tables.specs.Fit.{orderCountIn, ordersIn};
+ghost use Rattle.tables.specs.Left.{staying};
+ghost use Rattle.close_of_day.specs.Phases.{closes};
+ghost use Rattle.close_of_day.specs.Columns.{BookReads};
+use crate::contracts::CLOSING;
+use rules::Order;
+use rules::layout::ORDER_COUNT;
+
+fn left_of(o: Order, phase: u64) -> u64
+    ensures { λ r. ⌜ r ≡ cond (eqb phase 1) 0 (o .lots .0) ⌝ }
+{
+    if phase == CLOSING {
+        return 0;
+    }
+    o.lots.0
+}
+
+// What is left of each order: nothing of those of a closing contract.
+fn write_left(book: &[u64], column: &[u64], left: &mut [u64])
+    requires { ⌜ BookReads (length (now left)) (now book) × (length (now column) ≡ contractCount) ⌝ }
+    ensures { λ _. ⌜ now (left .exit) ≡ staying (λ o. closes (now (column .entry)) (o .contract)) (ordersIn (length (now (left .entry))) (now (book .entry))) ⌝ }
+{
+    let mut i: usize = 0;
+    while i < left.len() {
+        let o = tables::order_at(book, i);
+        let contract = o.contract as usize;
+        left[i] = left_of(o, column[contract]);
+        i += 1;
+    }
+}
+
+pub fn remove_closing(head: &mut [u64], book: &mut [u64], column: &[u64])
+    requires { ⌜ (headLength ≤ length (now head)) × BookReads (orderCountIn (now head)) (now book) × (length (now column) ≡ contractCount) ⌝ }
+    ensures { λ _. ⌜ ((t : Tables) → withHead (now (head .exit)) (withBook (now (book .exit)) t)
+        ≡ withOrders (kept (λ o. not (closes (now (column .entry)) (o .contract))) (ordersIn (orderCountIn (now (head .entry))) (now (book .entry)))) (withHead (now (head .entry)) (withBook (now (book .entry)) t))) ⌝ }
+{
+    let count = head[ORDER_COUNT] as usize;
+    let mut left = [0u64; 256];
+    write_left(&*book, column, &mut left[..count]);
+    tables::keep_orders(&mut *head, &mut *book, &left[..count]);
+}
