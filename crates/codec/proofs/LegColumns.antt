@@ -173,3 +173,16 @@ module _ (n : ℕ) (s : List ℕ) where
       go e (defaults k l) t = none 5 k refl
       go e (closes-out k l) t = none 6 k refl
       go e (closes k l) t = none 7 k refl
+
+  -- The columns that read_legs fills of a sound proposal hold its legs.
+  pub legs-said : (k : ℕ) → fieldsOf s ≡ Sound (Proposal k) → eventSound n (Proposal k) (legsOf s) ≡ true → heldLegs s ≡ legsOf s
+  legs-said k h t = go (Proposal k) (says s (Proposal k) h) refl t
+    where
+      go : (e : Event) → Says s e → e ≡ Proposal k → eventSound n e (legsOf s) ≡ true → heldLegs s ≡ legsOf s
+      go e (submits f l a b) i t = absurd (let z : _≡_ {A = ℕ} 0 1 = cc in omega arith)
+      go e (cancels f l) i t = absurd (let z : _≡_ {A = ℕ} 0 1 = cc in omega arith)
+      go e (limits f l) i t = absurd (let z : _≡_ {A = ℕ} 0 1 = cc in omega arith)
+      go e (proposes f l) i t = le-or-lt (getD s 1 0) mostLegs (λ m. held-all s f m l) (λ m. never (sym t ∙ many-legs n (getD s 1 0) (legsOf s) m))
+      go e (defaults f l) i t = absurd (let z : _≡_ {A = ℕ} 0 1 = cc in omega arith)
+      go e (closes-out f l) i t = absurd (let z : _≡_ {A = ℕ} 0 1 = cc in omega arith)
+      go e (closes f l) i t = absurd (let z : _≡_ {A = ℕ} 0 1 = cc in omega arith)

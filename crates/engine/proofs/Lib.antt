@@ -1,1 +1,4 @@
+pub mod Columns
 pub mod Reading
+pub mod Events
+pub mod Demand3

@@ -1,12 +1,11 @@
 -- What a header says that was read, sound or not. Assumes nothing.
-use Prim.Native.Nat.{ℕ, _+_, _*_, _-_, _≤_}
+use Prim.Native.Nat.{ℕ, _+_, _*_, _≤_}
 use mathlib.Core.Path.{_≡_, refl, _∙_}
 use mathlib.Core.Bool.{Bool, true, false, _&&_}
 use mathlib.Core.List.{List}
 use native.Mathlib.Omega.{arith}
 use lib.Dec.{eqb, leb}
-use lib.ListN.{length, take, getD, replicate, length-append, length-map}
-use lib.Seq.{take-append-seam}
+use lib.ListN.{length, take, getD, length-map}
 use borrow.Author.Tests.{leb-true}
 use Rattle.arith.specs.Lists.{every, from}
 use Rattle.arith.specs.Tests.{true-or, and-left, and-right}
@@ -14,10 +13,10 @@ use Rattle.rules.specs.declared.answer.Answer.the-variants.{Accepted}
 use Rattle.rules.specs.Days.{inSpan}
 use Rattle.rules.specs.Header.{Header, u16At, u32At, u16sAt, u32sAt, headerLength, headerOf, rising, calendarOf, calendarSound, membersSound, limitSound, daySound, sameBytes, lettersAndVersion, headerSound, beginsWithHeader}
 use Rattle.header.specs.declared.reader.HeaderReading.{HeaderReading}
-use Rattle.arith.specs.Columns.{padded}
 use Rattle.header.specs.Journal.{headerColumns, headerReading}
 use Rattle.tables.specs.Headers.{header}
 use Rattle.arith.proofs.Appends.{from-length}
+use Rattle.engine.proofs.Columns.{column, room}
 
 -- ---- the lists of a header
 holidays-length : (s : List ℕ) → length (headerOf s .holidays) ≡ getD s 10 0
@@ -47,15 +46,6 @@ counts h e =
 begun : (s : List ℕ) → beginsWithHeader s ≡ true → headerSound (headerOf s) ≡ true
 unfolding beginsWithHeader
 begun s e = and-right (leb 11 (length s) && sameBytes (take 5 s) lettersAndVersion && leb (headerLength s) (length s)) (headerSound (headerOf s)) e
-
--- ---- columns
-column : (n : ℕ) (l : List ℕ) → take (length l) (padded n l) ≡ l
-unfolding padded
-column n l = take-append-seam l (replicate (n - length l) 0)
-
-room : (n : ℕ) (l : List ℕ) → length l ≤ n → length l ≤ length (padded n l)
-unfolding padded
-room n l h = rw (length-append l (replicate (n - length l) 0)) (omega arith)
 
 -- ---- a reading
 module _ (s : List ℕ) (r : HeaderReading) (e : r ≡ headerReading s) where

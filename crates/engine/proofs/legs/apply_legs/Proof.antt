@@ -1,0 +1,77 @@
+use mathlib.Core.Path.{_≡_, sym, ap, _∙_}
+use lib.ListN.{length, take, getD}
+use lib.Seq.{length-take-le}
+use Rattle.rules.specs.Ledger.{lent}
+use Rattle.rules.specs.Refusals.{proposalSpec}
+use Rattle.engine.proofs.Events.{orders-room, lots-room, prices-room, legs-fit, legs-are}
+use borrow.Author.Needs.{needs}
+use Rattle.engine.proofs.legs.apply_legs.Statement.{statement}
+use Rattle.engine.proofs.legs.apply_legs.Tie as tie
+
+read-legs-requires : tie.Need-read-legs-requires
+read-legs-requires c κs = search needs
+
+array-share-prefix-orders : tie.Need-array-share-prefix-orders
+array-share-prefix-orders c = let a = c .before .before .before .before .before .before .before .before .before .before .before .before .before .args in orders-room (getD (a .head .now) 1 0) (a .count) (a .bytes .now) (c .before .before .before .before .before .before .before .before .read-legs .result) (c .before .before .before .before .before .before .before .before .read-legs .ensures) (c .before .before .before .before .before .before .before .before .before .before .before .before .before .pre .1)
+
+slice-aggregate-apply : tie.Need-slice-aggregate-apply
+slice-aggregate-apply c = let a = c .before .before .before .before .before .before .before .before .before .before .before .before .before .before .args in
+    sym (length-take-le (a .count) (c .before .before .before .before .before .before .before .before .before .read-legs .result .orders) (orders-room (getD (a .head .now) 1 0) (a .count) (a .bytes .now) (c .before .before .before .before .before .before .before .before .before .read-legs .result) (c .before .before .before .before .before .before .before .before .before .read-legs .ensures) (c .before .before .before .before .before .before .before .before .before .before .before .before .before .before .pre .1)))
+
+array-share-prefix-leg-lots : tie.Need-array-share-prefix-leg-lots
+array-share-prefix-leg-lots c = let a = c .before .before .before .before .before .before .before .before .before .before .before .before .before .before .args in lots-room (getD (a .head .now) 1 0) (a .count) (a .bytes .now) (c .before .before .before .before .before .before .before .before .before .read-legs .result) (c .before .before .before .before .before .before .before .before .before .read-legs .ensures) (c .before .before .before .before .before .before .before .before .before .before .before .before .before .before .pre .1)
+
+slice-aggregate-apply-2 : tie.Need-slice-aggregate-apply-2
+slice-aggregate-apply-2 c = let a = c .before .before .before .before .before .before .before .before .before .before .before .before .before .before .before .args in
+    sym (length-take-le (a .count) (c .before .before .before .before .before .before .before .before .before .before .read-legs .result .lots) (lots-room (getD (a .head .now) 1 0) (a .count) (a .bytes .now) (c .before .before .before .before .before .before .before .before .before .before .read-legs .result) (c .before .before .before .before .before .before .before .before .before .before .read-legs .ensures) (c .before .before .before .before .before .before .before .before .before .before .before .before .before .before .before .pre .1)))
+
+array-share-prefix-leg-prices : tie.Need-array-share-prefix-leg-prices
+array-share-prefix-leg-prices c = let a = c .before .before .before .before .before .before .before .before .before .before .before .before .before .before .before .args in prices-room (getD (a .head .now) 1 0) (a .count) (a .bytes .now) (c .before .before .before .before .before .before .before .before .before .before .read-legs .result) (c .before .before .before .before .before .before .before .before .before .before .read-legs .ensures) (c .before .before .before .before .before .before .before .before .before .before .before .before .before .before .before .pre .1)
+
+slice-aggregate-apply-3 : tie.Need-slice-aggregate-apply-3
+slice-aggregate-apply-3 c = let a = c .before .before .before .before .before .before .before .before .before .before .before .before .before .before .before .before .args in
+    sym (length-take-le (a .count) (c .before .before .before .before .before .before .before .before .before .before .before .read-legs .result .prices) (prices-room (getD (a .head .now) 1 0) (a .count) (a .bytes .now) (c .before .before .before .before .before .before .before .before .before .before .before .read-legs .result) (c .before .before .before .before .before .before .before .before .before .before .before .read-legs .ensures) (c .before .before .before .before .before .before .before .before .before .before .before .before .before .before .before .before .pre .1)))
+
+apply-requires : tie.Need-apply-requires
+apply-requires c κs = let a = c .before .before .before .before .before .before .before .before .before .before .before .before .before .before .before .before .args in
+    let f = c .before .before .before .before .before .before .before .before .before .before .before .before .before .before .before .before .pre .0 in
+    ((f .head-fit, f .prices-fit, f .book-fit, f .lines-long), ((f .lots-fit, f .value-fit), legs-fit (getD (a .head .now) 1 0) (a .count) (a .bytes .now) (c .before .before .before .before .before .before .before .before .before .before .before .read-legs .result) (c .before .before .before .before .before .before .before .before .before .before .before .read-legs .ensures) (c .before .before .before .before .before .before .before .before .before .before .before .before .before .before .before .before .pre .1)))
+
+same-length : tie.Need-same-length
+same-length c = search needs
+
+same-length-2 : tie.Need-same-length-2
+same-length-2 c = search needs
+
+same-length-3 : tie.Need-same-length-3
+same-length-3 c = search needs
+
+same-length-4 : tie.Need-same-length-4
+same-length-4 c = search needs
+
+same-length-5 : tie.Need-same-length-5
+same-length-5 c = search needs
+
+returns : tie.Need-returns
+returns c = let a = c .before .before .before .before .before .before .before .before .before .before .before .before .before .before .before .before .before .before .before .before .before .before .before .before .args in
+    let t = lent (a .head .now) (a .prices .now) (a .lots .now) (a .value .now) (a .book .now) (a .lines .now) in
+    c .before .before .before .before .before .before .before .apply .ensures t ∙ ap (proposalSpec t) (legs-are (getD (a .head .now) 1 0) (a .count) (a .bytes .now) (c .before .before .before .before .before .before .before .before .before .before .before .before .before .before .before .before .before .before .before .read-legs .result) (c .before .before .before .before .before .before .before .before .before .before .before .before .before .before .before .before .before .before .before .read-legs .ensures) (c .before .before .before .before .before .before .before .before .before .before .before .before .before .before .before .before .before .before .before .before .before .before .before .before .pre .1))
+
+pub apply-legs-spec : {M : Type 1} → statement M
+apply-legs-spec =
+    tie.close
+    (tie.spec
+    read-legs-requires
+    array-share-prefix-orders
+    slice-aggregate-apply
+    array-share-prefix-leg-lots
+    slice-aggregate-apply-2
+    array-share-prefix-leg-prices
+    slice-aggregate-apply-3
+    apply-requires
+    same-length
+    same-length-2
+    same-length-3
+    same-length-4
+    same-length-5
+    returns)
