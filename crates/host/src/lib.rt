@@ -3,35 +3,50 @@ ghost use mathlib.Core.Path.{_≡_};
 ghost use mathlib.Core.List.{List};
 ghost use lib.IntN.{ℤ};
 ghost use Rattle.rules.specs.Answers.{told};
-ghost use Rattle.rules.specs.Refusals.{makeSpec};
+ghost use Rattle.rules.specs.Refusals.{makeSpec, applySpec};
 ghost use Rattle.rules.specs.Ledger.{lent};
 ghost use Rattle.host.specs.Sent.{sent, damageNumber};
 use rules::Answer;
 
-// The paper's number of an answer.
-fn number_of(answer: Answer) -> u64
-    ensures { λ r. ⌜ r ≡ told answer .number ⌝ }
+// An answer as a host gets it: the paper's number, and what goes with it.
+struct Told {
+    number: u64,
+    // Of an accepted record its lines, with 5 the member, with 6 the contract, else 0.
+    detail: u64,
+}
+
+fn numbered(number: u64, detail: u64) -> Told
+    ensures { λ r. ⌜ (r .number ≡ number) × (r .detail ≡ detail) ⌝ }
+{
+    Told {
+        number: number,
+        detail: detail,
+    }
+}
+
+fn told_of(answer: Answer) -> Told
+    ensures { λ r. ⌜ (r .number ≡ told answer .number) × (r .detail ≡ told answer .value) ⌝ }
 {
     match answer {
-        Answer::Accepted(_) => 0,
-        Answer::TableUnsound => 1,
-        Answer::HeaderUnsound => 2,
-        Answer::RecordUnsound => 3,
-        Answer::TimeBelowLedger => 4,
-        Answer::MemberDefaulted(_) => 5,
-        Answer::ContractNotOpen(_) => 6,
-        Answer::PriceOutsideLimits => 7,
-        Answer::SixthSubmit => 8,
-        Answer::AboveLimit => 9,
-        Answer::CannotMatchInFull => 10,
-        Answer::BookFull => 11,
-        Answer::NoSuchOrder => 12,
-        Answer::NotAcceptable => 13,
-        Answer::NoReferencePrice => 14,
-        Answer::NoDefaultedLots => 15,
-        Answer::NoTaker => 16,
-        Answer::TotalPassed => 17,
-        Answer::NoLaterDay => 18,
+        Answer::Accepted(lines) => numbered(0, lines),
+        Answer::TableUnsound => numbered(1, 0),
+        Answer::HeaderUnsound => numbered(2, 0),
+        Answer::RecordUnsound => numbered(3, 0),
+        Answer::TimeBelowLedger => numbered(4, 0),
+        Answer::MemberDefaulted(member) => numbered(5, member),
+        Answer::ContractNotOpen(contract) => numbered(6, contract),
+        Answer::PriceOutsideLimits => numbered(7, 0),
+        Answer::SixthSubmit => numbered(8, 0),
+        Answer::AboveLimit => numbered(9, 0),
+        Answer::CannotMatchInFull => numbered(10, 0),
+        Answer::BookFull => numbered(11, 0),
+        Answer::NoSuchOrder => numbered(12, 0),
+        Answer::NotAcceptable => numbered(13, 0),
+        Answer::NoReferencePrice => numbered(14, 0),
+        Answer::NoDefaultedLots => numbered(15, 0),
+        Answer::NoTaker => numbered(16, 0),
+        Answer::TotalPassed => numbered(17, 0),
+        Answer::NoLaterDay => numbered(18, 0),
     }
 }
 
@@ -56,7 +71,7 @@ pub extern "C" fn ledger_make(
         book,
         header,
     );
-    number_of(answer)
+    told_of(answer).number
 }
 
 // Whether any call with these tables is answered 1: 1 if a table is too short or damaged, else 0.
@@ -75,4 +90,34 @@ pub extern "C" fn ledger_is_damaged(
         return 1;
     }
     0
+}
+
+// Applies one record to the lent tables: 0, or the number of the cause, and then every table is as it was. The detail
+// is what goes with the number.
+#[no_mangle]
+pub extern "C" fn ledger_apply(
+    head: &mut [u64],
+    prices: &mut [u64],
+    lots: &mut [i64],
+    value: &mut [i64],
+    book: &mut [u64],
+    lines: &mut [i64],
+    bytes: &[u8],
+    detail: &mut u64,
+) -> u64
+    ensures { λ r. ⌜ record { number = r; value = now (detail .exit); after = lent (now (head .exit)) (now (prices .exit)) (now (lots .exit)) (now (value .exit)) (now (book .exit)) (now (lines .exit)) }
+        ≡ sent (applySpec (lent (now (head .entry)) (now (prices .entry)) (now (lots .entry)) (now (value .entry)) (now (book .entry)) (now (lines .entry))) (now (bytes .entry))) ⌝ }
+{
+    let answer = engine::apply(
+        &mut *head,
+        &mut *prices,
+        &mut *lots,
+        &mut *value,
+        &mut *book,
+        &mut *lines,
+        bytes,
+    );
+    let told = told_of(answer);
+    *detail = told.detail;
+    told.number
 }

@@ -1,5 +1,5 @@
 use Rattle.rules.specs.Ledger.{lent}
-use Rattle.host.proofs.Told.{made}
+use Rattle.host.proofs.Answers.{made}
 use borrow.Author.Needs.{needs}
 use Rattle.host.proofs.ledger_make.Statement.{statement}
 use Rattle.host.proofs.ledger_make.Tie as tie
@@ -7,8 +7,8 @@ use Rattle.host.proofs.ledger_make.Tie as tie
 make-requires : tie.Need-make-requires
 make-requires c κs = search needs
 
-number-of-requires : tie.Need-number-of-requires
-number-of-requires c κs = search needs
+told-of-requires : tie.Need-told-of-requires
+told-of-requires c κs = search needs
 
 same-length : tie.Need-same-length
 same-length c = search needs
@@ -23,16 +23,15 @@ same-length-4 : tie.Need-same-length-4
 same-length-4 c = search needs
 
 returns : tie.Need-returns
-returns c =
-    let a = c .before .before .before .before .before .before .before .before .before .before .before .before .before .before .before .before .args in
-    λ n. made (lent (a .head .now) (a .prices .now) (a .lots .now) (a .value .now) (a .book .now) n) _ (a .header .now) (c .before .before .before .before .before .before .before .make .result) (c .number-of .result) (c .before .before .before .before .before .before .before .make .ensures n) (c .number-of .ensures)
+returns c = let a = c .before .before .before .before .before .before .before .before .before .before .before .before .before .before .before .before .args in
+    λ n. made (lent (a .head .now) (a .prices .now) (a .lots .now) (a .value .now) (a .book .now) n) _ (a .header .now) (c .before .before .before .before .before .before .before .make .result) (c .told-of .result .number) (c .before .before .before .before .before .before .before .make .ensures n) (c .told-of .ensures .0)
 
 pub ledger-make-spec : {M : Type 1} → statement M
 ledger-make-spec =
     tie.close
     (tie.spec
     make-requires
-    number-of-requires
+    told-of-requires
     same-length
     same-length-2
     same-length-3

@@ -6,11 +6,6 @@ use Rattle.engine.proofs.Events.{submission-fits, limits-contract, memb
 use borrow.Author.Needs.{needs}
 use Rattle.engine.proofs.event.apply_event.Statement.{statement}
 use Rattle.engine.proofs.event.apply_event.Tie as tie
-use Rattle.close_of_day.proofs.apply.Reads as apply-reads′
-use Rattle.close_out.proofs.apply.Reads as apply-reads′′
-use Rattle.day_limits.proofs.apply.Reads as apply-reads′′′
-use Rattle.default.proofs.apply.Reads as apply-reads′′′′
-use Rattle.submit.proofs.apply.Reads as apply-reads′′′′′
 
 enum-known-event : tie.Need-enum-known-event
 enum-known-event c = search needs
