@@ -8,8 +8,8 @@ use Rattle.rules.specs.Ledger.{lent}
 use Rattle.tables.proofs.Sound.{lengths}
 use Rattle.engine.proofs.Reading.{turned-back, read-well, holiday-room, limit-room, holiday-most, limit-most, as-written}
 use borrow.Author.Needs.{needs}
-use Rattle.engine.proofs.make.Statement.{statement}
-use Rattle.engine.proofs.make.Tie as tie
+use Rattle.engine.proofs.making.make.Statement.{statement}
+use Rattle.engine.proofs.making.make.Tie as tie
 
 -- Where the header has members, the bytes begin with a sound one.
 sound-at : (c : tie.Else2) → beginsWithHeader (c .before .before .before .before .before .before .before .before .before .before .before .before .before .before .args .bytes .now) ≡ true

@@ -4,8 +4,8 @@ use Rattle.rules.specs.Ledger.{lent}
 use Rattle.rules.specs.Refusals.{applySpec, readingSpec}
 use Rattle.tables.proofs.Fits.{fits}
 use borrow.Author.Needs.{needs}
-use Rattle.engine.proofs.apply.Statement.{statement}
-use Rattle.engine.proofs.apply.Tie as tie
+use Rattle.engine.proofs.applying.apply.Statement.{statement}
+use Rattle.engine.proofs.applying.apply.Tie as tie
 
 is-unsound-requires : tie.Need-is-unsound-requires
 is-unsound-requires c κs = search needs
