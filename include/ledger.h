@@ -84,7 +84,13 @@ enum {
 };
 
 /* The lines: line i has LEDGER_LINE_WIDTH places from i * LEDGER_LINE_WIDTH on. Lots are above 0 where the member buys. */
-enum { LEDGER_LINE_WIDTH = 4, LEDGER_LINE_MEMBER = 0, LEDGER_LINE_CONTRACT = 1, LEDGER_LINE_LOTS = 2, LEDGER_LINE_PRICE = 3 };
+enum {
+  LEDGER_LINE_WIDTH = 4,
+  LEDGER_LINE_MEMBER = 0,
+  LEDGER_LINE_CONTRACT = 1,
+  LEDGER_LINE_LOTS = 2,
+  LEDGER_LINE_PRICE = 3
+};
 
 /* The bytes of a header: so many, then a holiday of so many bytes for each of LEDGER_HOLIDAY_COUNT, then a limit of so
    many bytes for each of LEDGER_MEMBERS. The first record of a journal begins there. */
@@ -120,24 +126,24 @@ enum { LEDGER_RESTING = 0, LEDGER_OEYE = 1, LEDGER_TEYE = 2 };
 /* What an entry answers: 0, or the number of the lowest cause that holds. */
 enum {
   LEDGER_ACCEPTED = 0,
-  LEDGER_TABLE_UNSOUND = 1,        /* a table too short or damaged, or under 200 lines */
-  LEDGER_HEADER_UNSOUND = 2,       /* header cut or against its rule; only ledger_make */
-  LEDGER_RECORD_UNSOUND = 3,       /* record cut or with surplus bytes, unknown kind, field out of range */
-  LEDGER_TIME_BELOW_LEDGER = 4,    /* time below the ledger's */
-  LEDGER_MEMBER_DEFAULTED = 5,     /* submit or default: member already defaulted; with the member */
-  LEDGER_CONTRACT_NOT_OPEN = 6,    /* submit, limits, close-out: contract not open; with the contract */
-  LEDGER_PRICE_OUTSIDE_LIMITS = 7, /* submit price outside low to high */
-  LEDGER_SIXTH_SUBMIT = 8,         /* sixth submit in a second */
-  LEDGER_ABOVE_LIMIT = 9,          /* above the member's position limit */
+  LEDGER_TABLE_UNSOUND = 1,         /* a table too short or damaged, or under 200 lines */
+  LEDGER_HEADER_UNSOUND = 2,        /* header cut or against its rule; only ledger_make */
+  LEDGER_RECORD_UNSOUND = 3,        /* record cut or with surplus bytes, unknown kind, field out of range */
+  LEDGER_TIME_BELOW_LEDGER = 4,     /* time below the ledger's */
+  LEDGER_MEMBER_DEFAULTED = 5,      /* submit or default: member already defaulted; with the member */
+  LEDGER_CONTRACT_NOT_OPEN = 6,     /* submit, limits, close-out: contract not open; with the contract */
+  LEDGER_PRICE_OUTSIDE_LIMITS = 7,  /* submit price outside low to high */
+  LEDGER_SIXTH_SUBMIT = 8,          /* sixth submit in a second */
+  LEDGER_ABOVE_LIMIT = 9,           /* above the member's position limit */
   LEDGER_CANNOT_MATCH_IN_FULL = 10, /* TEYE can't match in full */
-  LEDGER_BOOK_FULL = 11,           /* would rest while 256 others rest after its deals */
-  LEDGER_NO_SUCH_ORDER = 12,       /* cancel: no such resting order of that member */
-  LEDGER_NOT_ACCEPTABLE = 13,      /* proposal not acceptable */
-  LEDGER_NO_REFERENCE_PRICE = 14,  /* close-out: GGF is 0 */
-  LEDGER_NO_DEFAULTED_LOTS = 15,   /* close-out: no defaulted lots there */
-  LEDGER_NO_TAKER = 16,            /* close-out: lots remain and total weight is 0 */
-  LEDGER_TOTAL_PASSED = 17,        /* lots run would pass 5,000,000, or accepted submits 4,000,000,000 */
-  LEDGER_NO_LATER_DAY = 18         /* close of day: no later business day in the span */
+  LEDGER_BOOK_FULL = 11,            /* would rest while 256 others rest after its deals */
+  LEDGER_NO_SUCH_ORDER = 12,        /* cancel: no such resting order of that member */
+  LEDGER_NOT_ACCEPTABLE = 13,       /* proposal not acceptable */
+  LEDGER_NO_REFERENCE_PRICE = 14,   /* close-out: GGF is 0 */
+  LEDGER_NO_DEFAULTED_LOTS = 15,    /* close-out: no defaulted lots there */
+  LEDGER_NO_TAKER = 16,             /* close-out: lots remain and total weight is 0 */
+  LEDGER_TOTAL_PASSED = 17,         /* lots run would pass 5,000,000, or accepted submits 4,000,000,000 */
+  LEDGER_NO_LATER_DAY = 18          /* close of day: no later business day in the span */
 };
 
 #ifdef __cplusplus
@@ -147,8 +153,9 @@ extern "C" {
 /* Makes a ledger from the bytes of a journal's header; bytes past the header are not read. LEDGER_ACCEPTED: made.
    LEDGER_TABLE_UNSOUND: a table is too short (what it holds is not asked). LEDGER_HEADER_UNSOUND: the header is cut or
    against its rule. The book is not written: a fresh ledger has no orders, by its count. */
-uint64_t ledger_make(uint64_t *head, size_t head_len, uint64_t *prices, size_t prices_len, int64_t *lots, size_t lots_len,
-                     int64_t *value, size_t value_len, const uint64_t *book, size_t book_len, const uint8_t *header, size_t header_len);
+uint64_t ledger_make(uint64_t *head, size_t head_len, uint64_t *prices, size_t prices_len, int64_t *lots,
+                     size_t lots_len, int64_t *value, size_t value_len, const uint64_t *book, size_t book_len,
+                     const uint8_t *header, size_t header_len);
 
 /* Applies one record to a ledger. The bytes are exactly one record: one more or one fewer is LEDGER_RECORD_UNSOUND.
    LEDGER_ACCEPTED: applied, and the deal lines stand in the first places of the line table, in printed order; its other
@@ -156,15 +163,15 @@ uint64_t ledger_make(uint64_t *head, size_t head_len, uint64_t *prices, size_t p
 
    *detail is always written, so detail is never NULL: with LEDGER_ACCEPTED the number of lines, with
    LEDGER_MEMBER_DEFAULTED the member, with LEDGER_CONTRACT_NOT_OPEN the contract, else 0. */
-uint64_t ledger_apply(uint64_t *head, size_t head_len, uint64_t *prices, size_t prices_len, int64_t *lots, size_t lots_len,
-                      int64_t *value, size_t value_len, uint64_t *book, size_t book_len, int64_t *lines, size_t lines_len,
-                      const uint8_t *record, size_t record_len, uint64_t *detail);
+uint64_t ledger_apply(uint64_t *head, size_t head_len, uint64_t *prices, size_t prices_len, int64_t *lots,
+                      size_t lots_len, int64_t *value, size_t value_len, uint64_t *book, size_t book_len,
+                      int64_t *lines, size_t lines_len, const uint8_t *record, size_t record_len, uint64_t *detail);
 
 /* 1 if a table is too short or damaged, so that any record applied to these tables is turned back with
    LEDGER_TABLE_UNSOUND; else 0. */
-uint64_t ledger_is_damaged(const uint64_t *head, size_t head_len, const uint64_t *prices, size_t prices_len, const int64_t *lots,
-                           size_t lots_len, const int64_t *value, size_t value_len, const uint64_t *book, size_t book_len,
-                           const int64_t *lines, size_t lines_len);
+uint64_t ledger_is_damaged(const uint64_t *head, size_t head_len, const uint64_t *prices, size_t prices_len,
+                           const int64_t *lots, size_t lots_len, const int64_t *value, size_t value_len,
+                           const uint64_t *book, size_t book_len, const int64_t *lines, size_t lines_len);
 
 #ifdef __cplusplus
 }

@@ -16,8 +16,14 @@ static int64_t lots[LEDGER_ROWS], value[LEDGER_ROWS], lines[LEDGER_LINES];
 /* How many bytes the record at the front has: its kind says it, and the number of legs. A record that is cut or of an
    unknown kind gets what is left, and the library says what is wrong with it. */
 static size_t record_length(const uint8_t *bytes, size_t left) {
-  static const size_t lengths[] = {0, LEDGER_SUBMIT_BYTES, LEDGER_CANCEL_BYTES, LEDGER_DAY_LIMITS_BYTES, LEDGER_PROPOSAL_BYTES,
-                                   LEDGER_DEFAULT_BYTES, LEDGER_CLOSE_OUT_BYTES, LEDGER_CLOSE_OF_DAY_BYTES};
+  static const size_t lengths[] = {0,
+                                   LEDGER_SUBMIT_BYTES,
+                                   LEDGER_CANCEL_BYTES,
+                                   LEDGER_DAY_LIMITS_BYTES,
+                                   LEDGER_PROPOSAL_BYTES,
+                                   LEDGER_DEFAULT_BYTES,
+                                   LEDGER_CLOSE_OUT_BYTES,
+                                   LEDGER_CLOSE_OF_DAY_BYTES};
   size_t length = bytes[0] < sizeof lengths / sizeof *lengths ? lengths[bytes[0]] : 0;
   if (bytes[0] == LEDGER_KIND_PROPOSAL && left > 1) length += (size_t)bytes[1] * LEDGER_LEG_BYTES;
   return length > 0 && length < left ? length : left;
@@ -37,8 +43,8 @@ static void apply_records(const uint8_t *bytes, size_t left) {
   while (left > 0 && number != LEDGER_RECORD_UNSOUND) {
     size_t length = record_length(bytes, left);
     uint64_t detail;
-    number = ledger_apply(head, LEDGER_HEAD, prices, LEDGER_PRICES, lots, LEDGER_ROWS, value, LEDGER_ROWS, book, LEDGER_BOOK, lines,
-                          LEDGER_LINES, bytes, length, &detail);
+    number = ledger_apply(head, LEDGER_HEAD, prices, LEDGER_PRICES, lots, LEDGER_ROWS, value, LEDGER_ROWS, book,
+                          LEDGER_BOOK, lines, LEDGER_LINES, bytes, length, &detail);
     if (number == LEDGER_ACCEPTED) accepted++;
     else print_refusal(accepted + ++refused, number, detail);
     bytes += length;
@@ -76,7 +82,8 @@ static void print_month(uint64_t year, uint64_t month, uint64_t member) {
 
 static void print_positions(uint64_t member) {
   printf("member %" PRIu64 " by contract\n", member);
-  for (uint64_t c = 0; c < LEDGER_CONTRACTS; c++) print_position(c, lots[c * LEDGER_ROW_WIDTH + member], value[c * LEDGER_ROW_WIDTH + member]);
+  for (uint64_t c = 0; c < LEDGER_CONTRACTS; c++)
+    print_position(c, lots[c * LEDGER_ROW_WIDTH + member], value[c * LEDGER_ROW_WIDTH + member]);
   printf("member %" PRIu64 " by delivery month\n", member);
   for (uint64_t year = 0; year < YEARS; year++)
     for (uint64_t month = 0; month < MONTHS_A_YEAR; month++) print_month(year, month, member);
@@ -105,12 +112,14 @@ int main(int count, char **words) {
   if (count < 3) stop("host JOURNAL MEMBER ...");
   size_t length;
   uint8_t *bytes = read_file(words[1], &length);
-  uint64_t number = ledger_make(head, LEDGER_HEAD, prices, LEDGER_PRICES, lots, LEDGER_ROWS, value, LEDGER_ROWS, book, LEDGER_BOOK, bytes, length);
+  uint64_t number = ledger_make(head, LEDGER_HEAD, prices, LEDGER_PRICES, lots, LEDGER_ROWS, value, LEDGER_ROWS, book,
+                                LEDGER_BOOK, bytes, length);
   if (number != LEDGER_ACCEPTED) {
     printf("header refused %" PRIu64 "\n", number);
     return 1;
   }
-  size_t records = LEDGER_HEADER_BYTES + head[LEDGER_HOLIDAY_COUNT] * LEDGER_HOLIDAY_BYTES + head[LEDGER_MEMBERS] * LEDGER_LIMIT_BYTES;
+  size_t records = LEDGER_HEADER_BYTES + head[LEDGER_HOLIDAY_COUNT] * LEDGER_HOLIDAY_BYTES +
+                   head[LEDGER_MEMBERS] * LEDGER_LIMIT_BYTES;
   apply_records(bytes + records, length - records);
   free(bytes);
   for (int i = 2; i < count; i++) {

@@ -11,7 +11,7 @@ import sys
 import types
 
 ROOT = pathlib.Path(__file__).resolve().parents[2]
-CONSTANT = re.compile(r"\bLEDGER_(\w+)(?: =)? (\d+)")
+CONSTANT = re.compile(r"\bLEDGER_(\w+)(?: =)? +(\d+)")
 C = types.SimpleNamespace(**{name: int(n) for name, n in CONSTANT.findall((ROOT / "include/ledger.h").read_text())})
 
 LENGTHS = {

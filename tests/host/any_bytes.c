@@ -11,7 +11,15 @@
 #include <string.h>
 
 enum { RECORDS = 200000, EPISODE = 1000, SURPLUS = 7, MOST_BYTES = 300 };
-enum { FIRST_YEAR = 2021, FIRST_DAY = 366, DAYS = 2191, MONTHS = 72, PRICE = 31000, MOST_RUN = 5000000, ANSWERS = LEDGER_NO_LATER_DAY + 1 };
+enum {
+  FIRST_YEAR = 2021,
+  FIRST_DAY = 366,
+  DAYS = 2191,
+  MONTHS = 72,
+  PRICE = 31000,
+  MOST_RUN = 5000000,
+  ANSWERS = LEDGER_NO_LATER_DAY + 1
+};
 
 static uint64_t state;
 
@@ -35,7 +43,8 @@ static uint64_t apart, defaults;
 static void choose_contracts(uint64_t day) {
   uint64_t month = (day - FIRST_DAY) * MONTHS / DAYS, quarter = month / 3 + 1 + below(3), year = month / 12 + 1;
   few[QUARTER] = quarter / 4 * LEDGER_CONTRACTS_A_YEAR + LEDGER_FIRST_QUARTER + quarter % 4;
-  for (uint64_t i = 0; i < 3; i++) few[MONTH + i] = quarter / 4 * LEDGER_CONTRACTS_A_YEAR + LEDGER_JANUARY + quarter % 4 * 3 + i;
+  for (uint64_t i = 0; i < 3; i++)
+    few[MONTH + i] = quarter / 4 * LEDGER_CONTRACTS_A_YEAR + LEDGER_JANUARY + quarter % 4 * 3 + i;
   few[YEAR] = year * LEDGER_CONTRACTS_A_YEAR;
   for (int i = 0; i < FEW; i++)
     if (few[i] >= LEDGER_CONTRACTS) few[i] = LEDGER_CONTRACTS - 1;
@@ -71,7 +80,9 @@ static void begin(const Tables *tables) {
   if (percent(25)) make_odd(tables);
 }
 
-static const uint64_t *order(const Tables *tables, uint64_t place) { return tables->at[BOOK] + place * LEDGER_ORDER_WIDTH; }
+static const uint64_t *order(const Tables *tables, uint64_t place) {
+  return tables->at[BOOK] + place * LEDGER_ORDER_WIDTH;
+}
 
 /* The order with the best priority on a side of a contract, or NULL. */
 static const uint64_t *best(const Tables *tables, uint64_t contract, uint64_t side) {
@@ -79,7 +90,8 @@ static const uint64_t *best(const Tables *tables, uint64_t contract, uint64_t si
   for (uint64_t i = 0; i < tables->at[HEAD][LEDGER_ORDER_COUNT]; i++) {
     const uint64_t *o = order(tables, i);
     if (o[LEDGER_ORDER_CONTRACT] != contract || o[LEDGER_ORDER_SIDE] != side) continue;
-    bool better = found == NULL || (side == LEDGER_BUY ? o[LEDGER_ORDER_PRICE] > found[LEDGER_ORDER_PRICE] : o[LEDGER_ORDER_PRICE] < found[LEDGER_ORDER_PRICE]);
+    bool better = found == NULL || (side == LEDGER_BUY ? o[LEDGER_ORDER_PRICE] > found[LEDGER_ORDER_PRICE]
+                                                       : o[LEDGER_ORDER_PRICE] < found[LEDGER_ORDER_PRICE]);
     if (better) found = o;
   }
   return found;
@@ -106,18 +118,22 @@ static Bytes draw_proposal(const Tables *tables) {
 
 static Bytes draw_record(const Tables *tables) {
   const uint64_t *head = tables->at[HEAD], members = head[LEDGER_MEMBERS], orders = head[LEDGER_ORDER_COUNT];
-  uint64_t time = head[LEDGER_TIME] + (percent(3) ? 300 : below(2)), contract = percent(95) ? few[below(FEW)] : below(LEDGER_CONTRACTS), which = below(1000);
+  uint64_t time = head[LEDGER_TIME] + (percent(3) ? 300 : below(2)),
+           contract = percent(95) ? few[below(FEW)] : below(LEDGER_CONTRACTS), which = below(1000);
   if (percent(2) && time > 0) time = head[LEDGER_TIME] - 1;
   if (which < 650) {
     static const uint64_t kinds[] = {LEDGER_RESTING, LEDGER_RESTING, LEDGER_RESTING, LEDGER_OEYE, LEDGER_TEYE};
     const uint64_t side = below(2), price = PRICE - 2 + below(5) + (side == LEDGER_SELL ? apart : 0);
-    return RECORD(LEDGER_KIND_SUBMIT, time, below(members), contract, side, kinds[below(5)], price, 1 + below(percent(20) ? 100 : 10));
+    return RECORD(LEDGER_KIND_SUBMIT, time, below(members), contract, side, kinds[below(5)], price,
+                  1 + below(percent(20) ? 100 : 10));
   }
   if (which < 700) {
     const uint64_t *o = orders > 0 && percent(90) && apart == 0 ? order(tables, below(orders)) : NULL;
-    return RECORD(LEDGER_KIND_CANCEL, time, o != NULL ? o[LEDGER_ORDER_MEMBER] : below(members), o != NULL ? o[LEDGER_ORDER_NUMBER] : below(100));
+    return RECORD(LEDGER_KIND_CANCEL, time, o != NULL ? o[LEDGER_ORDER_MEMBER] : below(members),
+                  o != NULL ? o[LEDGER_ORDER_NUMBER] : below(100));
   }
-  if (which < 710) return RECORD(LEDGER_KIND_DAY_LIMITS, contract, percent(80) ? 1 : PRICE, percent(80) ? 1000000 : PRICE + 1);
+  if (which < 710)
+    return RECORD(LEDGER_KIND_DAY_LIMITS, contract, percent(80) ? 1 : PRICE, percent(80) ? 1000000 : PRICE + 1);
   if (which < 860) return draw_proposal(tables);
   if (which < 860 + defaults) return RECORD(LEDGER_KIND_DEFAULT, below(members));
   if (which < 960) return RECORD(LEDGER_KIND_CLOSE_OUT, contract, 1 + below(1000));
@@ -151,7 +167,9 @@ static Bytes draw_bytes(const Tables *tables) {
   return bytes;
 }
 
-static bool is_member_place(uint64_t place, uint64_t first, uint64_t members) { return place >= first && place < first + members; }
+static bool is_member_place(uint64_t place, uint64_t first, uint64_t members) {
+  return place >= first && place < first + members;
+}
 
 /* Whether an accepted record may have changed a place of the head or of the prices. */
 static bool may_change_head(const Bytes *record, const Tables *before, const Tables *after, uint64_t place) {
@@ -160,13 +178,14 @@ static bool may_change_head(const Bytes *record, const Tables *before, const Tab
   const bool all_counts = is_member_place(place, LEDGER_SUBMITS, members);
   switch (kind) {
   case LEDGER_KIND_SUBMIT:
-    return (place >= LEDGER_ACCEPTED_SUBMITS && place <= LEDGER_ORDER_COUNT) || place == LEDGER_SUBMITS + (uint64_t)record->at[5] ||
-           (later && (place == LEDGER_TIME || all_counts));
+    return (place >= LEDGER_ACCEPTED_SUBMITS && place <= LEDGER_ORDER_COUNT) ||
+           place == LEDGER_SUBMITS + (uint64_t)record->at[5] || (later && (place == LEDGER_TIME || all_counts));
   case LEDGER_KIND_CANCEL: return place == LEDGER_ORDER_COUNT || (later && (place == LEDGER_TIME || all_counts));
   case LEDGER_KIND_PROPOSAL: return place == LEDGER_LOTS_RUN || place == LEDGER_ORDER_COUNT;
   case LEDGER_KIND_DEFAULT: return place == LEDGER_ORDER_COUNT || place == LEDGER_MARKS + (uint64_t)record->at[1];
   case LEDGER_KIND_CLOSE_OUT: return place == LEDGER_LOTS_RUN;
-  case LEDGER_KIND_CLOSE_OF_DAY: return place == LEDGER_DAY || place == LEDGER_TIME || place == LEDGER_ORDER_COUNT || all_counts;
+  case LEDGER_KIND_CLOSE_OF_DAY:
+    return place == LEDGER_DAY || place == LEDGER_TIME || place == LEDGER_ORDER_COUNT || all_counts;
   default: return false;
   }
 }
@@ -182,22 +201,29 @@ static bool may_change_prices(const Bytes *record, uint64_t place) {
 }
 
 /* Orders stand in front, places past the last one keep what they hold; so do lines. */
-static bool may_change(const Bytes *record, const Tables *before, const Tables *after, uint64_t lines, int table, uint64_t place) {
+static bool may_change(const Bytes *record, const Tables *before, const Tables *after, uint64_t lines, int table,
+                       uint64_t place) {
   if (place >= LEAST[table]) return false;
   switch (table) {
   case HEAD: return may_change_head(record, before, after, place);
   case PRICES: return may_change_prices(record, place);
-  case BOOK: return place < after->at[HEAD][LEDGER_ORDER_COUNT] * LEDGER_ORDER_WIDTH && record->at[0] != LEDGER_KIND_DAY_LIMITS && record->at[0] != LEDGER_KIND_CLOSE_OUT;
+  case BOOK:
+    return place < after->at[HEAD][LEDGER_ORDER_COUNT] * LEDGER_ORDER_WIDTH &&
+           record->at[0] != LEDGER_KIND_DAY_LIMITS && record->at[0] != LEDGER_KIND_CLOSE_OUT;
   case LINES: return place < lines * LEDGER_LINE_WIDTH;
-  default: return record->at[0] == LEDGER_KIND_CLOSE_OF_DAY && place % LEDGER_ROW_WIDTH < before->at[HEAD][LEDGER_MEMBERS];
+  default:
+    return record->at[0] == LEDGER_KIND_CLOSE_OF_DAY && place % LEDGER_ROW_WIDTH < before->at[HEAD][LEDGER_MEMBERS];
   }
 }
 
 /* Adds the lines to the rows and to the lots run of the tables before the call, where they were not added by a cascade. */
 static void book_lines(const Tables *before, const Tables *after, uint64_t lines) {
-  for (const uint64_t *line = after->at[LINES], *end = line + lines * LEDGER_LINE_WIDTH; line < end; line += LEDGER_LINE_WIDTH) {
+  for (const uint64_t *line = after->at[LINES], *end = line + lines * LEDGER_LINE_WIDTH; line < end;
+       line += LEDGER_LINE_WIDTH) {
     uint64_t row = line[LEDGER_LINE_CONTRACT] * LEDGER_ROW_WIDTH + line[LEDGER_LINE_MEMBER];
-    expect(line[LEDGER_LINE_CONTRACT] < LEDGER_CONTRACTS && line[LEDGER_LINE_MEMBER] < before->at[HEAD][LEDGER_MEMBERS] && line[LEDGER_LINE_LOTS] != 0, "a line");
+    expect(line[LEDGER_LINE_CONTRACT] < LEDGER_CONTRACTS &&
+               line[LEDGER_LINE_MEMBER] < before->at[HEAD][LEDGER_MEMBERS] && line[LEDGER_LINE_LOTS] != 0,
+           "a line");
     before->at[LOTS][row] += line[LEDGER_LINE_LOTS];
     before->at[VALUE][row] += line[LEDGER_LINE_LOTS] * line[LEDGER_LINE_PRICE];
     before->at[HEAD][LEDGER_LOTS_RUN] += (uint64_t)llabs((int64_t)line[LEDGER_LINE_LOTS]);
@@ -208,7 +234,8 @@ static void book_lines(const Tables *before, const Tables *after, uint64_t lines
 /* A member's lots or value in the hours of a month: the rows of the month, its quarter and its year. */
 static uint64_t in_month(const Tables *tables, int table, uint64_t member, uint64_t month) {
   const uint64_t year = month / 12 * LEDGER_CONTRACTS_A_YEAR, *rows = tables->at[table] + member;
-  return rows[(year + LEDGER_YEAR) * LEDGER_ROW_WIDTH] + rows[(year + LEDGER_FIRST_QUARTER + month % 12 / 3) * LEDGER_ROW_WIDTH] +
+  return rows[(year + LEDGER_YEAR) * LEDGER_ROW_WIDTH] +
+         rows[(year + LEDGER_FIRST_QUARTER + month % 12 / 3) * LEDGER_ROW_WIDTH] +
          rows[(year + LEDGER_JANUARY + month % 12) * LEDGER_ROW_WIDTH];
 }
 
@@ -225,8 +252,11 @@ static void accepted(const Bytes *record, const Tables *before, const Tables *af
   book_lines(before, after, lines);
   for (int t = 0; t < TABLES; t++)
     for (size_t i = 0; i < before->length[t]; i++)
-      if (before->at[t][i] != after->at[t][i]) expect(may_change(record, before, after, lines, t, i), "kind %d changed %s %zu", record->at[0], TABLE_NAMES[t], i);
-  if (record->at[0] == LEDGER_KIND_CLOSE_OF_DAY) expect(same_in_every_month(before, after), "a close moves lots or value to other hours");
+      if (before->at[t][i] != after->at[t][i])
+        expect(may_change(record, before, after, lines, t, i), "kind %d changed %s %zu", record->at[0], TABLE_NAMES[t],
+               i);
+  if (record->at[0] == LEDGER_KIND_CLOSE_OF_DAY)
+    expect(same_in_every_month(before, after), "a close moves lots or value to other hours");
   expect(is_damaged(after) == 0, "damaged by kind %d", record->at[0]);
 }
 
@@ -237,7 +267,8 @@ static void call(const Tables *tables, const Tables *before, const Bytes *record
   memcpy(place, record->at, record->length);
   uint64_t detail = SOIL, number = apply(tables, place, record->length, &detail);
   expect(memcmp(place, record->at, record->length) == 0, "the record is only read");
-  expect(number < ANSWERS && number != LEDGER_HEADER_UNSOUND && number != LEDGER_TABLE_UNSOUND, "answer %" PRIu64, number);
+  expect(number < ANSWERS && number != LEDGER_HEADER_UNSOUND && number != LEDGER_TABLE_UNSOUND, "answer %" PRIu64,
+         number);
   if (number < ANSWERS) answers[number]++;
   if (number == LEDGER_ACCEPTED) {
     accepted_of_kind[record->at[0]]++;
@@ -245,8 +276,10 @@ static void call(const Tables *tables, const Tables *before, const Bytes *record
     copy(before, tables);
   } else {
     expect(same(tables, before), "answer %" PRIu64 " leaves the tables", number);
-    if (number == LEDGER_MEMBER_DEFAULTED) expect(detail == record->at[record->at[0] == LEDGER_KIND_SUBMIT ? 5 : 1], "the member of 5");
-    else if (number == LEDGER_CONTRACT_NOT_OPEN) expect(detail == record->at[record->at[0] == LEDGER_KIND_SUBMIT ? 6 : 1], "the contract of 6");
+    if (number == LEDGER_MEMBER_DEFAULTED)
+      expect(detail == record->at[record->at[0] == LEDGER_KIND_SUBMIT ? 5 : 1], "the member of 5");
+    else if (number == LEDGER_CONTRACT_NOT_OPEN)
+      expect(detail == record->at[record->at[0] == LEDGER_KIND_SUBMIT ? 6 : 1], "the contract of 6");
     else expect(detail == 0, "%" PRIu64 " with answer %" PRIu64, detail, number);
   }
 }

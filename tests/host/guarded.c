@@ -18,7 +18,8 @@ static const uint8_t *paper(const uint8_t *bytes, size_t n) {
 }
 
 /* What a record is answered, and the number that goes with it. */
-static void answered(const Tables *tables, const uint8_t *record, size_t n, uint64_t number, uint64_t detail, const char *what) {
+static void answered(const Tables *tables, const uint8_t *record, size_t n, uint64_t number, uint64_t detail,
+                     const char *what) {
   uint64_t with = 77, got = apply(tables, record, n, &with);
   expect(got == number && with == detail, "%s: %llu and %llu", what, (unsigned long long)got, (unsigned long long)with);
 }
@@ -27,11 +28,13 @@ static Tables made(const Bytes *header) {
   Tables tables = lend_guarded(0, ENDS);
   soil(&tables);
   for (size_t n = 0; n <= header->length; n++)
-    expect(make(&tables, paper(header->at, n), n) == (n < header->length ? LEDGER_HEADER_UNSOUND : LEDGER_ACCEPTED), "a header cut at %zu", n);
+    expect(make(&tables, paper(header->at, n), n) == (n < header->length ? LEDGER_HEADER_UNSOUND : LEDGER_ACCEPTED),
+           "a header cut at %zu", n);
   return tables;
 }
 
-static void put_order(const Tables *tables, uint64_t number, uint64_t member, uint64_t contract, uint64_t side, uint64_t lots) {
+static void put_order(const Tables *tables, uint64_t number, uint64_t member, uint64_t contract, uint64_t side,
+                      uint64_t lots) {
   const uint64_t order[LEDGER_ORDER_WIDTH] = {number, member, contract, side, PRICE, lots, 369, 0};
   memcpy(tables->at[BOOK] + number * LEDGER_ORDER_WIDTH, order, sizeof order);
 }
@@ -50,8 +53,10 @@ static Tables crowded(void) {
   head[LEDGER_MARKS + DEFAULTED] = 1;
   head[LEDGER_ORDER_COUNT] = head[LEDGER_ACCEPTED_SUBMITS] = LEDGER_MOST_ORDERS;
   put_order(&tables, 0, FINE, SECOND_QUARTER, LEDGER_BUY, 1);
-  for (uint64_t month = APRIL; month <= JUNE; month++) put_order(&tables, month - APRIL + 1, LIMITED, month, LEDGER_SELL, 1);
-  for (uint64_t i = 4; i < LEDGER_MOST_ORDERS; i++) put_order(&tables, i, FINE, FIRST_OPEN_YEAR, LEDGER_SELL, MOST_LOTS);
+  for (uint64_t month = APRIL; month <= JUNE; month++)
+    put_order(&tables, month - APRIL + 1, LIMITED, month, LEDGER_SELL, 1);
+  for (uint64_t i = 4; i < LEDGER_MOST_ORDERS; i++)
+    put_order(&tables, i, FINE, FIRST_OPEN_YEAR, LEDGER_SELL, MOST_LOTS);
   for (size_t c = SECOND_QUARTER; c <= MARCH; c++) tables.at[PRICES][c * LEDGER_PRICE_WIDTH + LEDGER_HIGH] = PRICE;
   tables.at[PRICES][SECOND_QUARTER * LEDGER_PRICE_WIDTH + LEDGER_GGF] = PRICE;
   tables.at[PRICES][MARCH * LEDGER_PRICE_WIDTH + LEDGER_GGF] = PRICE;
@@ -72,29 +77,39 @@ typedef struct {
 /* A refused record is known before anything is written: the tables are read-only. */
 static void refused(const Tables *tables) {
   const Refused each[] = {
-      {LEDGER_TIME_BELOW_LEDGER, 0, RECORD(LEDGER_KIND_SUBMIT, TIME - 1, DEFAULTED, NOT_OPEN, LEDGER_BUY, LEDGER_RESTING, PRICE, 1)},
+      {LEDGER_TIME_BELOW_LEDGER, 0,
+       RECORD(LEDGER_KIND_SUBMIT, TIME - 1, DEFAULTED, NOT_OPEN, LEDGER_BUY, LEDGER_RESTING, PRICE, 1)},
       {LEDGER_TIME_BELOW_LEDGER, 0, RECORD(LEDGER_KIND_CANCEL, TIME - 1, FINE, 0)},
       {LEDGER_TIME_BELOW_LEDGER, 0, RECORD(LEDGER_KIND_CLOSE_OF_DAY, TIME - 1)},
-      {LEDGER_MEMBER_DEFAULTED, DEFAULTED, RECORD(LEDGER_KIND_SUBMIT, TIME + 1, DEFAULTED, NOT_OPEN, LEDGER_BUY, LEDGER_RESTING, PRICE, 1)},
+      {LEDGER_MEMBER_DEFAULTED, DEFAULTED,
+       RECORD(LEDGER_KIND_SUBMIT, TIME + 1, DEFAULTED, NOT_OPEN, LEDGER_BUY, LEDGER_RESTING, PRICE, 1)},
       {LEDGER_MEMBER_DEFAULTED, DEFAULTED, RECORD(LEDGER_KIND_DEFAULT, DEFAULTED)},
-      {LEDGER_CONTRACT_NOT_OPEN, NOT_OPEN, RECORD(LEDGER_KIND_SUBMIT, TIME + 1, FINE, NOT_OPEN, LEDGER_BUY, LEDGER_RESTING, PRICE, 1)},
+      {LEDGER_CONTRACT_NOT_OPEN, NOT_OPEN,
+       RECORD(LEDGER_KIND_SUBMIT, TIME + 1, FINE, NOT_OPEN, LEDGER_BUY, LEDGER_RESTING, PRICE, 1)},
       {LEDGER_CONTRACT_NOT_OPEN, 101, RECORD(LEDGER_KIND_DAY_LIMITS, 101, 1, PRICE)},
       {LEDGER_CONTRACT_NOT_OPEN, 100, RECORD(LEDGER_KIND_CLOSE_OUT, 100, 500)},
-      {LEDGER_PRICE_OUTSIDE_LIMITS, 0, RECORD(LEDGER_KIND_SUBMIT, TIME, FINE, SECOND_QUARTER, LEDGER_BUY, LEDGER_RESTING, PRICE + 1, 1)},
-      {LEDGER_SIXTH_SUBMIT, 0, RECORD(LEDGER_KIND_SUBMIT, TIME, FINE, SECOND_QUARTER, LEDGER_BUY, LEDGER_RESTING, PRICE, 1)},
-      {LEDGER_ABOVE_LIMIT, 0, RECORD(LEDGER_KIND_SUBMIT, TIME, LIMITED, FIRST_OPEN_YEAR, LEDGER_BUY, LEDGER_TEYE, PRICE, 6)},
-      {LEDGER_CANNOT_MATCH_IN_FULL, 0, RECORD(LEDGER_KIND_SUBMIT, TIME, LIMITED, FIRST_OPEN_YEAR, LEDGER_BUY, LEDGER_TEYE, PRICE - 1, 5)},
-      {LEDGER_BOOK_FULL, 0, RECORD(LEDGER_KIND_SUBMIT, TIME, LIMITED, FIRST_OPEN_YEAR, LEDGER_BUY, LEDGER_RESTING, PRICE - 1, 5)},
+      {LEDGER_PRICE_OUTSIDE_LIMITS, 0,
+       RECORD(LEDGER_KIND_SUBMIT, TIME, FINE, SECOND_QUARTER, LEDGER_BUY, LEDGER_RESTING, PRICE + 1, 1)},
+      {LEDGER_SIXTH_SUBMIT, 0,
+       RECORD(LEDGER_KIND_SUBMIT, TIME, FINE, SECOND_QUARTER, LEDGER_BUY, LEDGER_RESTING, PRICE, 1)},
+      {LEDGER_ABOVE_LIMIT, 0,
+       RECORD(LEDGER_KIND_SUBMIT, TIME, LIMITED, FIRST_OPEN_YEAR, LEDGER_BUY, LEDGER_TEYE, PRICE, 6)},
+      {LEDGER_CANNOT_MATCH_IN_FULL, 0,
+       RECORD(LEDGER_KIND_SUBMIT, TIME, LIMITED, FIRST_OPEN_YEAR, LEDGER_BUY, LEDGER_TEYE, PRICE - 1, 5)},
+      {LEDGER_BOOK_FULL, 0,
+       RECORD(LEDGER_KIND_SUBMIT, TIME, LIMITED, FIRST_OPEN_YEAR, LEDGER_BUY, LEDGER_RESTING, PRICE - 1, 5)},
       {LEDGER_NO_SUCH_ORDER, 0, RECORD(LEDGER_KIND_CANCEL, TIME + 1, LIMITED, 0)},
       {LEDGER_NOT_ACCEPTABLE, 0, RECORD(LEDGER_KIND_PROPOSAL, LEGS(PRICE - 1))},
       {LEDGER_NO_REFERENCE_PRICE, 0, RECORD(LEDGER_KIND_CLOSE_OUT, MAY, 500)},
       {LEDGER_NO_DEFAULTED_LOTS, 0, RECORD(LEDGER_KIND_CLOSE_OUT, APRIL, 500)},
       {LEDGER_NO_TAKER, 0, RECORD(LEDGER_KIND_CLOSE_OUT, MARCH, 500)},
-      {LEDGER_TOTAL_PASSED, 0, RECORD(LEDGER_KIND_SUBMIT, TIME, LIMITED, FIRST_OPEN_YEAR, LEDGER_BUY, LEDGER_OEYE, PRICE, 1)},
+      {LEDGER_TOTAL_PASSED, 0,
+       RECORD(LEDGER_KIND_SUBMIT, TIME, LIMITED, FIRST_OPEN_YEAR, LEDGER_BUY, LEDGER_OEYE, PRICE, 1)},
       {LEDGER_TOTAL_PASSED, 0, RECORD(LEDGER_KIND_PROPOSAL, LEGS(PRICE))},
   };
   for (size_t i = 0; i < sizeof each / sizeof *each; i++)
-    answered(tables, paper(each[i].record.at, each[i].record.length), each[i].record.length, each[i].number, each[i].detail, "a refused record");
+    answered(tables, paper(each[i].record.at, each[i].record.length), each[i].record.length, each[i].number,
+             each[i].detail, "a refused record");
 }
 
 /* Cut at each byte and with one byte too many, a record is 3; with a table short by one place any bytes are 1. */
@@ -114,7 +129,8 @@ static void cut_and_short(Tables *tables) {
       if (n != whole) answered(tables, paper(each[i].at, n), n, LEDGER_RECORD_UNSOUND, 0, "a cut record");
     for (int t = 0; t < TABLES; t++) {
       tables->at[t]++, tables->length[t]--;
-      for (size_t n = 0; n <= whole; n++) answered(tables, paper(each[i].at, n), n, LEDGER_TABLE_UNSOUND, 0, TABLE_NAMES[t]);
+      for (size_t n = 0; n <= whole; n++)
+        answered(tables, paper(each[i].at, n), n, LEDGER_TABLE_UNSOUND, 0, TABLE_NAMES[t]);
       tables->at[t]--, tables->length[t]++;
     }
   }
@@ -127,7 +143,9 @@ static void short_by_one(Tables *tables) {
   for (int t = 0; t < TABLES; t++) {
     tables->at[t]++, tables->length[t]--;
     expect(is_damaged(tables) == 1, "%s short by one is damage", TABLE_NAMES[t]);
-    if (t != LINES) expect(make(tables, sound.at, sound.length) == LEDGER_TABLE_UNSOUND, "%s short by one, and a header", TABLE_NAMES[t]);
+    if (t != LINES)
+      expect(make(tables, sound.at, sound.length) == LEDGER_TABLE_UNSOUND, "%s short by one, and a header",
+             TABLE_NAMES[t]);
     tables->at[t]--, tables->length[t]++;
   }
 }

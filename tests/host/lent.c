@@ -16,19 +16,21 @@ static void stop(const char *what) {
 }
 
 uint64_t make(const Tables *t, const uint8_t *bytes, size_t n) {
-  return ledger_make(t->at[HEAD], t->length[HEAD], t->at[PRICES], t->length[PRICES], (int64_t *)t->at[LOTS], t->length[LOTS],
-                     (int64_t *)t->at[VALUE], t->length[VALUE], t->at[BOOK], t->length[BOOK], bytes, n);
+  return ledger_make(t->at[HEAD], t->length[HEAD], t->at[PRICES], t->length[PRICES], (int64_t *)t->at[LOTS],
+                     t->length[LOTS], (int64_t *)t->at[VALUE], t->length[VALUE], t->at[BOOK], t->length[BOOK], bytes,
+                     n);
 }
 
 uint64_t apply(const Tables *t, const uint8_t *record, size_t n, uint64_t *detail) {
-  return ledger_apply(t->at[HEAD], t->length[HEAD], t->at[PRICES], t->length[PRICES], (int64_t *)t->at[LOTS], t->length[LOTS],
-                      (int64_t *)t->at[VALUE], t->length[VALUE], t->at[BOOK], t->length[BOOK], (int64_t *)t->at[LINES], t->length[LINES],
-                      record, n, detail);
+  return ledger_apply(t->at[HEAD], t->length[HEAD], t->at[PRICES], t->length[PRICES], (int64_t *)t->at[LOTS],
+                      t->length[LOTS], (int64_t *)t->at[VALUE], t->length[VALUE], t->at[BOOK], t->length[BOOK],
+                      (int64_t *)t->at[LINES], t->length[LINES], record, n, detail);
 }
 
 uint64_t is_damaged(const Tables *t) {
-  return ledger_is_damaged(t->at[HEAD], t->length[HEAD], t->at[PRICES], t->length[PRICES], (int64_t *)t->at[LOTS], t->length[LOTS],
-                           (int64_t *)t->at[VALUE], t->length[VALUE], t->at[BOOK], t->length[BOOK], (int64_t *)t->at[LINES], t->length[LINES]);
+  return ledger_is_damaged(t->at[HEAD], t->length[HEAD], t->at[PRICES], t->length[PRICES], (int64_t *)t->at[LOTS],
+                           t->length[LOTS], (int64_t *)t->at[VALUE], t->length[VALUE], t->at[BOOK], t->length[BOOK],
+                           (int64_t *)t->at[LINES], t->length[LINES]);
 }
 
 Tables lend(size_t surplus) {
@@ -113,7 +115,8 @@ void put(Bytes *bytes, size_t width, uint64_t number) {
   for (size_t i = width; i-- > 0;) bytes->at[bytes->length++] = (uint8_t)(number >> (8 * i));
 }
 
-Bytes header_from(uint64_t first_year, uint64_t start_day, uint64_t members, uint64_t limit, const uint64_t *holidays, size_t holiday_count) {
+Bytes header_from(uint64_t first_year, uint64_t start_day, uint64_t members, uint64_t limit, const uint64_t *holidays,
+                  size_t holiday_count) {
   Bytes bytes = {{'V', 'J', 'R'}, 3};
   put(&bytes, 2, 1);
   put(&bytes, 2, first_year);
@@ -130,13 +133,17 @@ Bytes header(uint64_t members, uint64_t limit, const uint64_t *holidays, size_t 
 }
 
 Bytes record_of(uint8_t kind, const uint64_t *fields, size_t count) {
-  static const uint8_t widths[][7] = {[LEDGER_KIND_SUBMIT] = {4, 1, 1, 1, 1, 4, 2}, [LEDGER_KIND_CANCEL] = {4, 1, 4},
-                                      [LEDGER_KIND_DAY_LIMITS] = {1, 4, 4},         [LEDGER_KIND_PROPOSAL] = {1},
-                                      [LEDGER_KIND_DEFAULT] = {1},                  [LEDGER_KIND_CLOSE_OUT] = {1, 2},
+  static const uint8_t widths[][7] = {[LEDGER_KIND_SUBMIT] = {4, 1, 1, 1, 1, 4, 2},
+                                      [LEDGER_KIND_CANCEL] = {4, 1, 4},
+                                      [LEDGER_KIND_DAY_LIMITS] = {1, 4, 4},
+                                      [LEDGER_KIND_PROPOSAL] = {1},
+                                      [LEDGER_KIND_DEFAULT] = {1},
+                                      [LEDGER_KIND_CLOSE_OUT] = {1, 2},
                                       [LEDGER_KIND_CLOSE_OF_DAY] = {4}};
   static const uint8_t leg[] = {4, 2, 4};
   Bytes bytes = {{kind}, 1};
-  for (size_t i = 0; i < count; i++) put(&bytes, kind == LEDGER_KIND_PROPOSAL && i > 0 ? leg[(i - 1) % 3] : widths[kind][i], fields[i]);
+  for (size_t i = 0; i < count; i++)
+    put(&bytes, kind == LEDGER_KIND_PROPOSAL && i > 0 ? leg[(i - 1) % 3] : widths[kind][i], fields[i]);
   return bytes;
 }
 

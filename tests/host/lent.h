@@ -49,10 +49,12 @@ typedef struct {
 void put(Bytes *bytes, size_t width, uint64_t number);
 /* First year 2021, start day 369 (4 January 2021, a Monday), so many members with one limit, these holidays. */
 Bytes header(uint64_t members, uint64_t limit, const uint64_t *holidays, size_t holiday_count);
-Bytes header_from(uint64_t first_year, uint64_t start_day, uint64_t members, uint64_t limit, const uint64_t *holidays, size_t holiday_count);
+Bytes header_from(uint64_t first_year, uint64_t start_day, uint64_t members, uint64_t limit, const uint64_t *holidays,
+                  size_t holiday_count);
 /* A record: its kind and its fields in the order of docs/LAYOUT.md, of a proposal its legs and each leg's three. */
 Bytes record_of(uint8_t kind, const uint64_t *fields, size_t count);
-#define RECORD(kind, ...) record_of(kind, (const uint64_t[]){__VA_ARGS__}, sizeof((const uint64_t[]){__VA_ARGS__}) / sizeof(uint64_t))
+#define RECORD(kind, ...)                                                                                              \
+  record_of(kind, (const uint64_t[]){__VA_ARGS__}, sizeof((const uint64_t[]){__VA_ARGS__}) / sizeof(uint64_t))
 
 /* How many bytes the record at the front has by its kind and legs; all of them where its kind is unknown or it is cut. */
 size_t front_length(const uint8_t *bytes, size_t n);

@@ -13,8 +13,13 @@ static uint64_t made(const uint8_t *bytes, size_t n) {
 }
 
 /* first year 2021, start day 369 (4 January 2021, a Monday), two members, holidays 366 and 500, limits 1000 and 100000 */
-static const uint8_t sound[] = {'V', 'J', 'R', 0, 1, 0x07, 0xE5, 0x01, 0x71, 2, 2, 0x01, 0x6E, 0x01, 0xF4, 0, 0, 0x03, 0xE8, 0, 0x01, 0x86, 0xA0, 9, 9};
-enum { HOLIDAY_COUNT = 2, MEMBERS = 2, LENGTH = LEDGER_HEADER_BYTES + HOLIDAY_COUNT * LEDGER_HOLIDAY_BYTES + MEMBERS * LEDGER_LIMIT_BYTES };
+static const uint8_t sound[] = {'V',  'J',  'R', 0, 1,    0x07, 0xE5, 0x01, 0x71, 2,    2, 0x01, 0x6E,
+                                0x01, 0xF4, 0,   0, 0x03, 0xE8, 0,    0x01, 0x86, 0xA0, 9, 9};
+enum {
+  HOLIDAY_COUNT = 2,
+  MEMBERS = 2,
+  LENGTH = LEDGER_HEADER_BYTES + HOLIDAY_COUNT * LEDGER_HOLIDAY_BYTES + MEMBERS * LEDGER_LIMIT_BYTES
+};
 
 /* one byte of the sound header changed */
 static uint64_t with(size_t at, uint8_t byte) {
@@ -58,7 +63,8 @@ static void fresh_places(void) {
   expect(five, "prices of each contract");
   expect(rows, "rows of the members");
   expect(rest, "rows of no member");
-  for (int t = 0; t < TABLES; t++) expect(is_soiled(&tables, t, LEAST[t], LEAST[t] + SURPLUS), "places past the %s", TABLE_NAMES[t]);
+  for (int t = 0; t < TABLES; t++)
+    expect(is_soiled(&tables, t, LEAST[t], LEAST[t] + SURPLUS), "places past the %s", TABLE_NAMES[t]);
   expect(is_soiled(&tables, BOOK, 0, LEDGER_BOOK), "the book");
 }
 
@@ -85,7 +91,9 @@ static void damage(void) {
   expect(is_damaged(&tables) == 1, "tables that hold no ledger");
 }
 
-static void refused(uint64_t got, uint64_t number, const char *what) { expect(got == number && all_soiled(&tables), "%s", what); }
+static void refused(uint64_t got, uint64_t number, const char *what) {
+  expect(got == number && all_soiled(&tables), "%s", what);
+}
 
 int main(void) {
   tables = lend(SURPLUS);

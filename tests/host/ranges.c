@@ -11,8 +11,8 @@ static Tables tables;
 static uint64_t *head, *prices, *book, *lots, *value;
 
 /* VJR, version 1, first year 2021, start day 369 (Monday), three members, holidays 370 and 626, limits 1000 */
-static const uint8_t sound[] = {'V', 'J', 'R', 0, 1, 0x07, 0xE5, 0x01, 0x71, MEMBERS, 2, 0x01, 0x72, 0x02, 0x72,
-                                0, 0, 0x03, 0xE8, 0, 0, 0x03, 0xE8, 0, 0, 0x03, 0xE8};
+static const uint8_t sound[] = {'V',  'J', 'R', 0,    1,    0x07, 0xE5, 0x01, 0x71, MEMBERS, 2, 0x01, 0x72, 0x02,
+                                0x72, 0,   0,   0x03, 0xE8, 0,    0,    0x03, 0xE8, 0,       0, 0x03, 0xE8};
 
 static bool is_sound(void) { return is_damaged(&tables) == 0; }
 
@@ -204,7 +204,8 @@ static void sized(uint64_t members, size_t holiday_count) {
   uint64_t holidays[LEDGER_MOST_HOLIDAYS + 1];
   for (size_t i = 0; i < holiday_count; i++) holidays[i] = 370 + i;
   Bytes bytes = header(members, 0, holidays, holiday_count);
-  printf("header of %" PRIu64 " members, %zu holidays: %" PRIu64 "\n", members, holiday_count, make(&tables, bytes.at, bytes.length));
+  printf("header of %" PRIu64 " members, %zu holidays: %" PRIu64 "\n", members, holiday_count,
+         make(&tables, bytes.at, bytes.length));
 }
 
 /* one byte of the sound header changed */
@@ -259,7 +260,8 @@ static void fresh(void) {
 
 int main(void) {
   tables = lend(0);
-  head = tables.at[HEAD], prices = tables.at[PRICES], book = tables.at[BOOK], lots = tables.at[LOTS], value = tables.at[VALUE];
+  head = tables.at[HEAD], prices = tables.at[PRICES], book = tables.at[BOOK], lots = tables.at[LOTS],
+  value = tables.at[VALUE];
   prepare();
   judge("prepared");
   head_places();

@@ -36,7 +36,8 @@ static void replay(const Tables *tables, const uint8_t *bytes, size_t n, Each *e
   each(with, tables, 0, number, 0);
   if (number != LEDGER_ACCEPTED) return;
   const uint64_t *head = tables->at[HEAD];
-  size_t at = LEDGER_HEADER_BYTES + head[LEDGER_HOLIDAY_COUNT] * LEDGER_HOLIDAY_BYTES + head[LEDGER_MEMBERS] * LEDGER_LIMIT_BYTES;
+  size_t at = LEDGER_HEADER_BYTES + head[LEDGER_HOLIDAY_COUNT] * LEDGER_HOLIDAY_BYTES +
+              head[LEDGER_MEMBERS] * LEDGER_LIMIT_BYTES;
   for (int64_t count = 1; at < n && number != LEDGER_RECORD_UNSOUND; count++) {
     size_t length = front_length(bytes + at, n - at);
     uint64_t detail;
@@ -58,12 +59,13 @@ static void print_answer(void *with, const Tables *tables, int64_t count, uint64
     printed->refused++;
     print(&printed->text, "R %" PRId64 " %" PRId64 "\n", count, (int64_t)number, 0, 0);
   } else if (count == 0) {
-    print(&printed->text, "H %" PRId64 " %" PRId64 " %" PRId64 "\n", head[LEDGER_FIRST_YEAR], head[LEDGER_DAY], head[LEDGER_MEMBERS], 0);
+    print(&printed->text, "H %" PRId64 " %" PRId64 " %" PRId64 "\n", head[LEDGER_FIRST_YEAR], head[LEDGER_DAY],
+          head[LEDGER_MEMBERS], 0);
   } else {
     printed->accepted++;
     for (uint64_t i = 0; i < detail; i++, line += LEDGER_LINE_WIDTH)
-      print(&printed->text, "D %" PRId64 " %" PRId64 " %" PRId64 " %" PRId64 "\n", line[LEDGER_LINE_MEMBER], line[LEDGER_LINE_CONTRACT],
-            line[LEDGER_LINE_LOTS], line[LEDGER_LINE_PRICE]);
+      print(&printed->text, "D %" PRId64 " %" PRId64 " %" PRId64 " %" PRId64 "\n", line[LEDGER_LINE_MEMBER],
+            line[LEDGER_LINE_CONTRACT], line[LEDGER_LINE_LOTS], line[LEDGER_LINE_PRICE]);
   }
 }
 
@@ -76,8 +78,10 @@ static void compare_printed(const Tables *tables, const char *path) {
   soil(tables);
   replay(tables, bytes, n, print_answer, &printed);
   if (printed.text.at[0] == 'H')
-    print(&printed.text, "E %" PRId64 " %" PRId64 " %" PRId64 "\n", printed.accepted, printed.refused, (int64_t)tables->at[HEAD][LEDGER_LOTS_RUN], 0);
-  expect(printed.text.length == expected_length && memcmp(printed.text.at, expected, expected_length) == 0, "%s prints\n%s", path, printed.text.at);
+    print(&printed.text, "E %" PRId64 " %" PRId64 " %" PRId64 "\n", printed.accepted, printed.refused,
+          (int64_t)tables->at[HEAD][LEDGER_LOTS_RUN], 0);
+  expect(printed.text.length == expected_length && memcmp(printed.text.at, expected, expected_length) == 0,
+         "%s prints\n%s", path, printed.text.at);
   free(printed.text.at);
   free(expected);
   free(bytes);
@@ -99,7 +103,8 @@ static void compare_line(void *with, const Tables *tables, int64_t count, uint64
   Stored *stored = with;
   char line[256], got[256];
   snprintf(got, sizeof got, "%" PRId64 " %" PRIu64 " %" PRIu64 " %016" PRIx64, count, number, detail, digest(tables));
-  expect(strcmp(got, next_line(stored, line, sizeof line)) == 0, "%s has '%s', the library '%s'", stored->path, line, got);
+  expect(strcmp(got, next_line(stored, line, sizeof line)) == 0, "%s has '%s', the library '%s'", stored->path, line,
+         got);
 }
 
 static void compare_tables(const Tables *tables, const char *path) {
@@ -119,7 +124,8 @@ static void compare_tables(const Tables *tables, const char *path) {
 }
 
 int main(int count, char **words) {
-  const bool printed = count > 2 && strcmp(words[1], "printed") == 0, stored = count > 2 && strcmp(words[1], "tables") == 0;
+  const bool printed = count > 2 && strcmp(words[1], "printed") == 0,
+             stored = count > 2 && strcmp(words[1], "tables") == 0;
   if (!printed && !stored) {
     fprintf(stderr, "replay printed JOURNAL ... | replay tables STORED ...\n");
     return 2;
