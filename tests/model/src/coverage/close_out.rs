@@ -9,12 +9,15 @@ impl Coverage {
         let members = 0..before.members();
         let held = |member| before.lots(contract, member);
         self.met("close-out: 16 in a ledger that began fresh", number == 16 && seen.began_fresh);
-        self.met("close-out: lots run would pass (17)", number == 17);
+        let remaining: i64 = members.clone().filter(|&m| before.is_defaulted(m)).map(held).sum();
+        let all: i64 = members.clone().filter(|&m| before.is_defaulted(m)).map(|m| held(m).abs()).sum();
+        let lots = remaining.unsigned_abs();
+        // Step 1's lines have the netted lots of both sides, step 2's the lots given up and those taken.
+        let run_after = before.run() + (all as u64 - lots) + 2 * lots;
+        self.met("close-out: lots run one past 5,000,000 (17)", number == 17 && run_after == MOST_RUN + 1);
         if number != 0 {
             return;
         }
-        let remaining: i64 = members.clone().filter(|&m| before.is_defaulted(m)).map(held).sum();
-        let lots = remaining.unsigned_abs();
         self.met("close-out: L = 0 after netting", lots == 0);
         self.met("close-out: rows do not sum to zero", members.clone().map(held).sum::<i64>() != 0);
         self.met("close-out: lots run ends at 5,000,000", after.run() == MOST_RUN);

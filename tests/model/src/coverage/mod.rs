@@ -101,7 +101,7 @@ pub const EDGES: &[&str] = &[
     "proposal: orders of a contract that cross",
     "proposal: an order of a contract that is not open",
     "proposal: lots run ends at 5,000,000",
-    "proposal: lots run would pass (17)",
+    "proposal: lots run one past 5,000,000 (17)",
     // Default
     "close-out: L = 0 after netting",
     "close-out: netting and takers",
@@ -125,7 +125,7 @@ pub const EDGES: &[&str] = &[
     "close-out: L of 100,000 or more",
     "close-out: rows do not sum to zero",
     "close-out: lots run ends at 5,000,000",
-    "close-out: lots run would pass (17)",
+    "close-out: lots run one past 5,000,000 (17)",
     // Close of day
     "close: M at the threshold, year",
     "close: M at the threshold, quarter",

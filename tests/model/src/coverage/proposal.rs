@@ -67,7 +67,8 @@ impl Coverage {
         let pairs: Vec<Pair> = legs.iter().filter_map(named).collect();
         self.met("proposal: 2 legs (13)", number == 13 && legs.len() == 2);
         self.met("proposal: 3 legs (13)", number == 13 && legs.len() == 3);
-        self.met("proposal: lots run would pass (17)", number == 17);
+        let run_after = before.run() + legs.iter().map(|leg| leg.lots).sum::<u64>();
+        self.met("proposal: lots run one past 5,000,000 (17)", number == 17 && run_after == MOST_RUN + 1);
         match number {
             0 => self.accepted(&pairs, seen),
             13 if pairs.len() == legs.len() => self.near_miss(&pairs, before),

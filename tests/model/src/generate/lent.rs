@@ -200,7 +200,7 @@ fn one_close_out(random: &mut Random, tables: &mut Tables, market: &mut Market) 
     let ratio = random.pick(&[1, 10, 125, 500, 1000, any]);
     let run = tables.run();
     let most = (run * ratio / 1000).min((MOST_RUN - run) / 2).max(1);
-    let lots = random.pick(&[1, 10, most / 2, most]).clamp(1, most).min(run) as i64;
+    let lots = random.pick(&[1, 10, most / 2, most, most + 1]).clamp(1, most + 1).min(run) as i64;
     let others = (1000 * lots / ratio as i64 + random.pick(&[0, 0, 1, -1])).clamp(0, run as i64);
     let sign = random.pick(&[1, -1]);
     let members = tables.members() as usize;
