@@ -1,15 +1,27 @@
-/* The ledger, for a host program in C or C++. docs/LAYOUT.md says what stands at each place.
+/* The ledger, for a host program in C or C++. docs/LAYOUT.md says what stands at each place, and in which range.
 
-   A slice is a pointer and a count of elements. NULL is fine where the count is 0. A table needs the alignment that C
-   asks of its elements and no other. Tables that are written (not const here) must not overlap anything else that is
-   handed over; tables that are only read may. The library keeps nothing between calls: one call at a time may use a
-   table, and calls on other tables may run beside it. */
+   What a host lends
+   - A slice is a pointer and a count of elements (not of bytes). Where the count is 0 the pointer may be NULL.
+   - A table needs the alignment that C asks of its elements, bytes need none.
+   - What an entry writes (not const here) must not overlap anything else that the same call is handed; what it only
+     reads may overlap. So the six tables, the record and *detail are eight separate places in ledger_apply.
+   - The five tables head, prices, lots, value and book are the ledger. Between two calls they stand as the call before
+     left them, and nobody else writes them; they may be copied, stored and moved to another address. The line table is
+     paper to print on: any table with any content, in each call another one if the host likes.
+   - A table may be longer than its least count. Places past it, and places that docs/LAYOUT.md calls surplus, are
+     neither read nor written and need hold nothing.
+
+   What a call does
+   - It answers for every length and every content of what it is lent; nothing is undefined, and nothing is kept: the
+     library has no memory of its own between calls, takes none, opens nothing and starts no thread.
+   - One call at a time may use a table. Calls on other tables may run beside it, in other threads.
+   - Where the answer is not LEDGER_ACCEPTED every table is bit for bit as it was. */
 #ifndef LEDGER_H
 #define LEDGER_H
 #include <stddef.h>
 #include <stdint.h>
 
-/* The least count of elements of each table; a longer one is fine, its further places are neither read nor written. */
+/* The least count of elements of each table. Lots and value have LEDGER_ROWS each. */
 #define LEDGER_HEAD 224
 #define LEDGER_PRICES 510
 #define LEDGER_ROWS 3264
@@ -32,9 +44,21 @@ enum {
   LEDGER_SUBMITS = 192
 };
 
-/* The prices: contract c has LEDGER_PRICE_WIDTH places from c * LEDGER_PRICE_WIDTH on. */
+/* The most of what is counted there. */
+enum { LEDGER_MOST_MEMBERS = 32, LEDGER_MOST_HOLIDAYS = 120, LEDGER_MOST_ORDERS = 256 };
+
+/* Contracts: number = year (from 0, the first year) * LEDGER_CONTRACTS_A_YEAR + one of the three: the year itself, the
+   first quarter and the three after it, January and the eleven after it. */
 enum {
   LEDGER_CONTRACTS = 102,
+  LEDGER_CONTRACTS_A_YEAR = 17,
+  LEDGER_YEAR = 0,
+  LEDGER_FIRST_QUARTER = 1,
+  LEDGER_JANUARY = 5
+};
+
+/* The prices: contract c has LEDGER_PRICE_WIDTH places from c * LEDGER_PRICE_WIDTH on. */
+enum {
   LEDGER_PRICE_WIDTH = 5,
   LEDGER_GGF = 0,
   LEDGER_LOW = 1,
@@ -46,7 +70,7 @@ enum {
 /* The rows, lots and value alike: member m of contract c stands at c * LEDGER_ROW_WIDTH + m. */
 enum { LEDGER_ROW_WIDTH = 32 };
 
-/* The book: order i has LEDGER_ORDER_WIDTH places from i * LEDGER_ORDER_WIDTH on. A side is 0 (buy) or 1 (sell). */
+/* The book: order i has LEDGER_ORDER_WIDTH places from i * LEDGER_ORDER_WIDTH on. */
 enum {
   LEDGER_ORDER_WIDTH = 8,
   LEDGER_ORDER_NUMBER = 0,
@@ -59,8 +83,68 @@ enum {
   LEDGER_ORDER_TIME = 7
 };
 
-/* The numbers that the entries below answer. */
-enum { LEDGER_ACCEPTED = 0, LEDGER_TABLE_UNSOUND = 1, LEDGER_HEADER_UNSOUND = 2 };
+/* The lines: line i has LEDGER_LINE_WIDTH places from i * LEDGER_LINE_WIDTH on. Lots are above 0 where the member buys. */
+enum {
+  LEDGER_LINE_WIDTH = 4,
+  LEDGER_LINE_MEMBER = 0,
+  LEDGER_LINE_CONTRACT = 1,
+  LEDGER_LINE_LOTS = 2,
+  LEDGER_LINE_PRICE = 3
+};
+
+/* The bytes of a header: so many, then a holiday of so many bytes for each of LEDGER_HOLIDAY_COUNT, then a limit of so
+   many bytes for each of LEDGER_MEMBERS. The first record of a journal begins there. */
+enum { LEDGER_HEADER_BYTES = 11, LEDGER_HOLIDAY_BYTES = 2, LEDGER_LIMIT_BYTES = 4 };
+
+/* The kinds of record, the first byte of each. */
+enum {
+  LEDGER_KIND_SUBMIT = 1,
+  LEDGER_KIND_CANCEL = 2,
+  LEDGER_KIND_DAY_LIMITS = 3,
+  LEDGER_KIND_PROPOSAL = 4,
+  LEDGER_KIND_DEFAULT = 5,
+  LEDGER_KIND_CLOSE_OUT = 6,
+  LEDGER_KIND_CLOSE_OF_DAY = 7
+};
+
+/* The bytes of a record with its kind. A proposal has so many and its legs, whose count is its second byte. */
+enum {
+  LEDGER_SUBMIT_BYTES = 15,
+  LEDGER_CANCEL_BYTES = 10,
+  LEDGER_DAY_LIMITS_BYTES = 10,
+  LEDGER_PROPOSAL_BYTES = 2,
+  LEDGER_LEG_BYTES = 10,
+  LEDGER_DEFAULT_BYTES = 2,
+  LEDGER_CLOSE_OUT_BYTES = 4,
+  LEDGER_CLOSE_OF_DAY_BYTES = 5
+};
+
+/* Sides, in a submit and in the book; kinds of order, in a submit. */
+enum { LEDGER_BUY = 0, LEDGER_SELL = 1 };
+enum { LEDGER_RESTING = 0, LEDGER_OEYE = 1, LEDGER_TEYE = 2 };
+
+/* What an entry answers: 0, or the number of the lowest cause that holds. */
+enum {
+  LEDGER_ACCEPTED = 0,
+  LEDGER_TABLE_UNSOUND = 1,         /* a table too short or damaged, or under 200 lines */
+  LEDGER_HEADER_UNSOUND = 2,        /* header cut or against its rule; only ledger_make */
+  LEDGER_RECORD_UNSOUND = 3,        /* record cut or with surplus bytes, unknown kind, field out of range */
+  LEDGER_TIME_BELOW_LEDGER = 4,     /* time below the ledger's */
+  LEDGER_MEMBER_DEFAULTED = 5,      /* submit or default: member already defaulted; with the member */
+  LEDGER_CONTRACT_NOT_OPEN = 6,     /* submit, limits, close-out: contract not open; with the contract */
+  LEDGER_PRICE_OUTSIDE_LIMITS = 7,  /* submit price outside low to high */
+  LEDGER_SIXTH_SUBMIT = 8,          /* sixth submit in a second */
+  LEDGER_ABOVE_LIMIT = 9,           /* above the member's position limit */
+  LEDGER_CANNOT_MATCH_IN_FULL = 10, /* TEYE can't match in full */
+  LEDGER_BOOK_FULL = 11,            /* would rest while 256 others rest after its deals */
+  LEDGER_NO_SUCH_ORDER = 12,        /* cancel: no such resting order of that member */
+  LEDGER_NOT_ACCEPTABLE = 13,       /* proposal not acceptable */
+  LEDGER_NO_REFERENCE_PRICE = 14,   /* close-out: GGF is 0 */
+  LEDGER_NO_DEFAULTED_LOTS = 15,    /* close-out: no defaulted lots there */
+  LEDGER_NO_TAKER = 16,             /* close-out: lots remain and total weight is 0 */
+  LEDGER_TOTAL_PASSED = 17,         /* lots run would pass 5,000,000, or accepted submits 4,000,000,000 */
+  LEDGER_NO_LATER_DAY = 18          /* close of day: no later business day in the span */
+};
 
 #ifdef __cplusplus
 extern "C" {
@@ -68,14 +152,26 @@ extern "C" {
 
 /* Makes a ledger from the bytes of a journal's header; bytes past the header are not read. LEDGER_ACCEPTED: made.
    LEDGER_TABLE_UNSOUND: a table is too short (what it holds is not asked). LEDGER_HEADER_UNSOUND: the header is cut or
-   against its rule. Where it is not made every table is as it was. */
-uint64_t ledger_make(uint64_t *head, size_t head_len, uint64_t *prices, size_t prices_len, int64_t *lots, size_t lots_len,
-                     int64_t *value, size_t value_len, const uint64_t *book, size_t book_len, const uint8_t *header, size_t header_len);
+   against its rule. The book is not written: a fresh ledger has no orders, by its count. */
+uint64_t ledger_make(uint64_t *head, size_t head_len, uint64_t *prices, size_t prices_len, int64_t *lots,
+                     size_t lots_len, int64_t *value, size_t value_len, const uint64_t *book, size_t book_len,
+                     const uint8_t *header, size_t header_len);
 
-/* 1 if a table is too short or damaged, so that any record applied to these tables is turned back with 1; else 0. */
-uint64_t ledger_is_damaged(const uint64_t *head, size_t head_len, const uint64_t *prices, size_t prices_len, const int64_t *lots,
-                           size_t lots_len, const int64_t *value, size_t value_len, const uint64_t *book, size_t book_len,
-                           const int64_t *lines, size_t lines_len);
+/* Applies one record to a ledger. The bytes are exactly one record: one more or one fewer is LEDGER_RECORD_UNSOUND.
+   LEDGER_ACCEPTED: applied, and the deal lines stand in the first places of the line table, in printed order; its other
+   places are as they were. Any other answer but LEDGER_HEADER_UNSOUND: turned back.
+
+   *detail is always written, so detail is never NULL: with LEDGER_ACCEPTED the number of lines, with
+   LEDGER_MEMBER_DEFAULTED the member, with LEDGER_CONTRACT_NOT_OPEN the contract, else 0. */
+uint64_t ledger_apply(uint64_t *head, size_t head_len, uint64_t *prices, size_t prices_len, int64_t *lots,
+                      size_t lots_len, int64_t *value, size_t value_len, uint64_t *book, size_t book_len,
+                      int64_t *lines, size_t lines_len, const uint8_t *record, size_t record_len, uint64_t *detail);
+
+/* 1 if a table is too short or damaged, so that any record applied to these tables is turned back with
+   LEDGER_TABLE_UNSOUND; else 0. */
+uint64_t ledger_is_damaged(const uint64_t *head, size_t head_len, const uint64_t *prices, size_t prices_len,
+                           const int64_t *lots, size_t lots_len, const int64_t *value, size_t value_len,
+                           const uint64_t *book, size_t book_len, const int64_t *lines, size_t lines_len);
 
 #ifdef __cplusplus
 }

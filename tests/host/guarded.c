@@ -1,67 +1,185 @@
-/* Every table and every header ends at an inaccessible page, and what must not be written stands on read-only pages: the
-   compiler's checks see only this program, the pages see the library too. Prints "ok" and the count of calls. */
-#define _DEFAULT_SOURCE
-#include "ledger.h"
-#include <stdio.h>
+/* Every table, header and record ends at an inaccessible page, and what must not be written stands on read-only pages.
+   Prints "ok" and the count of calls, or each call that answers something else. */
+#include "lent.h"
 #include <stdlib.h>
 #include <string.h>
-#include <sys/mman.h>
-#include <unistd.h>
 
-static int calls, failures;
+enum { FINE, LIMITED, DEFAULTED, MEMBERS };
+/* Contracts of first year 2021: the year itself delivers already; 17 is the next year. */
+enum { SECOND_QUARTER = 2, MARCH = 7, APRIL = 8, MAY = 9, JUNE = 10, NOT_OPEN = 0, FIRST_OPEN_YEAR = 17 };
+enum { TIME = 36000, PRICE = 31000, LAST_DAY = 2556, MOST_LOTS = 100, MOST_RUN = 5000000 };
 
-/* so many bytes that end where an inaccessible page begins */
-static void *guarded(size_t bytes) {
-  size_t page = (size_t)sysconf(_SC_PAGESIZE), pages = (bytes + page - 1) / page;
-  char *all = mmap(NULL, (pages + 1) * page, PROT_READ | PROT_WRITE, MAP_PRIVATE | MAP_ANONYMOUS, -1, 0);
-  if (all == MAP_FAILED || mprotect(all + pages * page, page, PROT_NONE) != 0) { perror("mmap"); exit(2); }
-  return all + pages * page - bytes;
+/* The bytes at the end of a page, read-only. Each takes its own pages, as in a short program it may. */
+static const uint8_t *paper(const uint8_t *bytes, size_t n) {
+  uint8_t *place = guarded(n, ENDS);
+  memcpy(place, bytes, n);
+  read_only(place, n);
+  return place;
 }
 
-static void read_only(void *place, size_t bytes) {
-  size_t page = (size_t)sysconf(_SC_PAGESIZE);
-  char *first = (char *)((uintptr_t)place / page * page);
-  if (mprotect(first, (size_t)((char *)place + bytes - first), PROT_READ) != 0) { perror("mprotect"); exit(2); }
+/* What a record is answered, and the number that goes with it. */
+static void answered(const Tables *tables, const uint8_t *record, size_t n, uint64_t number, uint64_t detail,
+                     const char *what) {
+  uint64_t with = 77, got = apply(tables, record, n, &with);
+  expect(got == number && with == detail, "%s: %llu and %llu", what, (unsigned long long)got, (unsigned long long)with);
 }
 
-static void expect(uint64_t got, uint64_t number, const char *what) {
-  calls++;
-  if (got != number) { failures++; printf("failed: %s answered %llu\n", what, (unsigned long long)got); }
+static Tables made(const Bytes *header) {
+  Tables tables = lend_guarded(0, ENDS);
+  soil(&tables);
+  for (size_t n = 0; n <= header->length; n++)
+    expect(make(&tables, paper(header->at, n), n) == (n < header->length ? LEDGER_HEADER_UNSOUND : LEDGER_ACCEPTED),
+           "a header cut at %zu", n);
+  return tables;
 }
 
-/* first year 2021, start day 369, three members, holidays 370 and 626, limits 1000 */
-static const uint8_t sound[] = {'V', 'J', 'R', 0, 1, 0x07, 0xE5, 0x01, 0x71, 3, 2, 0x01, 0x72, 0x02, 0x72,
-                                0, 0, 0x03, 0xE8, 0, 0, 0x03, 0xE8, 0, 0, 0x03, 0xE8};
+static void put_order(const Tables *tables, uint64_t number, uint64_t member, uint64_t contract, uint64_t side,
+                      uint64_t lots) {
+  const uint64_t order[LEDGER_ORDER_WIDTH] = {number, member, contract, side, PRICE, lots, 369, 0};
+  memcpy(tables->at[BOOK] + number * LEDGER_ORDER_WIDTH, order, sizeof order);
+}
+
+/* A ledger in which every cause but 18 has its record: a full book with the orders of an acceptable proposal in front, a
+   lots run at its end, one member at its limit and its fifth submit, one defaulted. */
+static Tables crowded(void) {
+  const uint64_t holidays[] = {370, 626};
+  const Bytes bytes = header(MEMBERS, 1000, holidays, 2);
+  Tables tables = made(&bytes);
+  uint64_t *head = tables.at[HEAD], *lots = tables.at[LOTS];
+  head[LEDGER_TIME] = TIME;
+  head[LEDGER_LOTS_RUN] = MOST_RUN;
+  head[LEDGER_LIMITS + LIMITED] = 5;
+  head[LEDGER_SUBMITS + FINE] = 5;
+  head[LEDGER_MARKS + DEFAULTED] = 1;
+  head[LEDGER_ORDER_COUNT] = head[LEDGER_ACCEPTED_SUBMITS] = LEDGER_MOST_ORDERS;
+  put_order(&tables, 0, FINE, SECOND_QUARTER, LEDGER_BUY, 1);
+  for (uint64_t month = APRIL; month <= JUNE; month++)
+    put_order(&tables, month - APRIL + 1, LIMITED, month, LEDGER_SELL, 1);
+  for (uint64_t i = 4; i < LEDGER_MOST_ORDERS; i++)
+    put_order(&tables, i, FINE, FIRST_OPEN_YEAR, LEDGER_SELL, MOST_LOTS);
+  for (size_t c = SECOND_QUARTER; c <= MARCH; c++) tables.at[PRICES][c * LEDGER_PRICE_WIDTH + LEDGER_HIGH] = PRICE;
+  tables.at[PRICES][SECOND_QUARTER * LEDGER_PRICE_WIDTH + LEDGER_GGF] = PRICE;
+  tables.at[PRICES][MARCH * LEDGER_PRICE_WIDTH + LEDGER_GGF] = PRICE;
+  tables.at[PRICES][APRIL * LEDGER_PRICE_WIDTH + LEDGER_GGF] = PRICE;
+  lots[SECOND_QUARTER * LEDGER_ROW_WIDTH + DEFAULTED] = 3;
+  lots[MARCH * LEDGER_ROW_WIDTH + DEFAULTED] = 3;
+  lots[MAY * LEDGER_ROW_WIDTH + DEFAULTED] = 3;
+  return tables;
+}
+
+typedef struct {
+  uint64_t number, detail;
+  Bytes record;
+} Refused;
+
+#define LEGS(price) 4, 0, 1, price, 1, 1, price, 2, 1, price, 3, 1, price
+
+/* A refused record is known before anything is written: the tables are read-only. */
+static void refused(const Tables *tables) {
+  const Refused each[] = {
+      {LEDGER_TIME_BELOW_LEDGER, 0,
+       RECORD(LEDGER_KIND_SUBMIT, TIME - 1, DEFAULTED, NOT_OPEN, LEDGER_BUY, LEDGER_RESTING, PRICE, 1)},
+      {LEDGER_TIME_BELOW_LEDGER, 0, RECORD(LEDGER_KIND_CANCEL, TIME - 1, FINE, 0)},
+      {LEDGER_TIME_BELOW_LEDGER, 0, RECORD(LEDGER_KIND_CLOSE_OF_DAY, TIME - 1)},
+      {LEDGER_MEMBER_DEFAULTED, DEFAULTED,
+       RECORD(LEDGER_KIND_SUBMIT, TIME + 1, DEFAULTED, NOT_OPEN, LEDGER_BUY, LEDGER_RESTING, PRICE, 1)},
+      {LEDGER_MEMBER_DEFAULTED, DEFAULTED, RECORD(LEDGER_KIND_DEFAULT, DEFAULTED)},
+      {LEDGER_CONTRACT_NOT_OPEN, NOT_OPEN,
+       RECORD(LEDGER_KIND_SUBMIT, TIME + 1, FINE, NOT_OPEN, LEDGER_BUY, LEDGER_RESTING, PRICE, 1)},
+      {LEDGER_CONTRACT_NOT_OPEN, 101, RECORD(LEDGER_KIND_DAY_LIMITS, 101, 1, PRICE)},
+      {LEDGER_CONTRACT_NOT_OPEN, 100, RECORD(LEDGER_KIND_CLOSE_OUT, 100, 500)},
+      {LEDGER_PRICE_OUTSIDE_LIMITS, 0,
+       RECORD(LEDGER_KIND_SUBMIT, TIME, FINE, SECOND_QUARTER, LEDGER_BUY, LEDGER_RESTING, PRICE + 1, 1)},
+      {LEDGER_SIXTH_SUBMIT, 0,
+       RECORD(LEDGER_KIND_SUBMIT, TIME, FINE, SECOND_QUARTER, LEDGER_BUY, LEDGER_RESTING, PRICE, 1)},
+      {LEDGER_ABOVE_LIMIT, 0,
+       RECORD(LEDGER_KIND_SUBMIT, TIME, LIMITED, FIRST_OPEN_YEAR, LEDGER_BUY, LEDGER_TEYE, PRICE, 6)},
+      {LEDGER_CANNOT_MATCH_IN_FULL, 0,
+       RECORD(LEDGER_KIND_SUBMIT, TIME, LIMITED, FIRST_OPEN_YEAR, LEDGER_BUY, LEDGER_TEYE, PRICE - 1, 5)},
+      {LEDGER_BOOK_FULL, 0,
+       RECORD(LEDGER_KIND_SUBMIT, TIME, LIMITED, FIRST_OPEN_YEAR, LEDGER_BUY, LEDGER_RESTING, PRICE - 1, 5)},
+      {LEDGER_NO_SUCH_ORDER, 0, RECORD(LEDGER_KIND_CANCEL, TIME + 1, LIMITED, 0)},
+      {LEDGER_NOT_ACCEPTABLE, 0, RECORD(LEDGER_KIND_PROPOSAL, LEGS(PRICE - 1))},
+      {LEDGER_NO_REFERENCE_PRICE, 0, RECORD(LEDGER_KIND_CLOSE_OUT, MAY, 500)},
+      {LEDGER_NO_DEFAULTED_LOTS, 0, RECORD(LEDGER_KIND_CLOSE_OUT, APRIL, 500)},
+      {LEDGER_NO_TAKER, 0, RECORD(LEDGER_KIND_CLOSE_OUT, MARCH, 500)},
+      {LEDGER_TOTAL_PASSED, 0,
+       RECORD(LEDGER_KIND_SUBMIT, TIME, LIMITED, FIRST_OPEN_YEAR, LEDGER_BUY, LEDGER_OEYE, PRICE, 1)},
+      {LEDGER_TOTAL_PASSED, 0, RECORD(LEDGER_KIND_PROPOSAL, LEGS(PRICE))},
+  };
+  for (size_t i = 0; i < sizeof each / sizeof *each; i++)
+    answered(tables, paper(each[i].record.at, each[i].record.length), each[i].record.length, each[i].number,
+             each[i].detail, "a refused record");
+}
+
+/* Cut at each byte and with one byte too many, a record is 3; with a table short by one place any bytes are 1. */
+static void cut_and_short(Tables *tables) {
+  const Bytes each[] = {
+      RECORD(LEDGER_KIND_SUBMIT, TIME + 1, FINE, FIRST_OPEN_YEAR, LEDGER_BUY, LEDGER_OEYE, PRICE, 1),
+      RECORD(LEDGER_KIND_CANCEL, TIME, FINE, 0),
+      RECORD(LEDGER_KIND_DAY_LIMITS, SECOND_QUARTER, 1, PRICE),
+      RECORD(LEDGER_KIND_PROPOSAL, LEGS(PRICE)),
+      RECORD(LEDGER_KIND_DEFAULT, FINE),
+      RECORD(LEDGER_KIND_CLOSE_OUT, SECOND_QUARTER, 500),
+      RECORD(LEDGER_KIND_CLOSE_OF_DAY, TIME),
+  };
+  for (size_t i = 0; i < sizeof each / sizeof *each; i++) {
+    const size_t whole = each[i].length;
+    for (size_t n = 0; n <= whole + 1; n++)
+      if (n != whole) answered(tables, paper(each[i].at, n), n, LEDGER_RECORD_UNSOUND, 0, "a cut record");
+    for (int t = 0; t < TABLES; t++) {
+      tables->at[t]++, tables->length[t]--;
+      for (size_t n = 0; n <= whole; n++)
+        answered(tables, paper(each[i].at, n), n, LEDGER_TABLE_UNSOUND, 0, TABLE_NAMES[t]);
+      tables->at[t]--, tables->length[t]++;
+    }
+  }
+}
+
+/* Also for the other two entries. */
+static void short_by_one(Tables *tables) {
+  const Bytes sound = header(MEMBERS, 1000, NULL, 0);
+  expect(is_damaged(tables) == 0, "the crowded ledger");
+  for (int t = 0; t < TABLES; t++) {
+    tables->at[t]++, tables->length[t]--;
+    expect(is_damaged(tables) == 1, "%s short by one is damage", TABLE_NAMES[t]);
+    if (t != LINES)
+      expect(make(tables, sound.at, sound.length) == LEDGER_TABLE_UNSOUND, "%s short by one, and a header",
+             TABLE_NAMES[t]);
+    tables->at[t]--, tables->length[t]++;
+  }
+}
+
+/* NULL where the count is 0: each table, all of them, the bytes. */
+static void nothing(Tables *tables) {
+  const Bytes sound = header(MEMBERS, 1000, NULL, 0), record = RECORD(LEDGER_KIND_CLOSE_OF_DAY, TIME);
+  const Tables none = {{0}, {0}};
+  for (int t = 0; t <= TABLES; t++) {
+    Tables some = *tables;
+    if (t < TABLES) some.at[t] = NULL, some.length[t] = 0;
+    else some = none;
+    const char *what = t < TABLES ? TABLE_NAMES[t] : "all tables";
+    answered(&some, record.at, record.length, LEDGER_TABLE_UNSOUND, 0, what);
+    answered(&some, NULL, 0, LEDGER_TABLE_UNSOUND, 0, what);
+    expect(is_damaged(&some) == 1, "no %s", what);
+    if (t != LINES) expect(make(&some, sound.at, sound.length) == LEDGER_TABLE_UNSOUND, "no %s, and a header", what);
+    if (t != LINES) expect(make(&some, NULL, 0) == LEDGER_TABLE_UNSOUND, "no %s and no header", what);
+  }
+  answered(tables, NULL, 0, LEDGER_RECORD_UNSOUND, 0, "no record");
+  expect(make(tables, NULL, 0) == LEDGER_HEADER_UNSOUND, "no header");
+}
 
 int main(void) {
-  uint64_t *head = guarded(LEDGER_HEAD * 8), *prices = guarded(LEDGER_PRICES * 8), *book = guarded(LEDGER_BOOK * 8);
-  int64_t *lots = guarded(LEDGER_ROWS * 8), *value = guarded(LEDGER_ROWS * 8), *lines = guarded(LEDGER_LINES * 8);
-  memset(book, 0xA5, LEDGER_BOOK * 8);
-  read_only(book, LEDGER_BOOK * 8);
-  for (size_t n = 0; n <= sizeof sound; n++) {
-    uint8_t *bytes = guarded(n);
-    memcpy(bytes, sound, n);
-    if (n > 0) read_only(bytes, n);
-    expect(ledger_make(head, LEDGER_HEAD, prices, LEDGER_PRICES, lots, LEDGER_ROWS, value, LEDGER_ROWS, book, LEDGER_BOOK, bytes, n),
-           n < sizeof sound ? LEDGER_HEADER_UNSOUND : LEDGER_ACCEPTED, "a header cut at each byte");
-  }
-  read_only(head, LEDGER_HEAD * 8);
-  read_only(prices, LEDGER_PRICES * 8);
-  read_only(lots, LEDGER_ROWS * 8);
-  read_only(value, LEDGER_ROWS * 8);
-  read_only(lines, LEDGER_LINES * 8);
-  const size_t whole[6] = {LEDGER_HEAD, LEDGER_PRICES, LEDGER_ROWS, LEDGER_ROWS, LEDGER_BOOK, LEDGER_LINES};
-  for (size_t s = 0; s <= 6; s++) {
-    size_t n[6];
-    for (size_t i = 0; i < 6; i++) n[i] = whole[i] - (i == s);
-    expect(ledger_is_damaged(head + (s == 0), n[0], prices + (s == 1), n[1], lots + (s == 2), n[2], value + (s == 3), n[3], book + (s == 4), n[4],
-                             lines + (s == 5), n[5]), s < 6, "each table short by one");
-    if (s < 5)
-      expect(ledger_make(head + (s == 0), n[0], prices + (s == 1), n[1], lots + (s == 2), n[2], value + (s == 3), n[3], book + (s == 4), n[4], sound,
-                         sizeof sound), LEDGER_TABLE_UNSOUND, "a short table is not written");
-  }
-  expect(ledger_is_damaged(NULL, 0, NULL, 0, NULL, 0, NULL, 0, NULL, 0, NULL, 0), 1, "no tables");
-  expect(ledger_make(NULL, 0, NULL, 0, NULL, 0, NULL, 0, NULL, 0, NULL, 0), LEDGER_TABLE_UNSOUND, "no tables to make a ledger in");
-  if (failures == 0) printf("ok %d\n", calls);
-  return failures != 0;
+  Tables tables = crowded();
+  all_read_only(&tables);
+  short_by_one(&tables);
+  refused(&tables);
+  cut_and_short(&tables);
+  nothing(&tables);
+
+  const Bytes last = header_from(2021, LAST_DAY, MEMBERS, 1000, NULL, 0), close = RECORD(LEDGER_KIND_CLOSE_OF_DAY, 0);
+  Tables ended = made(&last);
+  all_read_only(&ended);
+  answered(&ended, close.at, close.length, LEDGER_NO_LATER_DAY, 0, "the last day");
+  return finish();
 }

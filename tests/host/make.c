@@ -1,157 +1,133 @@
 /* Makes ledgers from literal bytes and looks at the places that docs/LAYOUT.md names. Prints "ok" and the count of checks,
    or each check that fails. */
-#include "ledger.h"
-#include <stdio.h>
+#include "lent.h"
 #include <string.h>
 
-#define SPARE 7
-static uint64_t head[LEDGER_HEAD + SPARE], prices[LEDGER_PRICES + SPARE], book[LEDGER_BOOK + SPARE];
-static int64_t lots[LEDGER_ROWS + SPARE], value[LEDGER_ROWS + SPARE], lines[LEDGER_LINES];
-static int checks, failures;
+#define SURPLUS 7
+#define FIRST_DAY 370 /* the day after the start day of the headers here */
+static Tables tables;
 
-static void expect(int ok, const char *what) {
-  checks++;
-  if (!ok) { failures++; printf("failed: %s\n", what); }
-}
-
-/* every place of every table holds a value that no ledger has */
-static void soil(void) {
-  for (size_t i = 0; i < LEDGER_HEAD + SPARE; i++) head[i] = 7777777 + i;
-  for (size_t i = 0; i < LEDGER_PRICES + SPARE; i++) prices[i] = 8888888 + i;
-  for (size_t i = 0; i < LEDGER_BOOK + SPARE; i++) book[i] = 9999999 + i;
-  for (size_t i = 0; i < LEDGER_ROWS + SPARE; i++) { lots[i] = -1 - (int64_t)i; value[i] = -5000 - (int64_t)i; }
-}
-
-static int is_soiled(size_t from, size_t to) {
-  for (size_t i = from; i < to; i++) if (head[i] != 7777777 + i) return 0;
-  return 1;
-}
-
-static int all_soiled(void) {
-  if (!is_soiled(0, LEDGER_HEAD + SPARE)) return 0;
-  for (size_t i = 0; i < LEDGER_PRICES + SPARE; i++) if (prices[i] != 8888888 + i) return 0;
-  for (size_t i = 0; i < LEDGER_BOOK + SPARE; i++) if (book[i] != 9999999 + i) return 0;
-  for (size_t i = 0; i < LEDGER_ROWS + SPARE; i++) if (lots[i] != -1 - (int64_t)i || value[i] != -5000 - (int64_t)i) return 0;
-  return 1;
-}
-
-static uint64_t make(const uint8_t *bytes, size_t n) {
-  soil();
-  return ledger_make(head, LEDGER_HEAD, prices, LEDGER_PRICES, lots, LEDGER_ROWS, value, LEDGER_ROWS, book, LEDGER_BOOK, bytes, n);
+static uint64_t made(const uint8_t *bytes, size_t n) {
+  soil(&tables);
+  return make(&tables, bytes, n);
 }
 
 /* first year 2021, start day 369 (4 January 2021, a Monday), two members, holidays 366 and 500, limits 1000 and 100000 */
-static const uint8_t sound[] = {'V', 'J', 'R', 0, 1, 0x07, 0xE5, 0x01, 0x71, 2, 2, 0x01, 0x6E, 0x01, 0xF4, 0, 0, 0x03, 0xE8, 0, 0x01, 0x86, 0xA0, 9, 9};
-#define LENGTH 23
+static const uint8_t sound[] = {'V',  'J',  'R', 0, 1,    0x07, 0xE5, 0x01, 0x71, 2,    2, 0x01, 0x6E,
+                                0x01, 0xF4, 0,   0, 0x03, 0xE8, 0,    0x01, 0x86, 0xA0, 9, 9};
+enum {
+  HOLIDAY_COUNT = 2,
+  MEMBERS = 2,
+  LENGTH = LEDGER_HEADER_BYTES + HOLIDAY_COUNT * LEDGER_HOLIDAY_BYTES + MEMBERS * LEDGER_LIMIT_BYTES
+};
 
 /* one byte of the sound header changed */
 static uint64_t with(size_t at, uint8_t byte) {
   uint8_t bytes[LENGTH];
   memcpy(bytes, sound, LENGTH);
   bytes[at] = byte;
-  return make(bytes, LENGTH);
+  return made(bytes, LENGTH);
 }
 
 /* a header of so many members and holidays with all its bytes: the holidays are days 370, 371 and so on, the limits 0 */
-static uint64_t sized(uint8_t members, uint8_t holidays) {
-  uint8_t bytes[11 + 2 * 255 + 4 * 255] = {0};
-  memcpy(bytes, sound, 9);
-  bytes[9] = members;
-  bytes[10] = holidays;
-  for (size_t i = 0; i < holidays; i++) {
-    bytes[11 + 2 * i] = (uint8_t)((370 + i) / 256);
-    bytes[12 + 2 * i] = (uint8_t)((370 + i) % 256);
-  }
-  return make(bytes, (size_t)11 + 2 * holidays + 4 * members);
+static uint64_t sized(uint64_t members, size_t holiday_count) {
+  uint64_t holidays[LEDGER_MOST_HOLIDAYS + 1];
+  for (size_t i = 0; i < holiday_count; i++) holidays[i] = FIRST_DAY + i;
+  Bytes bytes = header(members, 0, holidays, holiday_count);
+  return made(bytes.at, bytes.length);
 }
 
 static void fresh_places(void) {
-  static const uint64_t first[8] = {2021, 2, 2, 369, 0, 0, 0, 0};
+  const uint64_t *head = tables.at[HEAD];
+  static const uint64_t first[] = {2021, MEMBERS, HOLIDAY_COUNT, 369, 0, 0, 0, 0};
   expect(memcmp(head, first, sizeof first) == 0, "head 0 to 7");
-  expect(head[8] == 366 && head[9] == 500, "holidays");
-  expect(is_soiled(10, 128), "surplus holidays");
-  expect(head[128] == 1000 && head[129] == 100000, "position limits");
-  expect(is_soiled(130, 160), "surplus limits");
-  expect(head[160] == 0 && head[161] == 0, "default marks");
-  expect(is_soiled(162, 192), "surplus marks");
-  expect(head[192] == 0 && head[193] == 0, "submits in the second");
-  expect(is_soiled(194, LEDGER_HEAD + SPARE), "surplus of the head");
-  int five = 1, rows = 1, rest = 1;
-  for (size_t c = 0; c < 102; c++) {
-    const uint64_t *p = prices + c * 5;
-    five &= p[0] == 0 && p[1] == 1 && p[2] == 1000000 && p[3] == 0 && p[4] == 0;
-    for (size_t m = 0; m < 32; m++) {
-      size_t i = c * 32 + m;
-      if (m < 2) rows &= lots[i] == 0 && value[i] == 0;
-      else rest &= lots[i] == -1 - (int64_t)i && value[i] == -5000 - (int64_t)i;
+  expect(head[LEDGER_HOLIDAYS] == 366 && head[LEDGER_HOLIDAYS + 1] == 500, "holidays");
+  expect(is_soiled(&tables, HEAD, LEDGER_HOLIDAYS + HOLIDAY_COUNT, LEDGER_LIMITS), "surplus holidays");
+  expect(head[LEDGER_LIMITS] == 1000 && head[LEDGER_LIMITS + 1] == 100000, "position limits");
+  expect(is_soiled(&tables, HEAD, LEDGER_LIMITS + MEMBERS, LEDGER_MARKS), "surplus limits");
+  expect(head[LEDGER_MARKS] == 0 && head[LEDGER_MARKS + 1] == 0, "default marks");
+  expect(is_soiled(&tables, HEAD, LEDGER_MARKS + MEMBERS, LEDGER_SUBMITS), "surplus marks");
+  expect(head[LEDGER_SUBMITS] == 0 && head[LEDGER_SUBMITS + 1] == 0, "submits in the second");
+  expect(is_soiled(&tables, HEAD, LEDGER_SUBMITS + MEMBERS, LEDGER_HEAD + SURPLUS), "surplus of the head");
+  static const uint64_t fresh[LEDGER_PRICE_WIDTH] = {0, 1, 1000000, 0, 0};
+  static const uint64_t zero[MEMBERS];
+  bool five = true, rows = true, rest = true;
+  for (size_t c = 0; c < LEDGER_CONTRACTS; c++) {
+    size_t row = c * LEDGER_ROW_WIDTH;
+    five &= memcmp(tables.at[PRICES] + c * LEDGER_PRICE_WIDTH, fresh, sizeof fresh) == 0;
+    for (int t = LOTS; t <= VALUE; t++) {
+      rows &= memcmp(tables.at[t] + row, zero, sizeof zero) == 0;
+      rest &= is_soiled(&tables, t, row + MEMBERS, row + LEDGER_ROW_WIDTH);
     }
   }
   expect(five, "prices of each contract");
   expect(rows, "rows of the members");
   expect(rest, "rows of no member");
-  expect(prices[510] == 8888888 + 510 && lots[3264] == -1 - 3264 && value[3264] == -5000 - 3264, "places past the tables");
-  int untouched = 1;
-  for (size_t i = 0; i < LEDGER_BOOK + SPARE; i++) untouched &= book[i] == 9999999 + i;
-  expect(untouched, "the book");
-}
-
-static uint64_t is_damaged(size_t line_places) {
-  return ledger_is_damaged(head, LEDGER_HEAD, prices, LEDGER_PRICES, lots, LEDGER_ROWS, value, LEDGER_ROWS, book, LEDGER_BOOK, lines, line_places);
+  for (int t = 0; t < TABLES; t++)
+    expect(is_soiled(&tables, t, LEAST[t], LEAST[t] + SURPLUS), "places past the %s", TABLE_NAMES[t]);
+  expect(is_soiled(&tables, BOOK, 0, LEDGER_BOOK), "the book");
 }
 
 /* a fresh ledger is sound; a number out of its range, or 799 places for lines, is damage */
 static void damage(void) {
-  make(sound, LENGTH);
-  expect(is_damaged(LEDGER_LINES) == 0, "a fresh ledger is sound");
-  expect(is_damaged(LEDGER_LINES - 1) == 1, "a short line table");
-  head[4] = 86399;
-  expect(is_damaged(LEDGER_LINES) == 0, "the last second of a day");
-  head[4] = 86400;
-  expect(is_damaged(LEDGER_LINES) == 1, "a time past the day");
-  head[4] = 0;
-  lots[17 * 32] = 1;
-  expect(is_damaged(LEDGER_LINES) == 1, "lots above the lots run");
-  head[6] = 1;
-  expect(is_damaged(LEDGER_LINES) == 0, "lots at the lots run");
-  lots[17 * 32 + 1] = -2;
-  expect(is_damaged(LEDGER_LINES) == 1, "lots below minus the lots run");
-  soil();
-  expect(is_damaged(LEDGER_LINES) == 1, "tables that hold no ledger");
+  made(sound, LENGTH);
+  expect(is_damaged(&tables) == 0, "a fresh ledger is sound");
+  tables.length[LINES] = LEDGER_LINES - 1;
+  expect(is_damaged(&tables) == 1, "a short line table");
+  tables.length[LINES] = LEDGER_LINES + SURPLUS;
+  uint64_t *head = tables.at[HEAD], *row = tables.at[LOTS] + 17 * LEDGER_ROW_WIDTH;
+  head[LEDGER_TIME] = 86399;
+  expect(is_damaged(&tables) == 0, "the last second of a day");
+  head[LEDGER_TIME] = 86400;
+  expect(is_damaged(&tables) == 1, "a time past the day");
+  head[LEDGER_TIME] = 0;
+  row[0] = 1;
+  expect(is_damaged(&tables) == 1, "lots above the lots run");
+  head[LEDGER_LOTS_RUN] = 1;
+  expect(is_damaged(&tables) == 0, "lots at the lots run");
+  row[1] = (uint64_t)-2;
+  expect(is_damaged(&tables) == 1, "lots below minus the lots run");
+  soil(&tables);
+  expect(is_damaged(&tables) == 1, "tables that hold no ledger");
 }
 
-static void refused(uint64_t got, uint64_t number, const char *what) { expect(got == number && all_soiled(), what); }
+static void refused(uint64_t got, uint64_t number, const char *what) {
+  expect(got == number && all_soiled(&tables), "%s", what);
+}
 
 int main(void) {
-  expect(make(sound, LENGTH) == 0, "a sound header");
+  tables = lend(SURPLUS);
+  expect(made(sound, LENGTH) == LEDGER_ACCEPTED, "a sound header");
   fresh_places();
-  expect(make(sound, sizeof sound) == 0, "bytes past the header");
+  expect(made(sound, sizeof sound) == LEDGER_ACCEPTED, "bytes past the header");
   fresh_places();
 
-  for (size_t n = 0; n < LENGTH; n++) refused(make(sound, n), 2, "a cut header");
-  refused(with(2, 'r'), 2, "wrong letters");
-  refused(with(4, 2), 2, "version 2");
-  refused(with(5, 0x08), 2, "first year 2277");
-  refused(with(6, 0xE3), 2, "first year 2019");
-  refused(with(8, 0x72 + 4), 2, "a start day on a Saturday");
-  refused(with(7, 0), 2, "a start day before the span");
-  refused(with(9, 0), 2, "no members");
-  refused(sized(33, 2), 2, "33 members");
-  expect(sized(32, 2) == 0, "32 members");
-  refused(sized(2, 121), 2, "121 holidays");
-  expect(sized(2, 120) == 0, "120 holidays");
-  refused(with(12, 0xF4), 2, "holidays that do not rise");
-  refused(with(11, 0), 2, "a holiday before the span");
-  refused(with(16, 0xFF), 2, "a limit above 100,000 lots");
-  expect(with(22, 0x9F) == 0 && head[129] == 99999, "another limit");
+  for (size_t n = 0; n < LENGTH; n++) refused(made(sound, n), LEDGER_HEADER_UNSOUND, "a cut header");
+  refused(with(2, 'r'), LEDGER_HEADER_UNSOUND, "wrong letters");
+  refused(with(4, 2), LEDGER_HEADER_UNSOUND, "version 2");
+  refused(with(5, 0x08), LEDGER_HEADER_UNSOUND, "first year 2277");
+  refused(with(6, 0xE3), LEDGER_HEADER_UNSOUND, "first year 2019");
+  refused(with(8, 0x72 + 4), LEDGER_HEADER_UNSOUND, "a start day on a Saturday");
+  refused(with(7, 0), LEDGER_HEADER_UNSOUND, "a start day before the span");
+  refused(with(9, 0), LEDGER_HEADER_UNSOUND, "no members");
+  refused(sized(LEDGER_MOST_MEMBERS + 1, 2), LEDGER_HEADER_UNSOUND, "33 members");
+  expect(sized(LEDGER_MOST_MEMBERS, 2) == LEDGER_ACCEPTED, "32 members");
+  refused(sized(2, LEDGER_MOST_HOLIDAYS + 1), LEDGER_HEADER_UNSOUND, "121 holidays");
+  expect(sized(2, LEDGER_MOST_HOLIDAYS) == LEDGER_ACCEPTED, "120 holidays");
+  refused(with(12, 0xF4), LEDGER_HEADER_UNSOUND, "holidays that do not rise");
+  refused(with(11, 0), LEDGER_HEADER_UNSOUND, "a holiday before the span");
+  refused(with(16, 0xFF), LEDGER_HEADER_UNSOUND, "a limit above 100,000 lots");
+  expect(with(22, 0x9F) == LEDGER_ACCEPTED && tables.at[HEAD][LEDGER_LIMITS + 1] == 99999, "another limit");
 
-  soil();
-  refused(ledger_make(head, LEDGER_HEAD - 1, prices, LEDGER_PRICES, lots, LEDGER_ROWS, value, LEDGER_ROWS, book, LEDGER_BOOK, sound, LENGTH), 1, "a short head");
-  refused(ledger_make(head, LEDGER_HEAD, prices, LEDGER_PRICES - 1, lots, LEDGER_ROWS, value, LEDGER_ROWS, book, LEDGER_BOOK, sound, LENGTH), 1, "short prices");
-  refused(ledger_make(head, LEDGER_HEAD, prices, LEDGER_PRICES, lots, LEDGER_ROWS - 1, value, LEDGER_ROWS, book, LEDGER_BOOK, sound, LENGTH), 1, "short lots");
-  refused(ledger_make(head, LEDGER_HEAD, prices, LEDGER_PRICES, lots, LEDGER_ROWS, value, LEDGER_ROWS - 1, book, LEDGER_BOOK, sound, LENGTH), 1, "short value");
-  refused(ledger_make(head, LEDGER_HEAD, prices, LEDGER_PRICES, lots, LEDGER_ROWS, value, LEDGER_ROWS, book, LEDGER_BOOK - 1, sound, LENGTH), 1, "a short book");
-  refused(ledger_make(head, 0, prices, LEDGER_PRICES, lots, LEDGER_ROWS, value, LEDGER_ROWS, book, LEDGER_BOOK, sound, 3), 1, "1 before 2");
+  for (int t = 0; t < LINES; t++) {
+    soil(&tables);
+    tables.length[t] = LEAST[t] - 1;
+    uint64_t answer = make(&tables, sound, LENGTH), before_header = make(&tables, sound, 3);
+    tables.length[t] = LEAST[t] + SURPLUS;
+    refused(answer, LEDGER_TABLE_UNSOUND, "a short table");
+    refused(before_header, LEDGER_TABLE_UNSOUND, "1 before 2");
+  }
   damage();
-  if (failures == 0) printf("ok %d\n", checks);
-  return failures != 0;
+  give_back(&tables);
+  return finish();
 }

@@ -53,11 +53,15 @@ fn half_up(dividend: u64, divisor: u64) -> u64 {
     (2 * dividend + divisor) / (2 * divisor)
 }
 
+/// Whether an order has rested long enough at a time of the ledger's day.
+pub fn is_quote(tables: &Tables, order: &Order, time: u64) -> bool {
+    order.day < tables.day() || order.day == tables.day() && order.time + QUOTE_AGE <= time
+}
+
 /// The best buy and the best sell among the orders that are old enough and still have the threshold's lots.
-fn quotes(tables: &Tables, contract: Contract, time: u64) -> Option<(u64, u64)> {
-    let (number, day) = (contract.number(), tables.day());
-    let is_old = |order: &Order| order.day < day || order.day == day && order.time + QUOTE_AGE <= time;
-    let counts = |order: &Order| order.contract == number && order.lots >= contract.kind.threshold() && is_old(order);
+pub fn quotes(tables: &Tables, contract: Contract, time: u64) -> Option<(u64, u64)> {
+    let (number, threshold) = (contract.number(), contract.kind.threshold());
+    let counts = |order: &Order| order.contract == number && order.lots >= threshold && is_quote(tables, order, time);
     let (mut buy, mut sell) = (None, None);
     for order in tables.orders().filter(counts) {
         let best = match order.side {

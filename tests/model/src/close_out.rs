@@ -5,9 +5,9 @@ use crate::tables::*;
 
 /// Lots of a member, without sign.
 #[derive(Clone, Copy, Debug, PartialEq, Eq)]
-struct Share {
-    member: u64,
-    lots: u64,
+pub struct Share {
+    pub member: u64,
+    pub lots: u64,
 }
 
 fn total(shares: &[Share]) -> u64 {
@@ -71,7 +71,7 @@ fn taken_lowest_first(shares: &[Share], mut lots: u64) -> (Vec<Share>, Vec<Share
 }
 
 /// The other members' weights: by days over all open contracts where the remaining lots are many, else by lots here.
-fn weights(tables: &Tables, contract: u64, lots: u64, ratio: u64) -> Vec<Share> {
+pub fn weights(tables: &Tables, contract: u64, lots: u64, ratio: u64) -> Vec<Share> {
     let others = || (0..tables.members()).filter(|&member| !tables.is_defaulted(member));
     let here: Vec<Share> =
         others().map(|member| Share { member, lots: tables.lots(contract, member).unsigned_abs() }).collect();
@@ -88,11 +88,15 @@ fn weights(tables: &Tables, contract: u64, lots: u64, ratio: u64) -> Vec<Share> 
     others().map(|member| Share { member, lots: weight(member) }).collect()
 }
 
+/// The least lots of each weight: its part of `lots`, rounded up.
+pub fn minimums(weights: &[Share], lots: u64) -> Vec<u64> {
+    let all: u64 = total(weights);
+    weights.iter().map(|share| (lots as u128 * share.lots as u128).div_ceil(all as u128) as u64).collect()
+}
+
 /// What each member receives of `lots`, by member; members that receive nothing are left out.
 fn received(weights: &[Share], lots: u64) -> Vec<Share> {
-    let all: u64 = total(weights);
-    let minimum = |weight: u64| (lots as u128 * weight as u128).div_ceil(all as u128) as u64;
-    let mut takers: Vec<(u64, &Share)> = weights.iter().map(|share| (minimum(share.lots), share)).collect();
+    let mut takers: Vec<(u64, &Share)> = minimums(weights, lots).into_iter().zip(weights).collect();
     takers.sort_by_key(|&(minimum, share)| (u64::MAX - minimum, u64::MAX - share.lots, share.member));
     let minimums: Vec<u64> = takers.iter().map(|&(minimum, _)| minimum).collect();
     let turns = lots_in_turns(&minimums, lots);

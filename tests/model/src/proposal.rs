@@ -36,11 +36,11 @@ fn is_acceptable(tables: &Tables, legs: &[Leg], orders: &[Order]) -> bool {
         && orders.iter().any(|order| order.member != orders[0].member)
         && orders.iter().any(|order| order.contract != orders[0].contract)
         && pairs().all(|(leg, order)| price_is_allowed(tables, leg, order))
-        && (0..12 * YEARS).all(|month| is_balanced(legs, orders, month))
+        && (0..12 * YEARS).all(|month| net_in_month(legs, orders, month) == (0, 0))
         && orders.iter().all(|order| better_orders_are_legs(tables, legs, order))
 }
 
-fn price_is_allowed(tables: &Tables, leg: &Leg, order: &Order) -> bool {
+pub fn price_is_allowed(tables: &Tables, leg: &Leg, order: &Order) -> bool {
     let allowed = match order.side {
         Side::Sell => order.price..=tables.price(order.contract, HIGH),
         Side::Buy => tables.price(order.contract, LOW)..=order.price,
@@ -48,14 +48,13 @@ fn price_is_allowed(tables: &Tables, leg: &Leg, order: &Order) -> bool {
     allowed.contains(&leg.price)
 }
 
-/// In the hours of a month bought lots equal sold ones, and bought lots times price sold.
-fn is_balanced(legs: &[Leg], orders: &[Order], month: u64) -> bool {
+/// In the hours of a month: bought lots less sold ones, and the same of lots times price.
+pub fn net_in_month(legs: &[Leg], orders: &[Order], month: u64) -> (i64, i64) {
     let delivering = legs.iter().zip(orders).filter(|(_, order)| Contract::numbered(order.contract).delivers_in(month));
-    let net = delivering.fold((0, 0), |(lots, value), (leg, order)| {
+    delivering.fold((0, 0), |(lots, value), (leg, order)| {
         let signed = order.side.signed(leg.lots);
         (lots + signed, value + signed * leg.price as i64)
-    });
-    net == (0, 0)
+    })
 }
 
 /// Every resting order with better priority is a leg in full.

@@ -1,4 +1,4 @@
-//! A ledger as the text of tests/lists, and numbers in hex.
+//! A ledger as the text of tests/lists or as one number, and numbers in hex.
 use crate::contract::CONTRACTS;
 use crate::tables::*;
 use std::fmt::Write;
@@ -41,4 +41,33 @@ pub fn ledger(tables: &Tables) -> String {
         writeln!(out, "price {price} lots {lots} day {day} time {time}").unwrap();
     }
     out
+}
+
+/// A number that changes with every place of every table; tests/host/lent.c has the same.
+pub fn digest(tables: &Tables) -> u64 {
+    let Tables { head, prices, lots, value, book, lines } = tables;
+    let signed = |column: &[i64]| column.iter().map(|&number| number as u64).collect::<Vec<u64>>();
+    let step = |digest: u64, number: u64| {
+        let digest = (digest ^ number).wrapping_mul(0x9e37_79b9_7f4a_7c15);
+        digest ^ digest >> 32
+    };
+    [head.clone(), prices.clone(), signed(lots), signed(value), book.clone(), signed(lines)]
+        .into_iter()
+        .flatten()
+        .fold(0, step)
+}
+
+/// Tables of the least lengths in which every place holds a number that no ledger has there.
+pub fn soiled() -> Tables {
+    const SOIL: usize = 1_000_000_000_000;
+    let plain = |length: usize| (SOIL..SOIL + length).map(|number| number as u64).collect();
+    let signed = |length: usize| (SOIL..SOIL + length).map(|number| number as i64).collect();
+    Tables {
+        head: plain(HEAD),
+        prices: plain(PRICES),
+        lots: signed(ROWS),
+        value: signed(ROWS),
+        book: plain(BOOK),
+        lines: signed(LINES),
+    }
 }

@@ -1,7 +1,7 @@
 //! What the generator reaches, and what holds of every call.
 use model::answer::Answer;
 use model::apply::apply;
-use model::coverage::{Coverage, EDGES};
+use model::coverage::{Coverage, LONG_RUN};
 use model::generate::{run, Call};
 use model::make::make;
 use model::record::Record;
@@ -10,7 +10,7 @@ use model::tables::Tables;
 fn called(tables: &mut Tables, call: &Call) -> Answer {
     match call {
         Call::Make(bytes) => make(tables, bytes),
-        Call::Apply(bytes) => apply(tables, bytes),
+        Call::Apply { record, .. } => apply(tables, record),
     }
 }
 
@@ -18,7 +18,7 @@ fn called(tables: &mut Tables, call: &Call) -> Answer {
 fn every_refusal_and_edge_is_reached() {
     let mut coverage = Coverage::default();
     let mut before = Tables::empty();
-    let outcome: Result<(), ()> = run(1, 500_000, |tables, call| {
+    let outcome: Result<(), ()> = run(1, LONG_RUN, |tables, call| {
         before.clone_from(tables);
         let answer = called(tables, &call);
         assert!(answer.is_ok() || before == *tables, "a refused call changes nothing");
@@ -26,10 +26,7 @@ fn every_refusal_and_edge_is_reached() {
         Ok(())
     });
     assert_eq!(outcome, Ok(()));
-    let unmet: Vec<usize> = (0..19).filter(|&number| coverage.answers[number] == 0).collect();
-    assert!(unmet.is_empty(), "answers {unmet:?} not reached");
-    let unmet: Vec<&&str> = EDGES.iter().filter(|edge| !coverage.edges.contains_key(*edge)).collect();
-    assert!(unmet.is_empty(), "edges {unmet:?} not reached");
+    assert_eq!(coverage.unmet(), Vec::<String>::new());
 }
 
 #[test]
@@ -38,7 +35,7 @@ fn a_seed_gives_the_same_calls() {
         let mut calls = Vec::new();
         let outcome: Result<(), ()> = run(seed, 2000, |tables, call| {
             let answer = called(tables, &call);
-            let (Call::Make(bytes) | Call::Apply(bytes)) = call;
+            let (Call::Make(bytes) | Call::Apply { record: bytes, .. }) = call;
             calls.push((bytes.to_vec(), answer));
             Ok(())
         });
@@ -53,7 +50,7 @@ fn a_seed_gives_the_same_calls() {
 fn records_are_written_as_they_were_read() {
     let outcome: Result<(), ()> = run(9, 20_000, |tables, call| {
         let members = tables.head.get(1).copied().unwrap_or(0);
-        if let Call::Apply(bytes) = call {
+        if let Call::Apply { record: bytes, .. } = call {
             if let Ok(record) = Record::read(members, bytes) {
                 let mut output = [0xAA; 130];
                 assert_eq!(record.write(members, &mut output), Ok(bytes.len()));

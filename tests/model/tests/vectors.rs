@@ -1,4 +1,4 @@
-//! The stored lists and journals, which another model made.
+//! The stored lists and journals, which another model made, and the stories, which were checked by hand.
 use model::answer::{told, Answer};
 use model::apply::apply;
 use model::make::make;
@@ -60,9 +60,9 @@ fn stored_lists() {
 
 #[test]
 fn stored_journals() {
-    let files = files("journals", "vjr");
-    assert_eq!(files.len(), 60);
-    for file in files {
+    let (journals, stories) = (files("journals", "vjr"), files("../examples", "vjr"));
+    assert_eq!((journals.len(), stories.len()), (60, 6));
+    for file in journals.into_iter().chain(stories) {
         let journal = fs::read(&file).expect("a journal");
         let expected = fs::read_to_string(file.with_extension("out")).expect("what it prints");
         assert_eq!(model::journal::printed(&journal), expected, "{}", file.display());

@@ -1,7 +1,7 @@
 //! Headers: runs of holidays before the first days of years and quarters, start days near closing days.
 use super::random::Random;
 use crate::calendar::Calendar;
-use crate::contract::{Contract, Kind, YEARS};
+use crate::contract::{Contract, Kind, CONTRACTS, YEARS};
 use crate::header::Header;
 use crate::tables::*;
 use std::collections::BTreeSet;
@@ -53,7 +53,7 @@ fn holidays(random: &mut Random, first_year: u64) -> BTreeSet<u64> {
 fn run(random: &mut Random, calendar: &Calendar, days: &mut BTreeSet<u64>) {
     let every = random.pick(&[1, 3, 12, 12]);
     let end = random.between(1, 12 * YEARS / every - 1) * every;
-    let months = random.pick(&[1, 1, 2, 3, 3, 5]);
+    let months = random.pick(&[1, 2, 3, 3, 5, 5]);
     let start = |month: u64| calendar.delivery(Contract { kind: Kind::Month, index: month }).start;
     let covered = start(end.saturating_sub(months))..start(end) + random.below(4) as i64;
     let mut run: Vec<i64> = covered.filter(|&day| calendar.is_business_day(day)).collect();
@@ -63,12 +63,13 @@ fn run(random: &mut Random, calendar: &Calendar, days: &mut BTreeSet<u64>) {
     days.extend(run.into_iter().map(|day| day as u64));
 }
 
-/// A business day of the span, often one on which contracts close or the last one.
+/// A business day of the span, often one on which contracts close, the one on which most do, or the last one.
 pub fn business_day(random: &mut Random, calendar: &Calendar) -> u64 {
     let span = calendar.span();
-    let near = match random.below(8) {
+    let near = match random.below(10) {
         0 => span.start,
-        1 => span.end - 1,
+        1 => span.end - random.between(1, 5) as i64,
+        8 | 9 => busiest_evening(calendar),
         2 | 3 => random.between(span.start as u64, span.end as u64 - 1) as i64,
         _ => {
             let kind = random.pick(&Kind::ALL);
@@ -80,6 +81,15 @@ pub fn business_day(random: &mut Random, calendar: &Calendar) -> u64 {
     let earlier = || (span.start..=near).rev().find(|&day| calendar.is_business_day(day));
     let later = || (near..span.end).find(|&day| calendar.is_business_day(day));
     earlier().or_else(later).expect("a span has more business days than holidays") as u64
+}
+
+/// The day of the span on which most contracts close, the first of them.
+fn busiest_evening(calendar: &Calendar) -> i64 {
+    let mut days: Vec<i64> = (0..CONTRACTS).map(|number| calendar.closing_day(Contract::numbered(number))).collect();
+    days.retain(|day| calendar.span().contains(day));
+    days.sort_unstable();
+    let closing = |day: &i64| days.iter().filter(|other| *other == day).count();
+    days.iter().copied().rev().max_by_key(closing).expect("contracts close in the span")
 }
 
 /// A header with one field at or past an end of its range.

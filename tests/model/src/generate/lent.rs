@@ -5,7 +5,7 @@ use super::market::{Market, Step};
 use super::plans::{plan, PlannedLeg};
 use super::random::Random;
 use crate::contract::{Contract, CONTRACTS};
-use crate::record::Record;
+use crate::record::{OrderKind, Record, Submit};
 use crate::tables::*;
 
 pub fn fill(random: &mut Random, tables: &mut Tables, market: &mut Market) {
@@ -13,8 +13,10 @@ pub fn fill(random: &mut Random, tables: &mut Tables, market: &mut Market) {
     fill_prices(random, tables, market.price);
     fill_rows(random, tables);
     fill_book(random, tables, market);
-    if random.percent(25) {
-        one_close_out(random, tables, market);
+    match random.below(100) {
+        0..=24 => one_close_out(random, tables, market),
+        25..=29 => one_ladder(random, tables, market),
+        _ => {}
     }
 }
 
@@ -123,18 +125,28 @@ fn entry(random: &mut Random, tables: &Tables) -> (u64, u64) {
 
 /// The orders of an acceptable proposal, which is then the first record; prices go to where its legs may lie.
 fn planned_orders(random: &mut Random, tables: &mut Tables, market: &mut Market) -> Vec<Order> {
-    if random.percent(60) {
+    if random.percent(45) {
         return Vec::new();
     }
     let legs = plan(random, tables, market.price, &|_| true);
     let mut orders = Vec::new();
-    for PlannedLeg { contract, side, member, order_price, order_lots, .. } in legs.iter().copied() {
+    for PlannedLeg { contract, side, member, order_price, order_lots, price, .. } in legs.iter().copied() {
         let (day, time) = entry(random, tables);
         orders.push(Order { number: 0, member, contract, side, price: order_price, lots: order_lots, day, time });
-        if random.percent(90) {
-            *tables.price_mut(contract, LOW) = 1;
-            *tables.price_mut(contract, HIGH) = MOST_PRICE;
-        }
+        let (low, high) = match random.below(60) {
+            0 => (price, MOST_PRICE),
+            1 => (price + 1, MOST_PRICE),
+            2 => (1, price),
+            3 => (1, price - 1),
+            4 | 5 => (tables.price(contract, LOW), tables.price(contract, HIGH)),
+            _ => (1, MOST_PRICE),
+        };
+        *tables.price_mut(contract, LOW) = low;
+        *tables.price_mut(contract, HIGH) = high;
+    }
+    let end = MOST_RUN - legs.iter().map(|leg| leg.lots).sum::<u64>() + random.below(2);
+    if random.percent(25) && tables.run() < end {
+        tables.head[RUN] = end;
     }
     if !legs.is_empty() {
         market.plan_step(Step::Propose(legs));
@@ -153,6 +165,30 @@ fn number_orders(random: &mut Random, tables: &Tables, orders: &mut [Order]) {
     }
 }
 
+/// A hundred orders of one lot or a few more, at any places of the book, and a submit that meets them all or all but one.
+fn one_ladder(random: &mut Random, tables: &mut Tables, market: &mut Market) {
+    let open = tables.calendar().open_contracts(tables.day() as i64);
+    let count = random.between(MOST_LOTS, MOST_LOTS + 2) as usize;
+    if open.is_empty() || tables.order_count() < count {
+        return;
+    }
+    let (contract, side) = (random.pick(&open).number(), random.pick(&[Side::Buy, Side::Sell]));
+    for place in 0..count {
+        let price = market.near_price(random);
+        tables.put_order(place, &Order { contract, side, price, lots: 1, ..tables.order(place) });
+    }
+    *tables.price_mut(contract, LOW) = 1;
+    *tables.price_mut(contract, HIGH) = MOST_PRICE;
+    let member = random.below(tables.members());
+    tables.head[MARKS + member as usize] = 0;
+    tables.head[LIMITS + member as usize] = MOST_LIMIT;
+    let (time, lots) = (tables.time(), MOST_LOTS - random.below(2));
+    let price = if side == Side::Buy { 1 } else { MOST_PRICE };
+    let kind = random.pick(&[OrderKind::Resting, OrderKind::Oeye, OrderKind::Teye]);
+    let submit = Submit { time, member, contract, side: side.other(), kind, price, lots };
+    market.plan_step(Step::Record(Record::Submit(submit)));
+}
+
 /// One defaulted holder, and others whose lots stand to its lots exactly in the ratio, or one off it.
 fn one_close_out(random: &mut Random, tables: &mut Tables, market: &mut Market) {
     let open = tables.calendar().open_contracts(tables.day() as i64);
@@ -164,7 +200,7 @@ fn one_close_out(random: &mut Random, tables: &mut Tables, market: &mut Market) 
     let ratio = random.pick(&[1, 10, 125, 500, 1000, any]);
     let run = tables.run();
     let most = (run * ratio / 1000).min((MOST_RUN - run) / 2).max(1);
-    let lots = random.pick(&[1, 10, most / 2, most]).clamp(1, most).min(run) as i64;
+    let lots = random.pick(&[1, 10, most / 2, most, most + 1]).clamp(1, most + 1).min(run) as i64;
     let others = (1000 * lots / ratio as i64 + random.pick(&[0, 0, 1, -1])).clamp(0, run as i64);
     let sign = random.pick(&[1, -1]);
     let members = tables.members() as usize;

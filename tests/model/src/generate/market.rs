@@ -1,7 +1,7 @@
 //! Records drawn for what a ledger holds.
 use super::plans::{plan, propose, PlannedLeg};
 use super::random::Random;
-use crate::contract::{Contract, CONTRACTS};
+use crate::contract::{Contract, Kind, CONTRACTS};
 use crate::record::{Leg, OrderKind, Record, Submit};
 use crate::tables::*;
 use std::collections::VecDeque;
@@ -246,8 +246,8 @@ impl Market {
                 let towards = submit.side.signed(1) * tables.lots(submit.contract, submit.member) + resting as i64;
                 (tables.limit(submit.member) as i64 - towards + random.pick(&[0, 1])).clamp(1, MOST_LOTS as i64) as u64
             }
-            35 => MOST_LOTS,
-            36..=70 if MOST_RUN - tables.run() < 2 * MOST_LOTS => (MOST_RUN - tables.run()) / 2 + random.below(2),
+            35..=38 => MOST_LOTS,
+            39..=70 if MOST_RUN - tables.run() < 2 * MOST_LOTS => (MOST_RUN - tables.run()) / 2 + random.below(2),
             _ => submit.lots,
         }
     }
@@ -347,6 +347,43 @@ impl Market {
         let below = time.saturating_sub(1);
         let time = random.pick(&[time, time + later, time + 300, quoted, quoted.max(time), LAST_SECOND, below]);
         Record::CloseOfDay { time: time.min(LAST_SECOND) }
+    }
+
+    /// A close of day at the ledger's time: the evening on which the ledger begins is often one on which contracts close.
+    pub fn plan_close(&mut self, tables: &Tables) {
+        self.plan_step(Step::Record(Record::CloseOfDay { time: tables.time() }));
+    }
+
+    /// A default that nobody can take over, in a fresh ledger: a member gives a quarter its reference price by meeting its
+    /// own order, buys it from another who sells the months, and both default.
+    pub fn plan_no_taker(&mut self, random: &mut Random, tables: &Tables) {
+        let open = tables.calendar().open_contracts(tables.day() as i64);
+        let is_whole = |c: &Contract| c.kind == Kind::Quarter && c.parts().iter().all(|month| open.contains(month));
+        let Some(quarter) = open.iter().copied().find(is_whole) else {
+            return;
+        };
+        let (time, price, members) = (tables.time(), self.price, tables.members());
+        let (buyer, seller) = (random.below(members), random.below(members));
+        let threshold = quarter.kind.threshold();
+        let order = |contract: Contract, side, member, lots| {
+            let (contract, kind) = (contract.number(), OrderKind::Resting);
+            Step::Record(Record::Submit(Submit { time, member, contract, side, kind, price, lots }))
+        };
+        let leg = |contract: Contract, side, member| {
+            let (contract, order_price, order_lots, lots) = (contract.number(), price, 1, 1);
+            PlannedLeg { contract, side, member, order_price, order_lots, lots, price }
+        };
+        let mut legs = vec![leg(quarter, Side::Buy, buyer)];
+        legs.extend(quarter.parts().into_iter().map(|month| leg(month, Side::Sell, seller)));
+        self.plan_step(order(quarter, Side::Sell, buyer, threshold));
+        self.plan_step(order(quarter, Side::Buy, buyer, threshold));
+        self.plan_step(order(quarter, Side::Buy, buyer, 1));
+        quarter.parts().into_iter().for_each(|month| self.plan_step(order(month, Side::Sell, seller, 1)));
+        self.plan_step(Step::Propose(legs));
+        self.plan_step(Step::Record(Record::CloseOfDay { time }));
+        self.plan_step(Step::Record(Record::Default { member: buyer }));
+        self.plan_step(Step::Record(Record::Default { member: seller }));
+        self.plan_step(Step::Record(Record::CloseOut { contract: quarter.number(), ratio: random.between(1, 1000) }));
     }
 
     /// Many small orders on one side, then one that meets them all, one fewer or one more.

@@ -14,7 +14,11 @@ use random::Random;
 
 pub enum Call<'a> {
     Make(&'a [u8]),
-    Apply(&'a [u8]),
+    /// `began_fresh`: the tables stand as calls left them since the ledger was made.
+    Apply {
+        record: &'a [u8],
+        began_fresh: bool,
+    },
 }
 
 /// Drives `call` with about so many records, until it stops the run with an error. A call has to change the tables as
@@ -30,6 +34,11 @@ pub fn run<E>(seed: u64, records: u64, mut call: impl FnMut(&mut Tables, Call) -
         let is_lent = random.percent(75);
         if is_lent {
             lent::fill(&mut random, &mut tables, &mut market);
+        } else if random.percent(15) {
+            market.plan_no_taker(&mut random, &tables);
+        }
+        if random.percent(15) {
+            market.plan_close(&tables);
         }
         let most = if is_lent { 60 } else { random.pick(&[100, 300, 700]) };
         let length = random.between(1, most);
@@ -38,13 +47,13 @@ pub fn run<E>(seed: u64, records: u64, mut call: impl FnMut(&mut Tables, Call) -
             if random.percent(3) {
                 let mut harmed = tables.clone();
                 harm::harm(&mut random, &mut harmed);
-                call(&mut harmed, Call::Apply(&bytes))?;
+                call(&mut harmed, Call::Apply { record: &bytes, began_fresh: false })?;
                 applied += 1;
             }
             if random.percent(5) {
                 tables.lines.iter_mut().for_each(|place| *place = random.draw() as i64);
             }
-            call(&mut tables, Call::Apply(&bytes))?;
+            call(&mut tables, Call::Apply { record: &bytes, began_fresh: !is_lent })?;
             applied += 1;
         }
     }

@@ -1,0 +1,94 @@
+/* Stands between a C test and the library (gcc -Wl,--wrap) and does one wrong thing, the one that MISDEED names. A test
+   that no misdeed makes fail would be no test; misdeeds.sh tries each. */
+#include "lent.h"
+#include <stdlib.h>
+#include <string.h>
+
+#define TABLES_OF_A_LEDGER                                                                                             \
+  uint64_t *head, size_t head_len, uint64_t *prices, size_t prices_len, int64_t *lots, size_t lots_len,                \
+      int64_t *value, size_t value_len
+#define LEDGER head, head_len, prices, prices_len, lots, lots_len, value, value_len
+uint64_t __real_ledger_make(TABLES_OF_A_LEDGER, const uint64_t *book, size_t book_len, const uint8_t *header,
+                            size_t header_len);
+uint64_t __wrap_ledger_make(TABLES_OF_A_LEDGER, const uint64_t *book, size_t book_len, const uint8_t *header,
+                            size_t header_len);
+uint64_t __real_ledger_apply(TABLES_OF_A_LEDGER, uint64_t *book, size_t book_len, int64_t *lines, size_t lines_len,
+                             const uint8_t *record, size_t record_len, uint64_t *detail);
+uint64_t __wrap_ledger_apply(TABLES_OF_A_LEDGER, uint64_t *book, size_t book_len, int64_t *lines, size_t lines_len,
+                             const uint8_t *record, size_t record_len, uint64_t *detail);
+uint64_t __wrap_ledger_is_damaged(TABLES_OF_A_LEDGER, const uint64_t *book, size_t book_len, const int64_t *lines,
+                                  size_t lines_len);
+uint64_t __real_ledger_is_damaged(TABLES_OF_A_LEDGER, const uint64_t *book, size_t book_len, const int64_t *lines,
+                                  size_t lines_len);
+
+static bool does(const char *what) {
+  static const char *misdeed;
+  if (misdeed == NULL) misdeed = getenv("MISDEED");
+  return misdeed != NULL && strcmp(misdeed, what) == 0;
+}
+
+uint64_t __wrap_ledger_make(TABLES_OF_A_LEDGER, const uint64_t *book, size_t book_len, const uint8_t *header,
+                            size_t header_len) {
+  uint64_t number = __real_ledger_make(LEDGER, book, book_len, header, header_len);
+  if (number == LEDGER_ACCEPTED && does("clears the book of a made ledger"))
+    memset((void *)(uintptr_t)book, 0, book_len * sizeof *book);
+  if (number == LEDGER_ACCEPTED && does("clears the limits of no member"))
+    memset(head + LEDGER_LIMITS + head[LEDGER_MEMBERS], 0, sizeof *head);
+  if (number == LEDGER_HEADER_UNSOUND && does("makes half a ledger of a bad header")) head[LEDGER_FIRST_YEAR] = 2020;
+  if (number == LEDGER_TABLE_UNSOUND && head_len > 0 && does("answers a short table with 2"))
+    return LEDGER_HEADER_UNSOUND;
+  return number;
+}
+
+uint64_t __wrap_ledger_is_damaged(TABLES_OF_A_LEDGER, const uint64_t *book, size_t book_len, const int64_t *lines,
+                                  size_t lines_len) {
+  uint64_t number = __real_ledger_is_damaged(LEDGER, book, book_len, lines, lines_len);
+  if (does("finds nothing damaged")) return 0;
+  if (does("does not ask for lines"))
+    return __real_ledger_is_damaged(LEDGER, book, book_len, (const int64_t *)(uintptr_t)lots, LEDGER_LINES);
+  return number;
+}
+
+/* After an accepted record. */
+static void spoil(uint64_t kind, uint64_t *head, uint64_t *prices, int64_t *lots, int64_t *value, uint64_t *book,
+                  int64_t *lines, uint64_t *detail) {
+  const uint64_t count = *detail, orders = head[LEDGER_ORDER_COUNT];
+  int64_t *line = lines + count * LEDGER_LINE_WIDTH;
+  if (does("writes a surplus place of the head")) head[LEDGER_HOLIDAYS + LEDGER_MOST_HOLIDAYS - 1]++;
+  if (does("writes a line too many") && count * LEDGER_LINE_WIDTH < LEDGER_LINES) line[0] = 0;
+  if (does("counts lines one short") && count > 0) *detail = count - 1;
+  if (does("clears the place of an order that went") && orders < LEDGER_MOST_ORDERS)
+    book[orders * LEDGER_ORDER_WIDTH] = 0;
+  if (does("books no value") && count > 0)
+    value[lines[LEDGER_LINE_CONTRACT] * LEDGER_ROW_WIDTH + lines[LEDGER_LINE_MEMBER]] -=
+        lines[LEDGER_LINE_LOTS] * lines[LEDGER_LINE_PRICE];
+  if (does("prints the lines of a deal in the other order") && kind == LEDGER_KIND_SUBMIT && count > 1)
+    for (int i = 0; i < LEDGER_LINE_WIDTH; i++) {
+      int64_t number = lines[i];
+      lines[i] = lines[LEDGER_LINE_WIDTH + i], lines[LEDGER_LINE_WIDTH + i] = number;
+    }
+  if (kind != LEDGER_KIND_CLOSE_OF_DAY) return;
+  if (does("adds a lot in a cascade")) lots[(LEDGER_CONTRACTS - 1) * LEDGER_ROW_WIDTH]++;
+  for (size_t c = 0; c < LEDGER_CONTRACTS && does("rounds a GGF up by one"); c++)
+    if (prices[c * LEDGER_PRICE_WIDTH + LEDGER_GGF] > 0) prices[c * LEDGER_PRICE_WIDTH + LEDGER_GGF]++;
+  if (does("keeps the clock over a close")) head[LEDGER_TIME] = 1;
+}
+
+uint64_t __wrap_ledger_apply(TABLES_OF_A_LEDGER, uint64_t *book, size_t book_len, int64_t *lines, size_t lines_len,
+                             const uint8_t *record, size_t record_len, uint64_t *detail) {
+  uint64_t number = __real_ledger_apply(LEDGER, book, book_len, lines, lines_len, record, record_len, detail);
+  if (number == LEDGER_ACCEPTED) spoil(record[0], head, prices, lots, value, book, lines, detail);
+  if (number > LEDGER_RECORD_UNSOUND && does("moves the clock of a refused record")) head[LEDGER_TIME]++;
+  if (number > LEDGER_RECORD_UNSOUND && does("writes and restores a refused record's clock"))
+    *(volatile uint64_t *)(head + LEDGER_TIME) += 0;
+  if (number == LEDGER_TABLE_UNSOUND && record_len == 0 && does("answers 3 before 1")) return LEDGER_RECORD_UNSOUND;
+  if (number == LEDGER_NO_SUCH_ORDER && does("hides a number")) return LEDGER_NOT_ACCEPTABLE;
+  if (number == LEDGER_MEMBER_DEFAULTED && does("does not tell the member of 5")) *detail = 0;
+  if (number == LEDGER_CONTRACT_NOT_OPEN && does("does not tell the contract of 6")) *detail = 0;
+  if (lines_len == LEDGER_LINES - 1 && does("takes a short line table")) return LEDGER_ACCEPTED;
+  if (does("reads past the line table")) *detail += 0 * (uint64_t)((volatile int64_t *)lines)[lines_len];
+  if (does("reads before the head")) *detail += 0 * ((volatile uint64_t *)head)[-1];
+  if (does("reads past the record")) *detail += 0 * ((const volatile uint8_t *)record)[record_len];
+  if (record_len > 0 && does("writes the record")) *(uint8_t *)(uintptr_t)record ^= 1;
+  return number;
+}

@@ -1,0 +1,31 @@
+#!/usr/bin/env bash
+# Whether the C tests can fail: each misdeed of misdeeds.c is done to the library in turn, and at least one test has to see
+# it; without a misdeed all have to pass. Prints which tests see which.
+set -uo pipefail
+cd "$(dirname "$0")/../.."
+rt staticlib host > /dev/null || exit 1
+tests=(make ranges guarded replay any_bytes)
+for test in "${tests[@]}"; do
+  gcc -std=c11 -Wall -Wextra -Werror -O1 -fsanitize=address,undefined -I include -Wl,--wrap=ledger_make,--wrap=ledger_apply,--wrap=ledger_is_damaged \
+    -o "target/${test}_misled" "tests/host/$test.c" tests/host/lent.c tests/host/misdeeds.c target/staticlib/libhost.a || exit 1
+done
+passes() {
+  case $1 in
+  ranges) target/ranges_misled | diff - tests/host/ranges.out ;;
+  replay) target/replay_misled printed tests/journals/*.vjr && target/replay_misled tables tests/host/stored/*.tables ;;
+  any_bytes) target/any_bytes_misled 4000 ;;
+  *) "target/$1_misled" ;;
+  esac > /dev/null 2>&1
+}
+seen_by() {
+  for test in "${tests[@]}"; do passes "$test" || echo -n " $test"; done
+}
+failed=0
+export MISDEED=
+if [ -n "$(seen_by)" ]; then echo "a test fails without a misdeed"; failed=1; fi
+while read -r MISDEED; do
+  seen=$(seen_by)
+  echo "$MISDEED: seen by${seen:- NONE}"
+  if [ -z "$seen" ]; then failed=1; fi
+done < <(grep -oE 'does\("[^"]+"\)' tests/host/misdeeds.c | cut -d'"' -f2)
+exit "$failed"
