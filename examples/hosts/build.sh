@@ -2,7 +2,7 @@
 # Builds into target/hosts what the three hosts need: the shared library for Python, the C host and the Rust host.
 set -euo pipefail
 cd "$(dirname "$0")/../.."
-rt staticlib host > /dev/null
+tests/library.sh host
 mkdir -p target/hosts
 # The archive's code is position independent, so one command makes a shared library of it.
 gcc -shared -o target/hosts/libledger.so -Wl,--whole-archive target/staticlib/libhost.a -Wl,--no-whole-archive -Wl,-z,defs,-z,text

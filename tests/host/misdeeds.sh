@@ -3,7 +3,7 @@
 # it; without a misdeed all have to pass. Prints which tests see which.
 set -uo pipefail
 cd "$(dirname "$0")/../.."
-rt staticlib host > /dev/null || exit 1
+tests/library.sh host || exit 1
 tests=(make ranges guarded replay any_bytes)
 for test in "${tests[@]}"; do
   gcc -std=c11 -Wall -Wextra -Werror -O1 -fsanitize=address,undefined -I include -Wl,--wrap=ledger_make,--wrap=ledger_apply,--wrap=ledger_is_damaged \

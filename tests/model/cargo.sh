@@ -3,6 +3,6 @@
 # built first.
 set -euo pipefail
 cd "$(dirname "$0")/../.."
-case " $* " in *c_engine*) rt staticlib host > /dev/null ;; esac
+case " $* " in *c_engine*) tests/library.sh host ;; esac
 export CARGO_TARGET_DIR=$PWD/target/model
 exec cargo "$1" --manifest-path tests/model/Cargo.toml "${@:2}"

@@ -2,5 +2,5 @@
 # Builds the static library and the Rust program over it.
 set -euo pipefail
 cd "$(dirname "$0")/../.."
-rt staticlib host > /dev/null
+tests/library.sh host
 rustc --edition 2021 -O -L target/staticlib -o target/damage tests/speed/damage.rs
