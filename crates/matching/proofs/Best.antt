@@ -146,7 +146,8 @@ module _ (o : Order) where
   ordered : (a b : Order) (p q : ℕ) → opposes o a ≡ true → opposes o b ≡ true → Ranked a → Ranked b → precedes (withLots p a) (withLots q b) ≡ ltb (rankOf a) (rankOf b)
   unfolding rankOf
   ordered a b p q ea eb f g =
-      precedes-rank (withLots p a) (withLots q b) (opposing-side o a ea ∙ sym (opposing-side o b eb)) (record { price = f .price; number = f .number }) (record { price = g .price; number = g .number })
+      precedes-rank (withLots p a) (withLots q b) (opposing-side o a ea ∙ sym (opposing-side o b eb)) (record { price = f .price; number = f .number })
+      (record { price = g .price; number = g .number })
 
   -- the order of the lowest rank is the best of those left
   pub best-lowest : (z : Order) (left : List ℕ) (os : List Order) (i : ℕ) → length left ≡ length os → All Ranked os → Lowest (ranksOf o left os) i
@@ -160,7 +161,8 @@ module _ (o : Order) where
       let ranks = ranks-length qs rs (omega arith) in
       let rest = all-above (rankOf r) qs rs (omega arith) (h .1) (λ j k. rw (here .2) at (l .behind (suc j) (omega arith))) in
       rw (ne-eqb q 0 (λ z. omega (arith, here .1)), same-opposes q r, here .0)
-      (best-front (opposes o) (withLots q r) (leftOver qs rs) (all-map _ _ (leftOver qs rs) (λ y f t. ordered y r (y .lots .0) q t (here .0) (f t .1) (h .0) ∙ le-ltb (rankOf y) (rankOf r) (f t .0)) rest))
+      (best-front (opposes o) (withLots q r) (leftOver qs rs)
+      (all-map _ _ (leftOver qs rs) (λ y f t. ordered y r (y .lots .0) q t (here .0) (f t .1) (h .0) ∙ le-ltb (rankOf y) (rankOf r) (f t .0)) rest))
   best-lowest z (q ∷ qs) (r ∷ rs) (suc i) e h l =
       let rank = ranks-at z qs rs i (omega arith) (omega (arith, l .below, ranks-length qs rs (omega arith))) in
       let there = live (getD qs i 0) (getD rs i z) (rw rank at (l .some)) in

@@ -6,8 +6,8 @@ use Prim.Native.Nat.{ℕ, zero, suc, _+_, _*_, _-_, _≤_, _<_, min}
 use native.Mathlib.Omega.{arith}
 use native.Mathlib.Nat.{zero-add, add-zero}
 use native.Mathlib.Numerals.{add-one}
-use lib.ListN.{length, getD, set, length-set, length-map}
-use lib.Seq.{set-getD}
+use lib.ListN.{length, take, drop, getD, set, length-set, length-map}
+use lib.Seq.{set-getD, length-take-le, drop-drop, drop-at}
 use borrow.Author.Tests.{eq-eqb, ne-eqb}
 use Rattle.arith.specs.Lists.{from, over}
 use Rattle.arith.specs.Overs.{over-length, over-inside, over-outside}
@@ -19,7 +19,7 @@ use Rattle.rules.specs.Ranges.{mostLots, mostOrders}
 use Rattle.rules.specs.Ledger.{bookLength, orderAt}
 use Rattle.rules.specs.Matching.{opposes, meetsPrice, meets}
 use Rattle.matching.specs.declared.deals.Counterparty.{Counterparty}
-use Rattle.matching.specs.Ranks.{Ranked, rankOf, noRank, rankIn, Lowest, LowestOf}
+use Rattle.matching.specs.Ranks.{Ranked, rankOf, noRank, rankIn, ranksOf, Lowest, LowestOf}
 use Rattle.matching.specs.Deals.{counterparty, dealWidth, dealPlaces, dealAt, dealsIn, FromBook}
 use Rattle.matching.specs.Matching.{DealMade, Matchable, Ended}
 use Rattle.tables.specs.Fit.{ordersIn}
@@ -60,6 +60,18 @@ module _ (k : ℕ) (d : Counterparty) (l : List ℕ) (fits : k * dealWidth + 3 �
   deals-more =
       rw (add-one k, from-more 0 k, map-append (dealAt l′) (from 0 k) ((0 + k) ∷ []), zero-add k, deal-new, map-below (dealAt l′) (dealAt l) 0 k (λ i h. deal-old i (omega arith)))
 
+  -- places past them stay as they were
+  pub deals-past : drop ((k + 1) * dealWidth) l′ ≡ drop ((k + 1) * dealWidth) l
+  unfolding over
+  deals-past =
+      let e : (k + 1) * dealWidth ≡ k * dealWidth + 3 = omega arith in
+      let front = take (k * dealWidth) l in
+      let long : length front ≡ k * dealWidth = length-take-le (k * dealWidth) l (omega arith) in
+      rw (e, ← drop-drop 3 (k * dealWidth) (front ++ (dealPlaces d ++ drop (k * dealWidth + 3) l)), drop-at front (dealPlaces d ++ drop (k * dealWidth + 3) l) (k * dealWidth) long)
+
+pub drop-further : (a b : ℕ) (x y : List ℕ) → a ≤ b → drop a x ≡ drop a y → drop b x ≡ drop b y
+drop-further a b x y h e = let s : a + (b - a) ≡ b = omega arith in rw (← s, ← drop-drop (b - a) a x, ← drop-drop (b - a) a y, e)
+
 rank-gone : (o r : Order) → rankIn o 0 r ≡ noRank
 unfolding rankIn
 rank-gone o r = rw (and-false (opposes o r))
@@ -79,7 +91,8 @@ pub record Going (o : Order) (book : List ℕ) (n m : ℕ) (left ranks deals : L
   pub room : mostLots * dealWidth ≤ m
   pub from-book : (j : ℕ) → j < k → FromBook book n (dealAt deals j)
 
-pub going-start : (o : Order) (book left ranks deals : List ℕ) → Matchable o book left ranks → mostLots * dealWidth ≤ length deals → Going o book (length left) (length deals) left ranks deals (o .lots .0) 0
+pub going-start : (o : Order) (book left ranks deals : List ℕ) → Matchable o book left ranks → mostLots * dealWidth ≤ length deals → Going o book (length left)
+    (length deals) left ranks deals (o .lots .0) 0
 unfolding dealsIn from
 going-start o book left ranks deals m room =
     let os = ordersIn (length left) book in
@@ -126,7 +139,8 @@ module _ (o : Order) (book : List ℕ) (n m : ℕ) (left ranks deals : List ℕ)
   next-first best f h r e t = record { below = h; lowest = f .lowest (omega (arith, g .ranks-length)); price = ap (λ x. x .price .0) (sym e); crosses = t }
 
   -- the next of its level crosses too
-  pub next-level : (best level : ℕ) → LowestOf ranks best → (best < n) × (orderAt book best .price .0 ≡ level) → meetsPrice (o .side) (o .price .0) level ≡ true → Next o book ranks n best level
+  pub next-level : (best level : ℕ) → LowestOf ranks best → (best < n) × (orderAt book best .price .0 ≡ level) → meetsPrice (o .side) (o .price .0) level ≡ true
+      → Next o book ranks n best level
   next-level best level f h t = record { below = h .0; lowest = f .lowest (omega (arith, g .ranks-length, h .0)); price = h .1; crosses = t }
 
   module _ (i level : ℕ) (x : Next o book ranks n i level) where
@@ -176,7 +190,8 @@ module _ (o : Order) (book : List ℕ) (n m : ℕ) (left ranks deals : List ℕ)
 
       running-made : Running o os left′ ranks′ still (dealsIn (k + 1) deals′)
       running-made =
-          let next = running-deal o os left ranks wanted (dealsIn k deals) (g .running) (orderAt book i) i lots (g .ranked) (g .numbers) l (ap (meets o) here ∙ e) (g .some) refl ranks′ ranks-same in
+          let next = running-deal o os left ranks wanted (dealsIn k deals) (g .running) (orderAt book i) i lots (g .ranked) (g .numbers) l (ap (meets o) here ∙ e)
+          (g .some) refl ranks′ ranks-same in
           rw (d .still-wanted, d .left-after, d .deals-after, deals-more k (counterparty (orderAt book i) lots) deals fits) (rw here at next)
 
       pub from-made : (j : ℕ) → j < k + 1 → FromBook book n (dealAt deals′ j)
@@ -203,11 +218,18 @@ module _ (o : Order) (book : List ℕ) (n m : ℕ) (left ranks deals : List ℕ)
             from-book = from-made;
           }
 
+      pub past-made : drop ((k + 1) * dealWidth) deals′ ≡ drop ((k + 1) * dealWidth) deals
+      past-made = rw (d .deals-after) (deals-past k (counterparty (orderAt book i) lots) deals fits)
+
+      pub ranks-made : ranks′ ≡ ranksOf o left′ os
+      ranks-made = running-made .ranked
+
       pub still-less : still < wanted
       still-less = omega (arith, d .still-wanted, alive .1, g .some)
 
       pub ended-made : still ≡ 0 → Ended o os left′ still (dealsIn (k + 1) deals′)
       ended-made z = ended-full o os left′ ranks′ still (dealsIn (k + 1) deals′) running-made z
 
-pub resized : (o : Order) (book : List ℕ) (n m m′ : ℕ) (left ranks deals : List ℕ) (wanted k : ℕ) → Going o book n m left ranks deals wanted k → m ≡ m′ → Going o book n m′ left ranks deals wanted k
+pub resized : (o : Order) (book : List ℕ) (n m m′ : ℕ) (left ranks deals : List ℕ) (wanted k : ℕ) → Going o book n m left ranks deals wanted k → m ≡ m′
+    → Going o book n m′ left ranks deals wanted k
 resized o book n m m′ left ranks deals wanted k g e = rw e at g

@@ -55,7 +55,8 @@ found (r ∷ ranks) = go (found ranks)
 
     go : Found ranks → Found (r ∷ ranks)
     go (nowhere f) = le-or-lt noRank r (λ h. nowhere (none-yet h f)) (λ h. lowest 0 (at-front r ranks h (λ j k. omega (arith, f j k))))
-    go (lowest i l) = le-or-lt r (getD ranks i 0) (λ h. lowest 0 (at-front r ranks (omega (arith, l .some)) (λ j k. omega (arith, l .behind j k)))) (λ h. lowest (suc i) (further r ranks i l h))
+    go (lowest i l) = le-or-lt r (getD ranks i 0) (λ h. lowest 0 (at-front r ranks (omega (arith, l .some)) (λ j k. omega (arith, l .behind j k))))
+        (λ h. lowest (suc i) (further r ranks i l h))
 
 -- ---- the lots that cross
 module _ (o : Order) where
@@ -162,7 +163,8 @@ module _ (o : Order) (os : List Order) (z : Order) (h : All Ranked os) (d : Dist
       let down = count-fewer left i (omega (arith, r .sized)) (alive .1) in
       record {
         lots = omega (arith, next .lots);
-        most = le-or-lt (getD left i 0) x (λ u. let up : getD left i 0 - q ≡ 0 = omega arith in omega (arith, rw up at (next .most))) (λ u. let part : 0 < getD left i 0 - q = omega arith in omega (arith, next .most, count-part left i (getD left i 0 - q) (omega (arith, r .sized)) (alive .1) part));
+        most = le-or-lt (getD left i 0) x (λ u. let up : getD left i 0 - q ≡ 0 = omega arith in omega (arith, rw up at (next .most)))
+            (λ u. let part : 0 < getD left i 0 - q = omega arith in omega (arith, next .most, count-part left i (getD left i 0 - q) (omega (arith, r .sized)) (alive .1) part));
         fewer = λ c f. let up : getD left i 0 - q ≡ 0 = omega (arith, next .lots) in omega (arith, rw up at (next .most));
       }
 
@@ -174,7 +176,8 @@ module _ (o : Order) (os : List Order) (z : Order) (h : All Ranked os) (d : Dist
       smaller : (i : ℕ) → Lowest ranks i → x - min x (getD left i 0) ≤ n
       smaller i l = omega (arith, met left ranks x ds r i l .1)
 
-      go : 0 < x → ((i : ℕ) → Lowest ranks i → meets o (getD os i z) ≡ true → Measured (set left i (getD left i 0 - min x (getD left i 0))) (x - min x (getD left i 0))) → Found ranks → Measured left x
+      go : 0 < x → ((i : ℕ) → Lowest ranks i → meets o (getD os i z) ≡ true → Measured (set left i (getD left i 0 - min x (getD left i 0))) (x - min x (getD left i 0)))
+          → Found ranks → Measured left x
       go g ih (nowhere f) = at-end left x ds (r .sized) (ended-none o os left ranks x ds r h f) (λ _. far-none left (r .sized) (rw (r .ranked) at f))
       go g ih (lowest i l) =
           true-or (meets o (getD os i z)) (λ m. deal-measured x g left ranks ds r i l m (ih i l m))

@@ -77,7 +77,8 @@ module _ (o : Order) (os : List Order) (left ranks : List ℕ) (x : ℕ) (ds : L
       }
 
   pub ended-full : x ≡ 0 → Ended o os left x ds
-  ended-full e = ends (ap (λ n. matching (r .fuel) (withLots n o) (leftOver left os)) e ∙ stops-empty o (leftOver left os) (r .fuel) ∙ ap (λ n. stopped (withLots n o) (leftOver left os)) (sym e))
+  ended-full e = ends (ap (λ n. matching (r .fuel) (withLots n o) (leftOver left os)) e ∙ stops-empty o (leftOver left os) (r .fuel) ∙ ap
+      (λ n. stopped (withLots n o) (leftOver left os)) (sym e))
 
   pub ended-far : (z : Order) (i : ℕ) → All Ranked os → Lowest ranks i → meets o (getD os i z) ≡ false → Ended o os left x ds
   ended-far z i h l e =

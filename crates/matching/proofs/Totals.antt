@@ -36,7 +36,8 @@ totals (suc n) o os = go (best (opposes o) os) refl (λ r. totals n (withLots (o
     go (some r) e ih =
         let made = afterDeal (record { resting = r; lots = min (o .lots .0) (r .lots .0) }) (next r) in
         rw (e, matching)
-        (by-bool (λ c. total dealt (cond c made (stopped o os) .deals) + cond c made (stopped o os) .left ≡ o .lots .0) (ltb 0 (o .lots .0) && meets o r) (λ _. omega (arith, ih r)) (λ _. zero-add (o .lots .0)))
+        (by-bool (λ c. total dealt (cond c made (stopped o os) .deals) + cond c made (stopped o os) .left ≡ o .lots .0) (ltb 0 (o .lots .0) && meets o r)
+        (λ _. omega (arith, ih r)) (λ _. zero-add (o .lots .0)))
 
 pub dealt-and-left : (o : Order) (os : List Order) → total (λ d. d .lots) (matched o os .deals) + matched o os .left ≡ o .lots .0
 unfolding matched

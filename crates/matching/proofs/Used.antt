@@ -32,8 +32,11 @@ pub distinct-numbers : (os : List Order) → distinct (map (λ o. o .number) os)
 unfolding distinct
 distinct-numbers [] e = tt
 distinct-numbers (o ∷ os) e =
-    let others = map (λ r. r .number) os in
-    (no-other (o .number) os (not-true _ (and-left (not (any (eqb (o .number)) others)) (distinct others) e)), distinct-numbers os (and-right (not (any (eqb (o .number)) others)) (distinct others) e))
+    let others = map (λ r. r .number) os in (
+      no-other (o .number) os (not-true _ (and-left (not (any (eqb (o .number)) others)) (distinct others) e)),
+      distinct-numbers os
+          (and-right (not (any (eqb (o .number)) others)) (distinct others) e),
+    )
 
 -- ---- lots used
 other-number : (m n : ℕ) → eqb m n ≡ false → eqb n m ≡ false

@@ -1,10 +1,11 @@
 -- Priority as one number: of the orders that an incoming one may meet, the first has the lowest rank.
-use Prim.Native.Nat.{ℕ, _+_, _*_, _-_, _≤_, _<_}
+use Prim.Native.Nat.{ℕ, _+_, _*_, _-_, _≤_, _<_, min}
 use mathlib.Core.Path.{_≡_}
 use mathlib.Core.Bool.{cond, _&&_}
 use mathlib.Core.List.{List, [], _∷_, map}
 use lib.Dec.{ltb}
-use lib.ListN.{length, getD}
+use lib.ListN.{length, getD, take, drop}
+use Rattle.arith.specs.Lists.{from}
 use Rattle.rules.specs.declared.order.Order.{Order}
 use Rattle.rules.specs.declared.order.Side.{Side}
 use Rattle.rules.specs.declared.order.Side.the-variants.{Buy, Sell}
@@ -61,6 +62,25 @@ pub record LowestOf (ranks : List ℕ) (i : ℕ) : Type 0 where
   pub most : i ≤ length ranks
   pub lowest : i < length ranks → Lowest ranks i
   pub none : i ≡ length ranks → (j : ℕ) → j < length ranks → noRank ≤ getD ranks j 0
+
+-- The lowest of some ranks, or noRank where there is none.
+unfoldable pub lowestIn : List ℕ → ℕ
+lowestIn [] = noRank
+lowestIn (r ∷ ranks) = min r (lowestIn ranks)
+
+-- The 256 places of the book make 16 blocks of 16 ranks; the last may be shorter, or empty.
+abbrev pub blockSize : ℕ
+blockSize = 16
+
+abbrev pub blockCount : ℕ
+blockCount = 16
+
+abbrev pub rankBlock : ℕ → List ℕ → List ℕ
+rankBlock b ranks = take blockSize (drop (b * blockSize) ranks)
+
+-- The lowest rank of each block.
+unfoldable pub lowsOf : List ℕ → List ℕ
+lowsOf ranks = map (λ b. lowestIn (rankBlock b ranks)) (from 0 blockCount)
 
 -- The lots that cross where so many are left.
 unfoldable pub crossing : Order → List ℕ → List Order → ℕ

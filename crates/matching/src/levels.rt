@@ -2,14 +2,16 @@
 ghost use mathlib.Core.Path.{_≡_};
 ghost use mathlib.Core.Bool.{true};
 ghost use Prim.Native.Nat.{ℕ, _*_, _≤_, _<_, min};
-ghost use lib.ListN.{length, getD};
+ghost use lib.ListN.{length, drop};
 ghost use Rattle.rules.specs.Ranges.{mostLots, mostOrders};
 ghost use Rattle.rules.specs.Ledger.{bookLength, orderAt};
 ghost use Rattle.tables.specs.Fit.{ordersIn};
 ghost use Rattle.matching.specs.Deals.{dealWidth, dealAt, dealsIn, FromBook};
 ghost use Rattle.matching.specs.Matching.{DealMade, Matchable, Ended};
-use crate::columns::lowest_of;
+ghost use Rattle.matching.specs.Ranks.{ranksOf, lowsOf};
+use crate::columns::lowest_by;
 use crate::columns::use_lots;
+use crate::columns::write_lows;
 use crate::deals::Counterparty;
 use crate::deals::put_deal;
 use crate::priority::does_meet;
@@ -38,18 +40,20 @@ fn deal(
     book: &[u64],
     left: &mut [u64],
     ranks: &mut [u64],
+    lows: &mut [u64],
     deals: &mut [u64],
     k: usize,
     i: usize,
     wanted: u64,
 ) -> u64
-    requires { ⌜ (i < length (now left)) × (length (now left) ≤ mostOrders) × (length (now ranks) ≡ length (now left)) × (bookLength ≤ length (now book)) ⌝ }
+    requires { ⌜ (i < length (now left)) × (length (now left) ≤ mostOrders) × (length (now ranks) ≡ length (now left)) × (bookLength ≤ length (now book)) × (now lows ≡ lowsOf (now ranks)) ⌝ }
     requires { ⌜ (k < mostLots) × (mostLots * dealWidth ≤ length (now deals)) ⌝ }
     ensures { λ r. ⌜ DealMade (now (book .entry)) k i wanted (now (left .entry)) (now (ranks .entry)) (now (deals .entry)) r (now (left .exit)) (now (ranks .exit)) (now (deals .exit)) ⌝ }
+    ensures { λ _. ⌜ now (lows .exit) ≡ lowsOf (now (ranks .exit)) ⌝ }
 {
     let resting = order_at(book, i);
     let lots = least(wanted, left[i]);
-    use_lots(&mut *left, &mut *ranks, i, lots);
+    use_lots(&mut *left, &mut *ranks, &mut *lows, i, lots);
     put_deal(
         &mut *deals,
         k,
@@ -85,11 +89,15 @@ pub fn match_orders(
     ensures { λ r. ⌜ Ended o (ordersIn (length (now (left .entry))) (now (book .entry))) (now (left .exit)) (r .left) (dealsIn (r .deals) (now (deals .exit))) ⌝ }
     ensures { λ r. ⌜ r .deals ≤ mostLots ⌝ }
     ensures { λ r. ⌜ ((j : ℕ) → j < r .deals → FromBook (now (book .entry)) (length (now (left .entry))) (dealAt (now (deals .exit)) j)) ⌝ }
+    ensures { λ _. ⌜ now (ranks .exit) ≡ ranksOf o (now (left .exit)) (ordersIn (length (now (left .entry))) (now (book .entry))) ⌝ }
+    ensures { λ r. ⌜ drop (r .deals * dealWidth) (now (deals .exit)) ≡ drop (r .deals * dealWidth) (now (deals .entry)) ⌝ }
 {
     let count = left.len();
     let mut wanted = o.lots.0;
     let mut k: usize = 0;
-    let mut best = lowest_of(&*ranks);
+    let mut lows = [0u64; 16];
+    write_lows(&*ranks, &mut lows);
+    let mut best = lowest_by(&*ranks, &lows);
     'levels: while best < count {
         let first = order_at(book, best);
         if !does_meet(o, first) {
@@ -97,12 +105,21 @@ pub fn match_orders(
         }
         let level = first.price.0;
         'orders: loop {
-            wanted = deal(book, &mut *left, &mut *ranks, &mut *deals, k, best, wanted);
+            wanted = deal(
+                book,
+                &mut *left,
+                &mut *ranks,
+                &mut lows,
+                &mut *deals,
+                k,
+                best,
+                wanted,
+            );
             k += 1;
             if wanted == 0 {
                 break 'levels;
             }
-            best = lowest_of(&*ranks);
+            best = lowest_by(&*ranks, &lows);
             if !is_at(book, count, best, level) {
                 break 'orders;
             }

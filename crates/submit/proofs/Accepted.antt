@@ -48,7 +48,8 @@ module _ (head prices : List ℕ) (lots value : List ℤ) (book : List ℕ) (lin
     time-is : timedHead ≡ timed (e .time) t .head
     time-is = ap (λ x. x .head) (clock t)
 
-    pub countable : (headLength ≤ length timedHead) × (e .member < mostMembers) × (getD timedHead (submitsFrom + e .member) 0 ≤ mostSubmitsInSecond) × (acceptedIn timedHead ≤ mostAcceptedSubmits)
+    pub countable : (headLength ≤ length timedHead) × (e .member < mostMembers) × (getD timedHead (submitsFrom + e .member) 0 ≤ mostSubmitsInSecond) ×
+        (acceptedIn timedHead ≤ mostAcceptedSubmits)
     countable = (
       omega (arith, h .long, ap length time-is ∙ timed-length (e .time) t (h .long) (h .most-members)),
       omega (arith, f .member-below, h .most-members),
@@ -112,13 +113,17 @@ module _ (head prices : List ℕ) (lots value : List ℤ) (book : List ℕ) (lin
       pub traded-as : (m : Matched) (head₂ prices₂ book₂ deals : List ℕ) → Traded o′ head₁ prices book m head₂ prices₂ book₂ deals → Traded o head₁ prices book m head₂ prices₂ book₂ deals
       traded-as m head₂ prices₂ book₂ deals x = subst (λ y. Traded y head₁ prices book m head₂ prices₂ book₂ deals) s x
 
-      pub put-as : (rests : Bool) (left at : ℕ) (book₂ book₃ : List ℕ) → book₃ ≡ cond rests (over at (orderPlaces (withLots left o′)) book₂) book₂ → book₃ ≡ cond rests (over at (orderPlaces (withLots left o)) book₂) book₂
+      pub put-as : (rests : Bool) (left at : ℕ) (book₂ book₃ : List ℕ) → book₃ ≡ cond rests (over at (orderPlaces (withLots left o′)) book₂) book₂ → book₃ ≡ cond rests
+          (over at (orderPlaces (withLots left o)) book₂) book₂
       put-as rests left at book₂ book₃ x = x ∙ ap (λ y. cond rests (over at (orderPlaces (withLots left y)) book₂) book₂) s
 
       pub lines-as : (k : ℕ) (deals head₃ head₄ : List ℕ) (lots₄ value₄ lines₄ : List ℤ)
-          → ((u : Tables) → withHead head₄ (withRows lots₄ value₄ (withLines lines₄ u)) ≡ booked (flatMap (linesWith o′) (dealsIn k deals)) (withHead head₃ (withRows lots value (withLines lines u))) .after)
-          → (u : Tables) → withHead head₄ (withRows lots₄ value₄ (withLines lines₄ u)) ≡ booked (flatMap (linesWith o) (dealsIn k deals)) (withHead head₃ (withRows lots value (withLines lines u))) .after
-      lines-as k deals head₃ head₄ lots₄ value₄ lines₄ x u = x u ∙ ap (λ y. booked (flatMap (linesWith y) (dealsIn k deals)) (withHead head₃ (withRows lots value (withLines lines u))) .after) s
+          → ((u : Tables) → withHead head₄ (withRows lots₄ value₄ (withLines lines₄ u)) ≡ booked (flatMap (linesWith o′) (dealsIn k deals))
+          (withHead head₃ (withRows lots value (withLines lines u))) .after)
+          → (u : Tables) → withHead head₄ (withRows lots₄ value₄ (withLines lines₄ u)) ≡ booked (flatMap (linesWith o) (dealsIn k deals))
+          (withHead head₃ (withRows lots value (withLines lines u))) .after
+      lines-as k deals head₃ head₄ lots₄ value₄ lines₄ x u = x u ∙ ap
+          (λ y. booked (flatMap (linesWith y) (dealsIn k deals)) (withHead head₃ (withRows lots value (withLines lines u))) .after) s
 
     -- ---- after the deals
     module _ (lotsCrossing : ℕ) (a : Acceptable t e lotsCrossing) (m : Matched) (head₂ prices₂ book₂ deals : List ℕ) (x : Traded o head₁ prices book m head₂ prices₂ book₂ deals) where
@@ -169,13 +174,15 @@ module _ (head prices : List ℕ) (lots value : List ℤ) (book : List ℕ) (lin
         kept-place : (i : ℕ) → (i ≡ 7 → ⊥) → getD head₃ i 0 ≡ getD head₁ i 0
         kept-place i z =
             ap (λ l. getD l i 0) rests
-            ∙ by-bool (λ c. getD (cond c (withOrderCount (orderCountIn head₂ + 1) head₂) head₂) i 0 ≡ getD head₂ i 0) (isResting (e .kind) && ltb 0 (m .left)) (λ _. getD-set-other head₂ 7 i _ 0 z) (λ _. refl)
+            ∙ by-bool (λ c. getD (cond c (withOrderCount (orderCountIn head₂ + 1) head₂) head₂) i 0 ≡ getD head₂ i 0) (isResting (e .kind) && ltb 0 (m .left))
+            (λ _. getD-set-other head₂ 7 i _ 0 z) (λ _. refl)
             ∙ ap (λ l. getD l i 0) (x .head-after) ∙ getD-set-other head₁ 7 i _ 0 z
 
         pub rest-length : length head₃ ≡ length head₁
         rest-length =
             ap length rests
-            ∙ by-bool (λ c. length (cond c (withOrderCount (orderCountIn head₂ + 1) head₂) head₂) ≡ length head₂) (isResting (e .kind) && ltb 0 (m .left)) (λ _. length-set head₂ 7 _) (λ _. refl) ∙ deals-head
+            ∙ by-bool (λ c. length (cond c (withOrderCount (orderCountIn head₂ + 1) head₂) head₂) ≡ length head₂) (isResting (e .kind) && ltb 0 (m .left))
+            (λ _. length-set head₂ 7 _) (λ _. refl) ∙ deals-head
 
         pub rest-members : membersIn head₃ ≡ membersIn head
         rest-members = kept-place 1 (λ z. omega arith) ∙ members-same
@@ -183,7 +190,8 @@ module _ (head prices : List ℕ) (lots value : List ℤ) (book : List ℕ) (lin
         pub rest-run : lotsRunIn head₃ ≡ lotsRunIn head
         rest-run = kept-place 6 (λ z. omega arith) ∙ run-same
 
-        pub bookable : RowsFit (membersIn head) (lotsRunIn head) lots → RowsFit (membersIn head) (mostPrice * lotsRunIn head) value → linesLength ≤ length lines → Bookable head₃ lots value lines
+        pub bookable : RowsFit (membersIn head) (lotsRunIn head) lots → RowsFit (membersIn head) (mostPrice * lotsRunIn head) value → linesLength ≤ length lines
+            → Bookable head₃ lots value lines
         bookable l v n =
             record {
               long = omega (arith, head-long, rest-length);
@@ -193,7 +201,8 @@ module _ (head prices : List ℕ) (lots value : List ℤ) (book : List ℕ) (lin
               lines-long = n;
             }
 
-        tables-is : withHead head₃ (withBook book₃ (withPrices prices₂ t)) ≡ withOrders (submitOrders t e) (withDeals (e .contract) (submitMatched t e .deals) (counted (e .member) (timed (e .time) t)))
+        tables-is : withHead head₃ (withBook book₃ (withPrices prices₂ t)) ≡ withOrders (submitOrders t e)
+            (withDeals (e .contract) (submitMatched t e .deals) (counted (e .member) (timed (e .time) t)))
         unfolding withDeals submitOrders
         tables-is =
             let rs = submitMatched t e .resting in
@@ -201,7 +210,8 @@ module _ (head prices : List ℕ) (lots value : List ℤ) (book : List ℕ) (lin
             let b = isResting (e .kind) && ltb 0 (m .left) in
             let head-after = x .head-after ∙ ap (λ y. withOrderCount (length (y .resting)) head₁) (sym matched-is) in
             let book-after = x .book-after ∙ ap (λ y. over 0 (flatMap orderPlaces (y .resting)) book) (sym matched-is) in
-            let prices-after = x .prices-after ∙ ap (λ y. withDealt (e .contract) (getD prices (dayLotsPlace (e .contract)) 0 + total (λ d. d .lots) (y .deals)) (getD prices (dayValuePlace (e .contract)) 0 + total (λ d. d .lots * d .resting .price .0) (y .deals)) prices) (sym matched-is) in
+            let prices-after = x .prices-after ∙ ap (λ y. withDealt (e .contract) (getD prices (dayLotsPlace (e .contract)) 0 + total (λ d. d .lots) (y .deals))
+            (getD prices (dayValuePlace (e .contract)) 0 + total (λ d. d .lots * d .resting .price .0) (y .deals)) prices) (sym matched-is) in
             ap (λ l. withHead l (withBook book₃ (withPrices prices₂ t))) rests
             ∙ ap (λ l. withHead (cond b (withOrderCount (orderCountIn head₂ + 1) head₂) head₂) (withBook l (withPrices prices₂ t))) put
             ∙ rest-written b rs (withLots (m .left) o) u head₂ book₂ (omega (arith, head-long)) head-after book-after
@@ -211,7 +221,8 @@ module _ (head prices : List ℕ) (lots value : List ℤ) (book : List ℕ) (lin
             ∙ ap (λ v. withOrders (cond (wouldRest t e) (rs ++ (withLots (submitMatched t e .left) o ∷ [])) rs) (withDeals (e .contract) (submitMatched t e .deals) v)) same
 
         pub booked-is : (head₄ : List ℕ) (lots₄ value₄ lines₄ : List ℤ)
-            → ((u : Tables) → withHead head₄ (withRows lots₄ value₄ (withLines lines₄ u)) ≡ booked (flatMap (linesWith o) (dealsIn (m .deals) deals)) (withHead head₃ (withRows lots value (withLines lines u))) .after)
+            → ((u : Tables) → withHead head₄ (withRows lots₄ value₄ (withLines lines₄ u)) ≡ booked (flatMap (linesWith o) (dealsIn (m .deals) deals))
+            (withHead head₃ (withRows lots value (withLines lines u))) .after)
             → record { answer = Accepted (m .deals * 2); after = lent head₄ prices₂ lots₄ value₄ book₃ lines₄ } ≡ submitBooked t e
         unfolding submitBooked
         booked-is head₄ lots₄ value₄ lines₄ b =

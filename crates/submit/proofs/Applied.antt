@@ -44,13 +44,16 @@ module _ (head prices : List ℕ) (lots value : List ℤ) (book : List ℕ) (lin
   unfolding orders
   many = orders-length book (orderCountIn head)
 
-  pub refused-first : (first : Verdict) → ((x : Outcome Tables) → outcome first t x ≡ decide (firstCauses t e) t x) → (a : Answer) → first ≡ Refused a → record { answer = a; after = t } ≡ submitSpec t e
+  pub refused-first : (first : Verdict) → ((x : Outcome Tables) → outcome first t x ≡ decide (firstCauses t e) t x) → (a : Answer) → first ≡ Refused a
+      → record { answer = a; after = t } ≡ submitSpec t e
   unfolding submitSpec
   refused-first first k a s = rw s at (judged-first t e ranked numbers has-lots (f .least-lots) many (h .most-orders) first k (submitBooked t e))
 
   -- with what the book tells of the order
-  module _ (o : Order) (same : o ≡ incoming t e) (own crossing : ℕ) (own-is : own ≡ ownIn o (ordersIn (orderCountIn head) book)) (crossing-is : crossing ≡ crossingIn o (ordersIn (orderCountIn head) book))
-      (first second : Verdict) (k : (x : Outcome Tables) → outcome first t x ≡ decide (firstCauses t e) t x) (l : (x : Outcome Tables) → outcome second t x ≡ decide (measuredCauses own crossing t e) t x) where
+  module _ (o : Order) (same : o ≡ incoming t e) (own crossing : ℕ) (own-is : own ≡ ownIn o (ordersIn (orderCountIn head) book))
+      (crossing-is : crossing ≡ crossingIn o (ordersIn (orderCountIn head) book))
+      (first second : Verdict) (k : (x : Outcome Tables) → outcome first t x ≡ decide (firstCauses t e) t x)
+      (l : (x : Outcome Tables) → outcome second t x ≡ decide (measuredCauses own crossing t e) t x) where
     crossing-same : crossing ≡ crossingIn (incoming t e) (orders t)
     unfolding orders
     crossing-same = crossing-is ∙ ap (λ y. crossingIn y (ordersIn (orderCountIn head) book)) same

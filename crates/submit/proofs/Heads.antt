@@ -32,4 +32,5 @@ module _ (s : ℕ) (t : Tables) (m : ℕ) (long : headLength ≤ length (t .head
   pub counted-place : (i : ℕ) → i < submitsFrom → (i ≡ timePlace → ⊥) → (i ≡ 5 → ⊥) → getD (counted m (timed s t) .head) i 0 ≡ getD (t .head) i 0
   unfolding counted
   counted-place i below other next =
-      getD-set-other (set (timed s t .head) (submitsFrom + m) _) 5 i _ 0 next ∙ getD-set-other (timed s t .head) (submitsFrom + m) i _ 0 (λ z. omega arith) ∙ timed-place s t long few i below other
+      getD-set-other (set (timed s t .head) (submitsFrom + m) _) 5 i _ 0 next ∙ getD-set-other (timed s t .head) (submitsFrom + m) i _ 0 (λ z. omega arith)
+      ∙ timed-place s t long few i below other

@@ -72,7 +72,8 @@ module _ (o : Order) (os : List Order) (ranked : All Ranked os) (numbers : Disti
       (λ e. rw (resting-still e, left-is, e, l, lt-ltb 0 (o .lots .0 - 0) (omega arith)))
       (λ e. rw (ne-eqb (crossingIn o os) 0 e)
       (true-or (ltb 0 (matched o os .left))
-      (λ t. rw t (lt-leb mostOrders (length (matched o os .resting)) (omega (arith, known .fewer (omega (arith, e, crossing-all o os)) (ltb-true 0 (matched o os .left) t), count-most (map lotsOf os), length-map os lotsOf))))
+      (λ t. rw t (lt-leb mostOrders (length (matched o os .resting))
+      (omega (arith, known .fewer (omega (arith, e, crossing-all o os)) (ltb-true 0 (matched o os .left) t), count-most (map lotsOf os), length-map os lotsOf))))
       (λ t. rw t)))
 
   dealt-is : total (λ d. d .lots) (matched o os .deals) ≡ min (o .lots .0) (crossingIn o os)

@@ -31,7 +31,8 @@ rows-wider members bound bound′ rows h f = record { long = f .long; within = �
 module _ (head : List ℕ) (lots value lines : List ℤ) (head′ : List ℕ) (lots′ value′ lines′ : List ℤ) (i : ℕ) (l : DealLine)
     (b : Bookable head lots value lines) (f : LineFit head l) (h : i < leastLines)
     (e : (t : Tables) → withHead head′ (withRows lots′ value′ (withLines lines′ t)) ≡ withLine i (lineOf l) (withHead head (withRows lots value (withLines lines t)))) where
-  after : withHead head′ (withRows lots′ value′ (withLines lines′ (lent [] [] [] [] [] []))) ≡ withLine i (lineOf l) (withHead head (withRows lots value (withLines lines (lent [] [] [] [] [] []))))
+  after : withHead head′ (withRows lots′ value′ (withLines lines′ (lent [] [] [] [] [] []))) ≡ withLine i (lineOf l)
+      (withHead head (withRows lots value (withLines lines (lent [] [] [] [] [] []))))
   after = e (lent [] [] [] [] [] [])
 
   head-is : head′ ≡ withLotsRun (lotsRunIn head + l .lots .0) head
@@ -67,7 +68,8 @@ module _ (head : List ℕ) (lots value lines : List ℤ) (head′ : List ℕ) (l
         most-members = omega (arith, members-after, b .most-members);
         lots-fit =
             rw (members-after, run-after, lots-is)
-            (rows-wider (membersIn head) (lotsRunIn head + natAbs (lineLots (lineOf l))) (lotsRunIn head + l .lots .0) (posted lineLots (lineOf l ∷ []) lots) (omega (arith, abs-signed (l .side) (l .lots .0)))
+            (rows-wider (membersIn head) (lotsRunIn head + natAbs (lineLots (lineOf l))) (lotsRunIn head + l .lots .0) (posted lineLots (lineOf l ∷ []) lots)
+            (omega (arith, abs-signed (l .side) (l .lots .0)))
             (rows-fit-line lineLots (lineOf l) (membersIn head) (lotsRunIn head) lots (f .contract-below) (f .member-below) (b .most-members) (b .lots-fit)));
         value-fit =
             rw (members-after, run-after, value-is)
@@ -89,7 +91,8 @@ pub record Booking (o : Order) (deals : List ℕ) (k : ℕ) (head₀ : List ℕ)
   pub bookable : Bookable head lots value lines
   pub members-same : membersIn head ≡ membersIn head₀
   pub run-grown : lotsRunIn head ≡ lotsRunIn head₀ + 2 * total lotsDealt (dealsIn k deals)
-  pub same : (t : Tables) → withHead head (withRows lots value (withLines lines t)) ≡ booked (flatMap (linesWith o) (dealsIn k deals)) (withHead head₀ (withRows lots₀ value₀ (withLines lines₀ t))) .after
+  pub same : (t : Tables) → withHead head (withRows lots value (withLines lines t)) ≡ booked (flatMap (linesWith o) (dealsIn k deals))
+      (withHead head₀ (withRows lots₀ value₀ (withLines lines₀ t))) .after
 
 pub booking-start : (o : Order) (deals : List ℕ) (head : List ℕ) (lots value lines : List ℤ) → Bookable head lots value lines → Booking o deals 0 head lots value lines head lots value lines
 unfolding dealsIn from total flatMap
@@ -101,7 +104,8 @@ booking-start o deals head lots value lines b =
       same = λ t. sym (ap (λ x. x .after) (booked-none (withHead head (withRows lots value (withLines lines t)))));
     }
 
-pub booking-next : (o : Order) (deals : List ℕ) (k : ℕ) (head₀ : List ℕ) (lots₀ value₀ lines₀ : List ℤ) (head : List ℕ) (lots value lines : List ℤ) (head′ : List ℕ) (lots′ value′ lines′ : List ℤ)
+pub booking-next : (o : Order) (deals : List ℕ) (k : ℕ) (head₀ : List ℕ) (lots₀ value₀ lines₀ : List ℤ) (head : List ℕ) (lots value lines : List ℤ) (head′ : List ℕ)
+    (lots′ value′ lines′ : List ℤ)
     → Booking o deals k head₀ lots₀ value₀ lines₀ head lots value lines → 6 < length head₀ → (d : Counterparty) → d ≡ dealAt deals k
     → DealBooked o d k head lots value lines head′ lots′ value′ lines′ → Booking o deals (k + 1) head₀ lots₀ value₀ lines₀ head′ lots′ value′ lines′
 booking-next o deals k head₀ lots₀ value₀ lines₀ head lots value lines head′ lots′ value′ lines′ g h d e x =
@@ -121,7 +125,8 @@ booking-next o deals k head₀ lots₀ value₀ lines₀ head lots value lines h
           ∙ ap (λ l. booked l u .after) (sym (lines-next deals o k));
     }
 
-module _ (head : List ℕ) (o : Order) (d : Counterparty) (own : o .member < membersIn head) (c : o .contract < contractCount) (other : d .member < membersIn head) (p : d .price .0 ≤ mostPrice) (run : lotsRunIn head + 2 * d .lots .0 ≤ mostLotsRun) where
+module _ (head : List ℕ) (o : Order) (d : Counterparty) (own : o .member < membersIn head) (c : o .contract < contractCount) (other : d .member < membersIn head)
+    (p : d .price .0 ≤ mostPrice) (run : lotsRunIn head + 2 * d .lots .0 ≤ mostLotsRun) where
   pub incoming-fit : LineFit head (lineOfIncoming o d)
   incoming-fit = record { member-below = own; contract-below = c; most-price = p; most-lots = omega arith }
 

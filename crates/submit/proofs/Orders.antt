@@ -51,7 +51,13 @@ module _ (b : List ℕ) where
   front-is (suc n) h s =
       let e : suc n * 8 ≡ n * 8 + 8 = omega arith in
       ap (λ m. flatMap orderPlaces (ordersIn m b)) (sym (add-one n))
-      ∙ rw (orders-more b n, flat-append orderPlaces (ordersIn n b) (orderAt b n ∷ []), flat-one orderPlaces (orderAt b n), front-is n (omega arith) (λ i k. s i (omega arith)), block-is n (omega arith) (s n (omega arith)))
+      ∙ rw (
+        orders-more b n,
+        flat-append orderPlaces (ordersIn n b) (orderAt b n ∷ []),
+        flat-one orderPlaces (orderAt b n),
+        front-is n (omega arith) (λ i k. s i (omega arith)),
+        block-is n (omega arith) (s n (omega arith)),
+      )
       (sym (take-add (n * 8) 8 b))
       ∙ ap (λ m. take m b) (sym e)
 
@@ -60,8 +66,10 @@ module _ (b : List ℕ) where
   written-back n h s = rw (front-is n h s, length-take-le (n * 8) b h, zero-add (n * 8)) (take-append-drop (n * 8) b)
 
 -- ---- one more order, or none
-pub rest-written : (rests : Bool) (rs : List Order) (x : Order) (u : Tables) (head book : List ℕ) → 7 < length (u .head) → head ≡ withOrderCount (length rs) (u .head) → book ≡ over 0 (flatMap orderPlaces rs) (u .book)
-    → withHead (cond rests (withOrderCount (orderCountIn head + 1) head) head) (withBook (cond rests (over (orderCountIn head * 8) (orderPlaces x) book) book) u) ≡ withOrders (cond rests (rs ++ (x ∷ [])) rs) u
+pub rest-written : (rests : Bool) (rs : List Order) (x : Order) (u : Tables) (head book : List ℕ) → 7 < length (u .head) → head ≡ withOrderCount (length rs) (u .head)
+    → book ≡ over 0 (flatMap orderPlaces rs) (u .book)
+    → withHead (cond rests (withOrderCount (orderCountIn head + 1) head) head) (withBook (cond rests (over (orderCountIn head * 8) (orderPlaces x) book) book) u) ≡ withOrders
+    (cond rests (rs ++ (x ∷ [])) rs) u
 unfolding withOrders
 rest-written true rs x u head book h e f =
     rw (

@@ -115,7 +115,8 @@ module _ (head prices book : List ℕ) (o : Order) (x : Tradable head prices boo
         record {
           head-after = rw (rs, orders-length book n) (sym (set-getD head 7 0));
           prices-after =
-              rw (zero-dealt .0, zero-dealt .1, add-zero (getD prices (dayLotsPlace c) 0), add-zero (getD prices (dayValuePlace c) 0), set-getD prices (dayLotsPlace c) 0) (sym (set-getD prices (dayValuePlace c) 0));
+              rw (zero-dealt .0, zero-dealt .1, add-zero (getD prices (dayLotsPlace c) 0), add-zero (getD prices (dayValuePlace c) 0), set-getD prices (dayLotsPlace c) 0)
+              (sym (set-getD prices (dayValuePlace c) 0));
           book-after = rw rs (sym (written-back book n (omega (arith, x .most-orders, x .book-long)) sides));
           deals-kept = ended .deals;
           lots-left = ended .lots;

@@ -20,8 +20,9 @@ same-length-2 c = search needs
 
 returns : tie.Need-returns
 returns c =
-    let a = c .before .before .before .before .before .before .before .before .before .args in
-    let f = c .before .before .before .before .before .before .before .before .before .pre .0 in
+    let start = c .before .before .before .before .before .before .before .before .before in
+    let a = start .args in
+    let f = start .pre .0 in
     let head = a .head .now in
     let prices = a .prices .now in
     let lots = a .lots .now in
@@ -47,8 +48,9 @@ measure-requires c κs =
 
 measured-cause-requires : tie.Need-measured-cause-requires
 measured-cause-requires c κs =
-    let f = c .before .before .before .before .before .before .before .before .before .before .before .before .before .before .before .pre .0 in
-    ((f .0, c .before .before .before .before .before .before .before .before .before .before .before .before .before .before .before .pre .1 .0, f .3), omega (arith, c .before .before .measure .ensures .1 .0, f .0 .most-orders))
+    let start = c .before .before .before .before .before .before .before .before .before .before .before .before .before .before .before in
+    let f = start .pre .0 in
+    ((f .0, start .pre .1 .0, f .3), omega (arith, c .before .before .measure .ensures .1 .0, f .0 .most-orders))
 
 enum-known-second : tie.Need-enum-known-second
 enum-known-second c = search needs
@@ -67,8 +69,13 @@ same-length-6 c = search needs
 
 returns-2 : tie.Need-returns-2
 returns-2 c =
-    let a = c .before .before .before .before .before .before .before .before .before .before .before .before .before .before .before .before .before .before .before .args in
-    let f = c .before .before .before .before .before .before .before .before .before .before .before .before .before .before .before .before .before .before .before .pre .0 in
+    let at-measure = c .before .before .before .before .before .before in
+    let at-order-of = at-measure .before in
+    let at-enum-told = at-order-of .before .before .before .before in
+    let at-first-cause = at-enum-told .before .before in
+    let start = at-first-cause .before .before .before .before .before .before in
+    let a = start .args in
+    let f = start .pre .0 in
     let head = a .head .now in
     let prices = a .prices .now in
     let lots = a .lots .now in
@@ -76,23 +83,39 @@ returns-2 c =
     let book = a .book .now in
     let lines = a .lines .now in
     let all = lent head prices lots value book lines in
-    λ t. refused-second head prices lots value book lines (a .e) (f .0) (f .2) (f .3) _ (c .before .before .before .before .before .before .before .order-of .ensures all) _ _ (c .before .before .before .before .before .before .measure .ensures .0) (c .before .before .before .before .before .before .measure .ensures .1 .1) _ _ (c .before .before .before .before .before .before .before .before .before .before .before .before .before .first-cause .ensures all) (c .before .before .before .measured-cause .ensures all) (c .before .before .before .before .before .before .before .before .before .before .before .enum-told .given .1) _ (c .before .second .given .1)
+    λ t. refused-second head prices lots value book lines (a .e) (f .0) (f .2) (f .3) _ (at-order-of .order-of .ensures all) _ _ (at-measure .measure .ensures .0)
+    (at-measure .measure .ensures .1 .1) _ _ (at-first-cause .first-cause .ensures all) (c .before .before .before .measured-cause .ensures all)
+    (at-enum-told .enum-told .given .1) _ (c .before .second .given .1)
 
 enum-told-2 : tie.Need-enum-told-2
 enum-told-2 c = search needs
 
 book-submit-requires : tie.Need-book-submit-requires
 book-submit-requires c κs =
-    let a = c .before .before .before .before .before .before .before .before .before .before .before .before .before .before .before .before .before .before .before .before .before .before .before .before .args in
-    let f = c .before .before .before .before .before .before .before .before .before .before .before .before .before .before .before .before .before .before .before .before .before .before .before .before .pre .0 in
+    let at-enum-told2 = c .before .before .before .before .before .before in
+    let at-measured-cause = at-enum-told2 .before .before in
+    let at-measure = at-measured-cause .before .before .before in
+    let at-order-of = at-measure .before in
+    let at-enum-told = at-order-of .before .before .before .before in
+    let at-first-cause = at-enum-told .before .before in
+    let start = at-first-cause .before .before .before .before .before .before in
+    let a = start .args in
+    let f = start .pre .0 in
     let head = a .head .now in
     let prices = a .prices .now in
     let lots = a .lots .now in
     let value = a .value .now in
     let book = a .book .now in
     let lines = a .lines .now in
-    let all = lent head prices lots value book lines in
-    (f, (c .before .before .before .before .before .before .before .before .before .before .before .before .before .before .before .before .before .before .before .before .before .before .before .before .pre .1, accepts head prices lots value book lines (a .e) (f .0) (f .2) (f .3) _ (c .before .before .before .before .before .before .before .before .before .before .before .before .order-of .ensures all) _ _ (c .before .before .before .before .before .before .before .before .before .before .before .measure .ensures .0) (c .before .before .before .before .before .before .before .before .before .before .before .measure .ensures .1 .1) _ _ (c .before .before .before .before .before .before .before .before .before .before .before .before .before .before .before .before .before .before .first-cause .ensures all) (c .before .before .before .before .before .before .before .before .measured-cause .ensures all) (c .before .before .before .before .before .before .before .before .before .before .before .before .before .before .before .before .enum-told .given .1) (c .before .before .before .before .before .before .enum-told2 .given .1)))
+    let all = lent head prices lots value book lines in (
+      f,
+      (
+        start .pre .1,
+        accepts head prices lots value book lines (a .e) (f .0) (f .2) (f .3) _ (at-order-of .order-of .ensures all) _ _ (at-measure .measure .ensures .0)
+            (at-measure .measure .ensures .1 .1) _ _ (at-first-cause .first-cause .ensures all) (at-measured-cause .measured-cause .ensures all) (at-enum-told .enum-told .given .1)
+            (at-enum-told2 .enum-told2 .given .1),
+      ),
+    )
 
 same-length-7 : tie.Need-same-length-7
 same-length-7 c = search needs
@@ -114,8 +137,16 @@ same-length-12 c = search needs
 
 returns-3 : tie.Need-returns-3
 returns-3 c =
-    let a = c .before .before .before .before .before .before .before .before .before .before .before .before .before .before .before .before .before .before .before .before .before .before .before .before .before .before .before .before .before .before .before .before .before .before .args in
-    let f = c .before .before .before .before .before .before .before .before .before .before .before .before .before .before .before .before .before .before .before .before .before .before .before .before .before .before .before .before .before .before .before .before .before .before .pre .0 in
+    let at-book-submit = c .before .before .before .before .before .before .before .before .before in
+    let at-enum-told2 = at-book-submit .before .before .before .before .before .before .before in
+    let at-measured-cause = at-enum-told2 .before .before in
+    let at-measure = at-measured-cause .before .before .before in
+    let at-order-of = at-measure .before in
+    let at-enum-told = at-order-of .before .before .before .before in
+    let at-first-cause = at-enum-told .before .before in
+    let start = at-first-cause .before .before .before .before .before .before in
+    let a = start .args in
+    let f = start .pre .0 in
     let head = a .head .now in
     let prices = a .prices .now in
     let lots = a .lots .now in
@@ -123,7 +154,9 @@ returns-3 c =
     let book = a .book .now in
     let lines = a .lines .now in
     let all = lent head prices lots value book lines in
-    λ t. c .before .before .before .before .before .before .before .before .before .book-submit .ensures ∙ accepted head prices lots value book lines (a .e) (f .0) (f .2) (f .3) _ (c .before .before .before .before .before .before .before .before .before .before .before .before .before .before .before .before .before .before .before .before .before .before .order-of .ensures all) _ _ (c .before .before .before .before .before .before .before .before .before .before .before .before .before .before .before .before .before .before .before .before .before .measure .ensures .0) (c .before .before .before .before .before .before .before .before .before .before .before .before .before .before .before .before .before .before .before .before .before .measure .ensures .1 .1) _ _ (c .before .before .before .before .before .before .before .before .before .before .before .before .before .before .before .before .before .before .before .before .before .before .before .before .before .before .before .before .first-cause .ensures all) (c .before .before .before .before .before .before .before .before .before .before .before .before .before .before .before .before .before .before .measured-cause .ensures all) (c .before .before .before .before .before .before .before .before .before .before .before .before .before .before .before .before .before .before .before .before .before .before .before .before .before .before .enum-told .given .1) (c .before .before .before .before .before .before .before .before .before .before .before .before .before .before .before .before .enum-told2 .given .1)
+    λ t. at-book-submit .book-submit .ensures ∙ accepted head prices lots value book lines (a .e) (f .0) (f .2) (f .3) _ (at-order-of .order-of .ensures all) _ _
+    (at-measure .measure .ensures .0) (at-measure .measure .ensures .1 .1) _ _ (at-first-cause .first-cause .ensures all) (at-measured-cause .measured-cause .ensures all)
+    (at-enum-told .enum-told .given .1) (at-enum-told2 .enum-told2 .given .1)
 
 pub apply-spec : {M : Type 1} → statement M
 apply-spec =

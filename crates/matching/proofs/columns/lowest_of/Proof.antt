@@ -31,10 +31,16 @@ loop-less c = search needs
 loop-again : tie.Need-loop-again Inv-loop μ-loop
 loop-again c =
     let s = c .before .before .before .loop .inv in
-    ⊎-elim (λ w. rw (w .1, w .2) (scanned-lower _ _ _ _ s (omega arith) (w .0 .taken))) (λ w. rw (w .1, w .2) (scanned-next _ _ _ _ s (omega arith) (omega (arith, w .0 .left)))) (c .if1 .came)
+    ⊎-elim (λ w. rw (w .1, w .2) (scanned-lower _ _ _ _ s (omega arith) (w .0 .taken)))
+    (λ w. rw (w .1, w .2) (scanned-next _ _ _ _ s (omega arith) (omega (arith, w .0 .left)))) (c .if1 .came)
 
 returns : tie.Need-returns Inv-loop μ-loop
-returns c = record { most = scanned-most _ _ _ _ (c .before .loop .inv) (omega arith); lowest = scanned-lowest _ _ _ _ (c .before .loop .inv) (omega arith); none = scanned-none _ _ _ _ (c .before .loop .inv) (omega arith) }
+returns c = record {
+  most = scanned-most _ _ _ _ (c .before .loop .inv) (omega arith);
+  lowest = scanned-lowest _ _ _ _ (c .before .loop .inv)
+      (omega arith);
+  none = scanned-none _ _ _ _ (c .before .loop .inv) (omega arith);
+}
 
 pub lowest-of-spec : {M : Type 1} → statement M
 lowest-of-spec =

@@ -12,7 +12,9 @@ rank-of-requires c κs = search needs
 
 returns : tie.Need-returns
 unfolding rankIn
-returns c = rw (← (c .before .before .does-oppose .ensures), c .before .if1 .taken, lt-ltb 0 (c .before .before .before .args .r .lots .0) (c .before .before .before .pre .1), c .rank-of .ensures)
+returns c =
+    let start = c .before .before .before in
+    rw (← (c .before .before .does-oppose .ensures), c .before .if1 .taken, lt-ltb 0 (start .args .r .lots .0) (start .pre .1), c .rank-of .ensures)
 
 returns-2 : tie.Need-returns-2
 unfolding rankIn

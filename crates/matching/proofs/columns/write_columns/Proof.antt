@@ -14,7 +14,8 @@ use Rattle.matching.proofs.columns.write_columns.Statement.{statement}
 use Rattle.matching.proofs.columns.write_columns.Tie as tie
 
 abbrev Inv-loop : tie.InvT-loop
-Inv-loop book o left₀ ranks₀ i₀ left ranks i = (length left ≡ length left₀) × (length ranks ≡ length ranks₀) × (i ≤ length left₀) × (left ≡ take i (map lotsOf (ordersIn (length left₀) book)) ++ drop i left₀) × (ranks ≡ take i (firstRank o (ordersIn (length left₀) book)) ++ drop i ranks₀)
+Inv-loop book o left₀ ranks₀ i₀ left ranks i = (length left ≡ length left₀) × (length ranks ≡ length ranks₀) × (i ≤ length left₀) ×
+    (left ≡ take i (map lotsOf (ordersIn (length left₀) book)) ++ drop i left₀) × (ranks ≡ take i (firstRank o (ordersIn (length left₀) book)) ++ drop i ranks₀)
 
 abbrev μ-loop : tie.MeasureT-loop
 μ-loop book o left₀ ranks₀ i₀ left ranks i = length left₀ - i
@@ -48,20 +49,22 @@ loop-less c = search needs
 
 loop-again : tie.Need-loop-again Inv-loop μ-loop
 loop-again c =
-    let a = c .before .before .before .before .before .before .before .args in
+    let start = c .before .before .before .before .before .before .before in
+    let a = start .args in
     let l = c .before .before .before .loop in
     let n = length (a .left .now) in
     let os = ordersIn n (a .book .now) in
     let h : l .i < n = omega arith in
     let ranks = ranks-length (a .o) (map lotsOf os) os (length-map os lotsOf) in
-    let lots : c .before .order-at .result .lots .0 ≡ getD (map lotsOf os) (l .i) 0 = ap (λ r. r .lots .0) (c .before .order-at .ensures) ∙ sym (lots-here (a .book .now) (a .o) n (l .i) h) in
+    let lots : c .before .order-at .result .lots .0 ≡ getD (map lotsOf os) (l .i) 0 = ap (λ r. r .lots .0) (c .before .order-at .ensures) ∙ sym
+    (lots-here (a .book .now) (a .o) n (l .i) h) in
     let rank : c .rank-in .result ≡ getD (firstRank (a .o) os) (l .i) 0
     = c .rank-in .ensures ∙ ap (λ r. rankIn (a .o) (r .lots .0) r) (c .before .order-at .ensures) ∙ sym (rank-here (a .book .now) (a .o) n (l .i) h) in (
       length-set (l .left) (l .i) _ ∙ l .inv .0,
       length-set (l .ranks) (l .i) _ ∙ l .inv .1,
       omega arith,
       rw (lots, l .inv .3) (front-next (l .i) (map lotsOf os) (a .left .now) 0 (omega (arith, length-map os lotsOf, orders-length (a .book .now) n)) h),
-      rw (rank, l .inv .4) (front-next (l .i) (firstRank (a .o) os) (a .ranks .now) 0 (omega (arith, orders-length (a .book .now) n)) (omega (arith, c .before .before .before .before .before .before .before .pre .0 .1))),
+      rw (rank, l .inv .4) (front-next (l .i) (firstRank (a .o) os) (a .ranks .now) 0 (omega (arith, orders-length (a .book .now) n)) (omega (arith, start .pre .0 .1))),
     )
 
 same-length : tie.Need-same-length Inv-loop μ-loop
@@ -72,13 +75,15 @@ same-length-2 c = search needs
 
 returns : tie.Need-returns Inv-loop μ-loop
 returns c =
-    let a = c .before .before .before .before .before .args in
+    let start = c .before .before .before .before .before in
+    let a = start .args in
     let l = c .before .loop in
     let n = length (a .left .now) in
     let os = ordersIn n (a .book .now) in
     let h : n ≤ l .i = omega arith in (
       l .inv .3 ∙ front-end (l .i) (map lotsOf os) (a .left .now) (omega (arith, length-map os lotsOf, orders-length (a .book .now) n)) h,
-      l .inv .4 ∙ front-end (l .i) (firstRank (a .o) os) (a .ranks .now) (omega (arith, ranks-length (a .o) (map lotsOf os) os (length-map os lotsOf), orders-length (a .book .now) n)) (omega (arith, c .before .before .before .before .before .pre .0 .1)),
+      l .inv .4 ∙ front-end (l .i) (firstRank (a .o) os) (a .ranks .now)
+          (omega (arith, ranks-length (a .o) (map lotsOf os) os (length-map os lotsOf), orders-length (a .book .now) n)) (omega (arith, start .pre .0 .1)),
     )
 
 pub write-columns-spec : {M : Type 1} → statement M

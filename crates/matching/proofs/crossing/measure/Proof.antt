@@ -23,13 +23,20 @@ own-lots-requires : tie.Need-own-lots-requires Inv-loop μ-loop
 own-lots-requires c κs = search needs
 
 add-own : tie.Need-add-own Inv-loop μ-loop
-add-own c = let m = measuring-next _ _ _ _ _ (c .before .before .before .loop .inv .1) _ (c .before .order-at .ensures) (c .before .before .before .before .before .pre .1 _ (c .before .before .loop-test .taken)) _ _ (c .own-lots .ensures) refl in omega (arith, m .own-few)
+add-own c =
+    let start = c .before .before .before .before .before in
+    let m = measuring-next _ _ _ _ _ (c .before .before .before .loop .inv .1) _ (c .before .order-at .ensures) (start .pre .1 _ (c .before .before .loop-test .taken)) _ _
+    (c .own-lots .ensures) refl in omega (arith, m .own-few)
 
 crossing-lots-requires : tie.Need-crossing-lots-requires Inv-loop μ-loop
 crossing-lots-requires c κs = search needs
 
 add-lots : tie.Need-add-lots Inv-loop μ-loop
-add-lots c = let m = measuring-next _ _ _ _ _ (c .before .before .before .before .loop .inv .1) _ (c .before .before .order-at .ensures) (c .before .before .before .before .before .before .pre .1 _ (c .before .before .before .loop-test .taken)) _ _ (c .before .own-lots .ensures) (c .crossing-lots .ensures) in omega (arith, m .crossing-few)
+add-lots c =
+    let at-loop = c .before .before .before .before in
+    let start = at-loop .before .before in
+    let m = measuring-next _ _ _ _ _ (at-loop .loop .inv .1) _ (c .before .before .order-at .ensures) (start .pre .1 _ (c .before .before .before .loop-test .taken)) _ _
+    (c .before .own-lots .ensures) (c .crossing-lots .ensures) in omega (arith, m .crossing-few)
 
 add-i : tie.Need-add-i Inv-loop μ-loop
 add-i c = search needs
@@ -38,10 +45,17 @@ loop-less : tie.Need-loop-less Inv-loop μ-loop
 loop-less c = search needs
 
 loop-again : tie.Need-loop-again Inv-loop μ-loop
-loop-again c = (omega arith, measuring-next _ _ _ _ _ (c .before .before .before .before .loop .inv .1) _ (c .before .before .order-at .ensures) (c .before .before .before .before .before .before .pre .1 _ (c .before .before .before .loop-test .taken)) _ _ (c .before .own-lots .ensures) (c .crossing-lots .ensures))
+loop-again c =
+    let at-loop = c .before .before .before .before in
+    let start = at-loop .before .before in (
+      omega arith,
+      measuring-next _ _ _ _ _ (at-loop .loop .inv .1) _ (c .before .before .order-at .ensures) (start .pre .1 _ (c .before .before .before .loop-test .taken)) _ _
+          (c .before .own-lots .ensures) (c .crossing-lots .ensures),
+    )
 
 returns : tie.Need-returns Inv-loop μ-loop
-returns c = let same : c .before .loop .i ≡ c .before .before .before .args .count = omega arith in (rw same at (c .before .loop .inv .1 .own-lots), (omega (arith, same, c .before .loop .inv .1 .own-few), rw same at (c .before .loop .inv .1 .crossing-lots)))
+returns c = let same : c .before .loop .i ≡ c .before .before .before .args .count = omega arith in
+    (rw same at (c .before .loop .inv .1 .own-lots), (omega (arith, same, c .before .loop .inv .1 .own-few), rw same at (c .before .loop .inv .1 .crossing-lots)))
 
 pub measure-spec : {M : Type 1} → statement M
 measure-spec =

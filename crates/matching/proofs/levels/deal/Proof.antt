@@ -1,7 +1,6 @@
 use Prim.Native.Nat.{_-_, _*_, min}
-use lib.ListN.{getD}
 use mathlib.Core.Path.{ap, _∙_}
-use Prim.Native.Nat.{_-_, _*_}
+use lib.ListN.{getD}
 use Rattle.arith.specs.Lists.{over}
 use Rattle.matching.specs.Deals.{counterparty, dealPlaces}
 use borrow.Author.Needs.{needs}
@@ -38,19 +37,28 @@ same-length-2 c = search needs
 same-length-3 : tie.Need-same-length-3
 same-length-3 c = search needs
 
+same-length-4 : tie.Need-same-length-4
+same-length-4 c = search needs
+
 returns : tie.Need-returns
 returns c =
-    let a = c .before .before .before .before .before .before .before .before .before .before .before .before .before .before .before .before .before .before .args in
-    let lots = min (a .wanted) (getD (a .left .now) (a .i) 0) in
-    record {
-      still-wanted = ap (λ n. a .wanted - n) (c .before .before .before .before .before .before .before .before .before .before .before .least .ensures);
-      left-after = rw (← (c .before .before .before .before .before .before .before .before .before .before .before .least .ensures)) (c .before .before .before .before .before .before .before .before .use-lots .ensures .0);
-      ranks-after = rw (← (c .before .before .before .before .before .before .before .before .before .before .before .least .ensures)) (c .before .before .before .before .before .before .before .before .use-lots .ensures .1);
-      deals-after =
-          c .before .before .put-deal .ensures
-          ∙ ap (λ q. over (a .k * 3) (dealPlaces (counterparty (c .before .before .before .before .before .before .before .before .before .before .before .before .before .order-at .result) q)) (a .deals .now)) (c .before .before .before .before .before .before .before .before .before .before .before .least .ensures)
-          ∙ ap (λ r. over (a .k * 3) (dealPlaces (counterparty r lots)) (a .deals .now)) (c .before .before .before .before .before .before .before .before .before .before .before .before .before .order-at .ensures);
-    }
+    let at-use-lots = c .before .before .before .before .before .before .before .before .before .before in
+    let at-least = at-use-lots .before .before .before .before in
+    let at-order-at = at-least .before .before in
+    let start = at-order-at .before .before .before .before .before .before in
+    let a = start .args in
+    let lots = min (a .wanted) (getD (a .left .now) (a .i) 0) in (
+      record {
+        still-wanted = ap (λ n. a .wanted - n) (at-least .least .ensures);
+        left-after = rw (← (at-least .least .ensures)) (at-use-lots .use-lots .ensures .0);
+        ranks-after = rw (← (at-least .least .ensures)) (at-use-lots .use-lots .ensures .1 .0);
+        deals-after =
+            c .before .before .put-deal .ensures
+            ∙ ap (λ q. over (a .k * 3) (dealPlaces (counterparty (at-order-at .order-at .result) q)) (a .deals .now)) (at-least .least .ensures)
+            ∙ ap (λ r. over (a .k * 3) (dealPlaces (counterparty r lots)) (a .deals .now)) (at-order-at .order-at .ensures);
+      },
+      at-use-lots .use-lots .ensures .1 .1,
+    )
 
 pub deal-spec : {M : Type 1} → statement M
 deal-spec =
@@ -66,4 +74,5 @@ deal-spec =
     same-length
     same-length-2
     same-length-3
+    same-length-4
     returns)

@@ -18,10 +18,17 @@ with-lots-requires : tie.Need-with-lots-requires
 with-lots-requires c κs = search needs
 
 put-order-requires : tie.Need-put-order-requires
-put-order-requires c κs = (c .before .before .before .before .before .before .before .pre .2 (rw (← (c .before .before .before .before .is-resting .ensures)) (c .before .before .before .if1 .taken)), c .before .before .before .before .before .before .before .pre .1)
+put-order-requires c κs =
+    let at-is-resting = c .before .before .before .before in
+    let start = at-is-resting .before .before .before in
+    (start .pre .2 (rw (← (at-is-resting .is-resting .ensures)) (c .before .before .before .if1 .taken)), start .pre .1)
 
 add-head : tie.Need-add-head
-add-head c = omega (arith, c .before .before .before .before .before .before .before .before .before .before .pre .2 (rw (← (c .before .before .before .before .before .before .before .is-resting .ensures)) (c .before .before .before .before .before .before .if1 .taken)))
+add-head c =
+    let at-if1 = c .before .before .before .before .before .before in
+    let at-is-resting = at-if1 .before in
+    let start = at-is-resting .before .before .before in
+    omega (arith, start .pre .2 (rw (← (at-is-resting .is-resting .ensures)) (at-if1 .if1 .taken)))
 
 slice-write-head : tie.Need-slice-write-head
 slice-write-head c = search needs
@@ -34,9 +41,13 @@ same-length-2 c = search needs
 
 returns : tie.Need-returns
 returns c =
-    let a = c .before .before .before .before .before .before .before .before .before .before .args in (
-      rw (← (c .before .before .before .before .before .before .before .is-resting .ensures), c .before .before .before .before .before .before .if1 .taken) refl,
-      rw (← (c .before .before .before .before .before .before .before .is-resting .ensures), c .before .before .before .before .before .before .if1 .taken) (c .before .before .put-order .ensures ∙ ap (λ x. over (getD (a .head .now) 7 0 * 8) (orderPlaces x) (a .book .now)) (c .before .before .before .with-lots .ensures)),
+    let at-if1 = c .before .before .before .before .before .before in
+    let at-is-resting = at-if1 .before in
+    let start = at-is-resting .before .before .before in
+    let a = start .args in (
+      rw (← (at-is-resting .is-resting .ensures), at-if1 .if1 .taken) refl,
+      rw (← (at-is-resting .is-resting .ensures), at-if1 .if1 .taken)
+          (c .before .before .put-order .ensures ∙ ap (λ x. over (getD (a .head .now) 7 0 * 8) (orderPlaces x) (a .book .now)) (c .before .before .before .with-lots .ensures)),
     )
 
 returns-2 : tie.Need-returns-2

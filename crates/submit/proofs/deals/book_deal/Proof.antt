@@ -16,10 +16,11 @@ mul-book-line c = search needs
 
 book-line-requires : tie.Need-book-line-requires
 book-line-requires c κs =
-    let a = c .before .before .before .before .before .before .args in
-    let b = c .before .before .before .before .before .before .pre .0 .0 in
-    let q = c .before .before .before .before .before .before .pre .1 in
-    let small : a .k < mostLots = c .before .before .before .before .before .before .pre .0 .1 in
+    let start = c .before .before .before .before .before .before in
+    let a = start .args in
+    let b = start .pre .0 .0 in
+    let q = start .pre .1 in
+    let small : a .k < mostLots = start .pre .0 .1 in
     let first = incoming-fit (a .head .now) (a .o) (a .d) (q .0) (q .1) (q .2) (q .3) (q .4) in
     ((b .long, b .most-members, first), ((b .lots-fit, b .value-fit), (omega arith, b .lines-long)))
 
@@ -31,16 +32,19 @@ add-book-line c = search needs
 
 book-line-requires-2 : tie.Need-book-line-requires-2
 book-line-requires-2 c κs =
-    let a = c .before .before .before .before .before .before .before .before .before .before .before .before .before .before .before .before .args in
-    let b = c .before .before .before .before .before .before .before .before .before .before .before .before .before .before .before .before .pre .0 .0 in
-    let q = c .before .before .before .before .before .before .before .before .before .before .before .before .before .before .before .before .pre .1 in
-    let small : a .k < mostLots = c .before .before .before .before .before .before .before .before .before .before .before .before .before .before .before .before .pre .0 .1 in
+    let at-book-line = c .before .before .before .before .before .before .before .before .before in
+    let at-other-side = at-book-line .before .before .before .before .before in
+    let start = at-other-side .before .before in
+    let a = start .args in
+    let b = start .pre .0 .0 in
+    let q = start .pre .1 in
+    let small : a .k < mostLots = start .pre .0 .1 in
     let first = incoming-fit (a .head .now) (a .o) (a .d) (q .0) (q .1) (q .2) (q .3) (q .4) in
     let line = lineOfIncoming (a .o) (a .d) in
-    let run = run-after _ _ _ _ _ _ _ _ (a .k * 2) line b first (omega arith) (c .before .before .before .before .before .before .before .before .before .book-line .ensures) in
-    let members = members-after _ _ _ _ _ _ _ _ (a .k * 2) line b first (omega arith) (c .before .before .before .before .before .before .before .before .before .book-line .ensures) in
-    let more = bookable-after _ _ _ _ _ _ _ _ (a .k * 2) line b first (omega arith) (c .before .before .before .before .before .before .before .before .before .book-line .ensures) in
-    let second = resting-fit (a .head .now) (a .o) (a .d) (q .0) (q .1) (q .2) (q .3) (q .4) _ (c .before .before .before .before .before .before .before .before .before .before .before .before .before .before .other-side .result) members run in
+    let run = run-after _ _ _ _ _ _ _ _ (a .k * 2) line b first (omega arith) (at-book-line .book-line .ensures) in
+    let members = members-after _ _ _ _ _ _ _ _ (a .k * 2) line b first (omega arith) (at-book-line .book-line .ensures) in
+    let more = bookable-after _ _ _ _ _ _ _ _ (a .k * 2) line b first (omega arith) (at-book-line .book-line .ensures) in
+    let second = resting-fit (a .head .now) (a .o) (a .d) (q .0) (q .1) (q .2) (q .3) (q .4) _ (at-other-side .other-side .result) members run in
     ((more .long, more .most-members, second), ((more .lots-fit, more .value-fit), (omega arith, more .lines-long)))
 
 same-length : tie.Need-same-length
@@ -57,22 +61,26 @@ same-length-4 c = search needs
 
 returns : tie.Need-returns
 returns c =
-    let a = c .before .before .before .before .before .before .before .before .before .before .before .before .before .before .before .before .before .before .before .before .before .before .args in
-    let b = c .before .before .before .before .before .before .before .before .before .before .before .before .before .before .before .before .before .before .before .before .before .before .pre .0 .0 in
-    let q = c .before .before .before .before .before .before .before .before .before .before .before .before .before .before .before .before .before .before .before .before .before .before .pre .1 in
-    let small : a .k < mostLots = c .before .before .before .before .before .before .before .before .before .before .before .before .before .before .before .before .before .before .before .before .before .before .pre .0 .1 in
+    let at-book-line2 = c .before .before .before .before .before in
+    let at-book-line = at-book-line2 .before .before .before .before .before .before .before .before .before .before in
+    let at-other-side = at-book-line .before .before .before .before .before in
+    let start = at-other-side .before .before in
+    let a = start .args in
+    let b = start .pre .0 .0 in
+    let q = start .pre .1 in
+    let small : a .k < mostLots = start .pre .0 .1 in
     let first = incoming-fit (a .head .now) (a .o) (a .d) (q .0) (q .1) (q .2) (q .3) (q .4) in
     let line = lineOfIncoming (a .o) (a .d) in
-    let run = run-after _ _ _ _ _ _ _ _ (a .k * 2) line b first (omega arith) (c .before .before .before .before .before .before .before .before .before .before .before .before .before .before .before .book-line .ensures) in
-    let members = members-after _ _ _ _ _ _ _ _ (a .k * 2) line b first (omega arith) (c .before .before .before .before .before .before .before .before .before .before .before .before .before .before .before .book-line .ensures) in
-    let more = bookable-after _ _ _ _ _ _ _ _ (a .k * 2) line b first (omega arith) (c .before .before .before .before .before .before .before .before .before .before .before .before .before .before .before .book-line .ensures) in
-    let second = resting-fit (a .head .now) (a .o) (a .d) (q .0) (q .1) (q .2) (q .3) (q .4) _ (c .before .before .before .before .before .before .before .before .before .before .before .before .before .before .before .before .before .before .before .before .other-side .result) members run in
-    let last = lineOfResting (a .o) (c .before .before .before .before .before .before .before .before .before .before .before .before .before .before .before .before .before .before .before .before .other-side .result) (a .d) in
+    let run = run-after _ _ _ _ _ _ _ _ (a .k * 2) line b first (omega arith) (at-book-line .book-line .ensures) in
+    let members = members-after _ _ _ _ _ _ _ _ (a .k * 2) line b first (omega arith) (at-book-line .book-line .ensures) in
+    let more = bookable-after _ _ _ _ _ _ _ _ (a .k * 2) line b first (omega arith) (at-book-line .book-line .ensures) in
+    let second = resting-fit (a .head .now) (a .o) (a .d) (q .0) (q .1) (q .2) (q .3) (q .4) _ (at-other-side .other-side .result) members run in
+    let last = lineOfResting (a .o) (at-other-side .other-side .result) (a .d) in
     record {
-      same = λ t. rw (← (c .before .before .before .before .before .before .before .before .before .before .before .before .before .before .before .before .before .before .before .before .other-side .ensures), ← (c .before .before .before .before .before .before .before .before .before .before .before .before .before .before .before .book-line .ensures t)) (c .before .before .before .before .before .book-line2 .ensures t);
-      bookable = bookable-after _ _ _ _ _ _ _ _ (a .k * 2 + 1) last more second (omega arith) (c .before .before .before .before .before .book-line2 .ensures);
-      members-same = members-after _ _ _ _ _ _ _ _ (a .k * 2 + 1) last more second (omega arith) (c .before .before .before .before .before .book-line2 .ensures) ∙ members;
-      run-grown = omega (arith, run-after _ _ _ _ _ _ _ _ (a .k * 2 + 1) last more second (omega arith) (c .before .before .before .before .before .book-line2 .ensures));
+      same = λ t. rw (← (at-other-side .other-side .ensures), ← (at-book-line .book-line .ensures t)) (at-book-line2 .book-line2 .ensures t);
+      bookable = bookable-after _ _ _ _ _ _ _ _ (a .k * 2 + 1) last more second (omega arith) (at-book-line2 .book-line2 .ensures);
+      members-same = members-after _ _ _ _ _ _ _ _ (a .k * 2 + 1) last more second (omega arith) (at-book-line2 .book-line2 .ensures) ∙ members;
+      run-grown = omega (arith, run-after _ _ _ _ _ _ _ _ (a .k * 2 + 1) last more second (omega arith) (at-book-line2 .book-line2 .ensures));
     }
 
 pub book-deal-spec : {M : Type 1} → statement M

@@ -10,7 +10,8 @@ use Rattle.submit.proofs.deals.book_deals.Statement.{statement}
 use Rattle.submit.proofs.deals.book_deals.Tie as tie
 
 abbrev Inv-loop : tie.InvT-loop
-Inv-loop head₀ lots₀ value₀ lines₀ o deals count k₀ head lots value lines k = (k ≤ count) × Booking o deals k head₀ lots₀ value₀ lines₀ head lots value lines × (length head ≡ length head₀) × (length lots ≡ length lots₀) × (length value ≡ length value₀) × (length lines ≡ length lines₀)
+Inv-loop head₀ lots₀ value₀ lines₀ o deals count k₀ head lots value lines k = (k ≤ count) × Booking o deals k head₀ lots₀ value₀ lines₀ head lots value lines ×
+    (length head ≡ length head₀) × (length lots ≡ length lots₀) × (length value ≡ length value₀) × (length lines ≡ length lines₀)
 
 abbrev μ-loop : tie.MeasureT-loop
 μ-loop head₀ lots₀ value₀ lines₀ o deals count k₀ head lots value lines k = count - k
@@ -23,19 +24,30 @@ deal-at-requires c κs = let f = c .before .before .before .before .pre .0 .1 in
 
 book-deal-requires : tie.Need-book-deal-requires Inv-loop μ-loop
 book-deal-requires c κs =
-    let g = c .before .before .before .before .before .before .loop .inv .1 in
-    let l = c .before .before .before .before .before .before .loop in
-    let a = c .before .before .before .before .before .before .before .before .before .args in
-    let f = c .before .before .before .before .before .before .before .before .before .pre .0 .1 in
-    let k = c .before .before .before .before .before .loop-test .taken in
-    let d = c .before .before .before .before .deal-at .ensures in (
+    let at-deal-at = c .before .before .before .before in
+    let at-loop-test = at-deal-at .before in
+    let at-loop = at-loop-test .before in
+    let start = at-loop .before .before .before in
+    let g = at-loop .loop .inv .1 in
+    let l = at-loop .loop in
+    let a = start .args in
+    let f = start .pre .0 .1 in
+    let k = at-loop-test .loop-test .taken in
+    let d = at-deal-at .deal-at .ensures in (
       (g .bookable, omega (arith, f .most)),
       (
-        omega (arith, g .members-same, c .before .before .before .before .before .before .before .before .before .pre .1 .0 .0),
-        c .before .before .before .before .before .before .before .before .before .pre .1 .0 .1,
-        rw d (omega (arith, g .members-same, c .before .before .before .before .before .before .before .before .before .pre .1 .0 .2 (l .k) k)),
+        omega (arith, g .members-same, start .pre .1 .0 .0),
+        start .pre .1 .0 .1,
+        rw d (omega (arith, g .members-same, start .pre .1 .0 .2 (l .k) k)),
         rw d (f .most-price (l .k) k),
-        omega (arith, g .run-grown, ap lotsDealt d, total-next (a .deals .now) lotsDealt (l .k), total-prefix (a .deals .now) lotsDealt (l .k + 1) (a .count) (omega arith), c .before .before .before .before .before .before .before .before .before .pre .1 .1),
+        omega (
+          arith,
+          g .run-grown,
+          ap lotsDealt d,
+          total-next (a .deals .now) lotsDealt (l .k),
+          total-prefix (a .deals .now) lotsDealt (l .k + 1) (a .count) (omega arith),
+          start .pre .1 .1,
+        ),
       ),
     )
 
@@ -47,13 +59,17 @@ loop-less c = search needs
 
 loop-again : tie.Need-loop-again Inv-loop μ-loop
 loop-again c =
-    let l = c .before .before .before .before .before .before .before .before .before .before .before .before .loop in (
+    let at-book-deal = c .before .before .before .before .before in
+    let at-deal-at = at-book-deal .before .before .before .before .before in
+    let at-loop = at-deal-at .before .before in
+    let start = at-loop .before .before .before in
+    let l = at-loop .loop in (
       omega arith,
-      booking-next _ _ _ _ _ _ _ _ _ _ _ _ _ _ _ (l .inv .1) (omega (arith, c .before .before .before .before .before .before .before .before .before .before .before .before .before .before .before .pre .0 .0 .long)) _ (c .before .before .before .before .before .before .before .before .before .before .deal-at .ensures) (c .before .before .before .before .before .book-deal .ensures),
-      c .before .before .before .before .before .book-deal .kept .0 ∙ l .inv .2,
-      c .before .before .before .before .before .book-deal .kept .1 .0 ∙ l .inv .3,
-      c .before .before .before .before .before .book-deal .kept .1 .1 .0 ∙ l .inv .4,
-      c .before .before .before .before .before .book-deal .kept .1 .1 .1 .0 ∙ l .inv .5,
+      booking-next _ _ _ _ _ _ _ _ _ _ _ _ _ _ _ (l .inv .1) (omega (arith, start .pre .0 .0 .long)) _ (at-deal-at .deal-at .ensures) (at-book-deal .book-deal .ensures),
+      at-book-deal .book-deal .kept .0 ∙ l .inv .2,
+      at-book-deal .book-deal .kept .1 .0 ∙ l .inv .3,
+      at-book-deal .book-deal .kept .1 .1 .0 ∙ l .inv .4,
+      at-book-deal .book-deal .kept .1 .1 .1 .0 ∙ l .inv .5,
     )
 
 same-length : tie.Need-same-length Inv-loop μ-loop

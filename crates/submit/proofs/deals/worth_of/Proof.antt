@@ -20,10 +20,18 @@ deal-at-requires : tie.Need-deal-at-requires Inv-loop μ-loop
 deal-at-requires c κs = let f = c .before .before .before .pre in (omega (arith, f .most), f .room)
 
 mul-worth : tie.Need-mul-worth Inv-loop μ-loop
-mul-worth c = let f = c .before .before .before .before .before .pre in rw (c .before .deal-at .ensures) (omega (arith, mul-le-mul (f .most-lots (c .before .before .before .loop .k) (c .before .before .loop-test .taken)) (f .most-price (c .before .before .before .loop .k) (c .before .before .loop-test .taken))))
+mul-worth c =
+    let at-loop-test = c .before .before in
+    let at-loop = at-loop-test .before in
+    let start = at-loop .before .before in
+    let f = start .pre in rw (c .before .deal-at .ensures) (omega
+    (arith, mul-le-mul (f .most-lots (at-loop .loop .k) (at-loop-test .loop-test .taken)) (f .most-price (at-loop .loop .k) (at-loop-test .loop-test .taken))))
 
 add-worth : tie.Need-add-worth Inv-loop μ-loop
-add-worth c = let w = worth-next _ _ _ _ (c .before .before .before .before .before .pre) (c .before .before .loop-test .taken) (c .before .before .before .loop .inv .1) _ (c .before .deal-at .ensures) in omega (arith, w .most, c .before .before .before .before .before .pre .most)
+add-worth c =
+    let start = c .before .before .before .before .before in
+    let w = worth-next _ _ _ _ (start .pre) (c .before .before .loop-test .taken) (c .before .before .before .loop .inv .1) _ (c .before .deal-at .ensures) in omega
+    (arith, w .most, start .pre .most)
 
 add-k : tie.Need-add-k Inv-loop μ-loop
 add-k c = search needs
@@ -32,10 +40,14 @@ loop-less : tie.Need-loop-less Inv-loop μ-loop
 loop-less c = search needs
 
 loop-again : tie.Need-loop-again Inv-loop μ-loop
-loop-again c = (omega arith, worth-next _ _ _ _ (c .before .before .before .before .before .pre) (c .before .before .loop-test .taken) (c .before .before .before .loop .inv .1) _ (c .before .deal-at .ensures))
+loop-again c =
+    let start = c .before .before .before .before .before in
+    (omega arith, worth-next _ _ _ _ (start .pre) (c .before .before .loop-test .taken) (c .before .before .before .loop .inv .1) _ (c .before .deal-at .ensures))
 
 returns : tie.Need-returns Inv-loop μ-loop
-returns c = let same : c .before .loop .k ≡ c .before .before .before .args .count = omega arith in (rw same at (c .before .loop .inv .1 .sum), omega (arith, c .before .loop .inv .1 .most, c .before .before .before .pre .most))
+returns c =
+    let start = c .before .before .before in
+    let same : c .before .loop .k ≡ start .args .count = omega arith in (rw same at (c .before .loop .inv .1 .sum), omega (arith, c .before .loop .inv .1 .most, start .pre .most))
 
 pub worth-of-spec : {M : Type 1} → statement M
 worth-of-spec =

@@ -6,7 +6,9 @@ use Rattle.submit.proofs.trade.trade.Statement.{statement}
 use Rattle.submit.proofs.trade.trade.Tie as tie
 
 returns : tie.Need-returns
-returns c = untraded _ _ _ _ (c .before .before .before .before .before .pre .0 .0) (sym (c .before .before .before .before .before .pre .1 .1) ∙ c .if1 .taken) (c .before .before .before .before .before .pre .1 .0) _
+returns c =
+    let start = c .before .before .before .before .before in
+    untraded _ _ _ _ (start .pre .0 .0) (sym (start .pre .1 .1) ∙ c .if1 .taken) (start .pre .1 .0) _
 
 slice-read-count : tie.Need-slice-read-count
 slice-read-count c = search needs
@@ -24,7 +26,9 @@ slice-aggregate-settle-2 : tie.Need-slice-aggregate-settle-2
 slice-aggregate-settle-2 c = sym (length-take-le _ _ (c .before .before .before .before .before .before .before .before .before .before .before .pre .0 .0 .most-orders))
 
 settle-requires : tie.Need-settle-requires
-settle-requires c κs = (c .before .before .before .before .before .before .before .before .before .before .before .before .pre .0 .0, (length-take-le _ _ (c .before .before .before .before .before .before .before .before .before .before .before .before .pre .0 .0 .most-orders), length-take-le _ _ (c .before .before .before .before .before .before .before .before .before .before .before .before .pre .0 .0 .most-orders), c .before .before .before .before .before .before .before .before .before .before .before .before .pre .0 .1))
+settle-requires c κs =
+    let start = c .before .before .before .before .before .before .before .before .before .before .before .before in
+    (start .pre .0 .0, (length-take-le _ _ (start .pre .0 .0 .most-orders), length-take-le _ _ (start .pre .0 .0 .most-orders), start .pre .0 .1))
 
 same-length : tie.Need-same-length
 same-length c = search needs
