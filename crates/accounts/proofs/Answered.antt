@@ -5,8 +5,9 @@ use mathlib.Core.Bool.{true, false}
 use mathlib.Core.List.{List, [], _∷_, _++_, List·Memᴰ·head, List·Memᴰ·tail}
 use native.Mathlib.Omega.{arith}
 use borrow.Author.Tests.{ne-eqb}
-use Rattle.arith.specs.Alls.{All, all-map, all-member}
-use Rattle.arith.specs.Tests.{never}
+use Rattle.arith.specs.Lists.{All}
+use Rattle.arith.proofs.Alls.{all-map, all-member}
+use Rattle.arith.proofs.Tests.{never}
 use Rattle.rules.specs.declared.answer.Answer.{Answer}
 use Rattle.rules.specs.declared.answer.Answer.the-variants.{TableUnsound, RecordUnsound}
 use Rattle.rules.specs.declared.event.Event.{Event}

@@ -8,11 +8,11 @@ use lib.Dec.{T, eqb, leb, ltb}
 use lib.ListN.{length, getD, set, take, drop, replicate, length-map, length-append, length-replicate}
 use lib.Seq.{getD-append-add, getD-set-other, getD-set-same}
 use borrow.Author.Tests.{leb-false, ltb-true, ne-eqb}
-use Rattle.arith.specs.Alls.{All, hold-all, all-every, all-map, all-append}
-use Rattle.arith.specs.Among.{from-every}
-use Rattle.arith.specs.Lists.{every, kept, from, over}
-use Rattle.arith.specs.Overs.{over-outside}
-use Rattle.arith.specs.Tests.{by-bool, passed, and-right}
+use Rattle.arith.specs.Lists.{All, every, kept, from, over}
+use Rattle.arith.proofs.Alls.{hold-all, all-every, all-map, all-append}
+use Rattle.arith.proofs.Among.{from-every}
+use Rattle.arith.proofs.Overs.{over-outside}
+use Rattle.arith.proofs.Tests.{by-bool, passed, and-right}
 use Rattle.rules.specs.declared.event.CloseOutTerms.{CloseOutTerms}
 use Rattle.rules.specs.declared.event.Leg.{Leg}
 use Rattle.rules.specs.declared.event.Submission.{Submission}

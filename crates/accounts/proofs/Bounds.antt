@@ -11,14 +11,15 @@ use lib.ListN.{length, take, getD, length-take}
 use lib.Seq.{getD-take}
 use lib.IntN.{ℤ, pos, natAbs, _+ℤ_}
 use borrow.Author.Tests.{le-leb, eqb-true, eq-eqb, ne-eqb}
-use Rattle.arith.specs.Alls.{All, all-map, every-place}
-use Rattle.arith.specs.EachBlock.{block, every-block, block-at}
+use Rattle.arith.specs.Lists.{All, any, total}
+use Rattle.arith.proofs.Alls.{all-map, every-place}
+use Rattle.arith.proofs.EachBlock.{block, every-block, block-at}
 use Rattle.arith.specs.Ints.{when}
-use Rattle.arith.specs.Lists.{any, total}
-use Rattle.arith.specs.Sizes.{abs-plus, abs-times, abs-when}
-use Rattle.arith.specs.Tests.{le-or-lt, same-or}
+use Rattle.arith.proofs.Sizes.{abs-plus, abs-times, abs-when}
+use Rattle.arith.proofs.Tests.{le-or-lt, same-or}
 use Rattle.rules.specs.Contracts.{childrenOf}
-use Rattle.rules.specs.HourLaws.{yearOf, quarterOf, monthOf, cascading}
+use Rattle.rules.specs.OtherForms.{yearOf, quarterOf, monthOf}
+use Rattle.rules.proofs.HourLaws.{cascading}
 use Rattle.rules.specs.Header.{Header}
 use Rattle.rules.specs.Ledger.{Tables, Line, members, lotsRun, rowPlace, lineRun, fresh}
 use Rattle.rules.specs.CloseOfDay.{cascaded, allCascaded, withClosed}

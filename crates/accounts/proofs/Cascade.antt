@@ -8,15 +8,15 @@ use lib.IntN.{ℤ, pos, _+ℤ_}
 use borrow.Author.Tests.{eqb-true, ne-eqb}
 use Rattle.arith.specs.Lists.{any}
 use Rattle.arith.specs.Ints.{when}
-use Rattle.arith.specs.Tests.{le-or-lt}
-use Rattle.arith.specs.Among.{not-among, among-if}
-use Rattle.arith.specs.Sums.{sorted, sum-ext}
-use Rattle.arith.specs.Terms.{sum-three}
+use Rattle.arith.proofs.Tests.{le-or-lt}
+use Rattle.arith.proofs.Among.{not-among, among-if}
+use Rattle.arith.proofs.Sums.{sorted, sum-ext}
+use Rattle.arith.proofs.Terms.{sum-three}
 use Rattle.rules.specs.Days.{Calendar}
 use Rattle.rules.specs.Contracts.{childrenOf}
 use Rattle.rules.specs.Accounts.{engineAccount, DeliveryHour}
-use Rattle.rules.specs.CalendarLaws.{firstMonthOf}
-use Rattle.rules.specs.HourLaws.{InMonth, month-of-hour, yearOf, quarterOf, monthOf, holdsMonth, holds-hour, Cascading, year, quarter, cascading}
+use Rattle.rules.specs.OtherForms.{firstMonthOf, yearOf, quarterOf, monthOf, holdsMonth}
+use Rattle.rules.proofs.HourLaws.{InMonth, month-of-hour, holds-hour, Cascading, year, quarter, cascading}
 
 abbrev pub isChild : ℕ → ℕ → Bool
 isChild c d = any (λ x. eqb x d) (childrenOf c)

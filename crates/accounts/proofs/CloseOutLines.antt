@@ -9,11 +9,11 @@ use lib.Dec.{eqb, leb, ltb}
 use lib.ListN.{length, getD, length-map, length-append}
 use lib.IntN.{ℤ, pos, negsuc, natAbs, negℤ, _+ℤ_, _-ℤ_, +ℤ-idl, +ℤ-idr, +ℤ-invr, +ℤ-invl, negℤ-+ℤ}
 use borrow.Author.Tests.{lt-ltb, le-ltb}
-use Rattle.arith.specs.Lists.{total, from}
-use Rattle.arith.specs.Overs.{zip-length}
-use Rattle.arith.specs.Sums.{group}
-use Rattle.arith.specs.Tests.{by-bool, by-eqb, le-or-lt}
-use Rattle.arith.specs.Alls.{All, all-append}
+use Rattle.arith.specs.Lists.{total, from, All}
+use Rattle.arith.proofs.Overs.{zip-length}
+use Rattle.arith.proofs.Sums.{group}
+use Rattle.arith.proofs.Tests.{by-bool, by-eqb, le-or-lt}
+use Rattle.arith.proofs.Alls.{all-append}
 use Rattle.rules.specs.declared.event.CloseOutTerms.{CloseOutTerms}
 use Rattle.rules.specs.Days.{Calendar}
 use Rattle.rules.specs.Ledger.{Tables, Line, members, defaulted, ggf, lotsAt}

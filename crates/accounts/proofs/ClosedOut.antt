@@ -12,8 +12,8 @@ use lib.IntN.{ℤ, pos, negsuc, natAbs, negℤ, _+ℤ_, _-ℤ_, +ℤ-idl, +ℤ-i
 use borrow.Author.Tests.{eq-eqb, ne-eqb}
 use Rattle.arith.specs.Ints.{when, up, dn}
 use Rattle.arith.specs.Lists.{from}
-use Rattle.arith.specs.Sums.{group}
-use Rattle.arith.specs.Tests.{by-bool, by-eqb}
+use Rattle.arith.proofs.Sums.{group}
+use Rattle.arith.proofs.Tests.{by-bool, by-eqb}
 use Rattle.rules.specs.declared.event.CloseOutTerms.{CloseOutTerms}
 use Rattle.rules.specs.declared.event.Event.the-variants.{CloseOut}
 use Rattle.rules.specs.Ledger.{Tables, Line, members, mark, defaulted, ggf, lotsAt, lineLots, booked}

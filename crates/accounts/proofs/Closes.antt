@@ -9,12 +9,12 @@ use lib.ListN.{length, getD, set, replicate, length-replicate}
 use lib.Seq.{getD-set-other, getD-set-same}
 use lib.IntN.{pos, _+ℤ_}
 use borrow.Author.Tests.{leb-true, ltb-true, le-leb, lt-leb, eqb-true, eq-eqb, not-false}
-use Rattle.arith.specs.Alls.{All, every-all, all-map, all-kept}
-use Rattle.arith.specs.Among.{by-among, every-from}
+use Rattle.arith.specs.Lists.{All, every, any, kept, over, from}
+use Rattle.arith.proofs.Alls.{every-all, all-map, all-kept}
+use Rattle.arith.proofs.Among.{by-among, every-from}
 use Rattle.arith.specs.Ints.{when}
-use Rattle.arith.specs.Lists.{every, any, kept, over, from}
-use Rattle.arith.specs.Overs.{over-outside}
-use Rattle.arith.specs.Tests.{never, by-eqb, le-or-lt, true-or, and-left, and-right, passed}
+use Rattle.arith.proofs.Overs.{over-outside}
+use Rattle.arith.proofs.Tests.{never, by-eqb, le-or-lt, true-or, and-left, and-right, passed}
 use Rattle.rules.specs.declared.contract.ContractKind.the-variants.{Year, Quarter, Month}
 use Rattle.rules.specs.declared.order.Order.{Order}
 use Rattle.rules.specs.declared.units.Day.{Day}
@@ -22,8 +22,9 @@ use Rattle.rules.specs.declared.units.Day.the-variants.{On, NoDay}
 use Rattle.rules.specs.declared.units.DayNo.{DayNo}
 use Rattle.rules.specs.Days.{Calendar, nextBusinessDay}
 use Rattle.rules.specs.Contracts.{termOf, contractsOf, childrenOf, termClosingDay, notBefore, isOn, isBefore, stillToClose, hasCascaded}
-use Rattle.rules.specs.CalendarLaws.{firstMonthOf, next-business, before-or-not, closes-today, closed-by-next, quarter-later-by-number, open-stays, open-in-ledger, open-to-close}
-use Rattle.rules.specs.HourLaws.{Cascading, year, quarter, cascading}
+use Rattle.rules.specs.OtherForms.{firstMonthOf}
+use Rattle.rules.proofs.CalendarLaws.{next-business, before-or-not, closes-today, closed-by-next, quarter-later-by-number, open-stays, open-in-ledger, open-to-close}
+use Rattle.rules.proofs.HourLaws.{Cascading, year, quarter, cascading}
 use Rattle.rules.specs.Header.{Header, calendarOf}
 use Rattle.rules.specs.Ledger.{Tables, Line, withRows, members, day, calendar, orders, withOrders, withoutSubmits, firstLines}
 use Rattle.rules.specs.CloseOfDay.{cascaded, closingContracts, allCascaded, isOfAny, withClosed, priced, nextDay, onDay, closeBooked}

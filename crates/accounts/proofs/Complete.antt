@@ -10,8 +10,9 @@ use native.Mathlib.Omega.{arith}
 use lib.Dec.{eqb, leb, ltb}
 use lib.ListN.{length}
 use borrow.Author.Tests.{le-leb, lt-leb, leb-false, lt-ltb, le-ltb, eq-eqb}
-use Rattle.arith.specs.Alls.{All, all-map, all-always, all-append, all-there}
-use Rattle.arith.specs.Tests.{never, by-bool, le-or-lt, and-right, and-false}
+use Rattle.arith.specs.Lists.{All}
+use Rattle.arith.proofs.Alls.{all-map, all-always, all-append, all-there}
+use Rattle.arith.proofs.Tests.{never, by-bool, le-or-lt, and-right, and-false}
 use Rattle.rules.specs.declared.order.Order.{Order}
 use Rattle.rules.specs.declared.order.Side.{Side}
 use Rattle.rules.specs.declared.order.Side.the-variants.{Buy, Sell}

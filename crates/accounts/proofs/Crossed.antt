@@ -7,8 +7,9 @@ use native.Mathlib.Omega.{arith}
 use lib.Dec.{ltb}
 use lib.ListN.{length}
 use borrow.Author.Tests.{leb-false, ltb-true, eq-eqb}
-use Rattle.arith.specs.Alls.{All, all-map, all-both, all-append}
-use Rattle.arith.specs.Tests.{by-bool, and-right}
+use Rattle.arith.specs.Lists.{All}
+use Rattle.arith.proofs.Alls.{all-map, all-both, all-append}
+use Rattle.arith.proofs.Tests.{by-bool, and-right}
 use Rattle.rules.specs.declared.event.Event.{Event}
 use Rattle.rules.specs.declared.event.Event.the-variants.{Submit, Cancel, DayLimits, Proposal, Default, CloseOut, CloseOfDay}
 use Rattle.rules.specs.declared.event.Leg.{Leg}

@@ -10,7 +10,7 @@ use lib.ListN.{length, getD, set, replicate, length-map, length-set, length-repl
 use lib.Seq.{getD-set-same, getD-set-other}
 use borrow.Author.Tests.{eq-eqb, ne-eqb, lt-ltb, ltb-true}
 use Rattle.arith.specs.Lists.{howMany, total, from}
-use Rattle.arith.specs.Tests.{never, by-bool, le-or-lt, same-or, and-left, and-right}
+use Rattle.arith.proofs.Tests.{never, by-bool, le-or-lt, same-or, and-left, and-right}
 use Rattle.rules.specs.Default.{sumOf, minimum, minimums, comesFirst, placed, inOrder, Dealing, turn, round, rounds, dealtOut}
 
 -- ---- the minimums suffice

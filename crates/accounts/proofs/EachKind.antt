@@ -4,9 +4,8 @@ use mathlib.Core.Bool.{true, false, not, cond}
 use mathlib.Core.List.{List, [], _∷_}
 use Prim.Native.Nat.{ℕ}
 use native.Mathlib.Omega.{arith}
-use Rattle.arith.specs.Alls.{All}
-use Rattle.arith.specs.Lists.{kept}
-use Rattle.arith.specs.Tests.{never, by-bool}
+use Rattle.arith.specs.Lists.{All, kept}
+use Rattle.arith.proofs.Tests.{never, by-bool}
 use Rattle.rules.specs.declared.answer.Answer.{Answer}
 use Rattle.rules.specs.declared.answer.Answer.the-variants.{TableUnsound, RecordUnsound}
 use Rattle.rules.specs.declared.event.Event.{Event}

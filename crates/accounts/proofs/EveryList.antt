@@ -7,7 +7,7 @@ use native.Mathlib.Nat.{zero-add}
 use lib.Dec.{T}
 use lib.IntN.{ℤ}
 use Rattle.arith.specs.Lists.{from}
-use Rattle.arith.specs.Tests.{passed, failed}
+use Rattle.arith.proofs.Tests.{passed, failed}
 use Rattle.rules.specs.Header.{headerOf, beginsWithHeader}
 use Rattle.rules.specs.Ledger.{Tables, withLines, ggf, lotsRun, orders, lineRun, ledgerShort, fresh}
 use Rattle.rules.specs.Refusals.{applySpec, makeSpec}

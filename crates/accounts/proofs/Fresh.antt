@@ -8,7 +8,7 @@ use lib.ListN.{length, getD, take, drop, replicate, length-take, length-drop, le
 use lib.Seq.{getD-append-add, getD-take, getD-drop, ext-getD}
 use lib.IntN.{ℤ, pos}
 use Rattle.arith.specs.Lists.{over, inEachBlock, from}
-use Rattle.arith.specs.Overs.{over-length, over-inside, over-outside}
+use Rattle.arith.proofs.Overs.{over-length, over-inside, over-outside}
 use Rattle.rules.specs.Header.{Header}
 use Rattle.rules.specs.Ledger.{Tables, members, holidays, orders, freshHead, freshRows, fresh}
 use Rattle.rules.specs.Accounts.{Column, lots, value, row}

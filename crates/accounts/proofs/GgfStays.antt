@@ -10,11 +10,11 @@ use lib.Dec.{leb, ltb}
 use lib.ListN.{length, getD, set, length-set, length-take, length-drop}
 use lib.Seq.{getD-set-same, getD-set-other}
 use borrow.Author.Tests.{leb-true, ltb-true}
-use Rattle.arith.specs.Alls.{all-map}
-use Rattle.arith.specs.EachBlock.{block, block-at, in-each-block}
+use Rattle.arith.proofs.Alls.{all-map}
+use Rattle.arith.proofs.EachBlock.{block, block-at, in-each-block}
 use Rattle.arith.specs.Lists.{over}
-use Rattle.arith.specs.Overs.{over-length, over-outside}
-use Rattle.arith.specs.Tests.{by-bool, le-or-lt, same-or}
+use Rattle.arith.proofs.Overs.{over-length, over-outside}
+use Rattle.arith.proofs.Tests.{by-bool, le-or-lt, same-or}
 use Rattle.rules.specs.declared.contract.ContractKind.{ContractKind}
 use Rattle.rules.specs.declared.contract.ContractKind.the-variants.{Year, Quarter, Month}
 use Rattle.rules.specs.declared.event.Event.{Event}

@@ -8,11 +8,11 @@ use lib.Dec.{eqb, leb, ltb}
 use lib.ListN.{length, getD, set, take, drop, replicate, length-append, length-replicate, getD-replicate}
 use lib.Seq.{getD-set-same, getD-set-other, set-out}
 use borrow.Author.Tests.{leb-true, leb-false, ltb-false, le-leb, lt-ltb, le-ltb, not-false}
-use Rattle.arith.specs.Alls.{All, all-hold, hold-all, all-place}
-use Rattle.arith.specs.Among.{every-from, from-every}
-use Rattle.arith.specs.Lists.{kept, total, over}
-use Rattle.arith.specs.Overs.{over-inside, over-outside}
-use Rattle.arith.specs.Tests.{never, by-bool, le-or-lt, same-or, and-left, and-right, passed, passes, or-left, or-right}
+use Rattle.arith.specs.Lists.{All, kept, total, over}
+use Rattle.arith.proofs.Alls.{all-hold, hold-all, all-place}
+use Rattle.arith.proofs.Among.{every-from, from-every}
+use Rattle.arith.proofs.Overs.{over-inside, over-outside}
+use Rattle.arith.proofs.Tests.{never, by-bool, le-or-lt, same-or, and-left, and-right, passed, passes, or-left, or-right}
 use Rattle.rules.specs.declared.event.CloseOutTerms.{CloseOutTerms}
 use Rattle.rules.specs.declared.event.Leg.{Leg}
 use Rattle.rules.specs.declared.event.Submission.{Submission}
@@ -20,7 +20,7 @@ use Rattle.rules.specs.declared.order.Order.{Order}
 use Rattle.rules.specs.declared.units.Day.{Day}
 use Rattle.rules.specs.declared.units.Day.the-variants.{On, NoDay}
 use Rattle.rules.specs.Days.{businessDay, spanStart, dayAfterSpan, inSpan, nextBusinessDay}
-use Rattle.rules.specs.CalendarLaws.{next-business}
+use Rattle.rules.proofs.CalendarLaws.{next-business}
 use Rattle.rules.specs.Header.{Header, calendarOf, calendarSound, membersSound, daySound}
 use Rattle.rules.specs.Ledger.{Tables, Line, withHead, withPrices, members, holidayCount, day, time, acceptedSubmits, lotsRun, orderCount, limit, mark, submitsThisSecond, calendar, orders, withOrders, lineRun, booked, withoutSubmits, timed, freshHead, fresh}
 use Rattle.rules.specs.Matching.{withLots, matched, incoming, submitLines, wouldRest, submitsAt, submitOrders, withDeals, submitMatched, counted, submitBooked}

@@ -5,8 +5,8 @@ use mathlib.Core.List.{List, _++_}
 use Prim.Native.Nat.{ℕ, _<_}
 use lib.IntN.{ℤ, pos, _+ℤ_}
 use Rattle.arith.specs.Ints.{when, sum}
-use Rattle.arith.specs.Sums.{sum-add, sum-ext}
-use Rattle.arith.specs.Alls.{All}
+use Rattle.arith.proofs.Sums.{sum-add, sum-ext}
+use Rattle.arith.specs.Lists.{All}
 use Rattle.rules.specs.Contracts.{holdsHour}
 use Rattle.rules.specs.Header.{Header, calendarOf}
 use Rattle.rules.specs.Ledger.{Line}

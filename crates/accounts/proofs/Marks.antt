@@ -9,9 +9,9 @@ use lib.Dec.{eqb}
 use lib.ListN.{length}
 use lib.Seq.{getD-set-other}
 use borrow.Author.Tests.{eq-eqb}
-use Rattle.arith.specs.Alls.{All, all-map, all-both, all-kept}
-use Rattle.arith.specs.Lists.{kept}
-use Rattle.arith.specs.Tests.{never}
+use Rattle.arith.specs.Lists.{All, kept}
+use Rattle.arith.proofs.Alls.{all-map, all-both, all-kept}
+use Rattle.arith.proofs.Tests.{never}
 use Rattle.rules.specs.declared.event.Event.{Event}
 use Rattle.rules.specs.declared.event.Event.the-variants.{Submit, Cancel, DayLimits, Proposal, Default, CloseOut, CloseOfDay}
 use Rattle.rules.specs.declared.event.Leg.{Leg}

@@ -8,8 +8,8 @@ use native.Mathlib.Omega.{arith}
 use lib.Dec.{eqb, leb, ltb}
 use lib.ListN.{length}
 use borrow.Author.Tests.{ltb-true, leb-false}
-use Rattle.arith.specs.Tests.{by-bool, and-left}
-use Rattle.arith.specs.Alls.{All}
+use Rattle.arith.proofs.Tests.{by-bool, and-left}
+use Rattle.arith.specs.Lists.{All}
 use Rattle.rules.specs.declared.order.Order.{Order}
 use Rattle.rules.specs.Matching.{precedes, better, best, opposes, meets, withLots, used, Matched, stopped, afterDeal, matching}
 

@@ -7,8 +7,8 @@ use lib.Dec.{T}
 use lib.ListN.{length}
 use lib.IntN.{ℤ}
 use borrow.Author.Tests.{not-false}
-use Rattle.arith.specs.Alls.{all-every, hold-all}
-use Rattle.arith.specs.Tests.{and-left, passed, failed, or-false}
+use Rattle.arith.proofs.Alls.{all-every, hold-all}
+use Rattle.arith.proofs.Tests.{and-left, passed, failed, or-false}
 use Rattle.rules.specs.declared.event.Event.{Event}
 use Rattle.rules.specs.declared.event.Event.the-variants.{Submit, Cancel, DayLimits, Proposal, Default, CloseOut, CloseOfDay}
 use Rattle.rules.specs.declared.event.Leg.{Leg}

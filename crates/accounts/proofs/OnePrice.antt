@@ -4,8 +4,8 @@ use mathlib.Core.Path.{_≡_, refl, sym, ap, ap₂, _∙_}
 use mathlib.Core.List.{List, [], _∷_, _++_}
 use lib.IntN.{ℤ, pos, _+ℤ_, _*ℤ_, zero-*ℤ, +ℤ-idl, +ℤ-assoc}
 use Rattle.arith.specs.Ints.{when}
-use Rattle.arith.specs.Sums.{*ℤ-distrib, when-zero, when-add}
-use Rattle.arith.specs.Alls.{All}
+use Rattle.arith.proofs.Sums.{*ℤ-distrib, when-zero, when-add}
+use Rattle.arith.specs.Lists.{All}
 use Rattle.rules.specs.Days.{Calendar}
 use Rattle.rules.specs.Contracts.{holdsHour}
 use Rattle.rules.specs.Ledger.{Line}

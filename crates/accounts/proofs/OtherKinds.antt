@@ -6,8 +6,8 @@ use Prim.Native.Nat.{ℕ, _+_, _<_}
 use native.Mathlib.Omega.{arith}
 use lib.Dec.{eqb, ltb}
 use lib.ListN.{length, set}
-use Rattle.arith.specs.Alls.{All, all-map, all-kept}
-use Rattle.arith.specs.Lists.{kept}
+use Rattle.arith.specs.Lists.{All, kept}
+use Rattle.arith.proofs.Alls.{all-map, all-kept}
 use Rattle.rules.specs.declared.event.CloseOutTerms.{CloseOutTerms}
 use Rattle.rules.specs.declared.order.Order.{Order}
 use Rattle.rules.specs.Contracts.{hasCascaded}

@@ -8,7 +8,7 @@ use lib.Dec.{ltb}
 use lib.ListN.{length, getD, set}
 use lib.Seq.{getD-set-other}
 use Rattle.arith.specs.Lists.{kept}
-use Rattle.arith.specs.Tests.{by-bool}
+use Rattle.arith.proofs.Tests.{by-bool}
 use Rattle.rules.specs.declared.event.Submission.{Submission}
 use Rattle.rules.specs.declared.order.Order.{Order}
 use Rattle.rules.specs.Ledger.{Tables, members, time, withHead, orders, withOrders, withoutSubmits, timed}

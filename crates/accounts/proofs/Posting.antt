@@ -6,9 +6,9 @@ use Prim.Native.Nat.{ℕ, _<_}
 use lib.Dec.{eqb}
 use lib.IntN.{ℤ, pos, _+ℤ_, +ℤ-assoc, +ℤ-idl, +ℤ-idr}
 use Rattle.arith.specs.Ints.{when, sum}
-use Rattle.arith.specs.Tests.{by-eqb, never}
-use Rattle.arith.specs.Sums.{sorted, when-zero, when-add, when-comm, sum-zero, sum-add, sum-ext, sum-at}
-use Rattle.arith.specs.Alls.{All}
+use Rattle.arith.proofs.Tests.{by-eqb, never}
+use Rattle.arith.proofs.Sums.{sorted, when-zero, when-add, when-comm, sum-zero, sum-add, sum-ext, sum-at}
+use Rattle.arith.specs.Lists.{All}
 use Rattle.rules.specs.Days.{Calendar}
 use Rattle.rules.specs.Contracts.{holdsHour}
 use Rattle.rules.specs.Ledger.{Line}

@@ -11,11 +11,11 @@ use lib.ListN.{length, getD, set, length-set}
 use lib.Seq.{getD-set-same, getD-set-other}
 use lib.IntN.{natAbs}
 use borrow.Author.Tests.{leb-true, le-leb}
-use Rattle.arith.specs.Alls.{All, all-hold, hold-all, all-map}
-use Rattle.arith.specs.EachBlock.{block, block-at, block-passes, every-block, blocks-done}
-use Rattle.arith.specs.Lists.{kept, total, over, everyBlock}
-use Rattle.arith.specs.Overs.{over-length, over-inside, over-outside}
-use Rattle.arith.specs.Tests.{by-bool, same-or, and-left, and-right}
+use Rattle.arith.specs.Lists.{All, kept, total, over, everyBlock}
+use Rattle.arith.proofs.Alls.{all-hold, hold-all, all-map}
+use Rattle.arith.proofs.EachBlock.{block, block-at, block-passes, every-block, blocks-done}
+use Rattle.arith.proofs.Overs.{over-length, over-inside, over-outside}
+use Rattle.arith.proofs.Tests.{by-bool, same-or, and-left, and-right}
 use Rattle.rules.specs.declared.event.CloseOutTerms.{CloseOutTerms}
 use Rattle.rules.specs.declared.event.Leg.{Leg}
 use Rattle.rules.specs.declared.event.NewDayLimits.{NewDayLimits}

@@ -11,10 +11,10 @@ use lib.ListN.{length}
 use lib.IntN.{ℤ, pos, negℤ, _+ℤ_, _*ℤ_, +ℤ-assoc, +ℤ-idl, +ℤ-invr, negℤ-+ℤ}
 use borrow.Author.Tests.{eqb-true}
 use Rattle.arith.specs.Ints.{when}
-use Rattle.arith.specs.Alls.{All, all-hold, all-map}
-use Rattle.arith.specs.Lists.{kept, total}
-use Rattle.arith.specs.Tests.{by-bool, and-left, and-right, passed, passes}
-use Rattle.arith.specs.Sums.{sorted}
+use Rattle.arith.specs.Lists.{All, kept, total}
+use Rattle.arith.proofs.Alls.{all-hold, all-map}
+use Rattle.arith.proofs.Tests.{by-bool, and-left, and-right, passed, passes}
+use Rattle.arith.proofs.Sums.{sorted}
 use Rattle.rules.specs.declared.event.Leg.{Leg}
 use Rattle.rules.specs.declared.order.Order.{Order}
 use Rattle.rules.specs.declared.order.Side.{Side}
@@ -25,7 +25,7 @@ use Rattle.rules.specs.Header.{Header, calendarOf}
 use Rattle.rules.specs.Ledger.{Tables, members, orders, withOrders}
 use Rattle.rules.specs.Matching.{sameSide, signed, withLots, used}
 use Rattle.rules.specs.Synthetic.{numbered, Named, namedLegs, legLots, legValue, inHour, balancedInHour, balanced, acceptable, legLine, proposalLines, usedByLegs, proposalBooked}
-use Rattle.rules.specs.HourLaws.{balanced-every-hour}
+use Rattle.rules.proofs.HourLaws.{balanced-every-hour}
 use Rattle.rules.specs.Accounts.{Column, lots, value, amount}
 use Rattle.accounts.proofs.Lines.{Fits, hourTotal}
 use Rattle.accounts.proofs.Heads.{changing, set-other}

@@ -3,7 +3,7 @@ use mathlib.Core.Path.{_≡_, refl, sym, ap, subst, _∙_}
 use mathlib.Core.Bool.{false, not, cond}
 use mathlib.Core.List.{List, [], _∷_, _++_}
 use lib.IntN.{ℤ}
-use Rattle.arith.specs.Tests.{never, by-bool}
+use Rattle.arith.proofs.Tests.{never, by-bool}
 use Rattle.rules.specs.declared.answer.Answer.the-variants.{Accepted, TableUnsound, HeaderUnsound}
 use Rattle.rules.specs.Answers.{Outcome, told}
 use Rattle.rules.specs.Header.{headerOf, beginsWithHeader}

@@ -7,9 +7,9 @@ use native.Mathlib.Omega.{arith}
 use lib.Dec.{eqb, leb}
 use lib.ListN.{length}
 use borrow.Author.Tests.{leb-false, not-true}
-use Rattle.arith.specs.Alls.{All, all-map, all-append}
-use Rattle.arith.specs.Lists.{any, kept, total}
-use Rattle.arith.specs.Tests.{by-bool, and-left, and-right, or-left, or-right}
+use Rattle.arith.specs.Lists.{All, any, kept, total}
+use Rattle.arith.proofs.Alls.{all-map, all-append}
+use Rattle.arith.proofs.Tests.{by-bool, and-left, and-right, or-left, or-right}
 use Rattle.rules.specs.declared.event.Leg.{Leg}
 use Rattle.rules.specs.declared.order.Order.{Order}
 use Rattle.rules.specs.Matching.{opposes, withLots, used, matching}

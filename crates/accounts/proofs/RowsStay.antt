@@ -10,11 +10,11 @@ use lib.Dec.{eqb, leb, ltb}
 use lib.ListN.{length, getD, set, replicate, length-set, length-replicate}
 use lib.Seq.{getD-set-same, getD-set-other}
 use borrow.Author.Tests.{leb-true}
-use Rattle.arith.specs.Alls.{All, all-hold, every-all, all-map}
-use Rattle.arith.specs.EachBlock.{block-at, block-passes}
-use Rattle.arith.specs.Lists.{kept, every, over}
-use Rattle.arith.specs.Overs.{over-length, over-outside}
-use Rattle.arith.specs.Tests.{by-bool, and-right}
+use Rattle.arith.specs.Lists.{All, kept, every, over}
+use Rattle.arith.proofs.Alls.{all-hold, every-all, all-map}
+use Rattle.arith.proofs.EachBlock.{block-at, block-passes}
+use Rattle.arith.proofs.Overs.{over-length, over-outside}
+use Rattle.arith.proofs.Tests.{by-bool, and-right}
 use Rattle.rules.specs.declared.event.CloseOutTerms.{CloseOutTerms}
 use Rattle.rules.specs.declared.event.Leg.{Leg}
 use Rattle.rules.specs.declared.event.Submission.{Submission}

@@ -7,8 +7,9 @@ use native.Mathlib.Omega.{arith}
 use lib.Dec.{ltb}
 use lib.ListN.{length, set, take, drop, replicate}
 use lib.Seq.{getD-set-other}
-use Rattle.arith.specs.Alls.{All, all-map}
-use Rattle.arith.specs.Tests.{by-bool}
+use Rattle.arith.specs.Lists.{All}
+use Rattle.arith.proofs.Alls.{all-map}
+use Rattle.arith.proofs.Tests.{by-bool}
 use Rattle.rules.specs.declared.order.Order.{Order}
 use Rattle.rules.specs.Contracts.{openOn}
 use Rattle.rules.specs.Header.{Header, calendarOf}

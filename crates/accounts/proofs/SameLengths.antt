@@ -10,11 +10,11 @@ use lib.Dec.{eqb, ltb}
 use lib.ListN.{length, replicate, length-map, length-append, length-set, length-replicate}
 use lib.IntN.{ℤ, pos}
 use borrow.Author.Tests.{not-false}
-use Rattle.arith.specs.Alls.{All, all-map}
-use Rattle.arith.specs.EachBlock.{in-each-length}
-use Rattle.arith.specs.Lists.{kept, over}
-use Rattle.arith.specs.Overs.{over-length}
-use Rattle.arith.specs.Tests.{never, by-bool}
+use Rattle.arith.specs.Lists.{All, kept, over}
+use Rattle.arith.proofs.Alls.{all-map}
+use Rattle.arith.proofs.EachBlock.{in-each-length}
+use Rattle.arith.proofs.Overs.{over-length}
+use Rattle.arith.proofs.Tests.{never, by-bool}
 use Rattle.rules.specs.declared.answer.Answer.the-variants.{Accepted, TableUnsound, HeaderUnsound}
 use Rattle.rules.specs.declared.event.Event.{Event}
 use Rattle.rules.specs.declared.event.Event.the-variants.{Submit, Cancel, DayLimits, Proposal, Default, CloseOut, CloseOfDay}

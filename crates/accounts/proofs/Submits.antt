@@ -8,16 +8,17 @@ use lib.Dec.{leb, ltb}
 use lib.ListN.{length, set}
 use lib.IntN.{ℤ, pos, _+ℤ_, _*ℤ_, +ℤ-invr, +ℤ-invl, zero-*ℤ}
 use Rattle.arith.specs.Ints.{when}
-use Rattle.arith.specs.Alls.{All, all-always, all-map, all-append}
-use Rattle.arith.specs.Tests.{by-bool, and-false}
-use Rattle.arith.specs.Sums.{sorted, *ℤ-distrib}
+use Rattle.arith.specs.Lists.{All}
+use Rattle.arith.proofs.Alls.{all-always, all-map, all-append}
+use Rattle.arith.proofs.Tests.{by-bool, and-false}
+use Rattle.arith.proofs.Sums.{sorted, *ℤ-distrib}
 use Rattle.rules.specs.declared.event.Submission.{Submission}
 use Rattle.rules.specs.declared.order.Order.{Order}
 use Rattle.rules.specs.declared.order.Side.{Side}
 use Rattle.rules.specs.declared.order.Side.the-variants.{Buy, Sell}
 use Rattle.rules.specs.Days.{Calendar}
 use Rattle.rules.specs.Contracts.{holdsHour, termOf, termClosingDay, stillToClose, openOn, hasCascaded}
-use Rattle.rules.specs.CalendarLaws.{before-or-not, open-to-close}
+use Rattle.rules.proofs.CalendarLaws.{before-or-not, open-to-close}
 use Rattle.rules.specs.Header.{Header, calendarOf}
 use Rattle.rules.specs.Ledger.{Tables, Line, members, day, isOpen, time, acceptedSubmits, submitsThisSecond, withHead, orders, withOrders, withoutSubmits, timed}
 use Rattle.rules.specs.Matching.{signed, otherSide, opposes, withLots, Deal, matching, matched, dealLines, incoming, submitMatched, submitLines, wouldRest, submitOrders, withDeals, counted, submitBooked}

@@ -6,8 +6,8 @@ use Prim.Native.Nat.{ℕ}
 use lib.Dec.{T}
 use lib.IntN.{ℤ, pos}
 use Rattle.arith.specs.Ints.{when}
-use Rattle.arith.specs.Sums.{when-zero, sum-zero, sum-ext}
-use Rattle.arith.specs.Tests.{passed, failed}
+use Rattle.arith.proofs.Sums.{when-zero, sum-zero, sum-ext}
+use Rattle.arith.proofs.Tests.{passed, failed}
 use Rattle.rules.specs.Contracts.{holdsHour, hasCascaded}
 use Rattle.rules.specs.Header.{Header, calendarOf, headerOf, beginsWithHeader}
 use Rattle.rules.specs.Ledger.{Tables, Line, withLines, ledgerShort, fresh}

@@ -7,7 +7,7 @@ use lib.ListN.{length, getD, drop}
 use lib.Seq.{getD-append-add, getD-set-same}
 use lib.IntN.{ℤ, pos, natAbs}
 use Rattle.arith.specs.Lists.{over}
-use Rattle.arith.specs.Blocks.{read-back}
+use Rattle.arith.proofs.Blocks.{read-back}
 use Rattle.rules.specs.declared.order.Order.{Order}
 use Rattle.rules.specs.declared.order.Side.{Side}
 use Rattle.rules.specs.declared.order.Side.the-variants.{Buy, Sell}

@@ -3,7 +3,7 @@ use Prim.Native.Nat.{ℕ, _<_}
 use mathlib.Core.Path.{_≡_}
 use mathlib.Core.Bool.{Bool, true, false}
 use mathlib.Core.List.{List, [], _∷_, List·Memᴰ}
-use Rattle.arith.specs.Alls.{All}
+use Rattle.arith.specs.Lists.{All}
 use Rattle.rules.specs.declared.answer.Answer.{Answer}
 use Rattle.rules.specs.declared.answer.Answer.the-variants.{TableUnsound, RecordUnsound}
 use Rattle.rules.specs.declared.event.Event.{Event}

@@ -4,7 +4,7 @@ use mathlib.Core.Logic.{_⊎_}
 use mathlib.Core.Path.{_≡_}
 use mathlib.Core.Bool.{true, false, _&&_}
 use mathlib.Core.List.{List}
-use Rattle.arith.specs.Alls.{All}
+use Rattle.arith.specs.Lists.{All}
 use Rattle.rules.specs.declared.event.Event.the-variants.{Submit}
 use Rattle.rules.specs.declared.event.Reading.the-variants.{Sound}
 use Rattle.rules.specs.declared.event.Submission.{Submission}

@@ -7,7 +7,7 @@ use native.Mathlib.Omega.{arith}
 use native.Mathlib.Nat.{add-suc, suc-add, add-zero, suc-mul, zero-mul}
 use lib.ListN.{length, getD, length-append}
 use Rattle.arith.specs.Lists.{kept, from}
-use Rattle.arith.specs.Tests.{true-or}
+use Rattle.arith.proofs.Tests.{true-or}
 
 pub from-more : (a n : ℕ) → from a (suc n) ≡ from a n ++ ((a + n) ∷ [])
 unfolding from

@@ -13,7 +13,7 @@ use mir.Syntax.{w64}
 use mir.Val.{Fits, SFits, toZ, ofZ}
 use mir.Facts.{toZ-ofZ}
 use Rattle.arith.specs.Bits.{bitsOf, inWindow}
-use Rattle.arith.specs.Tests.{never, by-leb}
+use Rattle.arith.proofs.Tests.{never, by-leb}
 
 -- ---- a signed number's bits
 minus-one : (n : ℕ) → negsuc 0 -ℤ negsuc n ≡ pos n

@@ -1,3 +1,14 @@
+pub mod Tests
+pub mod Counts
+pub mod Ranges
+pub mod Sums
+pub mod Blocks
+pub mod Alls
+pub mod Overs
+pub mod Among
+pub mod Terms
+pub mod Sizes
+pub mod EachBlock
 pub mod Scans
 pub mod Rows
 pub mod Writes

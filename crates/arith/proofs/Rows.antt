@@ -7,7 +7,7 @@ use native.Mathlib.Nat.{suc-mul, zero-mul, add-comm, le-refl}
 use lib.ListN.{take, drop, getD}
 use lib.Seq.{take-add, take-take, take-nil, getD-take, getD-drop}
 use Rattle.arith.specs.Lists.{every, everyBlock}
-use Rattle.arith.specs.Tests.{and-true, and-left, and-right}
+use Rattle.arith.proofs.Tests.{and-true, and-left, and-right}
 use Rattle.arith.proofs.Scans.{and-swap, every-weaker}
 
 -- Where each place that passes p passes q, all do that all pass p.

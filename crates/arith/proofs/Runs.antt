@@ -7,7 +7,7 @@ use native.Mathlib.Nat.{add-zero, zero-add, sub-zero}
 use native.Mathlib.Omega.{arith}
 use lib.ListN.{length, getD, length-map}
 use Rattle.arith.specs.Lists.{from, every}
-use Rattle.arith.specs.Tests.{and-true}
+use Rattle.arith.proofs.Tests.{and-true}
 use Rattle.arith.proofs.Appends.{from-length}
 use Rattle.arith.proofs.Scans.{from-next, from-end}
 

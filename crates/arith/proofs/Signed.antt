@@ -10,8 +10,8 @@ use lib.Signed.{mag, leZ}
 use mir.Syntax.{w64}
 use mir.Val.{SFits, toZ, ofZ}
 use mir.Facts.{toZ-ofZ, toZ-pos}
-use Rattle.arith.specs.Tests.{by-leb, and-true}
-use Rattle.arith.specs.Sizes.{abs-plus}
+use Rattle.arith.proofs.Tests.{by-leb, and-true}
+use Rattle.arith.proofs.Sizes.{abs-plus}
 
 abbrev pub rd : ℤ → ℤ
 rd z = toZ w64 (ofZ w64 z)

@@ -9,7 +9,7 @@ use lib.Dec.{eqb}
 use lib.ListN.{take}
 use borrow.Author.Tests.{eq-eqb, ne-eqb}
 use Rattle.arith.specs.Lists.{any, kept, total, from}
-use Rattle.arith.specs.Tests.{by-bool, same-or}
+use Rattle.arith.proofs.Tests.{by-bool, same-or}
 
 -- ---- totals
 pub total-append : {A : Type 0} (f : A → ℕ) (l m : List A) → total f (l ++ m) ≡ total f l + total f m

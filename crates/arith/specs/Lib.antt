@@ -1,15 +1,4 @@
 pub mod Lists
 pub mod Ints
-pub mod Tests
-pub mod Counts
-pub mod Ranges
-pub mod Sums
-pub mod Blocks
-pub mod Alls
-pub mod Overs
-pub mod Among
-pub mod Terms
-pub mod Sizes
-pub mod EachBlock
 pub mod Bits
 pub mod Columns

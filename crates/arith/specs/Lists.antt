@@ -58,3 +58,8 @@ from a (suc n) = a ∷ from (suc a) n
 unfoldable pub count : (ℕ → Bool) → ℕ → ℕ
 count p zero = 0
 count p (suc n) = count p n + cond (p n) 1 0
+
+-- each element has a property
+abbrev pub All : {A : Type 0} → (A → Type 0) → List A → Type 0
+All P [] = Unit {0}
+All P (x ∷ xs) = P x × All P xs

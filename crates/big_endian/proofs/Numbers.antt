@@ -9,10 +9,9 @@ use borrow.Author.Tests.{ltb-true}
 use lib.Dec.{T, ltb}
 use lib.ListN.{length, getD, drop, length-append, drop-of-length-le}
 use lib.Seq.{getD-append-add, drop-cons}
-use Rattle.arith.specs.Alls.{All}
-use Rattle.arith.specs.Blocks.{map-from-suc, map-same}
-use Rattle.arith.specs.Lists.{from, every}
-use Rattle.arith.specs.Tests.{and-left, and-right, passed, passes}
+use Rattle.arith.specs.Lists.{All, from, every}
+use Rattle.arith.proofs.Blocks.{map-from-suc, map-same}
+use Rattle.arith.proofs.Tests.{and-left, and-right, passed, passes}
 use Rattle.rules.specs.Header.{u16At, u32At, u16Bytes, u32Bytes}
 
 pub u16-wide : (n : ℕ) → length (u16Bytes n) ≡ 2

@@ -6,7 +6,7 @@ use lib.Dec.{leb}
 use lib.ListN.{length}
 use borrow.Author.Tests.{leb-true}
 use Rattle.arith.specs.Lists.{every}
-use Rattle.arith.specs.Tests.{and-left, and-right}
+use Rattle.arith.proofs.Tests.{and-left, and-right}
 use Rattle.rules.specs.Ranges.{leastFirstYear, mostFirstYear, mostHolidays}
 use Rattle.rules.specs.Days.{Calendar, inSpan}
 use Rattle.rules.specs.Header.{firstYearSound, rising, calendarSound}

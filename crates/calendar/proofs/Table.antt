@@ -7,7 +7,7 @@ use native.Mathlib.Nat.{add-zero, zero-add, add-suc, suc-add, le-of-suc-le-suc, 
 use lib.Dec.{T, eqb, eqb→eq}
 use lib.ListN.{length, getD}
 use Rattle.rules.specs.Days.{monthLength, monthStart}
-use Rattle.rules.specs.CalendarLaws.{month-zero, month-next}
+use Rattle.rules.proofs.CalendarLaws.{month-zero, month-next}
 
 abbrev both : Bool → Bool → Bool
 both true b = b

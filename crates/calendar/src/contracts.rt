@@ -3,7 +3,7 @@ ghost use mathlib.Core.Path.{_≡_};
 ghost use mathlib.Core.List.{List};
 ghost use Prim.Native.Nat.{ℕ, _≤_};
 ghost use Rattle.rules.specs.Contracts.{monthsIn, termOf, kindOf, firstDay, daysOf, termClosingDay, closingDay, closesOn, stillToClose, openOn};
-ghost use Rattle.rules.specs.CalendarLaws.{openByCount};
+ghost use Rattle.rules.specs.OtherForms.{openByCount};
 ghost use Rattle.calendar.specs.Bounds.{FirstYear, InLedger};
 ghost use Rattle.calendar.specs.Spans.{IsPeriod};
 use crate::days::business_day_before;

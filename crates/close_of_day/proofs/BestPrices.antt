@@ -9,9 +9,9 @@ use lib.Dec.{eqb, leb, ltb}
 use lib.ListN.{length, getD, set}
 use lib.Seq.{getD-set-same, getD-set-other}
 use borrow.Author.Tests.{lt-ltb, le-ltb, eq-eqb, ne-eqb}
-use Rattle.arith.specs.Alls.{All, all-map}
-use Rattle.arith.specs.Lists.{from}
-use Rattle.arith.specs.Tests.{never, by-bool, true-or, by-eqb, le-or-lt, same-or, and-left, and-right}
+use Rattle.arith.specs.Lists.{All, from}
+use Rattle.arith.proofs.Alls.{all-map}
+use Rattle.arith.proofs.Tests.{never, by-bool, true-or, by-eqb, le-or-lt, same-or, and-left, and-right}
 use Rattle.rules.specs.declared.order.Order.{Order}
 use Rattle.rules.specs.declared.order.Side.{Side}
 use Rattle.rules.specs.declared.order.Side.the-variants.{Buy, Sell}

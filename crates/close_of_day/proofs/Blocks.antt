@@ -7,7 +7,7 @@ use native.Mathlib.Nat.{add-assoc, add-comm, zero-add, zero-mul, suc-mul}
 use lib.ListN.{length, take, drop, length-take, length-drop, take-append-drop}
 use lib.Seq.{length-take-le, take-take, take-append-add, drop-append-add, drop-append-le}
 use Rattle.arith.specs.Lists.{over, inEachBlock}
-use Rattle.arith.specs.Overs.{over-length}
+use Rattle.arith.proofs.Overs.{over-length}
 
 module _ {A : Type 0} where
   over-behind : (m : ℕ) (ys a b : List A) → over (length a + m) ys (a ++ b) ≡ a ++ over m ys b

@@ -13,16 +13,17 @@ use lib.IntN.{ℤ, pos, natAbs, _+ℤ_, +ℤ-idr}
 use borrow.Author.Tests.{ne-eqb}
 use Rattle.arith.specs.Ints.{when}
 use Rattle.arith.specs.Lists.{any, from, over, kept}
-use Rattle.arith.specs.Among.{not-among}
-use Rattle.arith.specs.Sizes.{abs-plus, abs-when}
-use Rattle.arith.specs.Tests.{by-bool, true-or, le-or-lt}
+use Rattle.arith.proofs.Among.{not-among}
+use Rattle.arith.proofs.Sizes.{abs-plus, abs-when}
+use Rattle.arith.proofs.Tests.{by-bool, true-or, le-or-lt}
 use Rattle.arith.proofs.Scans.{from-next, from-end}
 use Rattle.arith.proofs.Appends.{kept-append}
 use Rattle.rules.specs.declared.contract.ContractKind.{ContractKind}
 use Rattle.rules.specs.declared.contract.ContractKind.the-variants.{Year, Quarter, Month}
 use Rattle.rules.specs.Contracts.{childrenOf, contractsOf}
-use Rattle.rules.specs.CalendarLaws.{numberOf, sizeOf, firstMonthOf, contracts-of}
-use Rattle.rules.specs.HourLaws.{Cascading, year, quarter, cascading}
+use Rattle.rules.specs.OtherForms.{numberOf, sizeOf, firstMonthOf}
+use Rattle.rules.proofs.CalendarLaws.{contracts-of}
+use Rattle.rules.proofs.HourLaws.{Cascading, year, quarter, cascading}
 use Rattle.rules.specs.CloseOfDay.{contractRows, addedTo, cascaded, allCascaded}
 use Rattle.rules.proofs.Cascade.{rowOf, rows-length, rows-at, put-length, put-row, sums, sums-length, cascaded-month, cascaded-length, cascaded-row}
 use Rattle.tables.specs.Fit.{RowsFit}

@@ -7,8 +7,8 @@ use native.Mathlib.Omega.{arith}
 use lib.ListN.{length, getD, take}
 use borrow.Author.Tests.{le-ltb}
 use lib.IntN.{ℤ}
-use Rattle.arith.specs.Alls.{All, all-map, all-append, all-kept}
-use Rattle.arith.specs.Lists.{from, kept}
+use Rattle.arith.specs.Lists.{All, from, kept}
+use Rattle.arith.proofs.Alls.{all-map, all-append, all-kept}
 use Rattle.rules.specs.declared.contract.ContractKind.{ContractKind}
 use Rattle.rules.specs.declared.contract.ContractKind.the-variants.{Year, Quarter, Month}
 use Rattle.rules.specs.declared.order.Order.{Order}

@@ -10,9 +10,9 @@ use lib.Dec.{eqb, leb, ltb}
 use lib.ListN.{length, getD, set, take, length-set}
 use lib.Seq.{getD-set-same, getD-set-other}
 use borrow.Author.Tests.{ne-eqb, eq-eqb, lt-ltb, le-ltb, eqb-true}
-use Rattle.arith.specs.Alls.{All, all-map}
-use Rattle.arith.specs.Lists.{kept}
-use Rattle.arith.specs.Tests.{by-bool, true-or, same-or, by-eqb, never}
+use Rattle.arith.specs.Lists.{All, kept}
+use Rattle.arith.proofs.Alls.{all-map}
+use Rattle.arith.proofs.Tests.{by-bool, true-or, same-or, by-eqb, never}
 use Rattle.rules.specs.declared.contract.ContractKind.{ContractKind}
 use Rattle.rules.specs.declared.contract.ContractKind.the-variants.{Year, Quarter, Month}
 use Rattle.rules.specs.declared.order.Order.{Order}

@@ -8,10 +8,10 @@ use native.Mathlib.Nat.{zero-add}
 use lib.Dec.{eqb, ltb}
 use lib.ListN.{length, getD, length-map}
 use borrow.Author.Tests.{lt-ltb, le-ltb, le-leb, lt-leb, eq-eqb, ne-eqb}
-use Rattle.arith.specs.Alls.{All, all-map, all-append, all-kept}
-use Rattle.arith.specs.Lists.{any, from, kept}
-use Rattle.arith.specs.Among.{by-among}
-use Rattle.arith.specs.Tests.{true-or, le-or-lt, same-or, and-true, and-false, any-append}
+use Rattle.arith.specs.Lists.{All, any, from, kept}
+use Rattle.arith.proofs.Alls.{all-map, all-append, all-kept}
+use Rattle.arith.proofs.Among.{by-among}
+use Rattle.arith.proofs.Tests.{true-or, le-or-lt, same-or, and-true, and-false, any-append}
 use Rattle.arith.proofs.Appends.{map-at, from-at, from-length}
 use Rattle.rules.specs.declared.contract.ContractKind.{ContractKind}
 use Rattle.rules.specs.declared.contract.ContractKind.the-variants.{Year, Quarter, Month}

@@ -8,7 +8,7 @@ ghost use lib.ListN.{length, getD, take, drop};
 ghost use lib.IntN.{ℤ, pos, natAbs, _+ℤ_};
 ghost use Rattle.arith.specs.Lists.{from, over, kept};
 ghost use Rattle.rules.specs.Ranges.{contractCount, mostMembers};
-ghost use Rattle.rules.specs.CalendarLaws.{sizeOf};
+ghost use Rattle.rules.specs.OtherForms.{sizeOf};
 ghost use Rattle.rules.specs.Contracts.{contractsOf};
 ghost use Rattle.rules.specs.Ledger.{rowsLength, rowsFrom, rowPlace};
 ghost use Rattle.rules.specs.CloseOfDay.{contractRows, addedTo, zeroRows, cascaded, allCascaded};

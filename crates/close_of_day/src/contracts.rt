@@ -4,7 +4,7 @@ ghost use Prim.Native.Nat.{_≤_, _<_};
 ghost use lib.ListN.{length};
 ghost use Rattle.rules.specs.Ranges.{contractCount};
 ghost use Rattle.rules.specs.Contracts.{closingDay};
-ghost use Rattle.rules.specs.CalendarLaws.{numberOf, sizeOf};
+ghost use Rattle.rules.specs.OtherForms.{numberOf, sizeOf};
 ghost use Rattle.calendar.specs.Bounds.{FirstYear};
 ghost use Rattle.close_of_day.specs.Phases.{phaseOf, phases};
 use rules::ContractKind;

@@ -11,7 +11,7 @@ use borrow.Author.Tests.{le-leb, lt-leb}
 use Rattle.arith.proofs.Columns.{mapped-length, mapped-at}
 use Rattle.arith.specs.Ints.{up, dn}
 use Rattle.arith.specs.Lists.{from}
-use Rattle.arith.specs.Tests.{le-or-lt}
+use Rattle.arith.proofs.Tests.{le-or-lt}
 use Rattle.arith.proofs.Totals.{total-most}
 use Rattle.rules.specs.declared.event.CloseOutTerms.{CloseOutTerms}
 use Rattle.rules.specs.Default.{sumOf, othersLots, lotsLeft, weights, openWeight}

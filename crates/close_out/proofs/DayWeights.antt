@@ -9,7 +9,7 @@ use lib.IntN.{natAbs}
 use lib.ListN.{length, getD, List·getD-eq-default}
 use Rattle.arith.proofs.Columns.{mapped-length, mapped-at}
 use Rattle.arith.specs.Lists.{from, total}
-use Rattle.arith.specs.Tests.{le-or-lt}
+use Rattle.arith.proofs.Tests.{le-or-lt}
 use Rattle.arith.proofs.Totals.{total-same}
 use Rattle.rules.proofs.OpenContracts.{open-total, days-most}
 use Rattle.rules.specs.Contracts.{daysOf, openOn}

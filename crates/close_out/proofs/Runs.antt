@@ -11,7 +11,7 @@ use lib.ListN.{length, getD, replicate, length-append}
 use borrow.Author.Tests.{ne-eqb}
 use Rattle.arith.proofs.Signed.{abs-neg}
 use Rattle.arith.specs.Lists.{total}
-use Rattle.arith.specs.Tests.{same-or}
+use Rattle.arith.proofs.Tests.{same-or}
 use Rattle.arith.proofs.Totals.{total-append}
 use Rattle.rules.specs.Default.{sumOf, givenUp, less, changeLines, dealtOut, rounds}
 use Rattle.rules.specs.Ledger.{Tables, Line, members, lineRun}

@@ -6,7 +6,7 @@ use native.Mathlib.Omega.{arith}
 use native.Mathlib.Nat.{zero-add}
 use lib.IntN.{ℤ, pos, _-ℤ_}
 use lib.ListN.{length, getD, length-append}
-use Rattle.arith.specs.Overs.{zip-length}
+use Rattle.arith.proofs.Overs.{zip-length}
 use Rattle.rules.specs.Default.{sumOf, givenUp, less, changeLines}
 use Rattle.rules.specs.Ledger.{Tables, Line, members}
 use Rattle.rules.specs.Ranges.{contractCount, mostPrice, leastLines, mostMembers}

@@ -10,7 +10,7 @@ use lib.ListN.{length, getD}
 use borrow.Author.Tests.{eq-eqb, ne-eqb, lt-ltb, le-ltb}
 use Rattle.arith.specs.Ints.{up, dn}
 use Rattle.arith.specs.Lists.{from}
-use Rattle.arith.specs.Tests.{le-or-lt, never}
+use Rattle.arith.proofs.Tests.{le-or-lt, never}
 use Rattle.rules.specs.declared.answer.Answer.the-variants.{Accepted, ContractNotOpen, NoReferencePrice, NoDefaultedLots, NoTaker, TotalPassed}
 use Rattle.rules.specs.declared.event.CloseOutTerms.{CloseOutTerms}
 use Rattle.rules.specs.Default.{sumOf, givenUp, less, defaultedLongs, defaultedShorts, smallerTotal, nettedLongs, nettedShorts, nettingChanges, longsLeft, shortsLeft, lotsLeft, weights, taken, defaultedChanges, takerChanges, closeOutLines, closeOutBooked}

@@ -10,7 +10,7 @@ use lib.ListN.{length, getD}
 use Rattle.arith.proofs.Padded.{column-at}
 use Rattle.arith.specs.Lists.{from, every}
 use Rattle.arith.proofs.Runs.{length-run, run-of}
-use Rattle.arith.specs.Tests.{never, le-or-lt, and-false}
+use Rattle.arith.proofs.Tests.{never, le-or-lt, and-false}
 use Rattle.rules.specs.declared.event.Event.the-variants.{Submit, Cancel, DayLimits, Proposal, Default, CloseOut, CloseOfDay}
 use Rattle.rules.specs.declared.event.Event.{Event}
 use Rattle.rules.specs.declared.event.Leg.{Leg}

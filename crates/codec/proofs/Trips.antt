@@ -7,11 +7,11 @@ use native.Mathlib.Omega.{arith}
 use borrow.Author.Tests.{lt-leb, le-leb, le-ltb, eq-eqb, ne-eqb}
 use lib.Dec.{T, eqb, leb, ltb}
 use lib.ListN.{length, getD, take, drop, length-append, List·getD-append}
-use Rattle.arith.specs.Alls.{All, every-all}
+use Rattle.arith.specs.Lists.{All, every, over}
+use Rattle.arith.proofs.Alls.{every-all}
 use Rattle.arith.proofs.Appends.{flat-length}
-use Rattle.arith.specs.Lists.{every, over}
 use Rattle.arith.proofs.Beside.{take-over}
-use Rattle.arith.specs.Tests.{never, same-or, and-left, and-right, and-false}
+use Rattle.arith.proofs.Tests.{never, same-or, and-left, and-right, and-false}
 use Rattle.rules.specs.declared.answer.Answer.the-variants.{Accepted, RecordUnsound}
 use Rattle.rules.specs.declared.event.Event.the-variants.{Submit, Cancel, DayLimits, Proposal, Default, CloseOut, CloseOfDay}
 use Rattle.rules.specs.declared.event.Event.{Event}

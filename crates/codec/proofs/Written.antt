@@ -10,7 +10,7 @@ use lib.ListN.{length}
 use Rattle.arith.proofs.Appends.{flat-length}
 use Rattle.arith.specs.Lists.{over}
 use Rattle.arith.proofs.Beside.{over-then}
-use Rattle.arith.specs.Tests.{never, le-or-lt, and-right, and-false}
+use Rattle.arith.proofs.Tests.{never, le-or-lt, and-right, and-false}
 use Rattle.rules.specs.declared.answer.Answer.the-variants.{Accepted, TableUnsound, RecordUnsound}
 use Rattle.rules.specs.declared.event.Event.the-variants.{Submit, Cancel, DayLimits, Proposal, Default, CloseOut, CloseOfDay}
 use Rattle.rules.specs.declared.event.Event.{Event}

@@ -6,10 +6,10 @@ use Prim.Native.Nat.{ℕ, _≤_}
 use native.Mathlib.Omega.{arith}
 use lib.Dec.{leb, ltb}
 use Rattle.arith.specs.Lists.{every, allOf, from}
-use Rattle.arith.specs.Tests.{and-true, and-false}
+use Rattle.arith.proofs.Tests.{and-true, and-false}
 use Rattle.arith.proofs.Scans.{every-same, every-both, every-map}
 use Rattle.rules.specs.Days.{Calendar, spanStart, dayAfterSpan, inSpan}
-use Rattle.rules.specs.CalendarLaws.{month-le}
+use Rattle.rules.proofs.CalendarLaws.{month-le}
 use Rattle.rules.specs.Ledger.{Tables, calendar, members, acceptedSubmits, orderCount, orderAt, sideAt, orders}
 use Rattle.rules.specs.Refusals.{distinct, orderSound, sidesSound, bookSound}
 use Rattle.calendar.specs.declared.months.Span.{Span}

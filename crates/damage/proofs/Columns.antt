@@ -12,7 +12,7 @@ use lib.ListN.{take}
 use lib.Count.{leadingZeros, leading-length}
 use lib.Pow.{pow-pos, pow-mono}
 use Rattle.arith.specs.Lists.{every}
-use Rattle.arith.specs.Tests.{le-or-lt}
+use Rattle.arith.proofs.Tests.{le-or-lt}
 use Rattle.arith.specs.Bits.{inWindow}
 use Rattle.arith.proofs.Bits.{window-within}
 use Rattle.arith.proofs.Rows.{rows-weaker, whole-rows, no-column, next-column}

@@ -7,7 +7,7 @@ use native.Mathlib.Numerals.{add-one}
 use lib.Dec.{leb, ltb, leb·suc-suc}
 use lib.ListN.{getD}
 use Rattle.arith.specs.Lists.{allOf}
-use Rattle.arith.specs.Tests.{and-true, and-false}
+use Rattle.arith.proofs.Tests.{and-true, and-false}
 use Rattle.rules.specs.Refusals.{contractPricesSound}
 use Rattle.damage.specs.Orders.{between}
 

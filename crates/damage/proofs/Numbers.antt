@@ -8,7 +8,7 @@ use native.Mathlib.Numerals.{add-one}
 use lib.Dec.{eqb, leb}
 use borrow.Author.Tests.{leb-true, ne-eqb}
 use Rattle.arith.specs.Lists.{any, from}
-use Rattle.arith.specs.Tests.{and-left, and-right, and-true}
+use Rattle.arith.proofs.Tests.{and-left, and-right, and-true}
 use Rattle.rules.specs.Refusals.{distinct}
 use Rattle.arith.proofs.Scans.{from-next, from-end}
 

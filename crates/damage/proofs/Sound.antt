@@ -6,7 +6,7 @@ use Prim.Native.Nat.{_*_}
 use lib.Dec.{leb}
 use lib.IntN.{natAbs}
 use Rattle.arith.specs.Lists.{allOf}
-use Rattle.arith.specs.Tests.{and-false, and-true}
+use Rattle.arith.proofs.Tests.{and-false, and-true}
 use Rattle.rules.specs.Header.{firstYearSound}
 use Rattle.rules.specs.Ranges.{mostHolidays, mostPrice}
 use Rattle.rules.specs.Ledger.{Tables, firstYear, holidayCount, members, lotsRun, calendar, ledgerShort, linesShort}

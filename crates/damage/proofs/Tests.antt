@@ -3,7 +3,7 @@ use mathlib.Core.Path.{_≡_}
 use mathlib.Core.Bool.{Bool, true, _&&_, and-assoc}
 use mathlib.Core.List.{[], _∷_}
 use Rattle.arith.specs.Lists.{allOf}
-use Rattle.arith.specs.Tests.{and-true}
+use Rattle.arith.proofs.Tests.{and-true}
 
 -- A row of tests, joined by & in turn.
 pub all-three : (a b c : Bool) → a && b && c ≡ allOf (a ∷ b ∷ c ∷ [])

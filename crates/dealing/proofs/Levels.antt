@@ -11,7 +11,7 @@ use lib.ListN.{length, getD, set, replicate, length-map, length-set, List·getD-
 use lib.Seq.{ext-getD, getD-set-same, getD-set-other}
 use borrow.Author.Tests.{eq-eqb, ne-eqb}
 use Rattle.arith.specs.Lists.{from}
-use Rattle.arith.specs.Tests.{le-or-lt, same-or}
+use Rattle.arith.proofs.Tests.{le-or-lt, same-or}
 use Rattle.rules.specs.Default.{sumOf, Dealing, inOrder, turn, round, rounds}
 use Rattle.rules.proofs.MembersInOrder.{times, times-once, times-none, order-below}
 use Rattle.rules.proofs.Netting.{sum-cons, sum-none, sum-zeros, sum-set, sum-le, sum-lt}

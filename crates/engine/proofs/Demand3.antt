@@ -4,7 +4,7 @@ use native.Mathlib.Omega.{arith}
 use mathlib.Core.Path.{_≡_, refl, sym, ap, _∙_}
 use mathlib.Core.Bool.{true, false, not, cond}
 use mathlib.Core.List.{List, [], _∷_, _++_, map}
-use Rattle.arith.specs.Tests.{true-or, passes}
+use Rattle.arith.proofs.Tests.{true-or, passes}
 use Rattle.rules.specs.declared.answer.Answer.{Answer}
 use Rattle.rules.specs.declared.answer.Answer.the-variants.{Accepted}
 use Rattle.rules.specs.Answers.{Outcome, told}

@@ -7,10 +7,10 @@ use native.Mathlib.Omega.{arith}
 use lib.Dec.{eqb, leb, ltb}
 use lib.ListN.{length, take, getD, length-map, List·getD-map}
 use borrow.Author.Tests.{leb-true, eqb-true}
-use Rattle.arith.specs.Alls.{all-place}
+use Rattle.arith.proofs.Alls.{all-place}
 use Rattle.arith.specs.Columns.{padded}
 use Rattle.arith.specs.Lists.{every}
-use Rattle.arith.specs.Tests.{and-left, and-right}
+use Rattle.arith.proofs.Tests.{and-left, and-right}
 use Rattle.arith.proofs.Runs.{run-of}
 use Rattle.rules.specs.declared.event.CloseOutTerms.{CloseOutTerms}
 use Rattle.rules.specs.declared.event.Event.the-variants.{Submit, DayLimits, Proposal, Default, CloseOut}

@@ -8,7 +8,7 @@ use lib.Dec.{eqb, leb}
 use lib.ListN.{length, take, getD, length-map}
 use borrow.Author.Tests.{leb-true}
 use Rattle.arith.specs.Lists.{every, from}
-use Rattle.arith.specs.Tests.{true-or, and-left, and-right}
+use Rattle.arith.proofs.Tests.{true-or, and-left, and-right}
 use Rattle.rules.specs.declared.answer.Answer.the-variants.{Accepted}
 use Rattle.rules.specs.Days.{inSpan}
 use Rattle.rules.specs.Header.{Header, u16At, u32At, u16sAt, u32sAt, headerLength, headerOf, rising, calendarOf, calendarSound, membersSound, limitSound, daySound, sameBytes, lettersAndVersion, headerSound, beginsWithHeader}

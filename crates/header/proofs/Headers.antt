@@ -10,7 +10,7 @@ use lib.Dec.{eqb, leb, ltb}
 use lib.ListN.{length, getD, take, replicate, length-map, length-append, List·getD-append}
 use lib.Seq.{length-take-le, getD-take}
 use Rattle.arith.specs.Lists.{from, every, over}
-use Rattle.arith.specs.Tests.{never, le-or-lt, by-bool, same-test, and-left, and-right, and-false, and-true}
+use Rattle.arith.proofs.Tests.{never, le-or-lt, by-bool, same-test, and-left, and-right, and-false, and-true}
 use Rattle.rules.specs.declared.answer.Answer.the-variants.{Accepted, TableUnsound, HeaderUnsound}
 use Rattle.rules.specs.Days.{businessDay, inSpan}
 use Rattle.rules.specs.Header.{Header, u16At, u32At, u16Bytes, u32Bytes, u16sAt, u32sAt, lettersAndVersion, sameBytes, headerOf, headerLength, beginsWithHeader, rising, calendarOf, calendarSound, membersSound, limitSound, daySound, headerSound, headerBytes, writeHeaderSpec}

@@ -8,10 +8,10 @@ use borrow.Author.Tests.{le-leb, leb-true, ltb-true, eqb-true}
 use lib.Dec.{eqb, leb, ltb}
 use lib.Seq.{take-at}
 use lib.ListN.{length, getD, take, drop, length-append, take-append-drop}
-use Rattle.arith.specs.Alls.{All, every-all, all-map}
-use Rattle.arith.specs.Lists.{from, every, total, over}
+use Rattle.arith.specs.Lists.{All, from, every, total, over}
+use Rattle.arith.proofs.Alls.{every-all, all-map}
 use Rattle.arith.proofs.Writes.{over-front}
-use Rattle.arith.specs.Tests.{by-bool, and-right, and-false}
+use Rattle.arith.proofs.Tests.{by-bool, and-right, and-false}
 use Rattle.rules.specs.Ranges.{mostFirstYear, mostLimit}
 use Rattle.rules.specs.Days.{Calendar, leapYear, yearStart, monthStart, spanStart, dayAfterSpan, inSpan}
 use Rattle.rules.specs.Header.{Header, u16At, u32At, u16Bytes, u32Bytes, u16sAt, u32sAt, lettersAndVersion, sameBytes, headerLength, headerOf, headerBytes, calendarOf, calendarSound, limitSound, daySound, headerSound, beginsWithHeader, writeHeaderSpec}

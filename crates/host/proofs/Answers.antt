@@ -2,7 +2,7 @@
 use Prim.Native.Nat.{ℕ}
 use mathlib.Core.Path.{_≡_, sym, ap, _∙_}
 use mathlib.Core.List.{List}
-use Rattle.arith.specs.Tests.{true-or}
+use Rattle.arith.proofs.Tests.{true-or}
 use Rattle.rules.specs.declared.answer.Answer.{Answer}
 use Rattle.rules.specs.Answers.{Outcome, told}
 use Rattle.rules.specs.Header.{beginsWithHeader}

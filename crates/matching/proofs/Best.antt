@@ -8,8 +8,9 @@ use native.Mathlib.Omega.{arith}
 use lib.Dec.{eqb, ltb}
 use lib.ListN.{length, getD}
 use borrow.Author.Tests.{lt-ltb, le-ltb, eq-eqb, ne-eqb, lt-leb, leb-false, ltb-true}
-use Rattle.arith.specs.Alls.{All, all-map, all-place}
-use Rattle.arith.specs.Tests.{by-bool, true-or, le-or-lt, by-eqb, and-left, and-right, never, same-ltb}
+use Rattle.arith.specs.Lists.{All}
+use Rattle.arith.proofs.Alls.{all-map, all-place}
+use Rattle.arith.proofs.Tests.{by-bool, true-or, le-or-lt, by-eqb, and-left, and-right, never, same-ltb}
 use Rattle.rules.specs.declared.order.Order.{Order}
 use Rattle.rules.specs.declared.order.Side.{Side}
 use Rattle.rules.specs.declared.order.Side.the-variants.{Buy, Sell}

@@ -9,10 +9,9 @@ use native.Mathlib.Numerals.{add-one}
 use lib.ListN.{length, take, drop, getD, set, length-set, length-map}
 use lib.Seq.{set-getD, length-take-le, drop-drop, drop-at}
 use borrow.Author.Tests.{eq-eqb, ne-eqb}
-use Rattle.arith.specs.Lists.{from, over}
-use Rattle.arith.specs.Overs.{over-length, over-inside, over-outside}
-use Rattle.arith.specs.Alls.{All}
-use Rattle.arith.specs.Tests.{same-or, and-false}
+use Rattle.arith.specs.Lists.{from, over, All}
+use Rattle.arith.proofs.Overs.{over-length, over-inside, over-outside}
+use Rattle.arith.proofs.Tests.{same-or, and-false}
 use Rattle.arith.proofs.Appends.{from-more, map-append}
 use Rattle.rules.specs.declared.order.Order.{Order}
 use Rattle.rules.specs.Ranges.{mostLots, mostOrders}

@@ -6,8 +6,8 @@ use native.Mathlib.Nat.{zero-add}
 use native.Mathlib.Omega.{arith}
 use lib.ListN.{length, take, drop, getD, set, length-take, length-drop, length-set, drop-of-length-le}
 use lib.Seq.{take-all, take-nil, ext-getD, getD-set-same, getD-set-other}
-use Rattle.arith.specs.Tests.{same-or, le-or-lt}
-use Rattle.arith.specs.EachBlock.{block-at}
+use Rattle.arith.proofs.Tests.{same-or, le-or-lt}
+use Rattle.arith.proofs.EachBlock.{block-at}
 use Rattle.arith.proofs.Columns.{mapped-length, mapped-at}
 use Rattle.matching.specs.Ranks.{noRank, Lowest, LowestOf, lowestIn, blockSize, blockCount, rankBlock, lowsOf}
 

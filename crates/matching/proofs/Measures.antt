@@ -8,9 +8,9 @@ use native.Mathlib.Omega.{arith}
 use lib.Dec.{ltb}
 use lib.ListN.{length, getD, set}
 use borrow.Author.Tests.{lt-ltb, le-ltb, eq-eqb, ne-eqb}
-use Rattle.arith.specs.Lists.{howMany}
-use Rattle.arith.specs.Alls.{All, all-place, all-map}
-use Rattle.arith.specs.Tests.{by-bool, true-or, le-or-lt}
+use Rattle.arith.specs.Lists.{howMany, All}
+use Rattle.arith.proofs.Alls.{all-place, all-map}
+use Rattle.arith.proofs.Tests.{by-bool, true-or, le-or-lt}
 use Rattle.rules.specs.declared.order.Order.{Order}
 use Rattle.rules.specs.Matching.{opposes, meets, used, matching, matched}
 use Rattle.matching.specs.declared.deals.Counterparty.{Counterparty}

@@ -6,9 +6,8 @@ use Prim.Native.Nat.{ℕ, zero, suc, _+_, _*_, _≤_, _<_}
 use native.Mathlib.Omega.{arith}
 use native.Mathlib.Nat.{zero-add, add-zero}
 use lib.ListN.{getD, length-map}
-use Rattle.arith.specs.Lists.{from, total}
-use Rattle.arith.specs.Tests.{by-bool}
-use Rattle.arith.specs.Alls.{All}
+use Rattle.arith.specs.Lists.{from, total, All}
+use Rattle.arith.proofs.Tests.{by-bool}
 use Rattle.arith.proofs.Appends.{from-length, map-at, from-at}
 use Rattle.tables.proofs.Left.{orders-more, orders-length}
 use Rattle.rules.specs.declared.order.Order.{Order}

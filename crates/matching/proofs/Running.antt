@@ -8,9 +8,8 @@ use native.Mathlib.Omega.{arith}
 use lib.Dec.{ltb}
 use lib.ListN.{length, getD, set, length-set, length-map}
 use borrow.Author.Tests.{lt-ltb, ne-eqb}
-use Rattle.arith.specs.Lists.{howMany}
-use Rattle.arith.specs.Alls.{All}
-use Rattle.arith.specs.Tests.{true-or}
+use Rattle.arith.specs.Lists.{howMany, All}
+use Rattle.arith.proofs.Tests.{true-or}
 use Rattle.rules.specs.declared.order.Order.{Order}
 use Rattle.rules.specs.Matching.{best, opposes, meets, withLots, used, stopped, afterDeal, matching, matched}
 use Rattle.matching.specs.declared.deals.Counterparty.{Counterparty}

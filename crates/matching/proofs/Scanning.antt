@@ -4,7 +4,7 @@ use mathlib.Core.List.{List}
 use Prim.Native.Nat.{ℕ, _+_, _≤_, _<_}
 use native.Mathlib.Omega.{arith}
 use lib.ListN.{length, getD}
-use Rattle.arith.specs.Tests.{same-or, le-or-lt}
+use Rattle.arith.proofs.Tests.{same-or, le-or-lt}
 use Rattle.matching.specs.Ranks.{noRank, Lowest}
 
 -- Of the first i ranks.

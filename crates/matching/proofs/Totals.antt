@@ -8,7 +8,7 @@ use native.Mathlib.Omega.{arith}
 use native.Mathlib.Nat.{zero-add}
 use lib.Dec.{ltb}
 use Rattle.arith.specs.Lists.{total, kept}
-use Rattle.arith.specs.Tests.{by-bool, true-or}
+use Rattle.arith.proofs.Tests.{by-bool, true-or}
 use Rattle.rules.specs.declared.order.Order.{Order}
 use Rattle.rules.specs.Ledger.{lineRun}
 use Rattle.rules.specs.Matching.{otherSide, best, opposes, meets, withLots, used, Deal, Matched, stopped, afterDeal, matching, matched, dealLines}

@@ -8,9 +8,9 @@ use native.Mathlib.Omega.{arith}
 use lib.Dec.{eqb, ltb}
 use lib.ListN.{length, getD, set}
 use borrow.Author.Tests.{lt-ltb, le-leb, lt-leb, eq-eqb, ne-eqb, eqb-false, not-true}
-use Rattle.arith.specs.Lists.{any}
-use Rattle.arith.specs.Alls.{All, all-place}
-use Rattle.arith.specs.Tests.{by-bool, by-eqb, true-or, le-or-lt, and-left, and-right, never}
+use Rattle.arith.specs.Lists.{any, All}
+use Rattle.arith.proofs.Alls.{all-place}
+use Rattle.arith.proofs.Tests.{by-bool, by-eqb, true-or, le-or-lt, and-left, and-right, never}
 use Rattle.rules.specs.declared.order.Order.{Order}
 use Rattle.rules.specs.Matching.{best, opposes, meets, withLots, used, stopped, afterDeal, matching}
 use Rattle.rules.specs.Refusals.{distinct}

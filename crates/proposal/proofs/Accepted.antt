@@ -8,9 +8,8 @@ use lib.Dec.{ltb}
 use lib.ListN.{length, getD}
 use lib.Seq.{getD-set-other, set-comm}
 use borrow.Author.Tests.{lt-ltb, le-ltb}
-use Rattle.arith.specs.Alls.{All}
-use Rattle.arith.specs.Lists.{every, total, from}
-use Rattle.arith.specs.Tests.{never, true-or}
+use Rattle.arith.specs.Lists.{All, every, total, from}
+use Rattle.arith.proofs.Tests.{never, true-or}
 use Rattle.rules.specs.declared.answer.Answer.the-variants.{Accepted}
 use Rattle.rules.specs.declared.order.Order.{Order}
 use Rattle.rules.specs.Answers.{Outcome}

@@ -8,8 +8,8 @@ use lib.Dec.{eqb, ltb}
 use lib.ListN.{length, getD, length-map}
 use borrow.Author.Tests.{eq-eqb}
 use Rattle.arith.specs.Lists.{every, any, total, from, allOf}
-use Rattle.arith.specs.Overs.{zip-at}
-use Rattle.arith.specs.Tests.{and-false, and-true}
+use Rattle.arith.proofs.Overs.{zip-at}
+use Rattle.arith.proofs.Tests.{and-false, and-true}
 use Rattle.arith.proofs.Scans.{every-both}
 use Rattle.rules.specs.declared.event.Leg.{Leg}
 use Rattle.rules.specs.declared.order.Order.{Order}
@@ -18,7 +18,7 @@ use Rattle.rules.specs.declared.order.Side.the-variants.{Buy, Sell}
 use Rattle.rules.specs.Ranges.{monthsInSpan}
 use Rattle.rules.specs.Days.{Calendar, firstMonth, monthStart}
 use Rattle.rules.specs.Header.{rising}
-use Rattle.rules.specs.HourLaws.{holdsMonth}
+use Rattle.rules.specs.OtherForms.{holdsMonth}
 use Rattle.rules.specs.Ledger.{Tables, orderAt, orders, calendar}
 use Rattle.rules.specs.Matching.{sameSide}
 use Rattle.rules.specs.Synthetic.{Named, namedLegs, hasLots, priceAllowed, twoOccur, inHour, legLots, legValue, balancedInHour, balanced, inFull, priorityKept, acceptable}

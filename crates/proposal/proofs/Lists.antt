@@ -9,8 +9,8 @@ use native.Mathlib.Numerals.{add-one}
 use lib.ListN.{length, getD, length-map}
 use lib.Seq.{ext-getD}
 use Rattle.arith.specs.Lists.{every, any, total, from}
-use Rattle.arith.specs.Ranges.{total-more}
-use Rattle.arith.specs.Tests.{and-true, or-false}
+use Rattle.arith.proofs.Ranges.{total-more}
+use Rattle.arith.proofs.Tests.{and-true, or-false}
 use Rattle.arith.proofs.Scans.{from-next, from-end}
 use Rattle.arith.proofs.Appends.{from-length, map-at, from-at}
 

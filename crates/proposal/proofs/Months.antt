@@ -10,14 +10,14 @@ use lib.Dec.{eqb}
 use lib.ListN.{length, getD, take, drop}
 use lib.Seq.{length-take-le}
 use Rattle.arith.specs.Lists.{total, from}
-use Rattle.arith.specs.Overs.{zip-length, zip-at}
+use Rattle.arith.proofs.Overs.{zip-length, zip-at}
 use Rattle.arith.proofs.Writes.{again-long, again-front, again-many}
-use Rattle.arith.specs.Ranges.{total-more}
+use Rattle.arith.proofs.Ranges.{total-more}
 use Rattle.rules.specs.declared.order.Order.{Order}
 use Rattle.rules.specs.declared.order.Side.{Side}
 use Rattle.rules.specs.Ledger.{orderAt}
 use Rattle.rules.specs.Matching.{sameSide}
-use Rattle.rules.specs.HourLaws.{yearOf, quarterOf, monthOf, holdsMonth}
+use Rattle.rules.specs.OtherForms.{yearOf, quarterOf, monthOf, holdsMonth}
 use Rattle.proposal.specs.Columns.{LegsFit, AmountsFit, countsAt, inMonth}
 
 -- A leg's order is of the side, and of one of the month's three contracts.

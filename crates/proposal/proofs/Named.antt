@@ -10,9 +10,9 @@ use lib.Dec.{eqb, leb, ltb}
 use lib.ListN.{length, getD, take, drop, length-map}
 use lib.Seq.{length-take-le}
 use borrow.Author.Tests.{ltb-true, ltb-false, eq-eqb, ne-eqb}
-use Rattle.arith.specs.Alls.{every-all, all-place}
+use Rattle.arith.proofs.Alls.{every-all, all-place}
 use Rattle.arith.specs.Lists.{every, from}
-use Rattle.arith.specs.Tests.{by-bool, true-or, le-or-lt, and-left, and-right, never}
+use Rattle.arith.proofs.Tests.{by-bool, true-or, le-or-lt, and-left, and-right, never}
 use Rattle.arith.proofs.Appends.{from-length, map-at, from-at}
 use Rattle.arith.proofs.Writes.{again-long, again-front, again-many}
 use Rattle.arith.proofs.Scans.{from-next, from-end, every-map, map-map}

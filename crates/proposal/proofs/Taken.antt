@@ -10,9 +10,8 @@ use lib.Dec.{eqb, leb}
 use lib.ListN.{length, getD, set, take, drop, length-set, length-map}
 use lib.Seq.{length-take-le}
 use borrow.Author.Tests.{eqb-true, eqb-false, eq-eqb, ne-eqb, le-leb, lt-leb, not-true}
-use Rattle.arith.specs.Alls.{All}
-use Rattle.arith.specs.Lists.{any, from}
-use Rattle.arith.specs.Tests.{by-bool, true-or, same-or, le-or-lt, and-left, and-right, or-left, or-right}
+use Rattle.arith.specs.Lists.{All, any, from}
+use Rattle.arith.proofs.Tests.{by-bool, true-or, same-or, le-or-lt, and-left, and-right, or-left, or-right}
 use Rattle.arith.proofs.Writes.{again-long, again-front, again-many}
 use Rattle.arith.proofs.Appends.{from-more, map-append, map-at}
 use Rattle.rules.specs.declared.event.Leg.{Leg}

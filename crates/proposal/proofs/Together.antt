@@ -9,14 +9,15 @@ use lib.Dec.{eqb}
 use lib.ListN.{length, getD}
 use borrow.Author.Tests.{eq-eqb, eqb-true, not-false}
 use Rattle.arith.specs.Lists.{every, any, kept, total, from}
-use Rattle.arith.specs.Tests.{true-or, or-left, or-right, and-true}
+use Rattle.arith.proofs.Tests.{true-or, or-left, or-right, and-true}
 use Rattle.arith.proofs.Scans.{every-both}
 use Rattle.rules.specs.declared.order.Order.{Order}
 use Rattle.rules.specs.declared.order.Side.{Side}
 use Rattle.rules.specs.declared.order.Side.the-variants.{Buy, Sell}
 use Rattle.rules.specs.Days.{Calendar, firstMonth, monthStart}
 use Rattle.rules.specs.Contracts.{holdsHour}
-use Rattle.rules.specs.HourLaws.{holdsMonth, holds-hour, first-hour}
+use Rattle.rules.specs.OtherForms.{holdsMonth}
+use Rattle.rules.proofs.HourLaws.{holds-hour, first-hour}
 use Rattle.rules.specs.Matching.{sameSide, precedes}
 use Rattle.rules.specs.Synthetic.{Named, twoOccur, inHour, legLots, legValue, balancedInHour, balanced, inFull, priorityKept}
 

@@ -14,7 +14,7 @@ use Rattle.rules.specs.Ranges.{contractCount, monthsInSpan, mostLots, mostPrice
 use Rattle.rules.specs.Ledger.{bookLength, orderAt}
 use Rattle.rules.specs.Matching.{sameSide, precedes}
 use Rattle.rules.specs.Synthetic.{Named}
-use Rattle.rules.specs.HourLaws.{holdsMonth}
+use Rattle.rules.specs.OtherForms.{holdsMonth}
 use Rattle.tables.specs.Fit.{ordersIn}
 
 -- Leg i of the columns, and all of them.

@@ -9,7 +9,7 @@ ghost use Rattle.rules.specs.declared.order.Side.the-variants.{Buy, Sell};
 ghost use Rattle.rules.specs.Ranges.{monthsInSpan, mostOrders, mostLots, mostPrice};
 ghost use Rattle.rules.specs.Ledger.{bookLength};
 ghost use Rattle.rules.specs.Matching.{sameSide};
-ghost use Rattle.rules.specs.HourLaws.{yearOf, quarterOf, monthOf, holdsMonth};
+ghost use Rattle.rules.specs.OtherForms.{yearOf, quarterOf, monthOf, holdsMonth};
 ghost use Rattle.proposal.specs.Columns.{LegsFit, PlacesFit, AmountsFit, inMonth, balancedMonths};
 use crate::sides::is_same_side;
 use rules::Order;

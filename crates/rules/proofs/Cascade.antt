@@ -11,15 +11,15 @@ use lib.IntN.{ℤ, pos, _+ℤ_, +ℤ-assoc}
 use borrow.Author.Tests.{lt-leb, le-leb, eqb-true, ne-eqb}
 use Rattle.arith.specs.Lists.{any, from, over}
 use Rattle.arith.specs.Ints.{when}
-use Rattle.arith.specs.Tests.{by-eqb, le-or-lt, same-or}
-use Rattle.arith.specs.Among.{not-among}
-use Rattle.arith.specs.Sums.{sorted}
-use Rattle.arith.specs.Terms.{when-or}
-use Rattle.arith.specs.Overs.{over-length, over-inside, over-outside, zip-length, zip-at}
+use Rattle.arith.proofs.Tests.{by-eqb, le-or-lt, same-or}
+use Rattle.arith.proofs.Among.{not-among}
+use Rattle.arith.proofs.Sums.{sorted}
+use Rattle.arith.proofs.Terms.{when-or}
+use Rattle.arith.proofs.Overs.{over-length, over-inside, over-outside, zip-length, zip-at}
 use Rattle.rules.specs.Contracts.{childrenOf}
 use Rattle.rules.specs.CloseOfDay.{contractRows, addedTo, zeroRows, cascaded}
-use Rattle.rules.specs.CalendarLaws.{firstMonthOf}
-use Rattle.rules.specs.HourLaws.{Cascading, year, quarter, cascading}
+use Rattle.rules.specs.OtherForms.{firstMonthOf}
+use Rattle.rules.proofs.HourLaws.{Cascading, year, quarter, cascading}
 
 abbrev pub rowOf : List ℤ → ℕ → ℕ → ℤ
 rowOf l c m = getD l (c * 32 + m) (pos 0)

@@ -9,14 +9,14 @@ use lib.Dec.{eqb}
 use lib.ListN.{take}
 use borrow.Author.Tests.{eqb-true}
 use Rattle.arith.specs.Lists.{any, kept, total, from}
-use Rattle.arith.specs.Tests.{true-or, never, any-append}
+use Rattle.arith.proofs.Tests.{true-or, never, any-append}
 use Rattle.arith.proofs.Totals.{Rising, rising-from, rising-kept, rising-take, listed, total-append, total-plus, total-same, total-listed}
 use Rattle.rules.specs.declared.contract.ContractKind.{ContractKind}
 use Rattle.rules.specs.declared.contract.ContractKind.the-variants.{Year, Quarter, Month}
 use Rattle.rules.specs.Ranges.{contractCount}
 use Rattle.rules.specs.Days.{Calendar, monthStart, monthLength, monthDays, leapYear, firstMonth}
 use Rattle.rules.specs.Contracts.{openCount, sameKind, kindOf, termOf, contractsOf, monthsIn, termFirstDay, termDayAfter, daysOf, stillToClose, openOfKind, openContracts, openOn}
-use Rattle.rules.specs.CalendarLaws.{month-next, open-listed}
+use Rattle.rules.proofs.CalendarLaws.{month-next, open-listed}
 
 -- ---- listed numbers
 listed-kept : (p : ℕ → Bool) (l : List ℕ) (c : ℕ) → listed (kept p l) c ≡ true → p c ≡ true

@@ -10,7 +10,7 @@ use lib.ListN.{length, getD, drop, length-drop}
 use lib.Seq.{drop-cons}
 use borrow.Author.Tests.{ltb-true, lt-ltb}
 use Rattle.arith.specs.Lists.{every}
-use Rattle.arith.specs.Tests.{true-or, and-left, and-right, and-false, and-true}
+use Rattle.arith.proofs.Tests.{true-or, and-left, and-right, and-false, and-true}
 use Rattle.rules.specs.Header.{rising}
 
 -- What is above a larger number is above a smaller one.

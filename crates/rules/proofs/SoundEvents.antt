@@ -7,9 +7,9 @@ use native.Mathlib.Omega.{arith}
 use lib.Dec.{eqb, leb, ltb}
 use lib.ListN.{length}
 use borrow.Author.Tests.{leb-true, ltb-true, eqb-true}
-use Rattle.arith.specs.Alls.{All, every-all}
-use Rattle.arith.specs.Lists.{every}
-use Rattle.arith.specs.Tests.{and-left, and-right}
+use Rattle.arith.specs.Lists.{All, every}
+use Rattle.arith.proofs.Alls.{every-all}
+use Rattle.arith.proofs.Tests.{and-left, and-right}
 use Rattle.rules.specs.declared.event.Cancellation.{Cancellation}
 use Rattle.rules.specs.declared.event.CloseOutTerms.{CloseOutTerms}
 use Rattle.rules.specs.declared.event.Event.the-variants.{Submit, Cancel, DayLimits, Proposal, Default, CloseOut}

@@ -6,9 +6,9 @@ use mathlib.Core.List.{List}
 use lib.Dec.{eqb, leb}
 use lib.ListN.{length, take}
 use borrow.Author.Tests.{leb-true, eqb-true}
-use Rattle.arith.specs.Alls.{All, all-map, every-all}
-use Rattle.arith.specs.Lists.{every}
-use Rattle.arith.specs.Tests.{and-left, and-right}
+use Rattle.arith.specs.Lists.{All, every}
+use Rattle.arith.proofs.Alls.{all-map, every-all}
+use Rattle.arith.proofs.Tests.{and-left, and-right}
 use Rattle.rules.specs.Ranges.{leastFirstYear, mostFirstYear, mostHolidays, mostMembers, mostLimit}
 use Rattle.rules.specs.Days.{Calendar, inSpan}
 use Rattle.rules.specs.Header.{Header, calendarOf, rising, calendarSound, membersSound, limitSound, daySound, headerSound, sameBytes, lettersAndVersion, headerLength, headerOf, beginsWithHeader}

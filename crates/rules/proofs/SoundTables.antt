@@ -7,10 +7,10 @@ use native.Mathlib.Omega.{arith}
 use lib.Dec.{ltb}
 use lib.ListN.{length}
 use borrow.Author.Tests.{leb-true, ltb-true, ltb-false, lt-ltb, le-leb, le-ltb, not-false}
-use Rattle.arith.specs.Alls.{All, all-hold, hold-all, all-map, every-all}
-use Rattle.arith.specs.Among.{every-from}
-use Rattle.arith.specs.Lists.{from}
-use Rattle.arith.specs.Tests.{or-left, or-right, passed, passes}
+use Rattle.arith.specs.Lists.{All, from}
+use Rattle.arith.proofs.Alls.{all-hold, hold-all, all-map, every-all}
+use Rattle.arith.proofs.Among.{every-from}
+use Rattle.arith.proofs.Tests.{or-left, or-right, passed, passes}
 use Rattle.rules.specs.declared.order.Order.{Order}
 use Rattle.rules.specs.Ranges.{contractCount, lastSecond, mostHolidays, mostMembers, mostLimit, mostOrders, mostPrice, mostLots, mostSubmitsInSecond, mostLotsRun, mostAcceptedSubmits}
 use Rattle.rules.specs.Days.{inSpan}

@@ -10,7 +10,7 @@ use lib.Dec.{ltb}
 use lib.ListN.{length, getD, set, drop, length-set, drop-of-length-le}
 use lib.Seq.{drop-cons}
 use borrow.Author.Tests.{lt-ltb, le-ltb}
-use Rattle.arith.specs.Tests.{le-or-lt, and-false}
+use Rattle.arith.proofs.Tests.{le-or-lt, and-false}
 use Rattle.rules.specs.Default.{sumOf, Dealing, turn, round, rounds}
 use Rattle.rules.proofs.Netting.{sum-set}
 

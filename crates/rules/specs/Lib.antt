@@ -11,8 +11,7 @@ pub mod CloseOfDay
 pub mod Default
 pub mod Refusals
 pub mod Accounts
-pub mod CalendarLaws
-pub mod HourLaws
+pub mod OtherForms
 pub mod Bytes
 pub mod Computed
 pub mod ExampleRecords

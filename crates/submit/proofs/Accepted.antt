@@ -8,7 +8,7 @@ use lib.Dec.{ltb}
 use lib.IntN.{ℤ}
 use lib.ListN.{length, getD, length-set}
 use lib.Seq.{getD-set-same, getD-set-other}
-use Rattle.arith.specs.Tests.{by-bool}
+use Rattle.arith.proofs.Tests.{by-bool}
 use Rattle.arith.specs.Lists.{over, total}
 use Rattle.rules.specs.declared.answer.Answer.the-variants.{Accepted}
 use Rattle.rules.specs.declared.event.Submission.{Submission}

@@ -6,8 +6,8 @@ use native.Mathlib.Omega.{arith}
 use lib.Dec.{ltb}
 use lib.ListN.{length, getD, set, replicate, length-set, length-replicate, getD-replicate}
 use lib.Seq.{getD-set-other}
-use Rattle.arith.specs.Overs.{over-inside}
-use Rattle.arith.specs.Tests.{by-bool}
+use Rattle.arith.proofs.Overs.{over-inside}
+use Rattle.arith.proofs.Tests.{by-bool}
 use Rattle.rules.specs.Ranges.{mostMembers}
 use Rattle.rules.specs.Ledger.{Tables, withHead, members, time, submitsThisSecond, headLength, timed, withoutSubmits, timePlace, submitsFrom}
 use Rattle.rules.specs.Matching.{submitsAt, counted}

@@ -9,9 +9,8 @@ use lib.ListN.{length, length-map}
 use lib.IntN.{pos, _+ℤ_}
 use lib.Signed.{ltZ}
 use borrow.Author.Tests.{lt-ltb, lt-leb, ne-eqb, ltb-true, ltb-false, leb-false}
-use Rattle.arith.specs.Lists.{total}
-use Rattle.arith.specs.Alls.{All}
-use Rattle.arith.specs.Tests.{true-or, same-or, same-ltb, never}
+use Rattle.arith.specs.Lists.{total, All}
+use Rattle.arith.proofs.Tests.{true-or, same-or, same-ltb, never}
 use Rattle.rules.specs.declared.answer.Answer.{Answer}
 use Rattle.rules.specs.declared.answer.Answer.the-variants.{Accepted}
 use Rattle.rules.specs.declared.event.Submission.{Submission}

@@ -8,8 +8,8 @@ use lib.IntN.{ℤ, pos, natAbs}
 use lib.ListN.{length, getD, length-set, length-append}
 use lib.Seq.{getD-set-same, getD-set-other}
 use Rattle.arith.specs.Lists.{over, from, total}
-use Rattle.arith.specs.Overs.{over-length}
-use Rattle.arith.specs.Sizes.{abs-times}
+use Rattle.arith.proofs.Overs.{over-length}
+use Rattle.arith.proofs.Sizes.{abs-times}
 use Rattle.rules.specs.Ranges.{contractCount, mostPrice, mostLotsRun, leastLines}
 use Rattle.rules.specs.Ledger.{Tables, lent, withHead, withRows, withLines, withLotsRun, lineWidth, linePlaces, lineLots, lineValue, posted, booked}
 use Rattle.rules.specs.declared.order.Order.{Order}

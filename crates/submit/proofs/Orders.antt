@@ -10,7 +10,7 @@ use lib.ListN.{length, take, drop, length-append, take-append-drop}
 use lib.Seq.{drop-cons, take-add, getD-set-same, set-set, length-take-le}
 use borrow.Author.Tests.{eq-eqb, ne-eqb}
 use Rattle.arith.specs.Lists.{over, from}
-use Rattle.arith.specs.Tests.{same-or}
+use Rattle.arith.proofs.Tests.{same-or}
 use Rattle.arith.proofs.Appends.{flat-append, flat-one}
 use Rattle.arith.proofs.Writes.{over-more}
 use Rattle.rules.specs.declared.order.Order.{Order}

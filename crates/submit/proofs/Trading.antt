@@ -6,8 +6,7 @@ use native.Mathlib.Omega.{arith}
 use native.Mathlib.Nat.{add-zero}
 use lib.ListN.{length, getD, length-map}
 use lib.Seq.{set-getD}
-use Rattle.arith.specs.Lists.{from, total}
-use Rattle.arith.specs.Alls.{All}
+use Rattle.arith.specs.Lists.{from, total, All}
 use Rattle.rules.specs.declared.order.Order.{Order}
 use Rattle.rules.specs.Ranges.{mostLots}
 use Rattle.rules.specs.Ledger.{Tables, lent, withHead, withBook, withOrders, withDealt, dayLotsPlace, dayValuePlace, sideAt}

@@ -8,8 +8,8 @@ use lib.IntN.{ℤ, pos, natAbs, _+ℤ_}
 use lib.ListN.{length, getD, set, length-set}
 use lib.Seq.{set-getD, getD-set-same, getD-set-other, set-set}
 use Rattle.arith.specs.Lists.{over, total}
-use Rattle.arith.specs.Sizes.{abs-plus}
-use Rattle.arith.specs.Tests.{same-or}
+use Rattle.arith.proofs.Sizes.{abs-plus}
+use Rattle.arith.proofs.Tests.{same-or}
 use Rattle.arith.proofs.Appends.{flat-append, flat-one, flat-length}
 use Rattle.arith.proofs.Writes.{over-more}
 use Rattle.rules.specs.declared.answer.Answer.the-variants.{Accepted}

@@ -10,11 +10,11 @@ use lib.IntN.{ℤ, pos, natAbs}
 use lib.ListN.{length, getD, take, length-take, length-drop}
 use lib.Seq.{getD-take}
 use borrow.Author.Tests.{leb-true, ltb-true}
-use Rattle.arith.specs.Alls.{all-hold, every-all, all-place}
-use Rattle.arith.specs.Among.{every-from}
-use Rattle.arith.specs.EachBlock.{block, block-at, block-passes}
+use Rattle.arith.proofs.Alls.{all-hold, every-all, all-place}
+use Rattle.arith.proofs.Among.{every-from}
+use Rattle.arith.proofs.EachBlock.{block, block-at, block-passes}
 use Rattle.arith.specs.Lists.{every, from}
-use Rattle.arith.specs.Tests.{and-left, and-right, passed, passes}
+use Rattle.arith.proofs.Tests.{and-left, and-right, passed, passes}
 use Rattle.rules.specs.Ranges.{mostPrice}
 use Rattle.rules.specs.Ledger.{Tables, members, lotsRun, orderCount, limit, mark, submitsThisSecond, rowsLength, sideAt, orderAt, orders}
 use Rattle.rules.specs.Refusals.{memberSound, headSound, contractPricesSound, pricesSound, everyRow, rowsSound, orderSound, sidesSound, bookSound, unsound}

@@ -8,8 +8,8 @@ use lib.Dec.{ltb}
 use lib.ListN.{length, getD, set, replicate, length-set, length-replicate}
 use lib.Seq.{getD-set-other}
 use Rattle.arith.specs.Lists.{over}
-use Rattle.arith.specs.Overs.{over-length, over-outside}
-use Rattle.arith.specs.Tests.{by-bool}
+use Rattle.arith.proofs.Overs.{over-length, over-outside}
+use Rattle.arith.proofs.Tests.{by-bool}
 use Rattle.rules.specs.Ranges.{mostMembers}
 use Rattle.rules.specs.Ledger.{Tables, withHead, members, time, headLength, timed, withoutSubmits, timePlace, submitsFrom}
 use Rattle.tables.specs.Fit.{HeadFit, BookFit, OrdersFit, orderCountIn}

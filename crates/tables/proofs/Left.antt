@@ -10,10 +10,9 @@ use lib.Dec.{eqb}
 use lib.ListN.{length, getD, take, drop, length-append, length-map}
 use lib.Seq.{length-take-le}
 use borrow.Author.Tests.{ne-eqb}
-use Rattle.arith.specs.Alls.{All}
-use Rattle.arith.specs.Lists.{kept, from, over}
-use Rattle.arith.specs.Overs.{over-outside}
-use Rattle.arith.specs.Tests.{true-or}
+use Rattle.arith.specs.Lists.{All, kept, from, over}
+use Rattle.arith.proofs.Overs.{over-outside}
+use Rattle.arith.proofs.Tests.{true-or}
 use Rattle.arith.proofs.Appends.{from-more, from-length, map-append, flat-append, flat-one, flat-length, map-at, from-at}
 use Rattle.arith.proofs.Writes.{over-more, again-long, again-front, again-many}
 use Rattle.rules.specs.declared.order.Order.{Order}

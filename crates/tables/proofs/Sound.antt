@@ -6,8 +6,8 @@ use Prim.Native.Nat.{_≤_}
 use lib.Dec.{leb, ltb}
 use borrow.Author.Tests.{leb-true, ltb-false, not-false}
 use Rattle.arith.specs.Lists.{every, allOf}
-use Rattle.arith.specs.Tests.{never, and-left, and-right}
-use Rattle.arith.specs.Alls.{all-hold}
+use Rattle.arith.proofs.Tests.{never, and-left, and-right}
+use Rattle.arith.proofs.Alls.{all-hold}
 use lib.ListN.{length}
 use Rattle.rules.specs.Days.{Calendar, inSpan}
 use Rattle.rules.specs.Header.{rising, calendarSound}

@@ -4,7 +4,7 @@ use mathlib.Core.Bool.{Bool, true, false, _&&_, and-assoc}
 use mathlib.Core.List.{[], _∷_}
 use borrow.Author.Tests.{lt-ltb, le-ltb, le-leb, lt-leb, eq-eqb, ne-eqb}
 use Rattle.arith.specs.Lists.{allOf}
-use Rattle.arith.specs.Tests.{and-true}
+use Rattle.arith.proofs.Tests.{and-true}
 
 -- What a return goes by: each test that led there, as the Bool that the rules test.
 pub ruleset tests = (lt-ltb, le-ltb, le-leb, lt-leb, eq-eqb, ne-eqb)

@@ -1,4 +1,4 @@
-use Rattle.calendar.specs.Bounds.{numbered}
+use Rattle.calendar.proofs.InLedger.{numbered}
 use borrow.Author.Needs.{needs}
 use Rattle.calendar.proofs.contracts.closing_day.Statement.{statement}
 use Rattle.calendar.proofs.contracts.closing_day.Tie as tie

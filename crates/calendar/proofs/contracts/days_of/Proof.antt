@@ -1,8 +1,8 @@
 use mathlib.Core.List.{[]}
 use native.Mathlib.Omega.{arith}
-use Rattle.rules.specs.CalendarLaws.{month-le}
+use Rattle.rules.proofs.CalendarLaws.{month-le}
 use Rattle.rules.specs.Contracts.{termFirstDay, termDayAfter, daysOf}
-use Rattle.calendar.specs.Bounds.{numbered}
+use Rattle.calendar.proofs.InLedger.{numbered}
 use borrow.Author.Needs.{needs}
 use Rattle.calendar.proofs.contracts.days_of.Statement.{statement}
 use Rattle.calendar.proofs.contracts.days_of.Tie as tie

@@ -1,7 +1,7 @@
 use mathlib.Core.Path.{sym, _∙_}
 use native.Mathlib.Omega.{arith}
-use Rattle.rules.specs.CalendarLaws.{open-by-count}
-use Rattle.calendar.specs.Bounds.{numbered}
+use Rattle.rules.proofs.CalendarLaws.{open-by-count}
+use Rattle.calendar.proofs.InLedger.{numbered}
 use borrow.Author.Needs.{needs}
 use Rattle.calendar.proofs.contracts.is_open.Statement.{statement}
 use Rattle.calendar.proofs.contracts.is_open.Tie as tie

@@ -2,8 +2,8 @@ use mathlib.Core.Path.{sym, ap, _∙_}
 use mathlib.Core.Bool.{not}
 use native.Mathlib.Omega.{arith}
 use borrow.Author.Tests.{not-true, not-false}
-use Rattle.rules.specs.CalendarLaws.{open-closed, open-first, open-rank}
-use Rattle.calendar.specs.Bounds.{earlier}
+use Rattle.rules.proofs.CalendarLaws.{open-closed, open-first, open-rank}
+use Rattle.calendar.proofs.InLedger.{earlier}
 use borrow.Author.Needs.{needs}
 use Rattle.calendar.proofs.contracts.is_open_term.Statement.{statement}
 use Rattle.calendar.proofs.contracts.is_open_term.Tie as tie

@@ -6,7 +6,7 @@ use native.Mathlib.Omega.{arith}
 use lib.ListN.{length, drop}
 use lib.Dec.{eqb}
 use Rattle.arith.specs.Lists.{any}
-use Rattle.arith.specs.Tests.{any-next, any-end}
+use Rattle.arith.proofs.Tests.{any-next, any-end}
 use Rattle.calendar.proofs.days.is_holiday.Statement.{statement}
 use Rattle.calendar.proofs.days.is_holiday.Tie as tie
 

@@ -5,7 +5,7 @@ use Prim.Native.Nat.{_+_, _-_, _≤_}
 use native.Mathlib.Omega.{arith}
 use lib.ListN.{length, getD, take, drop, set, length-set}
 use lib.IntN.{pos, _+ℤ_}
-use Rattle.arith.specs.Overs.{zip-at}
+use Rattle.arith.proofs.Overs.{zip-at}
 use Rattle.arith.proofs.Signed.{add-ok, add-is}
 use Rattle.arith.proofs.Writes.{front-next, front-end}
 use Rattle.close_of_day.proofs.Cascades.{zip-short, front-rest}

@@ -7,7 +7,8 @@ use native.Mathlib.Nat.{sub-zero}
 use lib.ListN.{length}
 use Rattle.arith.specs.Lists.{kept}
 use Rattle.arith.proofs.Scans.{from-end}
-use Rattle.rules.specs.CalendarLaws.{numberOf, sizeOf, contracts-of}
+use Rattle.rules.specs.OtherForms.{numberOf, sizeOf}
+use Rattle.rules.proofs.CalendarLaws.{contracts-of}
 use Rattle.rules.specs.Contracts.{contractsOf}
 use Rattle.rules.specs.CloseOfDay.{allCascaded}
 use Rattle.close_of_day.specs.Phases.{closes, mostRow}

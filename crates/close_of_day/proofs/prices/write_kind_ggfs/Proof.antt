@@ -11,7 +11,8 @@ use lib.Seq.{take-nil}
 use Prim.Native.Nat.{_<_}
 use Rattle.arith.specs.Lists.{from, kept}
 use Rattle.arith.proofs.Scans.{from-next, from-end}
-use Rattle.rules.specs.CalendarLaws.{numberOf, sizeOf, contracts-of}
+use Rattle.rules.specs.OtherForms.{numberOf, sizeOf}
+use Rattle.rules.proofs.CalendarLaws.{contracts-of}
 use Rattle.close_of_day.specs.Phases.{waits, openIn}
 use Rattle.close_of_day.specs.Columns.{DealsFit, ggfFrom, ggfsFrom}
 use Rattle.close_of_day.proofs.Cascades.{number-below}

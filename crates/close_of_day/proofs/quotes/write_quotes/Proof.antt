@@ -6,8 +6,7 @@ use Prim.Native.Nat.{ℕ, _+_, _-_, _≤_, _<_}
 use native.Mathlib.Omega.{arith}
 use native.Mathlib.Nat.{sub-zero}
 use lib.ListN.{length, getD, getD-replicate, length-replicate}
-use Rattle.arith.specs.Lists.{from}
-use Rattle.arith.specs.Alls.{All}
+use Rattle.arith.specs.Lists.{from, All}
 use Rattle.arith.proofs.Scans.{from-next, from-end}
 use Rattle.rules.specs.Ledger.{orderAt}
 use Rattle.close_of_day.specs.Columns.{bestPrice}

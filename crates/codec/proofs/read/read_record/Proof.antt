@@ -1,5 +1,5 @@
 use mathlib.Core.Path.{sym, _∙_}
-use Rattle.arith.specs.Tests.{asked-true, asked-false}
+use Rattle.arith.proofs.Tests.{asked-true, asked-false}
 use Rattle.codec.proofs.Fields.{read-none, read-unsound, read-judged}
 use borrow.Author.Needs.{needs}
 use Rattle.codec.proofs.read.read_record.Statement.{statement}

@@ -1,5 +1,5 @@
 use borrow.Author.Needs.{needs}
-use Rattle.arith.specs.Tests.{and-true}
+use Rattle.arith.proofs.Tests.{and-true}
 use Rattle.rules.specs.Records.{eventSound}
 use Rattle.codec.proofs.sound.are_day_limits_sound.Statement.{statement}
 use Rattle.codec.proofs.sound.are_day_limits_sound.Tie as tie

@@ -1,5 +1,5 @@
 use mathlib.Core.Path.{refl}
-use Rattle.arith.specs.Tests.{and-true}
+use Rattle.arith.proofs.Tests.{and-true}
 use Rattle.codec.proofs.LegColumns.{proposal-legless}
 use Rattle.rules.specs.Records.{eventSound}
 use borrow.Author.Needs.{needs}

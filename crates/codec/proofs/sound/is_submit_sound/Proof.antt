@@ -1,5 +1,5 @@
 use mathlib.Core.Path.{refl}
-use Rattle.arith.specs.Tests.{and-true}
+use Rattle.arith.proofs.Tests.{and-true}
 use Rattle.rules.specs.Records.{eventSound}
 use borrow.Author.Needs.{needs}
 use Rattle.codec.proofs.sound.is_submit_sound.Statement.{statement}

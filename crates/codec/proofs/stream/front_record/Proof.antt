@@ -1,4 +1,4 @@
-use Rattle.arith.specs.Tests.{tests}
+use Rattle.arith.proofs.Tests.{tests}
 use Rattle.rules.specs.Records.{frontOf}
 use borrow.Author.Needs.{needs}
 use Rattle.codec.proofs.stream.front_record.Statement.{statement}

@@ -8,7 +8,7 @@ use Prim.Native.Nat.{_-_, _≤_, _^_}
 use lib.Dec.{ltb}
 use borrow.Author.Tests.{lt-ltb, le-ltb}
 use Rattle.arith.specs.Lists.{every, from}
-use Rattle.arith.specs.Tests.{asked-true, asked-false}
+use Rattle.arith.proofs.Tests.{asked-true, asked-false}
 use Rattle.arith.proofs.Bits.{or-below, falls}
 use Rattle.arith.proofs.Scans.{each-next, each-stop, each-end}
 use Rattle.rules.specs.Ledger.{sideAt}

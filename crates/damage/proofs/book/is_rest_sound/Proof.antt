@@ -1,7 +1,7 @@
 use mathlib.Core.Path.{sym}
 use borrow.Author.Tests.{lt-ltb, le-leb}
 use Rattle.arith.specs.Lists.{allOf}
-use Rattle.arith.specs.Tests.{and-true, tests, asked-true, asked-false}
+use Rattle.arith.proofs.Tests.{and-true, tests, asked-true, asked-false}
 use Rattle.damage.specs.Orders.{restSound}
 use borrow.Author.Needs.{needs}
 use Rattle.damage.proofs.book.is_rest_sound.Statement.{statement}

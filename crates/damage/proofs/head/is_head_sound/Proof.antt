@@ -12,7 +12,7 @@ use Rattle.rules.specs.Refusals.{headSound, memberSound}
 use Rattle.rules.specs.Ledger.{lent}
 use Rattle.damage.proofs.Tests.{all-nine}
 use borrow.Author.Needs.{needs}
-use Rattle.arith.specs.Tests.{asked-true, asked-false}
+use Rattle.arith.proofs.Tests.{asked-true, asked-false}
 use Rattle.damage.proofs.head.is_head_sound.Statement.{statement}
 use Rattle.damage.proofs.head.is_head_sound.Tie as tie
 

@@ -1,5 +1,5 @@
 use Rattle.rules.specs.Ledger.{ledgerShort}
-use Rattle.arith.specs.Tests.{tests}
+use Rattle.arith.proofs.Tests.{tests}
 use Rattle.damage.proofs.lengths.is_ledger_short.Statement.{statement}
 use Rattle.damage.proofs.lengths.is_ledger_short.Tie as tie
 

@@ -1,6 +1,6 @@
 use Rattle.arith.specs.Lists.{allOf}
-use Rattle.arith.specs.Tests.{and-true, asked-true, asked-false}
-use Rattle.arith.specs.Tests.{tests}
+use Rattle.arith.proofs.Tests.{and-true, asked-true, asked-false}
+use Rattle.arith.proofs.Tests.{tests}
 use Rattle.damage.proofs.InTurn.{contract-in-turn}
 use borrow.Author.Needs.{needs}
 use Rattle.damage.proofs.prices.is_contract_sound.Statement.{statement}

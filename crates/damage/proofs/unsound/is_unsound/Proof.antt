@@ -8,7 +8,7 @@ use Rattle.rules.specs.Refusals.{headSound, pricesSound}
 use Rattle.rules.proofs.SoundTables.{Long, long-enough, SoundHead, head-gives}
 use Rattle.damage.proofs.Sound.{year-fails, ledger-short, lines-short, head-fails, prices-fail, lots-fail, value-fails, book-decides}
 use borrow.Author.Needs.{needs}
-use Rattle.arith.specs.Tests.{asked-true, asked-false}
+use Rattle.arith.proofs.Tests.{asked-true, asked-false}
 use Rattle.damage.proofs.unsound.is_unsound.Statement.{statement}
 use Rattle.damage.proofs.unsound.is_unsound.Tie as tie
 

@@ -6,7 +6,7 @@ use lib.Dec.{ltb}
 use lib.ListN.{length, getD, drop, length-set}
 use borrow.Author.Tests.{ltb-true}
 use borrow.Author.Needs.{needs}
-use Rattle.arith.specs.Tests.{and-left, and-right}
+use Rattle.arith.proofs.Tests.{and-left, and-right}
 use Rattle.rules.specs.Default.{round}
 use Rattle.rules.proofs.Turns.{round-deals, round-passes, round-end}
 use Rattle.dealing.proofs.turns.take_turns.Statement.{statement}

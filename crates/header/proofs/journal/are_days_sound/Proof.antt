@@ -5,7 +5,7 @@ use Rattle.calendar.proofs.FirstYears.{first-year-holds, year-unsound}
 use Rattle.rules.specs.Days.{Calendar}
 use Rattle.header.specs.Journal.{firsts}
 use Rattle.header.proofs.Headers.{take-firsts}
-use Rattle.arith.specs.Tests.{asked-true, asked-false}
+use Rattle.arith.proofs.Tests.{asked-true, asked-false}
 use borrow.Author.Needs.{needs}
 use Rattle.header.proofs.journal.are_days_sound.Statement.{statement}
 use Rattle.header.proofs.journal.are_days_sound.Tie as tie

@@ -1,11 +1,11 @@
 use mathlib.Core.Path.{sym}
 use lib.Dec.{leb}
 use borrow.Author.Tests.{leb-true}
-use Rattle.arith.specs.Tests.{and-right}
+use Rattle.arith.proofs.Tests.{and-right}
 use Rattle.rules.specs.Ranges.{mostMembers}
 use Rattle.header.specs.Journal.{headerFrom}
 use Rattle.header.proofs.Headers.{length-firsts, holidays-many, members-wrong, header-judged}
-use Rattle.arith.specs.Tests.{asked-true, asked-false}
+use Rattle.arith.proofs.Tests.{asked-true, asked-false}
 use borrow.Author.Needs.{needs}
 use Rattle.header.proofs.journal.is_header_sound.Statement.{statement}
 use Rattle.header.proofs.journal.is_header_sound.Tie as tie

@@ -4,7 +4,7 @@ use borrow.Author.Needs.{needs}
 use borrow.Author.Tests.{not-true, not-false}
 use Rattle.rules.specs.Header.{headerLength}
 use Rattle.header.proofs.Headers.{begins-short, begins-other, begins-cut, begins-members, begins-holidays, begins-by, reading-unsound, reading-sound}
-use Rattle.arith.specs.Tests.{asked-true, asked-false}
+use Rattle.arith.proofs.Tests.{asked-true, asked-false}
 use Rattle.header.proofs.reader.read_header.Statement.{statement}
 use Rattle.header.proofs.reader.read_header.Tie as tie
 

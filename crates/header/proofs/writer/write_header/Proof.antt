@@ -2,7 +2,7 @@ use mathlib.Core.Path.{sym}
 use native.Mathlib.Omega.{arith}
 use borrow.Author.Needs.{needs}
 use Rattle.header.proofs.Headers.{length-header, members-fit, holidays-fit, write-header-unsound, write-header-short, write-header-whole}
-use Rattle.arith.specs.Tests.{asked-true, asked-false}
+use Rattle.arith.proofs.Tests.{asked-true, asked-false}
 use Rattle.header.proofs.writer.write_header.Statement.{statement}
 use Rattle.header.proofs.writer.write_header.Tie as tie
 

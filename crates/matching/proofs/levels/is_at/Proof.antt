@@ -1,7 +1,7 @@
 use native.Mathlib.Omega.{arith}
 use mathlib.Core.Path.{sym, ap, _∙_}
 use borrow.Author.Tests.{eqb-true}
-use Rattle.arith.specs.Tests.{never}
+use Rattle.arith.proofs.Tests.{never}
 use borrow.Author.Needs.{needs}
 use Rattle.matching.proofs.levels.is_at.Statement.{statement}
 use Rattle.matching.proofs.levels.is_at.Tie as tie

@@ -5,7 +5,7 @@ use mathlib.Core.Path.{_≡_, refl, sym, ap, _∙_}
 use mathlib.Core.List.{zipWith, _++_}
 use Prim.Native.Nat.{_*_, _-_, _≤_}
 use lib.ListN.{length, take, drop, getD, length-set}
-use Rattle.arith.specs.Overs.{zip-length, zip-at}
+use Rattle.arith.proofs.Overs.{zip-length, zip-at}
 use Rattle.arith.proofs.Writes.{front-next, front-end}
 use Rattle.proposal.proofs.balance.write_values.Statement.{statement}
 use Rattle.proposal.proofs.balance.write_values.Tie as tie

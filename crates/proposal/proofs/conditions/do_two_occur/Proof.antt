@@ -6,7 +6,7 @@ use Prim.Native.Nat.{_+_, _*_, _-_, _≤_}
 use lib.Dec.{eqb}
 use lib.ListN.{length, getD, drop}
 use Rattle.arith.specs.Lists.{any}
-use Rattle.arith.specs.Tests.{any-next, any-end}
+use Rattle.arith.proofs.Tests.{any-next, any-end}
 use Rattle.proposal.proofs.conditions.do_two_occur.Statement.{statement}
 use Rattle.proposal.proofs.conditions.do_two_occur.Tie as tie
 use Rattle.proposal.proofs.conditions.do_two_occur.Reads as reads

@@ -6,7 +6,7 @@ use Prim.Native.Nat.{_-_, _≤_}
 use lib.Dec.{eqb}
 use lib.ListN.{length, drop}
 use Rattle.arith.specs.Lists.{any}
-use Rattle.arith.specs.Tests.{any-next, any-end}
+use Rattle.arith.proofs.Tests.{any-next, any-end}
 use Rattle.rules.specs.Ledger.{orderAt}
 use Rattle.rules.specs.Matching.{sameSide, precedes}
 use Rattle.proposal.specs.Columns.{isAhead, isBefore}

@@ -6,7 +6,7 @@ use Prim.Native.Nat.{_*_, _-_, _≤_}
 use lib.IntN.{pos}
 use lib.ListN.{length, take, drop, replicate, length-replicate}
 use Rattle.arith.specs.Lists.{over, inEachBlock}
-use Rattle.arith.specs.Overs.{over-length}
+use Rattle.arith.proofs.Overs.{over-length}
 use Rattle.rules.specs.Ledger.{freshRows}
 use Rattle.arith.proofs.Writes.{filled, over-front, block-written}
 use Rattle.tables.proofs.fresh.write_rows.Statement.{statement}

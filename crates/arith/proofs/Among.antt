@@ -6,7 +6,7 @@ use native.Mathlib.Omega.{arith}
 use lib.Dec.{T, eqb, leb, ltb}
 use borrow.Author.Tests.{eq-eqb, ne-eqb}
 use Rattle.arith.specs.Lists.{every, any, from}
-use Rattle.arith.specs.Tests.{by-leb, by-eqb, same-or}
+use Rattle.arith.proofs.Tests.{by-leb, by-eqb, same-or}
 
 -- d lies from a up to but not including b
 pub by-span {ℓ} : (P : Bool → Type ℓ) (a b d : ℕ) → (a ≤ d → d < b → P true) → ((a ≤ d → d < b → ⊥) → P false) → P (leb a d && ltb d b)

@@ -10,8 +10,8 @@ use lib.Dec.{eqb, leb, ltb}
 use lib.ListN.{take}
 use borrow.Author.Tests.{le-leb, lt-leb, lt-ltb, le-ltb, eq-eqb, ne-eqb}
 use Rattle.arith.specs.Lists.{any, kept, total, from, count}
-use Rattle.arith.specs.Tests.{true-or, le-or-lt, same-or, and-false, or-false}
-use Rattle.arith.specs.Counts.{count-up}
+use Rattle.arith.proofs.Tests.{true-or, le-or-lt, same-or, and-false, or-false}
+use Rattle.arith.proofs.Counts.{count-up}
 
 pub total-more : (f : ℕ → ℕ) (a n : ℕ) → total f (from a (suc n)) ≡ total f (from a n) + f (a + n)
 unfolding total from

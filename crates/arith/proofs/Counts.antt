@@ -6,7 +6,7 @@ use native.Mathlib.Omega.{arith}
 use lib.Dec.{ltb}
 use borrow.Author.Tests.{lt-ltb, le-ltb}
 use Rattle.arith.specs.Lists.{count}
-use Rattle.arith.specs.Tests.{by-bool, le-or-lt}
+use Rattle.arith.proofs.Tests.{by-bool, le-or-lt}
 
 pub one-most : (b : Bool) → cond b 1 0 ≤ 1
 one-most true = omega arith

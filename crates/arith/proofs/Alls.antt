@@ -5,12 +5,8 @@ use mathlib.Core.List.{List, [], _∷_, _++_, List·Memᴰ, List·Memᴰ·head, 
 use Prim.Native.Nat.{ℕ, zero, suc, _<_}
 use native.Mathlib.Omega.{arith}
 use lib.ListN.{length, getD}
-use Rattle.arith.specs.Lists.{every, kept, allOf}
-use Rattle.arith.specs.Tests.{by-bool, and-left, and-right}
-
-abbrev pub All : {A : Type 0} → (A → Type 0) → List A → Type 0
-All P [] = Unit {0}
-All P (x ∷ xs) = P x × All P xs
+use Rattle.arith.specs.Lists.{every, kept, allOf, All}
+use Rattle.arith.proofs.Tests.{by-bool, and-left, and-right}
 
 -- tests, and what passes them
 pub all-hold : (bs : List Bool) → allOf bs ≡ true → All (λ b. b ≡ true) bs

@@ -8,11 +8,12 @@ use native.Mathlib.Nat.{add-zero}
 use lib.Dec.{T, eqb, leb, ltb}
 use borrow.Author.Tests.{le-leb, eq-eqb, ne-eqb}
 use Rattle.arith.specs.Lists.{from}
-use Rattle.arith.specs.Tests.{le-or-lt, same-or}
-use Rattle.arith.specs.Among.{by-span, every-from, from-every}
+use Rattle.arith.proofs.Tests.{le-or-lt, same-or}
+use Rattle.arith.proofs.Among.{by-span, every-from, from-every}
 use Rattle.rules.specs.Days.{Calendar, monthStart, firstMonth, spanStart, dayAfterSpan}
 use Rattle.rules.specs.Contracts.{childrenOf, termFirstDay, termDayAfter, holdsDay, holdsHour}
-use Rattle.rules.specs.CalendarLaws.{month-le, month-lt, firstMonthOf, term-year, term-quarter, term-month}
+use Rattle.rules.specs.OtherForms.{firstMonthOf, yearOf, quarterOf, monthOf, holdsMonth}
+use Rattle.rules.proofs.CalendarLaws.{month-le, month-lt, term-year, term-quarter, term-month}
 use Rattle.rules.specs.Synthetic.{Named, inHour, balancedInHour, balanced}
 
 -- ---- the months of the span, counted from its first
@@ -40,19 +41,6 @@ month-of-hour k h from-start to-end = below 72 (omega arith) (omega arith)
 -- A month's first hour lies in it.
 pub first-hour : (k : Calendar) (i : ℕ) → InMonth k i (24 * monthStart (firstMonth k + i))
 first-hour k i = record { begun = omega arith; unfinished = omega (arith, month-lt (firstMonth k + i) (firstMonth k + suc i) (omega arith)) }
-
--- ---- which contracts hold a month: its year, its quarter and the month itself
-abbrev pub yearOf : ℕ → ℕ
-yearOf i = 17 * (i / 12)
-
-abbrev pub quarterOf : ℕ → ℕ
-quarterOf i = 17 * (i / 12) + 1 + i % 12 / 3
-
-abbrev pub monthOf : ℕ → ℕ
-monthOf i = 17 * (i / 12) + 5 + i % 12
-
-unfoldable pub holdsMonth : ℕ → ℕ → Bool
-holdsMonth c i = eqb (yearOf i) c || (eqb (quarterOf i) c || eqb (monthOf i) c)
 
 module _ (c i : ℕ) where
   holds-year : yearOf i ≡ c → holdsMonth c i ≡ true

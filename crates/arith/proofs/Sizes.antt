@@ -7,7 +7,7 @@ use lib.Dec.{ltb}
 use lib.IntN.{ℤ, pos, negsuc, natAbs, negℤ, subℕ, _+ℤ_, _*ℤ_}
 use borrow.Author.Tests.{ltb-true}
 use Rattle.arith.specs.Ints.{when}
-use Rattle.arith.specs.Tests.{by-bool}
+use Rattle.arith.proofs.Tests.{by-bool}
 
 abs-difference : (a b : ℕ) → natAbs (subℕ a b) ≤ a + b
 abs-difference a b =

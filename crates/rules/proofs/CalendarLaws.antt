@@ -8,9 +8,9 @@ use native.Mathlib.Nat.{mul-le-mul-left, add-zero, zero-add, add-suc, suc-add, m
 use lib.Dec.{eqb, leb, ltb}
 use borrow.Author.Tests.{leb-true, le-leb, lt-leb, lt-ltb, le-ltb, ltb-true, eqb-true, eq-eqb, ne-eqb}
 use Rattle.arith.specs.Lists.{any, kept, count, from, howMany, total}
-use Rattle.arith.specs.Tests.{never, by-leb, true-or, le-or-lt, same-or, same-ltb, and-left, and-right, and-true, and-false, or-false, any-append}
-use Rattle.arith.specs.Counts.{count-imp, one-most, count-most, count-none, count-up, rank}
-use Rattle.arith.specs.Ranges.{total-more, picked}
+use Rattle.arith.proofs.Tests.{never, by-leb, true-or, le-or-lt, same-or, same-ltb, and-left, and-right, and-true, and-false, or-false, any-append}
+use Rattle.arith.proofs.Counts.{count-imp, one-most, count-most, count-none, count-up, rank}
+use Rattle.arith.proofs.Ranges.{total-more, picked}
 use Rattle.rules.specs.declared.contract.ContractKind.{ContractKind}
 use Rattle.rules.specs.declared.contract.ContractKind.the-variants.{Year, Quarter, Month}
 use Rattle.rules.specs.declared.contract.Term.{Term}
@@ -19,6 +19,7 @@ use Rattle.rules.specs.declared.units.Day.the-variants.{On, NoDay}
 use Rattle.rules.specs.declared.units.DayNo.{DayNo}
 use Rattle.rules.specs.Days.{Calendar, leapYear, monthDays, yearStart, monthLength, monthStart, businessDay, dayAfterSpan, firstBusinessDay, nextBusinessDay, businessDayBefore}
 use Rattle.rules.specs.Contracts.{openCount, closingDistance, monthsIn, sameKind, termOf, kindOf, contractsOf, childrenOf, termFirstDay, termDayAfter, holdsDay, holdsHour, termClosingDay, notBefore, isOn, isBefore, stillToClose, openOfKind, openContracts, openOn}
+use Rattle.rules.specs.OtherForms.{nth, firstMonthOf, numberOf, sizeOf, ahead, openByCount}
 
 -- ---- months
 least-days : (a b c : Bool) → 28 ≤ cond a (cond b 29 28) (cond c 30 31)
@@ -105,14 +106,6 @@ same-kind Year = refl
 same-kind Quarter = refl
 same-kind Month = refl
 
--- The ith contract of a kind by delivery.
-abbrev pub nth : ContractKind → ℕ → Term
-nth s i = record { kind = s; index = i }
-
--- The number of a quarter's first month.
-abbrev pub firstMonthOf : ℕ → ℕ
-firstMonthOf c = 17 * (c / 17) + 5 + 3 * (c % 17 - 1)
-
 -- ---- numbers
 -- The term of each kind's numbers.
 pub term-year : (c : ℕ) → c % 17 ≡ 0 → termOf c ≡ nth Year (c / 17)
@@ -140,17 +133,6 @@ month-of c m h g l =
     let r : (firstMonthOf c + m) % 17 ≡ 5 + 3 * (c % 17 - 1) + m = omega arith in
     term-month (firstMonthOf c + m) (omega arith) ∙ ap (nth Month) (omega arith)
 
--- The number of a kind's ith contract by delivery, and how many of the kind a ledger has.
-abbrev pub numberOf : ContractKind → ℕ → ℕ
-numberOf Year i = 17 * i
-numberOf Quarter i = 17 * (i / 4) + 1 + i % 4
-numberOf Month i = 17 * (i / 12) + 5 + i % 12
-
-abbrev pub sizeOf : ContractKind → ℕ
-sizeOf Year = 6
-sizeOf Quarter = 24
-sizeOf Month = 72
-
 pub contracts-of : (s : ContractKind) → contractsOf s ≡ map (numberOf s) (from 0 (sizeOf s))
 unfolding contractsOf kept from termOf
 contracts-of Year = refl
@@ -171,14 +153,6 @@ pub number-term : (c : ℕ) → (numberOf (termOf c .kind) (termOf c .index) ≡
 number-term c =
     same-or (c % 17) 0 (λ z. rw (term-year c z) (omega arith))
     (λ z. le-or-lt (c % 17) 4 (λ l. rw (term-quarter c (omega arith) l) (omega arith)) (λ l. rw (term-month c l) (omega arith)))
-
--- Open on a day, the same by counting those before it: how many of the kind deliver before its ith and are still to close; fewer than
--- the open count must be.
-unfoldable pub ahead : Calendar → ℕ → ContractKind → ℕ → ℕ
-ahead k d s i = count (λ j. stillToClose k d (nth s j)) i
-
-unfoldable pub openByCount : Calendar → ℕ → Term → Bool
-openByCount k d t = stillToClose k d t && ltb (ahead k d (t .kind) (t .index)) (openCount (t .kind))
 
 -- ---- counting days
 -- Two spans of days, one after the other, are one.

@@ -8,7 +8,7 @@ use native.Mathlib.Nat.{suc-mul, zero-mul}
 use lib.ListN.{length, take, drop, getD, length-drop, length-append}
 use lib.Seq.{length-take-le, drop-drop, take-at, drop-at, getD-take, getD-drop}
 use Rattle.arith.specs.Lists.{everyBlock, inEachBlock}
-use Rattle.arith.specs.Tests.{same-or, and-left, and-right}
+use Rattle.arith.proofs.Tests.{same-or, and-left, and-right}
 
 module _ {A : Type 0} (w : ℕ) where
   -- the block of number c

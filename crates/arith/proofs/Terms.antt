@@ -7,8 +7,8 @@ use lib.Dec.{eqb}
 use lib.IntN.{ℤ, _+ℤ_}
 use borrow.Author.Tests.{eqb-true, ne-eqb}
 use Rattle.arith.specs.Ints.{when, sum}
-use Rattle.arith.specs.Tests.{by-eqb}
-use Rattle.arith.specs.Sums.{sorted, sum-add, sum-ext, sum-at}
+use Rattle.arith.proofs.Tests.{by-eqb}
+use Rattle.arith.proofs.Sums.{sorted, sum-add, sum-ext, sum-at}
 
 -- what counts under one of two tests that never both pass
 pub when-or : (a b : Bool) (w : ℤ) → (a ≡ true → b ≡ false) → when (a || b) w ≡ when a w +ℤ when b w

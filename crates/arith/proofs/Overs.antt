@@ -6,7 +6,7 @@ use native.Mathlib.Omega.{arith}
 use lib.ListN.{length, take, drop, getD, length-append, length-take, length-drop, List·getD-append}
 use lib.Seq.{length-take-le, getD-append-add, getD-take, getD-drop}
 use Rattle.arith.specs.Lists.{over}
-use Rattle.arith.specs.Tests.{le-or-lt}
+use Rattle.arith.proofs.Tests.{le-or-lt}
 
 module _ {A : Type 0} (a : ℕ) (xs l : List A) (fits : a + length xs ≤ length l) where
   pub over-length : length (over a xs l) ≡ length l

@@ -1,0 +1,52 @@
+-- What code says in other words than the paper. rules/proofs has the law that each says the same: CalendarLaws
+-- (`term-number`, `contracts-of`, `open-by-count`) and HourLaws (`holds-hour`).
+use Prim.Native.Nat.{ℕ, _+_, _*_, _-_, _/_, _%_}
+use mathlib.Core.Bool.{Bool, _&&_, _||_}
+use lib.Dec.{eqb, ltb}
+use Rattle.arith.specs.Lists.{count}
+use Rattle.rules.specs.declared.contract.ContractKind.{ContractKind}
+use Rattle.rules.specs.declared.contract.ContractKind.the-variants.{Year, Quarter, Month}
+use Rattle.rules.specs.declared.contract.Term.{Term}
+use Rattle.rules.specs.Days.{Calendar}
+use Rattle.rules.specs.Contracts.{openCount, stillToClose}
+
+-- ---- contracts of a kind
+-- The ith contract of a kind by delivery.
+abbrev pub nth : ContractKind → ℕ → Term
+nth s i = record { kind = s; index = i }
+
+-- The number of a quarter's first month.
+abbrev pub firstMonthOf : ℕ → ℕ
+firstMonthOf c = 17 * (c / 17) + 5 + 3 * (c % 17 - 1)
+
+-- The number of a kind's ith contract by delivery, and how many of the kind a ledger has.
+abbrev pub numberOf : ContractKind → ℕ → ℕ
+numberOf Year i = 17 * i
+numberOf Quarter i = 17 * (i / 4) + 1 + i % 4
+numberOf Month i = 17 * (i / 12) + 5 + i % 12
+
+abbrev pub sizeOf : ContractKind → ℕ
+sizeOf Year = 6
+sizeOf Quarter = 24
+sizeOf Month = 72
+
+-- Open on a day, the same by counting those before it: how many of the kind deliver before its ith and are still to close; fewer than
+-- the open count must be.
+unfoldable pub ahead : Calendar → ℕ → ContractKind → ℕ → ℕ
+ahead k d s i = count (λ j. stillToClose k d (nth s j)) i
+
+unfoldable pub openByCount : Calendar → ℕ → Term → Bool
+openByCount k d t = stillToClose k d t && ltb (ahead k d (t .kind) (t .index)) (openCount (t .kind))
+
+-- ---- which contracts hold a month: its year, its quarter and the month itself
+abbrev pub yearOf : ℕ → ℕ
+yearOf i = 17 * (i / 12)
+
+abbrev pub quarterOf : ℕ → ℕ
+quarterOf i = 17 * (i / 12) + 1 + i % 12 / 3
+
+abbrev pub monthOf : ℕ → ℕ
+monthOf i = 17 * (i / 12) + 5 + i % 12
+
+unfoldable pub holdsMonth : ℕ → ℕ → Bool
+holdsMonth c i = eqb (yearOf i) c || (eqb (quarterOf i) c || eqb (monthOf i) c)
