@@ -20,7 +20,8 @@ use Rattle.rules.specs.declared.order.Order.{Order}
 use Rattle.rules.specs.declared.order.Side.{Side}
 use Rattle.rules.specs.declared.order.Side.the-variants.{Buy, Sell}
 use Rattle.rules.specs.Days.{inSpan}
-use Rattle.rules.specs.Ledger.{Tables, Line, withHead, withPrices, members, holidayCount, day, time, acceptedSubmits, submitsThisSecond, calendar, orderCount, sideAt, sideNumber, orderPlaces, orders, withOrders, withoutSubmits, timed, booked}
+use Rattle.rules.specs.Sides.{sideNumber}
+use Rattle.rules.specs.Ledger.{Tables, Line, withHead, withPrices, members, holidayCount, day, time, acceptedSubmits, submitsThisSecond, calendar, orderCount, sideAt, orderPlaces, orders, withOrders, withoutSubmits, timed, booked}
 use Rattle.rules.specs.Matching.{withLots, Matched, matched, incoming, submitMatched, submitLines, isResting, wouldRest, submitOrders, withDeals, counted, submitBooked}
 use Rattle.rules.specs.Synthetic.{usedByLegs, proposalLines, proposalBooked}
 use Rattle.rules.specs.Default.{closeOutLines, closeOutBooked, defaultBooked}

@@ -19,7 +19,8 @@ use Rattle.rules.specs.declared.order.Side.the-variants.{Buy, Sell}
 use Rattle.rules.specs.declared.event.Event.the-variants.{Submit}
 use Rattle.rules.specs.declared.event.Submission.{Submission}
 use Rattle.rules.specs.Ledger.{Tables, orders}
-use Rattle.rules.specs.Matching.{sameSide, otherSide, precedes, best, opposes, meetsPrice, meets, withLots, used, Matched, stopped, afterDeal, matching, matched, incoming, submitMatched, wouldRest, submitOrders}
+use Rattle.rules.specs.Sides.{sameSide, otherSide}
+use Rattle.rules.specs.Matching.{precedes, best, opposes, meetsPrice, meets, withLots, used, Matched, stopped, afterDeal, matching, matched, incoming, submitMatched, wouldRest, submitOrders}
 use Rattle.rules.specs.Refusals.{applySpec}
 use Rattle.accounts.proofs.Matches.{best-all, used-length}
 use Rattle.accounts.proofs.Remains.{Remain, remain-all, used-remain, matching-remain, remain-then}

@@ -23,7 +23,8 @@ use Rattle.rules.specs.Days.{Calendar}
 use Rattle.rules.specs.Contracts.{holdsHour, hasCascaded}
 use Rattle.rules.specs.Header.{Header, calendarOf}
 use Rattle.rules.specs.Ledger.{Tables, members, orders, withOrders}
-use Rattle.rules.specs.Matching.{sameSide, signed, withLots, used}
+use Rattle.rules.specs.Sides.{sameSide, signed}
+use Rattle.rules.specs.Matching.{withLots, used}
 use Rattle.rules.specs.Synthetic.{numbered, Named, namedLegs, legLots, legValue, inHour, balancedInHour, balanced, acceptable, legLine, proposalLines, usedByLegs, proposalBooked}
 use Rattle.rules.proofs.HourLaws.{balanced-every-hour}
 use Rattle.rules.specs.Accounts.{Column, lots, value, amount}

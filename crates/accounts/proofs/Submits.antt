@@ -21,7 +21,8 @@ use Rattle.rules.specs.Contracts.{holdsHour, termOf, termClosingDay, stillToClo
 use Rattle.rules.proofs.CalendarLaws.{before-or-not, open-to-close}
 use Rattle.rules.specs.Header.{Header, calendarOf}
 use Rattle.rules.specs.Ledger.{Tables, Line, members, day, isOpen, time, acceptedSubmits, submitsThisSecond, withHead, orders, withOrders, withoutSubmits, timed}
-use Rattle.rules.specs.Matching.{signed, otherSide, opposes, withLots, Deal, matching, matched, dealLines, incoming, submitMatched, submitLines, wouldRest, submitOrders, withDeals, counted, submitBooked}
+use Rattle.rules.specs.Sides.{signed, otherSide}
+use Rattle.rules.specs.Matching.{opposes, withLots, Deal, matching, matched, dealLines, incoming, submitMatched, submitLines, wouldRest, submitOrders, withDeals, counted, submitBooked}
 use Rattle.rules.specs.Accounts.{Column, lots, value, amount}
 use Rattle.accounts.proofs.Lines.{Fits, hourTotal}
 use Rattle.accounts.proofs.Heads.{SameHeader, changing, ofMember, then-same, set-other}

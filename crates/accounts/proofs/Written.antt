@@ -11,7 +11,8 @@ use Rattle.arith.proofs.Blocks.{read-back}
 use Rattle.rules.specs.declared.order.Order.{Order}
 use Rattle.rules.specs.declared.order.Side.{Side}
 use Rattle.rules.specs.declared.order.Side.the-variants.{Buy, Sell}
-use Rattle.rules.specs.Ledger.{Tables, Line, linePlaces, lineAt, firstLines, orderPlaces, orderAt, orders, withOrders, sideOf, sideNumber}
+use Rattle.rules.specs.Sides.{sideOf, sideNumber}
+use Rattle.rules.specs.Ledger.{Tables, Line, linePlaces, lineAt, firstLines, orderPlaces, orderAt, orders, withOrders}
 
 -- a place of the next thing, past the places of this one
 later : {A : Type 0} (d : A) (xs l : List A) (p q : ℕ) → p ≡ length xs + q → getD (xs ++ l) p d ≡ getD l q d

@@ -15,7 +15,8 @@ use Rattle.arith.proofs.Tests.{never, by-bool, true-or, by-eqb, le-or-lt, same-
 use Rattle.rules.specs.declared.order.Order.{Order}
 use Rattle.rules.specs.declared.order.Side.{Side}
 use Rattle.rules.specs.declared.order.Side.the-variants.{Buy, Sell}
-use Rattle.rules.specs.Matching.{sameSide, betterPrice, precedes, better, best}
+use Rattle.rules.specs.Sides.{sameSide}
+use Rattle.rules.specs.Matching.{betterPrice, precedes, better, best}
 use Rattle.close_of_day.specs.Columns.{quotesAt, quoteOf, bestPrice, betterQuote}
 
 -- ---- what holds of the best order

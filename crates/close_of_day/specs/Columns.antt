@@ -12,7 +12,8 @@ use Rattle.rules.specs.declared.order.Side.{Side}
 use Rattle.rules.specs.Ranges.{contractCount, mostOrders, mostPrice, mostLotsRun, lastSecond}
 use Rattle.rules.specs.Contracts.{thresholdOf, kindOf}
 use Rattle.rules.specs.Ledger.{Tables, pricesLength, bookLength, ggfPlace, dayLotsPlace, dayValuePlace, orderAt}
-use Rattle.rules.specs.Matching.{sameSide, betterPrice, best}
+use Rattle.rules.specs.Sides.{sameSide}
+use Rattle.rules.specs.Matching.{betterPrice, best}
 use Rattle.rules.specs.CloseOfDay.{enteredBefore, roundedHalfUp, priced, closingContracts, withClosed, onDay}
 use Rattle.close_of_day.specs.Phases.{openIn}
 

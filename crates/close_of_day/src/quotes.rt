@@ -4,7 +4,7 @@ ghost use mathlib.Core.Bool.{cond};
 ghost use Prim.Native.Nat.{ℕ, _≤_, _<_};
 ghost use lib.ListN.{length, getD, set, replicate};
 ghost use Rattle.rules.specs.Ranges.{contractCount, lastSecond};
-ghost use Rattle.rules.specs.Matching.{sameSide};
+ghost use Rattle.rules.specs.Sides.{sameSide};
 ghost use Rattle.tables.specs.Fit.{ordersIn};
 ghost use Rattle.close_of_day.specs.Columns.{BookReads, quotesAt, bestPrice, betterQuote};
 use rules::DayNo;
@@ -12,21 +12,7 @@ use rules::Kurus;
 use rules::Order;
 use rules::Side;
 use rules::ranges::SECONDS_TO_QUOTE;
-
-fn is_same_side(a: Side, b: Side) -> bool
-    ensures { λ r. ⌜ r ≡ sameSide a b ⌝ }
-{
-    match a {
-        Side::Buy => match b {
-            Side::Buy => true,
-            Side::Sell => false,
-        },
-        Side::Sell => match b {
-            Side::Buy => false,
-            Side::Sell => true,
-        },
-    }
-}
+use sides::is_same_side;
 
 // An order quotes if it entered in time and still has its contract's threshold of lots.
 fn does_quote(o: Order, side: Side, day: DayNo, time: u64) -> bool

@@ -18,7 +18,7 @@ use Rattle.arith.proofs.Tests.{by-bool, same-or}
 use Rattle.rules.specs.declared.order.Side.the-variants.{Buy, Sell}
 use Rattle.rules.specs.Default.{sumOf, changeLines}
 use Rattle.rules.specs.Ledger.{Tables, Line, booked}
-use Rattle.rules.specs.Matching.{signed}
+use Rattle.rules.specs.Sides.{signed}
 use Rattle.tables.proofs.Booked.{booked-none, booked-more}
 use Rattle.tables.specs.Lines.{withLine}
 use Rattle.close_out.specs.Booking.{withEach, changes}

@@ -3,7 +3,7 @@ ghost use mathlib.Core.Path.{_≡_};
 ghost use Prim.Native.Nat.{_≤_};
 ghost use lib.ListN.{length};
 ghost use Rattle.rules.specs.declared.event.Reading.the-variants.{Sound};
-ghost use Rattle.rules.specs.Records.{submitLength, cancelLength, dayLimitsLength, closeOutLength, sideOf, orderKindOf, submitOf, cancellationOf, newDayLimitsOf, closeOutOf, fieldsOf, legsOf, eventSound, readOf};
+ghost use Rattle.rules.specs.Records.{submitLength, cancelLength, dayLimitsLength, closeOutLength, orderKindOf, submitOf, cancellationOf, newDayLimitsOf, closeOutOf, fieldsOf, legsOf, eventSound, readOf};
 use crate::legs::read_legs;
 use crate::lengths::kind_number;
 use crate::lengths::leg_count;
@@ -32,12 +32,7 @@ use rules::kinds::DAY_LIMITS;
 use rules::kinds::DEFAULT;
 use rules::kinds::PROPOSAL;
 use rules::kinds::SUBMIT;
-
-fn side_of(b: u64) -> Side
-    ensures { λ r. ⌜ r ≡ sideOf b ⌝ }
-{
-    if b == 0 { Side::Buy } else { Side::Sell }
-}
+use sides::side_of;
 
 fn order_kind_of(b: u64) -> OrderKind
     ensures { λ r. ⌜ r ≡ orderKindOf b ⌝ }

@@ -6,7 +6,8 @@ ghost use lib.ListN.{length};
 ghost use Rattle.arith.specs.Lists.{over};
 ghost use Rattle.rules.specs.declared.event.Event.the-variants.{Submit, Cancel, DayLimits, Proposal, Default, CloseOut, CloseOfDay};
 ghost use Rattle.rules.specs.Ranges.{mostLegs};
-ghost use Rattle.rules.specs.Records.{submitLength, cancelLength, dayLimitsLength, defaultLength, closeOutLength, closeOfDayLength, legPlace, recordLength, sideNumber, orderKindNumber, legBytes, kindNumber, fieldBytes, writeSpec};
+ghost use Rattle.rules.specs.Sides.{sideNumber};
+ghost use Rattle.rules.specs.Records.{submitLength, cancelLength, dayLimitsLength, defaultLength, closeOutLength, closeOfDayLength, legPlace, recordLength, orderKindNumber, legBytes, kindNumber, fieldBytes, writeSpec};
 ghost use Rattle.codec.specs.Columns.{legRows, legCount, OneByteFields};
 use crate::legs::Legs;
 use crate::legs::leg_of;
@@ -28,15 +29,7 @@ use rules::NewDayLimits;
 use rules::OrderKind;
 use rules::Side;
 use rules::Submission;
-
-fn side_number(side: Side) -> u64
-    ensures { λ r. ⌜ (r ≡ sideNumber side) × (r < 256) ⌝ }
-{
-    match side {
-        Side::Buy => 0,
-        Side::Sell => 1,
-    }
-}
+use sides::side_number;
 
 fn order_kind_number(kind: OrderKind) -> u64
     ensures { λ r. ⌜ (r ≡ orderKindNumber kind) × (r < 256) ⌝ }

@@ -15,7 +15,8 @@ use Rattle.rules.specs.declared.order.Order.{Order}
 use Rattle.rules.specs.declared.order.Side.{Side}
 use Rattle.rules.specs.declared.order.Side.the-variants.{Buy, Sell}
 use Rattle.rules.specs.Ranges.{mostPrice}
-use Rattle.rules.specs.Matching.{sameSide, otherSide, betterPrice, precedes, better, best, opposes, meetsPrice, meets, withLots}
+use Rattle.rules.specs.Sides.{sameSide, otherSide}
+use Rattle.rules.specs.Matching.{betterPrice, precedes, better, best, opposes, meetsPrice, meets, withLots}
 use Rattle.tables.specs.Left.{leftOver}
 use Rattle.matching.specs.Ranks.{numbersEnd, Ranked, priceRank, rankOf, noRank, rankIn, ranksOf, Lowest}
 

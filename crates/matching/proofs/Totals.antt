@@ -11,7 +11,8 @@ use Rattle.arith.specs.Lists.{total, kept}
 use Rattle.arith.proofs.Tests.{by-bool, true-or}
 use Rattle.rules.specs.declared.order.Order.{Order}
 use Rattle.rules.specs.Ledger.{lineRun}
-use Rattle.rules.specs.Matching.{otherSide, best, opposes, meets, withLots, used, Deal, Matched, stopped, afterDeal, matching, matched, dealLines}
+use Rattle.rules.specs.Sides.{otherSide}
+use Rattle.rules.specs.Matching.{best, opposes, meets, withLots, used, Deal, Matched, stopped, afterDeal, matching, matched, dealLines}
 use Rattle.tables.proofs.Amounts.{abs-signed}
 use Rattle.matching.specs.declared.deals.Counterparty.{Counterparty}
 use Rattle.matching.specs.Crossing.{crosses, crossingLots, crossingIn}

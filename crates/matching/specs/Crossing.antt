@@ -5,7 +5,8 @@ use mathlib.Core.List.{List}
 use lib.Dec.{eqb}
 use Rattle.arith.specs.Lists.{total}
 use Rattle.rules.specs.declared.order.Order.{Order}
-use Rattle.rules.specs.Matching.{sameSide, opposes, meets}
+use Rattle.rules.specs.Sides.{sameSide}
+use Rattle.rules.specs.Matching.{opposes, meets}
 
 abbrev pub isOwn : Order → Order → Bool
 isOwn o r = eqb (r .member) (o .member) && (eqb (r .contract) (o .contract) && sameSide (r .side) (o .side))

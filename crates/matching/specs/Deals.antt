@@ -6,7 +6,8 @@ use lib.ListN.{getD}
 use Rattle.arith.specs.Lists.{from}
 use Rattle.rules.specs.declared.order.Order.{Order}
 use Rattle.rules.specs.Ledger.{Line, orderAt}
-use Rattle.rules.specs.Matching.{Deal, signed, otherSide}
+use Rattle.rules.specs.Sides.{signed, otherSide}
+use Rattle.rules.specs.Matching.{Deal}
 use Rattle.matching.specs.declared.deals.Counterparty.{Counterparty}
 
 abbrev pub counterparty : Order → ℕ → Counterparty

@@ -8,8 +8,8 @@ ghost use Rattle.rules.specs.Ledger.{bookLength, orderAt};
 ghost use Rattle.matching.specs.Crossing.{ownLots, crossingLots, ownIn, crossingIn};
 use crate::priority::does_meet;
 use crate::priority::does_oppose;
-use crate::priority::is_same_side;
 use rules::Order;
+use sides::is_same_side;
 use tables::order_at;
 
 // The member's own resting lots of the order's contract and side, and the lots that cross.

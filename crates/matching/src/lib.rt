@@ -13,4 +13,3 @@ pub use deals::deal_at;
 pub use levels::Matched;
 pub use levels::least;
 pub use levels::match_orders;
-pub use priority::other_side;

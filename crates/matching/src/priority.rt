@@ -2,38 +2,17 @@
 ghost use mathlib.Core.Path.{_≡_};
 ghost use Prim.Native.Nat.{_≤_};
 ghost use Rattle.rules.specs.Ranges.{mostPrice};
-ghost use Rattle.rules.specs.Matching.{sameSide, otherSide, opposes, meets};
+ghost use Rattle.rules.specs.Sides.{sameSide, otherSide};
+ghost use Rattle.rules.specs.Matching.{opposes, meets};
 ghost use Rattle.matching.specs.Ranks.{Ranked, priceRank, rankOf};
 use rules::Order;
 use rules::Side;
 use rules::ranges::MOST_PRICE;
+use sides::is_same_side;
+use sides::other_side;
 
 // Order numbers are below it.
 const NUMBERS_END: u64 = 4294967296;
-
-pub fn is_same_side(a: Side, b: Side) -> bool
-    ensures { λ r. ⌜ r ≡ sameSide a b ⌝ }
-{
-    match a {
-        Side::Buy => match b {
-            Side::Buy => true,
-            Side::Sell => false,
-        },
-        Side::Sell => match b {
-            Side::Buy => false,
-            Side::Sell => true,
-        },
-    }
-}
-
-pub fn other_side(side: Side) -> Side
-    ensures { λ r. ⌜ r ≡ otherSide side ⌝ }
-{
-    match side {
-        Side::Buy => Side::Sell,
-        Side::Sell => Side::Buy,
-    }
-}
 
 // Whether the resting order r has the incoming order's contract and the other side.
 pub fn does_oppose(o: Order, r: Order) -> bool

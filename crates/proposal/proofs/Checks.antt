@@ -20,7 +20,7 @@ use Rattle.rules.specs.Days.{Calendar, firstMonth, monthStart}
 use Rattle.rules.specs.Header.{rising}
 use Rattle.rules.specs.OtherForms.{holdsMonth}
 use Rattle.rules.specs.Ledger.{Tables, orderAt, orders, calendar}
-use Rattle.rules.specs.Matching.{sameSide}
+use Rattle.rules.specs.Sides.{sameSide}
 use Rattle.rules.specs.Synthetic.{Named, namedLegs, hasLots, priceAllowed, twoOccur, inHour, legLots, legValue, balancedInHour, balanced, inFull, priorityKept, acceptable}
 use Rattle.tables.specs.Fit.{ordersIn}
 use Rattle.proposal.specs.Columns.{LegsFit, columnLeg, columnLegs, placeOf, placesOf, namedAt, namedTo, countsAt, inMonth, balancedMonths, isBefore, isAhead, isFullLeg}

@@ -10,7 +10,7 @@ use Rattle.arith.specs.Lists.{total, from}
 use Rattle.arith.proofs.Scans.{from-next}
 use Rattle.rules.specs.declared.order.Order.{Order}
 use Rattle.rules.specs.Ledger.{Tables, Line, withHead, withRows, withLines, lent, orderAt, booked}
-use Rattle.rules.specs.Matching.{signed}
+use Rattle.rules.specs.Sides.{signed}
 use Rattle.tables.specs.declared.lines.DealLine.{DealLine}
 use Rattle.tables.specs.Fit.{BookFit, OrderFit, membersIn, orderCountIn}
 use Rattle.tables.specs.Lines.{LineFit, lineOf, withLine}

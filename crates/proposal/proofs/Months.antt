@@ -16,7 +16,7 @@ use Rattle.arith.proofs.Ranges.{total-more}
 use Rattle.rules.specs.declared.order.Order.{Order}
 use Rattle.rules.specs.declared.order.Side.{Side}
 use Rattle.rules.specs.Ledger.{orderAt}
-use Rattle.rules.specs.Matching.{sameSide}
+use Rattle.rules.specs.Sides.{sameSide}
 use Rattle.rules.specs.OtherForms.{yearOf, quarterOf, monthOf, holdsMonth}
 use Rattle.proposal.specs.Columns.{LegsFit, AmountsFit, countsAt, inMonth}
 

@@ -12,7 +12,7 @@ use Rattle.arith.proofs.Scans.{map-map}
 use Rattle.rules.specs.declared.order.Order.{Order}
 use Rattle.rules.specs.declared.order.Side.{Side}
 use Rattle.rules.specs.Ledger.{Tables, Line, orders, lineRun, orderAt}
-use Rattle.rules.specs.Matching.{signed}
+use Rattle.rules.specs.Sides.{signed}
 use Rattle.rules.specs.Synthetic.{namedLegs, legLine, proposalLines}
 use Rattle.tables.proofs.Amounts.{abs-signed}
 use Rattle.proposal.specs.Columns.{columnLegs, namedAt, namedTo}

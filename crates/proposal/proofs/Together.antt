@@ -18,7 +18,8 @@ use Rattle.rules.specs.Days.{Calendar, firstMonth, monthStart}
 use Rattle.rules.specs.Contracts.{holdsHour}
 use Rattle.rules.specs.OtherForms.{holdsMonth}
 use Rattle.rules.proofs.HourLaws.{holds-hour, first-hour}
-use Rattle.rules.specs.Matching.{sameSide, precedes}
+use Rattle.rules.specs.Sides.{sameSide}
+use Rattle.rules.specs.Matching.{precedes}
 use Rattle.rules.specs.Synthetic.{Named, twoOccur, inHour, legLots, legValue, balancedInHour, balanced, inFull, priorityKept}
 
 -- ---- two different ones occur exactly if one differs from the first

@@ -12,7 +12,8 @@ use Rattle.rules.specs.declared.order.Side.{Side}
 use Rattle.rules.specs.declared.order.Side.the-variants.{Buy, Sell}
 use Rattle.rules.specs.Ranges.{contractCount, monthsInSpan, mostLots, mostPrice, leastLegs, mostLegs}
 use Rattle.rules.specs.Ledger.{bookLength, orderAt}
-use Rattle.rules.specs.Matching.{sameSide, precedes}
+use Rattle.rules.specs.Sides.{sameSide}
+use Rattle.rules.specs.Matching.{precedes}
 use Rattle.rules.specs.Synthetic.{Named}
 use Rattle.rules.specs.OtherForms.{holdsMonth}
 use Rattle.tables.specs.Fit.{ordersIn}

@@ -8,12 +8,12 @@ ghost use lib.ListN.{length, getD};
 ghost use Rattle.rules.specs.declared.order.Side.the-variants.{Buy, Sell};
 ghost use Rattle.rules.specs.Ranges.{monthsInSpan, mostOrders, mostLots, mostPrice};
 ghost use Rattle.rules.specs.Ledger.{bookLength};
-ghost use Rattle.rules.specs.Matching.{sameSide};
+ghost use Rattle.rules.specs.Sides.{sameSide};
 ghost use Rattle.rules.specs.OtherForms.{yearOf, quarterOf, monthOf, holdsMonth};
 ghost use Rattle.proposal.specs.Columns.{LegsFit, PlacesFit, AmountsFit, inMonth, balancedMonths};
-use crate::sides::is_same_side;
 use rules::Order;
 use rules::Side;
+use sides::is_same_side;
 use tables::order_at;
 
 // Months of the six years.

@@ -5,7 +5,6 @@ mod booking;
 mod conditions;
 mod places;
 mod priority;
-mod sides;
 
 ghost use mathlib.Core.Path.{_≡_};
 ghost use Prim.Native.Nat.{_*_, _≤_};

@@ -9,9 +9,9 @@ ghost use Rattle.rules.specs.Ledger.{bookLength};
 ghost use Rattle.rules.specs.Matching.{betterPrice, precedes};
 ghost use Rattle.tables.specs.Fit.{ordersIn};
 ghost use Rattle.proposal.specs.Columns.{PlacesFit, isBefore, isAhead, isFullLeg};
-use crate::sides::is_same_side;
 use rules::Order;
 use rules::Side;
+use sides::is_same_side;
 use tables::order_at;
 
 fn is_better_price(side: Side, p: u64, q: u64) -> bool

@@ -13,6 +13,7 @@ use Rattle.rules.specs.declared.order.Side.{Side}
 use Rattle.rules.specs.declared.order.Side.the-variants.{Buy, Sell}
 use Rattle.rules.specs.Answers.{Outcome}
 use Rattle.rules.specs.Ranges.{contractCount, mostMembers, mostOrders, mostPrice, leastLines}
+use Rattle.rules.specs.Sides.{sideOf, sideNumber}
 use Rattle.rules.specs.Days.{Calendar}
 use Rattle.rules.specs.Contracts.{openOn}
 use Rattle.rules.specs.Header.{Header}
@@ -226,13 +227,6 @@ abbrev pub valueAt : Tables → ℕ → ℕ → ℤ
 valueAt t c m = getD (t .value) (rowPlace c m) (pos 0)
 
 -- ---- the book: eight places for each of at most 256 resting orders
-abbrev pub sideOf : ℕ → Side
-sideOf n = cond (eqb n 0) Buy Sell
-
-abbrev pub sideNumber : Side → ℕ
-sideNumber Buy = 0
-sideNumber Sell = 1
-
 abbrev pub orderWidth : ℕ
 orderWidth = 8
 

@@ -1,4 +1,5 @@
 pub mod Ranges
+pub mod Sides
 pub mod Days
 pub mod Contracts
 pub mod Answers

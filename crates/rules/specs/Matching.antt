@@ -14,24 +14,9 @@ use Rattle.rules.specs.declared.event.Submission.{Submission}
 use Rattle.rules.specs.declared.order.Order.{Order}
 use Rattle.rules.specs.declared.order.Side.{Side}
 use Rattle.rules.specs.declared.order.Side.the-variants.{Buy, Sell}
+use Rattle.rules.specs.Sides.{sameSide, otherSide, signed}
 use Rattle.rules.specs.Answers.{Outcome}
 use Rattle.rules.specs.Ledger.{Tables, Line, withHead, withPrices, withDealt, withAcceptedSubmits, withSubmitsThisSecond, day, time, acceptedSubmits, limit, submitsThisSecond, dayLots, dayValue, lotsAt, orders, withOrders, booked, timed}
-
--- ---- sides
-abbrev pub sameSide : Side → Side → Bool
-sameSide Buy Buy = true
-sameSide Buy Sell = false
-sameSide Sell Buy = false
-sameSide Sell Sell = true
-
-abbrev pub otherSide : Side → Side
-otherSide Buy = Sell
-otherSide Sell = Buy
-
--- Lots with the sign of their side: a buy adds, a sell takes away.
-abbrev pub signed : Side → ℕ → ℤ
-signed Buy q = pos q
-signed Sell q = negℤ (pos q)
 
 -- ---- priority
 -- For who deals with a side: of buys the higher price is better, of sells the lower.

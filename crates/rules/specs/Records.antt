@@ -22,6 +22,7 @@ use Rattle.rules.specs.declared.event.Submission.{Submission}
 use Rattle.rules.specs.declared.order.Side.{Side}
 use Rattle.rules.specs.declared.order.Side.the-variants.{Buy, Sell}
 use Rattle.rules.specs.Ranges.{contractCount, lastSecond, mostPrice, mostLots, leastLegs, mostLegs, mostRatio}
+use Rattle.rules.specs.Sides.{sideNumber, sideOf}
 use Rattle.rules.specs.Answers.{Outcome, decide, Told, told}
 use Rattle.rules.specs.Header.{u16At, u32At, u16Bytes, u32Bytes, membersSound}
 
@@ -87,14 +88,6 @@ abbrev pub frontLength : List ℕ → ℕ
 frontLength s = recordLength (getD s 0 0) (getD s 1 0)
 
 -- ---- side and order kind
--- Side u8 (0 buy, 1 sell).
-abbrev pub sideNumber : Side → ℕ
-sideNumber Buy = 0
-sideNumber Sell = 1
-
-abbrev pub sideOf : ℕ → Side
-sideOf b = cond (eqb b (sideNumber Buy)) Buy Sell
-
 abbrev pub sideSound : ℕ → Bool
 sideSound b = leb b (sideNumber Sell)
 

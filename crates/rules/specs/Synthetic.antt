@@ -16,7 +16,8 @@ use Rattle.rules.specs.Days.{Calendar, firstMonth, monthStart}
 use Rattle.rules.specs.Contracts.{holdsHour}
 use Rattle.rules.specs.Header.{rising}
 use Rattle.rules.specs.Ledger.{Tables, Line, calendar, low, high, orders, withOrders, booked}
-use Rattle.rules.specs.Matching.{sameSide, signed, precedes, used}
+use Rattle.rules.specs.Sides.{sameSide, signed}
+use Rattle.rules.specs.Matching.{precedes, used}
 
 -- ---- the orders that the legs name
 unfoldable pub numbered : ℕ → List Order → Option Order

@@ -14,7 +14,7 @@ use Rattle.rules.specs.Ranges.{contractCount, mostPrice, mostLotsRun, leastLine
 use Rattle.rules.specs.Ledger.{Tables, lent, withHead, withRows, withLines, withLotsRun, lineWidth, linePlaces, lineLots, lineValue, posted, booked}
 use Rattle.rules.specs.declared.order.Order.{Order}
 use Rattle.rules.specs.declared.order.Side.{Side}
-use Rattle.rules.specs.Matching.{signed}
+use Rattle.rules.specs.Sides.{signed}
 use Rattle.matching.specs.declared.deals.Counterparty.{Counterparty}
 use Rattle.matching.specs.Deals.{dealAt, dealsIn, lineIn, lineOut, linesWith}
 use Rattle.tables.specs.declared.lines.DealLine.{DealLine}

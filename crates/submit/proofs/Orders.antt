@@ -14,7 +14,8 @@ use Rattle.arith.proofs.Tests.{same-or}
 use Rattle.arith.proofs.Appends.{flat-append, flat-one}
 use Rattle.arith.proofs.Writes.{over-more}
 use Rattle.rules.specs.declared.order.Order.{Order}
-use Rattle.rules.specs.Ledger.{Tables, withHead, withBook, withOrderCount, sideOf, sideNumber, sideAt, orderAt, orderPlaces, withOrders}
+use Rattle.rules.specs.Sides.{sideOf, sideNumber}
+use Rattle.rules.specs.Ledger.{Tables, withHead, withBook, withOrderCount, sideAt, orderAt, orderPlaces, withOrders}
 use Rattle.tables.specs.Fit.{ordersIn, orderCountIn}
 use Rattle.tables.proofs.Left.{orders-more, places-length}
 

@@ -10,10 +10,10 @@ ghost use Rattle.matching.specs.Deals.{dealAt, dealsIn, linesWith};
 ghost use Rattle.submit.specs.Deals.{DealsFit, Bookable, DealBooked, lotsDealt, worthOf};
 use matching::Counterparty;
 use matching::deal_at;
-use matching::other_side;
 use rules::Kurus;
 use rules::Lots;
 use rules::Order;
+use sides::other_side;
 use tables::DealLine;
 use tables::book_line;
 

@@ -6,7 +6,7 @@ use lib.IntN.{pos, natAbs, _*ℤ_}
 use Rattle.arith.proofs.Signed.{abs-neg}
 use Rattle.rules.specs.declared.order.Side.{Side}
 use Rattle.rules.specs.declared.order.Side.the-variants.{Buy, Sell}
-use Rattle.rules.specs.Matching.{signed}
+use Rattle.rules.specs.Sides.{signed}
 
 pub abs-signed : (s : Side) (q : ℕ) → natAbs (signed s q) ≡ q
 abs-signed Buy q = refl

@@ -5,7 +5,7 @@ use lib.IntN.{natAbs}
 use Rattle.arith.specs.Lists.{over}
 use Rattle.rules.specs.Ranges.{contractCount, mostPrice, mostLotsRun}
 use Rattle.rules.specs.Ledger.{Tables, Line, withHead, withRows, withLines, withLotsRun, lotsRun, lineWidth, linePlaces, lineLots, lineValue, posted}
-use Rattle.rules.specs.Matching.{signed}
+use Rattle.rules.specs.Sides.{signed}
 use Rattle.tables.specs.declared.lines.DealLine.{DealLine}
 use Rattle.tables.specs.Fit.{membersIn, lotsRunIn}
 

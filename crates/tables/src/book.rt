@@ -4,7 +4,8 @@ ghost use Prim.Native.Nat.{_*_, _≤_, _<_};
 ghost use lib.ListN.{length};
 ghost use Rattle.arith.specs.Lists.{over};
 ghost use Rattle.rules.specs.Ranges.{mostOrders};
-ghost use Rattle.rules.specs.Ledger.{bookLength, orderWidth, orderAt, orderPlaces, sideOf, sideNumber};
+ghost use Rattle.rules.specs.Sides.{sideOf, sideNumber};
+ghost use Rattle.rules.specs.Ledger.{bookLength, orderWidth, orderAt, orderPlaces};
 use rules::DayNo;
 use rules::Kurus;
 use rules::Lots;
@@ -19,24 +20,8 @@ use rules::layout::ORDER_PRICE;
 use rules::layout::ORDER_SIDE;
 use rules::layout::ORDER_TIME;
 use rules::layout::ORDER_WIDTH;
-
-fn side_of(n: u64) -> Side
-    ensures { λ r. ⌜ r ≡ sideOf n ⌝ }
-{
-    if n == 0 {
-        return Side::Buy;
-    }
-    Side::Sell
-}
-
-fn side_number(side: Side) -> u64
-    ensures { λ r. ⌜ r ≡ sideNumber side ⌝ }
-{
-    match side {
-        Side::Buy => 0,
-        Side::Sell => 1,
-    }
-}
+use sides::side_number;
+use sides::side_of;
 
 // The order at a place of the book.
 pub fn order_at(book: &[u64], i: usize) -> Order

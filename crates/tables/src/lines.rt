@@ -7,7 +7,7 @@ ghost use lib.IntN.{ℤ, pos, natAbs, _+ℤ_};
 ghost use Rattle.arith.specs.Lists.{over};
 ghost use Rattle.rules.specs.Ranges.{mostMembers, mostPrice, mostLotsRun, leastLines};
 ghost use Rattle.rules.specs.Ledger.{Tables, withHead, withRows, withLines, headLength, linesLength, lineWidth, linePlaces, lineLots, lineValue, posted};
-ghost use Rattle.rules.specs.Matching.{signed};
+ghost use Rattle.rules.specs.Sides.{signed};
 ghost use Rattle.tables.specs.Fit.{RowsFit, membersIn, lotsRunIn};
 ghost use Rattle.tables.specs.Lines.{LineFit, lineOf, withLine};
 use rules::Kurus;

@@ -6,7 +6,7 @@ use Rattle.close_of_day.proofs.quotes.does_quote.Tie as tie
 use Rattle.close_of_day.proofs.quotes.does_quote.Reads as reads
 use Rattle.close_of_day.proofs.quotes.does_quote.Lts as lts
 use Rattle.calendar.proofs.kind_of.Reads as kind-of-reads
-use Rattle.close_of_day.proofs.quotes.is_same_side.Reads as is-same-side-reads
+use Rattle.sides.proofs.is_same_side.Reads as is-same-side-reads
 use Rattle.rules.proofs.contract.ContractKind.threshold.Reads as threshold-reads
 
 -- src/quotes.rt:37:62

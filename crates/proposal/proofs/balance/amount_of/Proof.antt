@@ -6,7 +6,7 @@ use Rattle.proposal.proofs.balance.amount_of.Statement.{statement}
 use Rattle.proposal.proofs.balance.amount_of.Tie as tie
 use Rattle.proposal.proofs.balance.amount_of.Reads as reads
 use Rattle.proposal.proofs.balance.amount_of.Lts as lts
-use Rattle.proposal.proofs.sides.is_same_side.Reads as is-same-side-reads
+use Rattle.sides.proofs.is_same_side.Reads as is-same-side-reads
 
 -- src/balance.rt:51:8
 is-same-side-requires : tie.Need-is-same-side-requires

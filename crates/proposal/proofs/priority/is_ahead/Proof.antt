@@ -8,7 +8,8 @@ use lib.ListN.{length, drop}
 use Rattle.arith.specs.Lists.{any}
 use Rattle.arith.proofs.Tests.{any-next, any-end}
 use Rattle.rules.specs.Ledger.{orderAt}
-use Rattle.rules.specs.Matching.{sameSide, precedes}
+use Rattle.rules.specs.Sides.{sameSide}
+use Rattle.rules.specs.Matching.{precedes}
 use Rattle.proposal.specs.Columns.{isAhead, isBefore}
 use Rattle.proposal.proofs.priority.is_ahead.Statement.{statement}
 use Rattle.proposal.proofs.priority.is_ahead.Tie as tie

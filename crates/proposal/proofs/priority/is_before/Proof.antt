@@ -4,7 +4,7 @@ use Rattle.proposal.proofs.priority.is_before.Tie as tie
 use Rattle.proposal.proofs.priority.is_before.Reads as reads
 use Rattle.proposal.proofs.priority.is_before.Lts as lts
 use Rattle.proposal.proofs.priority.does_precede.Reads as does-precede-reads
-use Rattle.proposal.proofs.sides.is_same_side.Reads as is-same-side-reads
+use Rattle.sides.proofs.is_same_side.Reads as is-same-side-reads
 
 -- src/priority.rt:43:35
 is-same-side-requires : tie.Need-is-same-side-requires

@@ -5,7 +5,7 @@ use Rattle.tables.proofs.book.order_at.Statement.{statement}
 use Rattle.tables.proofs.book.order_at.Tie as tie
 use Rattle.tables.proofs.book.order_at.Reads as reads
 use Rattle.tables.proofs.book.order_at.Lts as lts
-use Rattle.tables.proofs.book.side_of.Reads as side-of-reads
+use Rattle.sides.proofs.side_of.Reads as side-of-reads
 
 -- src/book.rt:58:14
 mul-at : tie.Need-mul-at

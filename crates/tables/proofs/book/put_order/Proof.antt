@@ -10,7 +10,7 @@ use Rattle.tables.proofs.book.put_order.Statement.{statement}
 use Rattle.tables.proofs.book.put_order.Tie as tie
 use Rattle.tables.proofs.book.put_order.Reads as reads
 use Rattle.tables.proofs.book.put_order.Lts as lts
-use Rattle.tables.proofs.book.side_number.Reads as side-number-reads
+use Rattle.sides.proofs.side_number.Reads as side-number-reads
 
 -- src/book.rt:77:14
 mul-at : tie.Need-mul-at
@@ -124,7 +124,7 @@ same-length c = search needs
 returns : tie.Need-returns
 returns c =
     let at = c .before .before .args .i * 8 in
-    rw (c .side-number .ensures, add-zero at, add-one at, add-two at, add-three at, add-four at, add-five at, add-six at, add-seven at)
+    rw (c .side-number .ensures .0, add-zero at, add-one at, add-two at, add-three at, add-four at, add-five at, add-six at, add-seven at)
     (stored (orderPlaces (c .before .before .args .o)) (c .before .before .args .book .now) at (omega arith))
 
 pub put-order-spec : {M : Type 1} → statement M

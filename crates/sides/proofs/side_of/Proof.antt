@@ -1,7 +1,6 @@
-use borrow.Author.Needs.{needs}
 use Rattle.arith.proofs.Tests.{tests}
-use Rattle.codec.proofs.read.side_of.Statement.{statement}
-use Rattle.codec.proofs.read.side_of.Tie as tie
+use Rattle.sides.proofs.side_of.Statement.{statement}
+use Rattle.sides.proofs.side_of.Tie as tie
 
 returns : tie.Need-returns
 returns c = search tests
