@@ -21,7 +21,7 @@ use Rattle.codec.specs.Columns.{legRow, legRows, legCount, legColumns, h
 use Rattle.codec.specs.declared.legs.Legs.{Legs}
 use Rattle.codec.proofs.Fields.{Says, submits, cancels, limits, proposes, defaults, closes-out, closes, says}
 
-abbrev noLeg : Leg
+abbrev pub noLeg : Leg
 noLeg = record { order = 0; lots = record { 0 = 0 }; price = record { 0 = 0 } }
 
 -- The legs in columns are the legs.
@@ -85,7 +85,7 @@ module _ (s : List ℕ) where
         rw (held-all, ← counted) (rows-of-columns (legsOf s))
 
 -- ---- the ranges of what was read
-many-legs : (n k : ℕ) (a : List Leg) → mostLegs < k → eventSound n (Proposal k) a ≡ false
+pub many-legs : (n k : ℕ) (a : List Leg) → mostLegs < k → eventSound n (Proposal k) a ≡ false
 unfolding eventSound
 many-legs n k a h = rw (lt-leb k mostLegs h, and-false (leb leastLegs k)) refl
 

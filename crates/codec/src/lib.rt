@@ -9,5 +9,6 @@ mod write;
 pub use legs::Legs;
 pub use legs::read_legs;
 pub use read::read_record;
+pub use sound::is_proposal_sound;
 pub use stream::front_record;
 pub use write::write_record;

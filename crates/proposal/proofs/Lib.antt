@@ -9,3 +9,4 @@ pub mod Taken
 pub mod Printed
 pub mod LegLines
 pub mod Accepted
+pub mod LegColumns

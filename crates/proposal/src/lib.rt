@@ -2,6 +2,7 @@
 mod acceptable;
 mod balance;
 mod booking;
+mod columns;
 mod conditions;
 mod places;
 mod priority;
@@ -19,6 +20,7 @@ use crate::booking::book_legs;
 use crate::booking::total_lots;
 use crate::booking::use_orders;
 use crate::places::write_places;
+pub use columns::are_columns_acceptable;
 use rules::Answer;
 use rules::layout::LOTS_RUN;
 use rules::layout::ORDER_COUNT;
