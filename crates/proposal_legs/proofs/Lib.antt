@@ -1,0 +1,2 @@
+pub mod LegColumns
+pub mod Lent
