@@ -29,7 +29,7 @@ use Rattle.rules.specs.Ledger.{Tables}
 use Rattle.tables.specs.Fit.{membersIn, lotsRunIn, Fits}
 use Rattle.submit.specs.Fit.{SubmissionFit}
 use Rattle.proposal.specs.Columns.{columnLeg, columnLegs, LegsFit}
-use Rattle.engine.proofs.Columns.{column, room}
+use Rattle.header.proofs.Columns.{column, room}
 
 module _ (head s : List ℕ) where
   pub submission-fits : (e : Submission) → readOf (membersIn head) s ≡ Sound (Submit e) → SubmissionFit head e

@@ -5,7 +5,7 @@ ghost use lib.ListN.{length, getD};
 ghost use Rattle.arith.specs.Columns.{padded};
 ghost use Rattle.arith.specs.Lists.{over};
 ghost use Rattle.rules.specs.Ranges.{mostHolidays, mostMembers};
-ghost use Rattle.header.specs.Journal.{headerFrom, headerColumns};
+ghost use Rattle.header.specs.Journal.{headerColumns};
 ghost use Rattle.fields.specs.HeaderFields.{headerFields, holidaysField, limitsField, membersField, holidayCountField, withHeader, numbersAt, headerIn, readHeaderFields, writeHeaderFields};
 use crate::places::FIRST_YEAR;
 use crate::places::HEADER_FIELDS;
@@ -34,20 +34,17 @@ fn put_list(row: &mut [u64], at: usize, list: &[u64])
     }
 }
 
-fn put_header(row: &mut [u64], h: JournalHeader)
-    requires { ⌜ (headerFields ≤ length (now row)) × (h .members ≤ mostMembers) × (h .«holiday_count» ≤ mostHolidays) ⌝ }
-    ensures { λ r. ⌜ now (row .exit) ≡ withHeader (headerFrom h) (now (row .entry)) ⌝ }
+// Each member has a limit, so there are as many members as limits.
+fn put_header(row: &mut [u64], first_year: u64, start: DayNo, holidays: &[u64], limits: &[u64])
+    requires { ⌜ (headerFields ≤ length (now row)) × (length (now holidays) ≤ mostHolidays) × (length (now limits) ≤ mostMembers) ⌝ }
+    ensures { λ r. ⌜ now (row .exit) ≡ withHeader (record { firstYear = «first_year»; startDay = start .0; members = length (now (limits .entry)); holidays = now (holidays .entry); limits = now (limits .entry) }) (now (row .entry)) ⌝ }
 {
-    let holidays = h.holidays;
-    let limits = h.limits;
-    let days = h.holiday_count as usize;
-    let members = h.members as usize;
-    row[FIRST_YEAR] = h.first_year;
-    row[START_DAY] = h.start_day.0;
-    row[MEMBERS] = h.members;
-    row[HOLIDAY_COUNT] = h.holiday_count;
-    put_list(row, HOLIDAYS, &holidays[..days]);
-    put_list(row, LIMITS, &limits[..members]);
+    row[FIRST_YEAR] = first_year;
+    row[START_DAY] = start.0;
+    row[MEMBERS] = limits.len() as u64;
+    row[HOLIDAY_COUNT] = holidays.len() as u64;
+    put_list(&mut *row, HOLIDAYS, holidays);
+    put_list(&mut *row, LIMITS, limits);
 }
 
 // Reads the header that bytes begin with: TableUnsound for a short row before HeaderUnsound, and nothing written on
@@ -59,13 +56,23 @@ pub fn read_header_fields(bytes: &[u8], row: &mut [u64]) -> Answer
         return Answer::TableUnsound;
     }
     let reading = read_header(bytes);
-    let answer = reading.answer;
-    let Answer::Accepted(length) = answer else {
-        return Answer::HeaderUnsound;
-    };
     let header = reading.header;
-    put_header(row, header);
-    Answer::Accepted(length)
+    // An unsound header comes back as zeros; a sound one has at least one member.
+    if header.members == 0 {
+        return Answer::HeaderUnsound;
+    }
+    let holidays = header.holidays;
+    let limits = header.limits;
+    let days = header.holiday_count as usize;
+    let members = header.members as usize;
+    put_header(
+        &mut *row,
+        header.first_year,
+        header.start_day,
+        &holidays[..days],
+        &limits[..members],
+    );
+    reading.answer
 }
 
 fn holidays_in(row: &[u64], count: usize) -> [u64; 120]
