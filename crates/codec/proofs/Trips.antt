@@ -137,7 +137,7 @@ beside n (Default m) legs t = ap length (no-leg legs (λ h. sym (simp (ne-eqb (l
 beside n (CloseOut e) legs t = ap length (no-leg legs (λ h. sym (simp (ne-eqb (length legs) 0 h, and-false) at t)))
 beside n (CloseOfDay s) legs t = ap length (no-leg legs (λ h. sym (simp (ne-eqb (length legs) 0 h, and-false) at t)))
 
-none : (legs : List Leg) → length legs ≡ 0 → [] ≡ legs
+pub none : (legs : List Leg) → length legs ≡ 0 → [] ≡ legs
 none [] l = refl
 none (g ∷ legs) l = absurd (omega arith)
 

@@ -6,82 +6,59 @@ use Rattle.fields.proofs.Rows.{by-kind, no-kind}
 use borrow.Author.Needs.{needs}
 use Rattle.fields.proofs.event.event_in.Statement.{statement}
 use Rattle.fields.proofs.event.event_in.Tie as tie
-use Rattle.fields.proofs.event.event_in.Reads as reads
-use Rattle.fields.proofs.event.event_in.Lts as lts
-use Rattle.fields.proofs.event.cancellation_in.Reads as cancellation-in-reads
-use Rattle.fields.proofs.event.close_out_in.Reads as close-out-in-reads
-use Rattle.fields.proofs.event.new_day_limits_in.Reads as new-day-limits-in-reads
-use Rattle.fields.proofs.event.proposal_in.Reads as proposal-in-reads
-use Rattle.fields.proofs.event.submit_in.Reads as submit-in-reads
 
--- src/event.rt:120:16
 shared-slice-read-kind : tie.Need-shared-slice-read-kind
 shared-slice-read-kind c = search needs
 
--- src/event.rt:122:19
 submit-in-requires : tie.Need-submit-in-requires
 submit-in-requires c κs = search needs
 
--- src/event.rt:123:48
 cancellation-in-requires : tie.Need-cancellation-in-requires
 cancellation-in-requires c κs = search needs
 
--- src/event.rt:124:55
 new-day-limits-in-requires : tie.Need-new-day-limits-in-requires
 new-day-limits-in-requires c κs = search needs
 
--- src/event.rt:125:21
 proposal-in-requires : tie.Need-proposal-in-requires
 proposal-in-requires c κs = search needs
 
--- src/event.rt:126:50
 shared-slice-read-t11 : tie.Need-shared-slice-read-t11
 shared-slice-read-t11 c = search needs
 
--- src/event.rt:127:53
 close-out-in-requires : tie.Need-close-out-in-requires
 close-out-in-requires c κs = search needs
 
--- src/event.rt:128:58
 shared-slice-read-t16 : tie.Need-shared-slice-read-t16
 shared-slice-read-t16 c = search needs
 
--- src/event.rt:116:1
 returns : tie.Need-returns
 unfolding eventByKind
 returns c = c .submit-in .ensures ∙ by-kind (c .before .before .before .before .args .row .now) 1 (c .before .match .keys1)
 
--- src/event.rt:116:1
 returns-2 : tie.Need-returns-2
 unfolding eventByKind
 returns-2 c = ap (λ e. Sound (Cancel e)) (c .cancellation-in .ensures) ∙ by-kind (c .before .before .before .before .args .row .now) 2 (c .before .match .keys2)
 
--- src/event.rt:116:1
 returns-3 : tie.Need-returns-3
 unfolding eventByKind
 returns-3 c = ap (λ e. Sound (DayLimits e)) (c .new-day-limits-in .ensures) ∙ by-kind (c .before .before .before .before .args .row .now) 3 (c .before .match .keys3)
 
--- src/event.rt:116:1
 returns-4 : tie.Need-returns-4
 unfolding eventByKind
 returns-4 c = c .proposal-in .ensures ∙ by-kind (c .before .before .before .before .args .row .now) 4 (c .before .match .keys4)
 
--- src/event.rt:116:1
 returns-5 : tie.Need-returns-5
 unfolding eventByKind
 returns-5 c = by-kind (c .before .before .before .before .args .row .now) 5 (c .before .match .keys5)
 
--- src/event.rt:116:1
 returns-6 : tie.Need-returns-6
 unfolding eventByKind
 returns-6 c = ap (λ e. Sound (CloseOut e)) (c .close-out-in .ensures) ∙ by-kind (c .before .before .before .before .args .row .now) 6 (c .before .match .keys6)
 
--- src/event.rt:116:1
 returns-7 : tie.Need-returns-7
 unfolding eventByKind
 returns-7 c = by-kind (c .before .before .before .before .args .row .now) 7 (c .before .match .keys7)
 
--- src/event.rt:116:1
 returns-8 : tie.Need-returns-8
 returns-8 c =
     let r = c .match .rest in

@@ -11,9 +11,6 @@ use Rattle.codec.specs.Columns.{legColumns}
 use Rattle.fields.specs.RecordFields.{legField, legIn, firstLegs}
 use Rattle.fields.proofs.event.legs_in.Statement.{statement}
 use Rattle.fields.proofs.event.legs_in.Tie as tie
-use Rattle.fields.proofs.event.legs_in.Reads as reads
-use Rattle.fields.proofs.event.legs_in.Lts as lts
-use Rattle.fields.proofs.event.leg_in.Reads as leg-in-reads
 
 abbrev Inv-loop : tie.InvT-loop
 Inv-loop row count orders₀ lots₀ prices₀ i₀ orders lots prices i = (i ≤ count)
@@ -24,56 +21,43 @@ Inv-loop row count orders₀ lots₀ prices₀ i₀ orders lots prices i = (i �
 abbrev μ-loop : tie.MeasureT-loop
 μ-loop row count orders₀ lots₀ prices₀ i₀ orders lots prices i = count - i
 
--- src/event.rt:153:5
 loop-holds : tie.Need-loop-holds Inv-loop μ-loop
 unfolding padded from
 loop-holds c = (omega arith, refl, refl, refl)
 
--- src/event.rt:154:43
 mul-leg-in : tie.Need-mul-leg-in Inv-loop μ-loop
 mul-leg-in c = search needs
 
--- src/event.rt:154:31
 add-leg-in : tie.Need-add-leg-in Inv-loop μ-loop
 add-leg-in c = search needs
 
--- src/event.rt:154:13
 leg-in-requires : tie.Need-leg-in-requires Inv-loop μ-loop
 leg-in-requires c κs = search needs
 
--- src/event.rt:155:9
 mul-orders : tie.Need-mul-orders Inv-loop μ-loop
 mul-orders c = search needs
 
--- src/event.rt:155:9
 array-write-orders : tie.Need-array-write-orders Inv-loop μ-loop
 array-write-orders c = search needs
 
--- src/event.rt:156:9
 mul-lots : tie.Need-mul-lots Inv-loop μ-loop
 mul-lots c = search needs
 
--- src/event.rt:156:9
 array-write-lots : tie.Need-array-write-lots Inv-loop μ-loop
 array-write-lots c = search needs
 
--- src/event.rt:157:9
 mul-prices : tie.Need-mul-prices Inv-loop μ-loop
 mul-prices c = search needs
 
--- src/event.rt:157:9
 array-write-prices : tie.Need-array-write-prices Inv-loop μ-loop
 array-write-prices c = search needs
 
--- src/event.rt:158:9
 add-i : tie.Need-add-i Inv-loop μ-loop
 add-i c = search needs
 
--- src/event.rt:153:5
 loop-less : tie.Need-loop-less Inv-loop μ-loop
 loop-less c = search needs
 
--- src/event.rt:153:5
 loop-again : tie.Need-loop-again Inv-loop μ-loop
 loop-again c =
     let l = c .before .before .loop in
@@ -85,7 +69,6 @@ loop-again c =
       column-next (λ g. g .price .0) (λ j. legIn f (legField j)) mostLegs (l .i) (omega arith) leg (l .inv .3),
     )
 
--- src/event.rt:145:1
 returns : tie.Need-returns Inv-loop μ-loop
 unfolding legColumns firstLegs
 returns c =

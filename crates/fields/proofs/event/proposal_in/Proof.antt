@@ -2,18 +2,13 @@ use Rattle.arith.proofs.Tests.{tests}
 use borrow.Author.Needs.{needs}
 use Rattle.fields.proofs.event.proposal_in.Statement.{statement}
 use Rattle.fields.proofs.event.proposal_in.Tie as tie
-use Rattle.fields.proofs.event.proposal_in.Reads as reads
-use Rattle.fields.proofs.event.proposal_in.Lts as lts
 
--- src/event.rt:99:17
 shared-slice-read-count : tie.Need-shared-slice-read-count
 shared-slice-read-count c = search needs
 
--- src/event.rt:101:9
 returns : tie.Need-returns
 returns c = search tests
 
--- src/event.rt:95:1
 returns-2 : tie.Need-returns-2
 returns-2 c = search tests
 

@@ -11,8 +11,6 @@ use Rattle.rules.specs.Ranges.{mostMembers}
 use Rattle.fields.specs.HeaderFields.{limitsField, numbersAt}
 use Rattle.fields.proofs.headers.limits_in.Statement.{statement}
 use Rattle.fields.proofs.headers.limits_in.Tie as tie
-use Rattle.fields.proofs.headers.limits_in.Reads as reads
-use Rattle.fields.proofs.headers.limits_in.Lts as lts
 
 abbrev Inv-loop : tie.InvT-loop
 Inv-loop row count column₀ i₀ column i = (i ≤ count) × (column ≡ padded mostMembers (map (λ j. getD row (limitsField + j) 0) (from 0 i)))
@@ -20,46 +18,36 @@ Inv-loop row count column₀ i₀ column i = (i ≤ count) × (column ≡ padded
 abbrev μ-loop : tie.MeasureT-loop
 μ-loop row count column₀ i₀ column i = count - i
 
--- src/headers.rt:90:5
 loop-holds : tie.Need-loop-holds Inv-loop μ-loop
 unfolding padded from
 loop-holds c = (omega arith, refl)
 
--- src/headers.rt:91:25
 add-column : tie.Need-add-column Inv-loop μ-loop
 add-column c = search needs
 
--- src/headers.rt:91:21
 mul-column : tie.Need-mul-column Inv-loop μ-loop
 mul-column c = search needs
 
--- src/headers.rt:91:21
 shared-slice-read-column : tie.Need-shared-slice-read-column Inv-loop μ-loop
 shared-slice-read-column c = search needs
 
--- src/headers.rt:91:9
 mul-column-2 : tie.Need-mul-column-2 Inv-loop μ-loop
 mul-column-2 c = search needs
 
--- src/headers.rt:91:9
 array-write-column : tie.Need-array-write-column Inv-loop μ-loop
 array-write-column c = search needs
 
--- src/headers.rt:92:9
 add-i : tie.Need-add-i Inv-loop μ-loop
 add-i c = search needs
 
--- src/headers.rt:90:5
 loop-less : tie.Need-loop-less Inv-loop μ-loop
 loop-less c = search needs
 
--- src/headers.rt:90:5
 loop-again : tie.Need-loop-again Inv-loop μ-loop
 loop-again c =
     let l = c .before .before .loop in
     (omega arith, column-filled (λ j. getD (c .before .before .before .args .row .now) (limitsField + j) 0) mostMembers (l .i) (omega arith) refl (l .inv .1))
 
--- src/headers.rt:84:1
 returns : tie.Need-returns Inv-loop μ-loop
 unfolding numbersAt
 returns c = let all : c .before .loop .i ≡ c .before .before .args .count = omega arith in rw (← all) (c .before .loop .inv .1)

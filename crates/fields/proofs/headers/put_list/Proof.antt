@@ -8,8 +8,6 @@ use lib.Seq.{paste, paste-zero, paste-suc}
 use Rattle.fields.proofs.Rows.{pasted}
 use Rattle.fields.proofs.headers.put_list.Statement.{statement}
 use Rattle.fields.proofs.headers.put_list.Tie as tie
-use Rattle.fields.proofs.headers.put_list.Reads as reads
-use Rattle.fields.proofs.headers.put_list.Lts as lts
 
 abbrev Inv-loop : tie.InvT-loop
 Inv-loop row₀ at list i₀ row i = (i ≤ length list) × (length row ≡ length row₀) × (row ≡ paste row₀ at list i)
@@ -17,50 +15,39 @@ Inv-loop row₀ at list i₀ row i = (i ≤ length list) × (length row ≡ leng
 abbrev μ-loop : tie.MeasureT-loop
 μ-loop row₀ at list i₀ row i = length list - i
 
--- src/headers.rt:31:5
 loop-holds : tie.Need-loop-holds Inv-loop μ-loop
 loop-holds c = let a = c .args in (omega arith, refl, paste-zero (a .row .now) (a .at) (a .list .now))
 
--- src/headers.rt:32:23
 mul-row : tie.Need-mul-row Inv-loop μ-loop
 mul-row c = search needs
 
--- src/headers.rt:32:23
 shared-slice-read-row : tie.Need-shared-slice-read-row Inv-loop μ-loop
 shared-slice-read-row c = search needs
 
--- src/headers.rt:32:13
 add-row : tie.Need-add-row Inv-loop μ-loop
 add-row c = search needs
 
--- src/headers.rt:32:9
 mul-row-2 : tie.Need-mul-row-2 Inv-loop μ-loop
 mul-row-2 c = search needs
 
--- src/headers.rt:32:9
 slice-write-row : tie.Need-slice-write-row Inv-loop μ-loop
 slice-write-row c = search needs
 
--- src/headers.rt:33:9
 add-i : tie.Need-add-i Inv-loop μ-loop
 add-i c = search needs
 
--- src/headers.rt:31:5
 loop-less : tie.Need-loop-less Inv-loop μ-loop
 loop-less c = search needs
 
--- src/headers.rt:31:5
 loop-again : tie.Need-loop-again Inv-loop μ-loop
 loop-again c =
     let a = c .before .before .before .args in
     let l = c .before .before .loop in
     (omega arith, simp length-set (omega arith), rw (l .inv .2, add-one) (paste-suc (a .row .now) (a .at) (a .list .now) (l .i) 0 (omega arith) (omega arith)))
 
--- src/headers.rt:26:1
 same-length : tie.Need-same-length Inv-loop μ-loop
 same-length c = search needs
 
--- src/headers.rt:26:1
 returns : tie.Need-returns Inv-loop μ-loop
 returns c =
     let a = c .before .before .args in

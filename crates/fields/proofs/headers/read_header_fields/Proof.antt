@@ -1,4 +1,3 @@
-use native.Mathlib.Omega.{arith}
 use mathlib.Core.Path.{sym, ap, _∙_}
 use lib.Seq.{length-take-le}
 use Rattle.header.specs.declared.reader.HeaderReading.{HeaderReading}
@@ -8,34 +7,25 @@ use Rattle.fields.proofs.HeaderOutcomes.{read-header-short, read-header
 use borrow.Author.Needs.{needs}
 use Rattle.fields.proofs.headers.read_header_fields.Statement.{statement}
 use Rattle.fields.proofs.headers.read_header_fields.Tie as tie
-use Rattle.fields.proofs.headers.read_header_fields.Reads as reads
-use Rattle.fields.proofs.headers.read_header_fields.Lts as lts
-use Rattle.fields.proofs.headers.put_header.Reads as put-header-reads
-use Rattle.header.proofs.read_header.Reads as read-header-reads
 
--- src/headers.rt:56:9
 returns : tie.Need-returns
 returns c = let a = c .before .before .before .args in read-header-short (a .bytes .now) (a .row .now) (c .if1 .taken)
 
--- src/headers.rt:58:9
 read-header-requires : tie.Need-read-header-requires
 read-header-requires c κs = search needs
 
--- src/headers.rt:62:9
 returns-2 : tie.Need-returns-2
 returns-2 c =
     let a = c .before .before .before .before .before .before .before .args in
     let reading = c .before .before .before .read-header in
     read-header-none (a .bytes .now) (a .row .now) (c .before .before .before .before .if1 .left) (turned-back (a .bytes .now) (reading .result) (reading .ensures) (c .if2 .taken))
 
--- src/headers.rt:72:9
 array-share-prefix-holidays : tie.Need-array-share-prefix-holidays
 array-share-prefix-holidays c =
     let s = c .before .before .before .before .before .before .before .before .before .before .args .bytes .now in
     let reading = c .before .before .before .before .before .before .read-header in
     holiday-room s (reading .result) (reading .ensures) (read-well s (reading .result) (reading .ensures) (c .before .before .before .if2 .left))
 
--- src/headers.rt:72:9
 slice-aggregate-put-header : tie.Need-slice-aggregate-put-header
 slice-aggregate-put-header c =
     let s = c .before .before .before .before .before .before .before .before .before .before .before .args .bytes .now in
@@ -43,14 +33,12 @@ slice-aggregate-put-header c =
     let room = holiday-room s (reading .result) (reading .ensures) (read-well s (reading .result) (reading .ensures) (c .before .before .before .before .if2 .left)) in
     sym (length-take-le _ _ room)
 
--- src/headers.rt:73:9
 array-share-prefix-limits : tie.Need-array-share-prefix-limits
 array-share-prefix-limits c =
     let s = c .before .before .before .before .before .before .before .before .before .before .before .args .bytes .now in
     let reading = c .before .before .before .before .before .before .before .read-header in
     limit-room s (reading .result) (reading .ensures) (read-well s (reading .result) (reading .ensures) (c .before .before .before .before .if2 .left))
 
--- src/headers.rt:73:9
 slice-aggregate-put-header-2 : tie.Need-slice-aggregate-put-header-2
 slice-aggregate-put-header-2 c =
     let s = c .before .before .before .before .before .before .before .before .before .before .before .before .args .bytes .now in
@@ -58,28 +46,32 @@ slice-aggregate-put-header-2 c =
     let room = limit-room s (reading .result) (reading .ensures) (read-well s (reading .result) (reading .ensures) (c .before .before .before .before .before .if2 .left)) in
     sym (length-take-le _ _ room)
 
--- src/headers.rt:68:5
 put-header-requires : tie.Need-put-header-requires
 put-header-requires c κs =
-    let s = c .before .before .before .before .before .before .before .before .before .before .before .before .args .bytes .now in
+    let start = c .before .before .before .before .before .before .before .before .before .before .before .before in
     let reading = c .before .before .before .before .before .before .before .before .read-header in
-    let begun = read-well s (reading .result) (reading .ensures) (c .before .before .before .before .before .if2 .left) in
-    (c .before .before .before .before .before .before .before .before .before .if1 .left, holiday-most s (reading .result) (reading .ensures) begun, limit-most s (reading .result) (reading .ensures) begun)
+    let test2 = c .before .before .before .before .before .if2 in
+    let test1 = c .before .before .before .before .before .before .before .before .before .if1 in
+    let s = start .args .bytes .now in
+    let begun = read-well s (reading .result) (reading .ensures) (test2 .left) in
+    (test1 .left, holiday-most s (reading .result) (reading .ensures) begun, limit-most s (reading .result) (reading .ensures) begun)
 
--- src/headers.rt:52:1
 same-length : tie.Need-same-length
 same-length c = search needs
 
--- src/headers.rt:52:1
 returns-3 : tie.Need-returns-3
 returns-3 c =
-    let a = c .before .before .before .before .before .before .before .before .before .before .before .before .before .before .before .args in
-    let s = a .bytes .now in
+    let start = c .before .before .before .before .before .before .before .before .before .before .before .before .before .before .before in
     let reading = c .before .before .before .before .before .before .before .before .before .before .before .read-header in
-    let begun = read-well s (reading .result) (reading .ensures) (c .before .before .before .before .before .before .before .before .if2 .left) in
+    let test2 = c .before .before .before .before .before .before .before .before .if2 in
+    let test1 = c .before .before .before .before .before .before .before .before .before .before .before .before .if1 in
+    let put-header = c .before .before .put-header in
+    let a = start .args in
+    let s = a .bytes .now in
+    let begun = read-well s (reading .result) (reading .ensures) (test2 .left) in
     let listed = as-listed s (reading .result) (reading .ensures) begun in
     let answered = ap (λ (r : HeaderReading). r .answer) (as-read s (reading .result) (reading .ensures) begun) in
-    read-header-whole s (a .row .now) (c .before .before .before .before .before .before .before .before .before .before .before .before .if1 .left) begun _ _ answered (c .before .before .put-header .ensures ∙ ap (λ h. withHeader h (a .row .now)) listed)
+    read-header-whole s (a .row .now) (test1 .left) begun _ _ answered (put-header .ensures ∙ ap (λ h. withHeader h (a .row .now)) listed)
 
 pub read-header-fields-spec : {M : Type 1} → statement M
 read-header-fields-spec =

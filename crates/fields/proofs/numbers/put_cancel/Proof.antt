@@ -7,30 +7,22 @@ use Rattle.fields.proofs.Rows.{stored-numbers}
 use borrow.Author.Needs.{needs}
 use Rattle.fields.proofs.numbers.put_cancel.Statement.{statement}
 use Rattle.fields.proofs.numbers.put_cancel.Tie as tie
-use Rattle.fields.proofs.numbers.put_cancel.Reads as reads
-use Rattle.fields.proofs.numbers.put_cancel.Lts as lts
 
--- src/numbers.rt:78:5
 slice-write-row : tie.Need-slice-write-row
 slice-write-row c = search needs
 
--- src/numbers.rt:79:5
 slice-write-row-2 : tie.Need-slice-write-row-2
 slice-write-row-2 c = simp length-set (omega arith)
 
--- src/numbers.rt:80:5
 slice-write-row-3 : tie.Need-slice-write-row-3
 slice-write-row-3 c = simp length-set (omega arith)
 
--- src/numbers.rt:81:5
 slice-write-row-4 : tie.Need-slice-write-row-4
 slice-write-row-4 c = simp length-set (omega arith)
 
--- src/numbers.rt:74:1
 same-length : tie.Need-same-length
 same-length c = search needs
 
--- src/numbers.rt:74:1
 returns : tie.Need-returns
 unfolding numbersOf
 returns c = let a = c .args in stored-numbers (Cancel (a .e)) [] (a .row .now) (omega arith)

@@ -7,26 +7,19 @@ use Rattle.fields.proofs.Rows.{stored-numbers}
 use borrow.Author.Needs.{needs}
 use Rattle.fields.proofs.numbers.put_close_out.Statement.{statement}
 use Rattle.fields.proofs.numbers.put_close_out.Tie as tie
-use Rattle.fields.proofs.numbers.put_close_out.Reads as reads
-use Rattle.fields.proofs.numbers.put_close_out.Lts as lts
 
--- src/numbers.rt:139:5
 slice-write-row : tie.Need-slice-write-row
 slice-write-row c = search needs
 
--- src/numbers.rt:140:5
 slice-write-row-2 : tie.Need-slice-write-row-2
 slice-write-row-2 c = simp length-set (omega arith)
 
--- src/numbers.rt:141:5
 slice-write-row-3 : tie.Need-slice-write-row-3
 slice-write-row-3 c = simp length-set (omega arith)
 
--- src/numbers.rt:135:1
 same-length : tie.Need-same-length
 same-length c = search needs
 
--- src/numbers.rt:135:1
 returns : tie.Need-returns
 unfolding numbersOf
 returns c = let a = c .args in stored-numbers (CloseOut (a .e)) [] (a .row .now) (omega arith)

@@ -7,30 +7,22 @@ use Rattle.fields.proofs.Rows.{stored-numbers}
 use borrow.Author.Needs.{needs}
 use Rattle.fields.proofs.numbers.put_day_limits.Statement.{statement}
 use Rattle.fields.proofs.numbers.put_day_limits.Tie as tie
-use Rattle.fields.proofs.numbers.put_day_limits.Reads as reads
-use Rattle.fields.proofs.numbers.put_day_limits.Lts as lts
 
--- src/numbers.rt:89:5
 slice-write-row : tie.Need-slice-write-row
 slice-write-row c = search needs
 
--- src/numbers.rt:90:5
 slice-write-row-2 : tie.Need-slice-write-row-2
 slice-write-row-2 c = simp length-set (omega arith)
 
--- src/numbers.rt:91:5
 slice-write-row-3 : tie.Need-slice-write-row-3
 slice-write-row-3 c = simp length-set (omega arith)
 
--- src/numbers.rt:92:5
 slice-write-row-4 : tie.Need-slice-write-row-4
 slice-write-row-4 c = simp length-set (omega arith)
 
--- src/numbers.rt:85:1
 same-length : tie.Need-same-length
 same-length c = search needs
 
--- src/numbers.rt:85:1
 returns : tie.Need-returns
 unfolding numbersOf
 returns c = let a = c .args in stored-numbers (DayLimits (a .e)) [] (a .row .now) (omega arith)

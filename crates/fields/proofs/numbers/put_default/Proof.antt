@@ -7,22 +7,16 @@ use Rattle.fields.proofs.Rows.{stored-numbers}
 use borrow.Author.Needs.{needs}
 use Rattle.fields.proofs.numbers.put_default.Statement.{statement}
 use Rattle.fields.proofs.numbers.put_default.Tie as tie
-use Rattle.fields.proofs.numbers.put_default.Reads as reads
-use Rattle.fields.proofs.numbers.put_default.Lts as lts
 
--- src/numbers.rt:130:5
 slice-write-row : tie.Need-slice-write-row
 slice-write-row c = search needs
 
--- src/numbers.rt:131:5
 slice-write-row-2 : tie.Need-slice-write-row-2
 slice-write-row-2 c = simp length-set (omega arith)
 
--- src/numbers.rt:126:1
 same-length : tie.Need-same-length
 same-length c = search needs
 
--- src/numbers.rt:126:1
 returns : tie.Need-returns
 unfolding numbersOf
 returns c = let a = c .args in stored-numbers (Default (a .member)) [] (a .row .now) (omega arith)

@@ -3,130 +3,93 @@ use Rattle.codec.specs.Columns.{legRows}
 use borrow.Author.Needs.{needs}
 use Rattle.fields.proofs.numbers.put_event.Statement.{statement}
 use Rattle.fields.proofs.numbers.put_event.Tie as tie
-use Rattle.fields.proofs.numbers.put_event.Reads as reads
-use Rattle.fields.proofs.numbers.put_event.Lts as lts
-use Rattle.fields.proofs.numbers.put_cancel.Reads as put-cancel-reads
-use Rattle.fields.proofs.numbers.put_close_of_day.Reads as put-close-of-day-reads
-use Rattle.fields.proofs.numbers.put_close_out.Reads as put-close-out-reads
-use Rattle.fields.proofs.numbers.put_day_limits.Reads as put-day-limits-reads
-use Rattle.fields.proofs.numbers.put_default.Reads as put-default-reads
-use Rattle.fields.proofs.numbers.put_proposal.Reads as put-proposal-reads
-use Rattle.fields.proofs.numbers.put_submit.Reads as put-submit-reads
 
--- src/numbers.rt:159:23
 enum-known-event : tie.Need-enum-known-event
 enum-known-event c = search needs
 
--- src/numbers.rt:159:29
 put-submit-requires : tie.Need-put-submit-requires
 put-submit-requires c κs = search needs
 
--- src/numbers.rt:160:23
 enum-known-event-2 : tie.Need-enum-known-event-2
 enum-known-event-2 c = search needs
 
--- src/numbers.rt:160:29
 put-cancel-requires : tie.Need-put-cancel-requires
 put-cancel-requires c κs = search needs
 
--- src/numbers.rt:161:26
 enum-known-event-3 : tie.Need-enum-known-event-3
 enum-known-event-3 c = search needs
 
--- src/numbers.rt:161:32
 put-day-limits-requires : tie.Need-put-day-limits-requires
 put-day-limits-requires c κs = search needs
 
--- src/numbers.rt:162:25
 enum-known-event-4 : tie.Need-enum-known-event-4
 enum-known-event-4 c = search needs
 
--- src/numbers.rt:162:35
 put-proposal-requires : tie.Need-put-proposal-requires
 put-proposal-requires c κs = rw (c .before .before .event4 .given .1) at (c .before .before .before .before .before .pre)
 
--- src/numbers.rt:163:24
 enum-known-event-5 : tie.Need-enum-known-event-5
 enum-known-event-5 c = search needs
 
--- src/numbers.rt:163:35
 put-default-requires : tie.Need-put-default-requires
 put-default-requires c κs = search needs
 
--- src/numbers.rt:164:25
 enum-known-event-6 : tie.Need-enum-known-event-6
 enum-known-event-6 c = search needs
 
--- src/numbers.rt:164:31
 put-close-out-requires : tie.Need-put-close-out-requires
 put-close-out-requires c κs = search needs
 
--- src/numbers.rt:165:27
 enum-known-event-7 : tie.Need-enum-known-event-7
 enum-known-event-7 c = search needs
 
--- src/numbers.rt:165:36
 put-close-of-day-requires : tie.Need-put-close-of-day-requires
 put-close-of-day-requires c κs = search needs
 
--- src/numbers.rt:154:1
 same-length : tie.Need-same-length
 same-length c = search needs
 
--- src/numbers.rt:154:1
 returns : tie.Need-returns
 unfolding legRows from
 returns c = rw (c .before .before .before .before .before .event .given .1) (c .before .before .put-submit .ensures)
 
--- src/numbers.rt:154:1
 same-length-2 : tie.Need-same-length-2
 same-length-2 c = search needs
 
--- src/numbers.rt:154:1
 returns-2 : tie.Need-returns-2
 unfolding legRows from
 returns-2 c = rw (c .before .before .before .before .before .event2 .given .1) (c .before .before .put-cancel .ensures)
 
--- src/numbers.rt:154:1
 same-length-3 : tie.Need-same-length-3
 same-length-3 c = search needs
 
--- src/numbers.rt:154:1
 returns-3 : tie.Need-returns-3
 unfolding legRows from
 returns-3 c = rw (c .before .before .before .before .before .event3 .given .1) (c .before .before .put-day-limits .ensures)
 
--- src/numbers.rt:154:1
 same-length-4 : tie.Need-same-length-4
 same-length-4 c = search needs
 
--- src/numbers.rt:154:1
 returns-4 : tie.Need-returns-4
 returns-4 c = rw (c .before .before .before .before .before .event4 .given .1) (c .before .before .put-proposal .ensures)
 
--- src/numbers.rt:154:1
 same-length-5 : tie.Need-same-length-5
 same-length-5 c = search needs
 
--- src/numbers.rt:154:1
 returns-5 : tie.Need-returns-5
 unfolding legRows from
 returns-5 c = rw (c .before .before .before .before .before .event5 .given .1) (c .before .before .put-default .ensures)
 
--- src/numbers.rt:154:1
 same-length-6 : tie.Need-same-length-6
 same-length-6 c = search needs
 
--- src/numbers.rt:154:1
 returns-6 : tie.Need-returns-6
 unfolding legRows from
 returns-6 c = rw (c .before .before .before .before .before .event6 .given .1) (c .before .before .put-close-out .ensures)
 
--- src/numbers.rt:154:1
 same-length-7 : tie.Need-same-length-7
 same-length-7 c = search needs
 
--- src/numbers.rt:154:1
 returns-7 : tie.Need-returns-7
 unfolding legRows from
 returns-7 c = rw (c .before .before .before .before .before .event7 .given .1) (c .before .before .put-close-of-day .ensures)

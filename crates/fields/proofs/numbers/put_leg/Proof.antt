@@ -6,46 +6,34 @@ use Rattle.fields.specs.RecordFields.{legNumbers}
 use borrow.Author.Needs.{needs}
 use Rattle.fields.proofs.numbers.put_leg.Statement.{statement}
 use Rattle.fields.proofs.numbers.put_leg.Tie as tie
-use Rattle.fields.proofs.numbers.put_leg.Reads as reads
-use Rattle.fields.proofs.numbers.put_leg.Lts as lts
 
--- src/numbers.rt:100:5
 mul-row : tie.Need-mul-row
 mul-row c = search needs
 
--- src/numbers.rt:100:5
 slice-write-row : tie.Need-slice-write-row
 slice-write-row c = search needs
 
--- src/numbers.rt:101:9
 add-row : tie.Need-add-row
 add-row c = search needs
 
--- src/numbers.rt:101:5
 mul-row-2 : tie.Need-mul-row-2
 mul-row-2 c = search needs
 
--- src/numbers.rt:101:5
 slice-write-row-2 : tie.Need-slice-write-row-2
 slice-write-row-2 c = simp length-set (omega arith)
 
--- src/numbers.rt:102:9
 add-row-2 : tie.Need-add-row-2
 add-row-2 c = search needs
 
--- src/numbers.rt:102:5
 mul-row-3 : tie.Need-mul-row-3
 mul-row-3 c = search needs
 
--- src/numbers.rt:102:5
 slice-write-row-3 : tie.Need-slice-write-row-3
 slice-write-row-3 c = simp length-set (omega arith)
 
--- src/numbers.rt:96:1
 same-length : tie.Need-same-length
 same-length c = search needs
 
--- src/numbers.rt:96:1
 returns : tie.Need-returns
 returns c = let a = c .args in rw (add-one (a .at), add-two (a .at)) (stored (legNumbers (a .leg)) (a .row .now) (a .at) (omega arith))
 

@@ -10,10 +10,6 @@ use Rattle.codec.specs.Columns.{legRow, legRows}
 use Rattle.fields.specs.RecordFields.{legNumbers}
 use Rattle.fields.proofs.numbers.put_legs.Statement.{statement}
 use Rattle.fields.proofs.numbers.put_legs.Tie as tie
-use Rattle.fields.proofs.numbers.put_legs.Reads as reads
-use Rattle.fields.proofs.numbers.put_legs.Lts as lts
-use Rattle.codec.proofs.leg_of.Reads as leg-of-reads
-use Rattle.fields.proofs.numbers.put_leg.Reads as put-leg-reads
 
 abbrev Inv-loop : tie.InvT-loop
 Inv-loop row₀ count legs i₀ row i = (i ≤ count) × (length row ≡ length row₀) × (row ≡ over 2 (flatMap legNumbers (map (legRow legs) (from 0 i))) row₀)
@@ -21,45 +17,39 @@ Inv-loop row₀ count legs i₀ row i = (i ≤ count) × (length row ≡ length 
 abbrev μ-loop : tie.MeasureT-loop
 μ-loop row₀ count legs i₀ row i = count - i
 
--- src/numbers.rt:110:5
 loop-holds : tie.Need-loop-holds Inv-loop μ-loop
 loop-holds c = (omega arith, refl, blocks-none legNumbers 3 (λ g. refl) (legRow (c .before .args .legs)) 2 _)
 
--- src/numbers.rt:111:34
 mul-put-leg : tie.Need-mul-put-leg Inv-loop μ-loop
 mul-put-leg c = search needs
 
--- src/numbers.rt:111:22
 add-put-leg : tie.Need-add-put-leg Inv-loop μ-loop
 add-put-leg c = search needs
 
--- src/numbers.rt:111:49
 leg-of-requires : tie.Need-leg-of-requires Inv-loop μ-loop
 leg-of-requires c κs = search needs
 
--- src/numbers.rt:111:9
 put-leg-requires : tie.Need-put-leg-requires Inv-loop μ-loop
 put-leg-requires c κs = search needs
 
--- src/numbers.rt:112:9
 add-i : tie.Need-add-i Inv-loop μ-loop
 add-i c = search needs
 
--- src/numbers.rt:110:5
 loop-less : tie.Need-loop-less Inv-loop μ-loop
 loop-less c = search needs
 
--- src/numbers.rt:110:5
 loop-again : tie.Need-loop-again Inv-loop μ-loop
 loop-again c =
-    let l = c .before .before .before .before .before .before .loop in
-    (omega arith, omega arith, blocks-next legNumbers 3 (λ g. refl) (legRow (c .before .before .before .before .before .before .before .before .args .legs)) 2 (l .i) _ _ _ _ (c .before .before .before .leg-of .ensures) (l .inv .2) (c .before .before .put-leg .ensures) (omega arith))
+    let loop = c .before .before .before .before .before .before .loop in
+    let start = c .before .before .before .before .before .before .before .before in
+    let leg-of = c .before .before .before .leg-of in
+    let put-leg = c .before .before .put-leg in
+    let l = loop in
+    (omega arith, omega arith, blocks-next legNumbers 3 (λ g. refl) (legRow (start .args .legs)) 2 (l .i) _ _ _ _ (leg-of .ensures) (l .inv .2) (put-leg .ensures) (omega arith))
 
--- src/numbers.rt:105:1
 same-length : tie.Need-same-length Inv-loop μ-loop
 same-length c = search needs
 
--- src/numbers.rt:105:1
 returns : tie.Need-returns Inv-loop μ-loop
 unfolding legRows
 returns c =

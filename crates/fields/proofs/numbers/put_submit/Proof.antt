@@ -7,56 +7,40 @@ use Rattle.fields.proofs.Rows.{stored-numbers}
 use borrow.Author.Needs.{needs}
 use Rattle.fields.proofs.numbers.put_submit.Statement.{statement}
 use Rattle.fields.proofs.numbers.put_submit.Tie as tie
-use Rattle.fields.proofs.numbers.put_submit.Reads as reads
-use Rattle.fields.proofs.numbers.put_submit.Lts as lts
-use Rattle.codec.proofs.order_kind_number.Reads as order-kind-number-reads
-use Rattle.sides.proofs.side_number.Reads as side-number-reads
 
--- src/numbers.rt:63:5
 slice-write-row : tie.Need-slice-write-row
 slice-write-row c = search needs
 
--- src/numbers.rt:64:5
 slice-write-row-2 : tie.Need-slice-write-row-2
 slice-write-row-2 c = simp length-set (omega arith)
 
--- src/numbers.rt:65:5
 slice-write-row-3 : tie.Need-slice-write-row-3
 slice-write-row-3 c = simp length-set (omega arith)
 
--- src/numbers.rt:66:5
 slice-write-row-4 : tie.Need-slice-write-row-4
 slice-write-row-4 c = simp length-set (omega arith)
 
--- src/numbers.rt:67:24
 side-number-requires : tie.Need-side-number-requires
 side-number-requires c κs = search needs
 
--- src/numbers.rt:67:5
 slice-write-row-5 : tie.Need-slice-write-row-5
 slice-write-row-5 c = simp length-set (omega arith)
 
--- src/numbers.rt:68:30
 order-kind-number-requires : tie.Need-order-kind-number-requires
 order-kind-number-requires c κs = search needs
 
--- src/numbers.rt:68:5
 slice-write-row-6 : tie.Need-slice-write-row-6
 slice-write-row-6 c = simp length-set (omega arith)
 
--- src/numbers.rt:69:5
 slice-write-row-7 : tie.Need-slice-write-row-7
 slice-write-row-7 c = simp length-set (omega arith)
 
--- src/numbers.rt:70:5
 slice-write-row-8 : tie.Need-slice-write-row-8
 slice-write-row-8 c = simp length-set (omega arith)
 
--- src/numbers.rt:57:1
 same-length : tie.Need-same-length
 same-length c = search needs
 
--- src/numbers.rt:57:1
 returns : tie.Need-returns
 unfolding numbersOf
 returns c =

@@ -1,51 +1,46 @@
 use Rattle.fields.proofs.RecordOutcomes.{read-short, read-unsound, few-read, read-sound}
-use native.Mathlib.Omega.{arith}
 use borrow.Author.Needs.{needs}
 use Rattle.fields.proofs.records.read_record_fields.Statement.{statement}
 use Rattle.fields.proofs.records.read_record_fields.Tie as tie
-use Rattle.fields.proofs.records.read_record_fields.Reads as reads
-use Rattle.fields.proofs.records.read_record_fields.Lts as lts
-use Rattle.codec.proofs.read_legs.Reads as read-legs-reads
-use Rattle.codec.proofs.read_record.Reads as read-record-reads
-use Rattle.fields.proofs.numbers.put_event.Reads as put-event-reads
 
--- src/records.rt:21:9
 returns : tie.Need-returns
 returns c = let a = c .before .before .before .args in read-short (a .members) (a .bytes .now) (a .row .now) (c .if1 .taken)
 
--- src/records.rt:23:11
 read-record-requires : tie.Need-read-record-requires
 read-record-requires c κs = search needs
 
--- src/records.rt:24:24
 enum-known-event : tie.Need-enum-known-event
 enum-known-event c = search needs
 
--- src/records.rt:24:73
 read-legs-requires : tie.Need-read-legs-requires
 read-legs-requires c κs = search needs
 
--- src/records.rt:24:51
 put-event-requires : tie.Need-put-event-requires
 put-event-requires c κs =
-    let a = c .before .before .before .before .before .before .before .before .before .args in
-    (c .before .before .before .before .before .before .if1 .left, few-read (a .members) (a .bytes .now) (a .row .now) (c .before .before .before .before .before .read-record .ensures) (c .before .before .before .event .given .1))
+    let start = c .before .before .before .before .before .before .before .before .before in
+    let test1 = c .before .before .before .before .before .before .if1 in
+    let read-record = c .before .before .before .before .before .read-record in
+    let event = c .before .before .before .event in
+    let a = start .args in
+    (test1 .left, few-read (a .members) (a .bytes .now) (a .row .now) (read-record .ensures) (event .given .1))
 
--- src/records.rt:25:29
 enum-told : tie.Need-enum-told
 enum-told c = search needs
 
--- src/records.rt:17:1
 same-length : tie.Need-same-length
 same-length c = search needs
 
--- src/records.rt:17:1
 returns-2 : tie.Need-returns-2
 returns-2 c =
-    let a = c .before .before .before .before .before .before .before .before .before .before .before .before .args in
-    read-sound (a .members) (a .bytes .now) (a .row .now) (c .before .before .before .before .before .before .before .before .read-record .ensures) (c .before .before .before .before .before .before .event .given .1) (c .before .before .before .before .before .before .before .before .before .if1 .left) (c .before .before .before .read-legs .ensures) (c .before .before .put-event .ensures)
+    let start = c .before .before .before .before .before .before .before .before .before .before .before .before in
+    let read-record = c .before .before .before .before .before .before .before .before .read-record in
+    let event = c .before .before .before .before .before .before .event in
+    let test1 = c .before .before .before .before .before .before .before .before .before .if1 in
+    let read-legs = c .before .before .before .read-legs in
+    let put-event = c .before .before .put-event in
+    let a = start .args in
+    read-sound (a .members) (a .bytes .now) (a .row .now) (read-record .ensures) (event .given .1) (test1 .left) (read-legs .ensures) (put-event .ensures)
 
--- src/records.rt:17:1
 returns-3 : tie.Need-returns-3
 returns-3 c =
     let a = c .before .before .before .before .before .before .args in
