@@ -8,7 +8,7 @@ ghost use Rattle.rules.specs.declared.answer.Answer.the-variants.{Accepted};
 ghost use Rattle.rules.specs.declared.event.Event.the-variants.{Submit, Cancel, DayLimits, Proposal, Default, CloseOut, CloseOfDay};
 ghost use Rattle.rules.specs.Ranges.{mostLegs};
 ghost use Rattle.codec.specs.Columns.{legRows, legCount};
-ghost use Rattle.fields.specs.RecordFields.{recordFields, legField, legNumbers, withNumbers};
+ghost use Rattle.fields.specs.RecordFields.{recordFields, legNumbers, withNumbers};
 use crate::places::CANCEL_FIELDS;
 use crate::places::CANCEL_MEMBER;
 use crate::places::CANCEL_ORDER;
