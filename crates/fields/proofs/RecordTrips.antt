@@ -93,7 +93,9 @@ module _ (f : List ℕ) where
   again e h (submits k a b) = take-firsts 8 f (omega arith) ∙ rw (k, codec.side-again (getD f 4 0) a, codec.order-kind-again (getD f 5 0) b) refl
   again e h (cancels k) = take-firsts 4 f (omega arith) ∙ rw k refl
   again e h (limits k) = take-firsts 4 f (omega arith) ∙ rw k refl
-  again e h (proposes k m) = proposal-front (getD f proposalLegs 0) (legsIn f) (legs-given f (Proposal (getD f proposalLegs 0)) (proposes k m)) (proposal-again (getD f proposalLegs 0) refl k (omega arith))
+  again e h (proposes k m) =
+      let count = getD f proposalLegs 0 in
+      proposal-front count (legsIn f) (legs-given f (Proposal count) (proposes k m)) (proposal-again count refl k (omega arith))
   again e h (defaults k) = take-firsts 2 f (omega arith) ∙ rw k refl
   again e h (closes-out k) = take-firsts 3 f (omega arith) ∙ rw k refl
   again e h (closes k) = take-firsts 2 f (omega arith) ∙ rw k refl
