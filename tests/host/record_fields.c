@@ -1,6 +1,6 @@
 /* Records by number fields: record_fields JOURNAL ... reads each header and record of the journals to fields, writes them
-   back and reads them again; then each field at its ends and past them, fields and output one short, and the splitter of a
-   journal. Prints "ok" and the count of checks, or each check that fails. */
+   back and reads them again; then each field at its ends and past them, each byte at each of its values, fields and output
+   one short, and the splitter of a journal. Prints "ok" and the count of checks, or each check that fails. */
 #include "fields.h"
 #include <stdlib.h>
 #include <string.h>
@@ -55,8 +55,12 @@ static const uint64_t *lent_fields(const Fields *fields) {
   return memcpy(row_of(&RECORDS), fields->at, sizeof fields->at);
 }
 
+static Bytes bytes_of(const Fields *fields) {
+  return record_of((uint8_t)fields->at[0], fields->at + 1, field_count(fields->at[0], fields->at[1]) - 1);
+}
+
 static void is_record(const Fields *fields, const char *what) {
-  const Bytes bytes = record_of((uint8_t)fields->at[0], fields->at + 1, field_count(fields->at[0], fields->at[1]) - 1);
+  const Bytes bytes = bytes_of(fields);
   written(&RECORDS, MEMBERS, lent_fields(fields), bytes.at, bytes.length, what);
   there_and_back(&RECORDS, MEMBERS, bytes.at, bytes.length);
   const size_t count = field_count(fields->at[0], fields->at[1]);
@@ -89,42 +93,71 @@ static void ends(Fields fields, size_t field, uint64_t least, uint64_t most, con
     if (fields.at[field] = wide[i], wide[i] > most) is_no_record(&fields, what);
 }
 
+enum { LAST_SECOND = 86399, MOST_PRICE = 1000000, MOST_LOTS = 100, MOST_RATIO = 1000, LAST_MEMBER = MEMBERS - 1 };
+static const uint64_t last_contract = LEDGER_CONTRACTS - 1, most_number = UINT32_MAX;
+static const Fields submit = {{LEDGER_KIND_SUBMIT, 66051, 2, 17, LEDGER_SELL, LEDGER_TEYE, 258000, 100}},
+                    cancel = {{LEDGER_KIND_CANCEL, 66051, 1, 16909060}},
+                    limits = {{LEDGER_KIND_DAY_LIMITS, 5, 256, 65536}}, default_ = {{LEDGER_KIND_DEFAULT, 2}},
+                    close_out = {{LEDGER_KIND_CLOSE_OUT, 34, 256}}, close = {{LEDGER_KIND_CLOSE_OF_DAY, 61200}};
+
+static Fields proposal(void) {
+  Fields fields = {{LEDGER_KIND_PROPOSAL, LEDGER_MOST_LEGS}};
+  for (size_t j = 0; j < LEDGER_MOST_LEGS; j++) {
+    uint64_t *leg = fields.at + LEDGER_PROPOSAL_FIELDS + j * LEDGER_LEG_FIELDS;
+    leg[LEDGER_LEG_ORDER] = 65536 + j, leg[LEDGER_LEG_LOTS] = 1 + j, leg[LEDGER_LEG_PRICE] = 256 + j;
+  }
+  return fields;
+}
+
 static void each_field(void) {
-  enum { LAST_SECOND = 86399, MOST_PRICE = 1000000, MOST_LOTS = 100, MOST_RATIO = 1000 };
-  const uint64_t last_member = MEMBERS - 1, last_contract = LEDGER_CONTRACTS - 1, most_number = UINT32_MAX;
-  const Fields submit = {{LEDGER_KIND_SUBMIT, 66051, 2, 17, LEDGER_SELL, LEDGER_TEYE, 258000, 100}},
-               cancel = {{LEDGER_KIND_CANCEL, 66051, 1, 16909060}}, limits = {{LEDGER_KIND_DAY_LIMITS, 5, 256, 65536}},
-               default_ = {{LEDGER_KIND_DEFAULT, 2}}, close_out = {{LEDGER_KIND_CLOSE_OUT, 34, 256}},
-               close = {{LEDGER_KIND_CLOSE_OF_DAY, 61200}};
   ends(submit, LEDGER_SUBMIT_TIME, 0, LAST_SECOND, "time of a submit");
-  ends(submit, LEDGER_SUBMIT_MEMBER, 0, last_member, "member of a submit");
+  ends(submit, LEDGER_SUBMIT_MEMBER, 0, LAST_MEMBER, "member of a submit");
   ends(submit, LEDGER_SUBMIT_CONTRACT, 0, last_contract, "contract of a submit");
   ends(submit, LEDGER_SUBMIT_SIDE, LEDGER_BUY, LEDGER_SELL, "side");
   ends(submit, LEDGER_SUBMIT_ORDER_KIND, LEDGER_RESTING, LEDGER_TEYE, "order kind");
   ends(submit, LEDGER_SUBMIT_PRICE, 1, MOST_PRICE, "price of a submit");
   ends(submit, LEDGER_SUBMIT_LOTS, 1, MOST_LOTS, "lots of a submit");
   ends(cancel, LEDGER_CANCEL_TIME, 0, LAST_SECOND, "time of a cancel");
-  ends(cancel, LEDGER_CANCEL_MEMBER, 0, last_member, "member of a cancel");
+  ends(cancel, LEDGER_CANCEL_MEMBER, 0, LAST_MEMBER, "member of a cancel");
   ends(cancel, LEDGER_CANCEL_ORDER, 0, most_number, "order number");
   ends(limits, LEDGER_DAY_LIMITS_CONTRACT, 0, last_contract, "contract of day limits");
   ends(limits, LEDGER_DAY_LIMITS_LOW, 1, 65536, "low");
   ends(limits, LEDGER_DAY_LIMITS_HIGH, 256, MOST_PRICE, "high");
-  ends(default_, LEDGER_DEFAULT_MEMBER, 0, last_member, "member of a default");
+  ends(default_, LEDGER_DEFAULT_MEMBER, 0, LAST_MEMBER, "member of a default");
   ends(close_out, LEDGER_CLOSE_OUT_CONTRACT, 0, last_contract, "contract of a close-out");
   ends(close_out, LEDGER_CLOSE_OUT_RATIO, 1, MOST_RATIO, "ratio");
   ends(close, LEDGER_CLOSE_OF_DAY_TIME, 0, LAST_SECOND, "time of a close of day");
+}
 
-  Fields proposal = {{LEDGER_KIND_PROPOSAL, LEDGER_MOST_LEGS}};
-  for (size_t j = 0; j < LEDGER_MOST_LEGS; j++) {
-    uint64_t *leg = proposal.at + LEDGER_PROPOSAL_FIELDS + j * LEDGER_LEG_FIELDS;
-    leg[LEDGER_LEG_ORDER] = 65536 + j, leg[LEDGER_LEG_LOTS] = 1 + j, leg[LEDGER_LEG_PRICE] = 256 + j;
-  }
-  ends(proposal, LEDGER_PROPOSAL_LEGS, 2, LEDGER_MOST_LEGS, "legs");
+static void each_leg(void) {
+  const Fields fields = proposal();
+  ends(fields, LEDGER_PROPOSAL_LEGS, 2, LEDGER_MOST_LEGS, "legs");
   for (size_t j = 0; j < LEDGER_MOST_LEGS; j++) {
     const size_t leg = LEDGER_PROPOSAL_FIELDS + j * LEDGER_LEG_FIELDS;
-    ends(proposal, leg + LEDGER_LEG_ORDER, 0, most_number, "order number of a leg");
-    ends(proposal, leg + LEDGER_LEG_LOTS, 1, MOST_LOTS, "lots of a leg");
-    ends(proposal, leg + LEDGER_LEG_PRICE, 1, MOST_PRICE, "price of a leg");
+    ends(fields, leg + LEDGER_LEG_ORDER, 0, most_number, "order number of a leg");
+    ends(fields, leg + LEDGER_LEG_LOTS, 1, MOST_LOTS, "lots of a leg");
+    ends(fields, leg + LEDGER_LEG_PRICE, 1, MOST_PRICE, "price of a leg");
+  }
+}
+
+/* Each byte of a record of each kind at each of its values: what is read gives the same bytes back, the rest is 3. */
+static void each_byte(void) {
+  const Fields each[] = {submit, cancel, limits, proposal(), default_, close_out, close};
+  for (size_t k = 0; k < sizeof each / sizeof *each; k++) {
+    Bytes bytes = bytes_of(&each[k]);
+    for (size_t i = 0; i < bytes.length; i++) {
+      const uint8_t before = bytes.at[i];
+      for (int value = 0; value < 256; value++) {
+        uint64_t told;
+        bytes.at[i] = (uint8_t)value;
+        if (ledger_read_record(MEMBERS, bytes.at, bytes.length, row_of(&RECORDS), LEDGER_RECORD_FIELDS, &told) == 0)
+          there_and_back(&RECORDS, MEMBERS, bytes.at, bytes.length);
+        else
+          not_read(&RECORDS, MEMBERS, bytes.at, bytes.length, row_of(&RECORDS), LEDGER_RECORD_FIELDS,
+                   LEDGER_RECORD_UNSOUND, "a byte altered");
+      }
+      bytes.at[i] = before;
+    }
   }
 }
 
@@ -197,6 +230,8 @@ static void one_short(void) {
 int main(int count, char **words) {
   for (int i = 1; i < count; i++) journal(words[i]);
   each_field();
+  each_leg();
+  each_byte();
   kinds_and_members();
   the_wrong_way_round();
   one_short();
