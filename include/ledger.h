@@ -4,7 +4,9 @@
    - A slice is a pointer and a count of elements (not of bytes). Where the count is 0 the pointer may be NULL.
    - A table needs the alignment that C asks of its elements, bytes need none.
    - What an entry writes (not const here) must not overlap anything else that the same call is handed; what it only
-     reads may overlap. So the six tables, the record and *detail are eight separate places in ledger_apply.
+     reads may overlap. So the six tables, the record and *detail are eight separate places in ledger_apply, and the
+     fields, the bytes and *detail are three in the entries that read and write.
+   - *detail is always written, so detail is never NULL.
    - The five tables head, prices, lots, value and book are the ledger. Between two calls they stand as the call before
      left them, and nobody else writes them; they may be copied, stored and moved to another address. The line table is
      paper to print on: any table with any content, in each call another one if the host likes.
@@ -15,7 +17,7 @@
    - It answers for every length and every content of what it is lent; nothing is undefined, and nothing is kept: the
      library has no memory of its own between calls, takes none, opens nothing and starts no thread.
    - One call at a time may use a table. Calls on other tables may run beside it, in other threads.
-   - Where the answer is not LEDGER_ACCEPTED every table is bit for bit as it was. */
+   - Where the answer is not LEDGER_ACCEPTED every table, the fields and the bytes are bit for bit as they were. */
 #ifndef LEDGER_H
 #define LEDGER_H
 #include <stddef.h>
@@ -92,9 +94,9 @@ enum {
   LEDGER_LINE_PRICE = 3
 };
 
-/* The bytes of a header: so many, then a holiday of so many bytes for each of LEDGER_HOLIDAY_COUNT, then a limit of so
+/* The bytes of a header, at most LEDGER_MOST_HEADER_BYTES: so many, then a holiday of so many bytes for each of LEDGER_HOLIDAY_COUNT, then a limit of so
    many bytes for each of LEDGER_MEMBERS. The first record of a journal begins there. */
-enum { LEDGER_HEADER_BYTES = 11, LEDGER_HOLIDAY_BYTES = 2, LEDGER_LIMIT_BYTES = 4 };
+enum { LEDGER_HEADER_BYTES = 11, LEDGER_HOLIDAY_BYTES = 2, LEDGER_LIMIT_BYTES = 4, LEDGER_MOST_HEADER_BYTES = 379 };
 
 /* The kinds of record, the first byte of each. */
 enum {
@@ -107,7 +109,8 @@ enum {
   LEDGER_KIND_CLOSE_OF_DAY = 7
 };
 
-/* The bytes of a record with its kind. A proposal has so many and its legs, whose count is its second byte. */
+/* The bytes of a record with its kind, at most LEDGER_MOST_RECORD_BYTES. A proposal has so many and its legs, whose count
+   is its second byte. */
 enum {
   LEDGER_SUBMIT_BYTES = 15,
   LEDGER_CANCEL_BYTES = 10,
@@ -116,18 +119,79 @@ enum {
   LEDGER_LEG_BYTES = 10,
   LEDGER_DEFAULT_BYTES = 2,
   LEDGER_CLOSE_OUT_BYTES = 4,
-  LEDGER_CLOSE_OF_DAY_BYTES = 5
+  LEDGER_CLOSE_OF_DAY_BYTES = 5,
+  LEDGER_MOST_RECORD_BYTES = 122
+};
+
+/* Headers and records as fields: a row of numbers, at least so many. Fields that a header or a record does not have are
+   surplus. */
+#define LEDGER_HEADER_FIELDS 156
+#define LEDGER_RECORD_FIELDS 38
+
+/* The fields of a header. Holiday i stands at LEDGER_HEADER_HOLIDAYS + i, the limit of member m at LEDGER_HEADER_LIMITS
+   + m. */
+enum {
+  LEDGER_HEADER_FIRST_YEAR = 0,
+  LEDGER_HEADER_START_DAY = 1,
+  LEDGER_HEADER_MEMBERS = 2,
+  LEDGER_HEADER_HOLIDAY_COUNT = 3,
+  LEDGER_HEADER_HOLIDAYS = 4,
+  LEDGER_HEADER_LIMITS = 124
+};
+
+/* The fields of a record: its kind, then for each kind its own, in the order of its bytes, and how many in all. */
+enum {
+  LEDGER_RECORD_KIND = 0,
+
+  LEDGER_SUBMIT_TIME = 1,
+  LEDGER_SUBMIT_MEMBER = 2,
+  LEDGER_SUBMIT_CONTRACT = 3,
+  LEDGER_SUBMIT_SIDE = 4,
+  LEDGER_SUBMIT_ORDER_KIND = 5,
+  LEDGER_SUBMIT_PRICE = 6,
+  LEDGER_SUBMIT_LOTS = 7,
+  LEDGER_SUBMIT_FIELDS = 8,
+
+  LEDGER_CANCEL_TIME = 1,
+  LEDGER_CANCEL_MEMBER = 2,
+  LEDGER_CANCEL_ORDER = 3,
+  LEDGER_CANCEL_FIELDS = 4,
+
+  LEDGER_DAY_LIMITS_CONTRACT = 1,
+  LEDGER_DAY_LIMITS_LOW = 2,
+  LEDGER_DAY_LIMITS_HIGH = 3,
+  LEDGER_DAY_LIMITS_FIELDS = 4,
+
+  /* Leg j has LEDGER_LEG_FIELDS numbers from LEDGER_PROPOSAL_FIELDS + j * LEDGER_LEG_FIELDS on. */
+  LEDGER_PROPOSAL_LEGS = 1,
+  LEDGER_PROPOSAL_FIELDS = 2,
+  LEDGER_LEG_FIELDS = 3,
+  LEDGER_LEG_ORDER = 0,
+  LEDGER_LEG_LOTS = 1,
+  LEDGER_LEG_PRICE = 2,
+  LEDGER_MOST_LEGS = 12,
+
+  LEDGER_DEFAULT_MEMBER = 1,
+  LEDGER_DEFAULT_FIELDS = 2,
+
+  LEDGER_CLOSE_OUT_CONTRACT = 1,
+  LEDGER_CLOSE_OUT_RATIO = 2,
+  LEDGER_CLOSE_OUT_FIELDS = 3,
+
+  LEDGER_CLOSE_OF_DAY_TIME = 1,
+  LEDGER_CLOSE_OF_DAY_FIELDS = 2
 };
 
 /* Sides, in a submit and in the book; kinds of order, in a submit. */
 enum { LEDGER_BUY = 0, LEDGER_SELL = 1 };
 enum { LEDGER_RESTING = 0, LEDGER_OEYE = 1, LEDGER_TEYE = 2 };
 
-/* What an entry answers: 0, or the number of the lowest cause that holds. */
+/* What an entry answers: 0, or the number of a cause that holds: in ledger_make and ledger_apply the lowest, in the
+   entries that read and write the first in the order that each names. */
 enum {
   LEDGER_ACCEPTED = 0,
-  LEDGER_TABLE_UNSOUND = 1,         /* a table too short or damaged, or under 200 lines */
-  LEDGER_HEADER_UNSOUND = 2,        /* header cut or against its rule; only ledger_make */
+  LEDGER_TABLE_UNSOUND = 1,         /* a table too short or damaged, or under 200 lines; fields or output too short */
+  LEDGER_HEADER_UNSOUND = 2,        /* header cut or against its rule; not in ledger_apply */
   LEDGER_RECORD_UNSOUND = 3,        /* record cut or with surplus bytes, unknown kind, field out of range */
   LEDGER_TIME_BELOW_LEDGER = 4,     /* time below the ledger's */
   LEDGER_MEMBER_DEFAULTED = 5,      /* submit or default: member already defaulted; with the member */
@@ -161,8 +225,8 @@ uint64_t ledger_make(uint64_t *head, size_t head_len, uint64_t *prices, size_t p
    LEDGER_ACCEPTED: applied, and the deal lines stand in the first places of the line table, in printed order; its other
    places are as they were. Any other answer but LEDGER_HEADER_UNSOUND: turned back.
 
-   *detail is always written, so detail is never NULL: with LEDGER_ACCEPTED the number of lines, with
-   LEDGER_MEMBER_DEFAULTED the member, with LEDGER_CONTRACT_NOT_OPEN the contract, else 0. */
+   *detail: with LEDGER_ACCEPTED the number of lines, with LEDGER_MEMBER_DEFAULTED the member, with
+   LEDGER_CONTRACT_NOT_OPEN the contract, else 0. */
 uint64_t ledger_apply(uint64_t *head, size_t head_len, uint64_t *prices, size_t prices_len, int64_t *lots,
                       size_t lots_len, int64_t *value, size_t value_len, uint64_t *book, size_t book_len,
                       int64_t *lines, size_t lines_len, const uint8_t *record, size_t record_len, uint64_t *detail);
@@ -172,6 +236,46 @@ uint64_t ledger_apply(uint64_t *head, size_t head_len, uint64_t *prices, size_t 
 uint64_t ledger_is_damaged(const uint64_t *head, size_t head_len, const uint64_t *prices, size_t prices_len,
                            const int64_t *lots, size_t lots_len, const int64_t *value, size_t value_len,
                            const uint64_t *book, size_t book_len, const int64_t *lines, size_t lines_len);
+
+/* Reads the header that a journal begins with to fields; bytes past it are not read. The first of these that holds:
+   LEDGER_TABLE_UNSOUND: under LEDGER_HEADER_FIELDS fields. LEDGER_HEADER_UNSOUND: the header is cut or against its rule.
+   LEDGER_ACCEPTED: read; surplus fields are as they were.
+
+   *detail: with LEDGER_ACCEPTED the header's bytes, so where the first record begins; else 0. */
+uint64_t ledger_read_header(const uint8_t *header, size_t header_len, uint64_t *fields, size_t fields_len,
+                            uint64_t *detail);
+
+/* Writes the header that the fields say. Surplus fields are not read. The first of these that holds:
+   LEDGER_TABLE_UNSOUND: under LEDGER_HEADER_FIELDS fields. LEDGER_HEADER_UNSOUND: the header is against its rule.
+   LEDGER_TABLE_UNSOUND: it has more than header_len bytes. LEDGER_ACCEPTED: written; bytes past it are as they were.
+
+   *detail: with LEDGER_ACCEPTED the bytes written, else 0. */
+uint64_t ledger_write_header(const uint64_t *fields, size_t fields_len, uint8_t *header, size_t header_len,
+                             uint64_t *detail);
+
+/* Reads a record of a ledger of so many members, 1 to LEDGER_MOST_MEMBERS, to fields. The bytes are exactly one record.
+   The first of these that holds: LEDGER_TABLE_UNSOUND: under LEDGER_RECORD_FIELDS fields. LEDGER_RECORD_UNSOUND: the
+   record is cut or has surplus bytes, its kind is unknown or a field is out of range, or so many members no ledger has.
+   LEDGER_ACCEPTED: read; surplus fields are as they were.
+
+   *detail: with LEDGER_ACCEPTED how many fields were written, else 0. */
+uint64_t ledger_read_record(uint64_t members, const uint8_t *record, size_t record_len, uint64_t *fields,
+                            size_t fields_len, uint64_t *detail);
+
+/* Writes the record that the fields say, for a ledger of so many members. Surplus fields are not read. The first of these
+   that holds: LEDGER_TABLE_UNSOUND: under LEDGER_RECORD_FIELDS fields. LEDGER_RECORD_UNSOUND: the kind is unknown or a
+   field is out of range, or so many members no ledger has. LEDGER_TABLE_UNSOUND: the record has more than record_len
+   bytes. LEDGER_ACCEPTED: written; bytes past it are as they were.
+
+   *detail: with LEDGER_ACCEPTED the bytes written, else 0. */
+uint64_t ledger_write_record(uint64_t members, const uint64_t *fields, size_t fields_len, uint8_t *record,
+                             size_t record_len, uint64_t *detail);
+
+/* The record that bytes begin with, by its kind and, of a proposal, its number of legs; its other fields are not asked.
+   LEDGER_ACCEPTED: it is whole. LEDGER_RECORD_UNSOUND: it is cut, or no kind has its number; there are no bytes, too.
+
+   *detail: with LEDGER_ACCEPTED its bytes, so where the next record begins; else 0. */
+uint64_t ledger_front_record(const uint8_t *bytes, size_t bytes_len, uint64_t *detail);
 
 #ifdef __cplusplus
 }

@@ -21,6 +21,19 @@ uint64_t __wrap_ledger_is_damaged(TABLES_OF_A_LEDGER, const uint64_t *book, size
 uint64_t __real_ledger_is_damaged(TABLES_OF_A_LEDGER, const uint64_t *book, size_t book_len, const int64_t *lines,
                                   size_t lines_len);
 
+#define ALSO(type, name, ...)                                                                                          \
+  type __real_##name(__VA_ARGS__);                                                                                     \
+  type __wrap_##name(__VA_ARGS__);
+ALSO(uint64_t, ledger_read_header, const uint8_t *header, size_t header_len, uint64_t *fields, size_t fields_len,
+     uint64_t *detail)
+ALSO(uint64_t, ledger_write_header, const uint64_t *fields, size_t fields_len, uint8_t *header, size_t header_len,
+     uint64_t *detail)
+ALSO(uint64_t, ledger_read_record, uint64_t members, const uint8_t *record, size_t record_len, uint64_t *fields,
+     size_t fields_len, uint64_t *detail)
+ALSO(uint64_t, ledger_write_record, uint64_t members, const uint64_t *fields, size_t fields_len, uint8_t *record,
+     size_t record_len, uint64_t *detail)
+ALSO(uint64_t, ledger_front_record, const uint8_t *bytes, size_t bytes_len, uint64_t *detail)
+
 static bool does(const char *what) {
   static const char *misdeed;
   if (misdeed == NULL) misdeed = getenv("MISDEED");
@@ -90,5 +103,69 @@ uint64_t __wrap_ledger_apply(TABLES_OF_A_LEDGER, uint64_t *book, size_t book_len
   if (does("reads before the head")) *detail += 0 * ((volatile uint64_t *)head)[-1];
   if (does("reads past the record")) *detail += 0 * ((const volatile uint8_t *)record)[record_len];
   if (record_len > 0 && does("writes the record")) *(uint8_t *)(uintptr_t)record ^= 1;
+  return number;
+}
+
+uint64_t __wrap_ledger_read_header(const uint8_t *header, size_t header_len, uint64_t *fields, size_t fields_len,
+                                   uint64_t *detail) {
+  uint64_t number = __real_ledger_read_header(header, header_len, fields, fields_len, detail);
+  if (number == LEDGER_HEADER_UNSOUND && does("fills fields from a bad header"))
+    fields[LEDGER_HEADER_FIRST_YEAR] = 2020;
+  if (number != LEDGER_ACCEPTED) return number;
+  if (does("tells a header's bytes without its limits")) *detail -= LEDGER_LIMIT_BYTES * fields[LEDGER_HEADER_MEMBERS];
+  if (does("clears the fields past the holidays") && fields[LEDGER_HEADER_HOLIDAY_COUNT] < LEDGER_MOST_HOLIDAYS)
+    fields[LEDGER_HEADER_HOLIDAYS + fields[LEDGER_HEADER_HOLIDAY_COUNT]] = 0;
+  return number;
+}
+
+uint64_t __wrap_ledger_write_header(const uint64_t *fields, size_t fields_len, uint8_t *header, size_t header_len,
+                                    uint64_t *detail) {
+  uint64_t number = __real_ledger_write_header(fields, fields_len, header, header_len, detail);
+  if (number == LEDGER_HEADER_UNSOUND && header_len == 0 && does("answers a short output before 2"))
+    return LEDGER_TABLE_UNSOUND;
+  if (number == LEDGER_TABLE_UNSOUND && header_len > 0 && does("begins a header that does not fit")) header[0] = 'V';
+  if (number == LEDGER_HEADER_UNSOUND && fields[LEDGER_HEADER_MEMBERS] == LEDGER_MOST_MEMBERS + 1 &&
+      does("takes 33 members"))
+    return LEDGER_ACCEPTED;
+  return number;
+}
+
+uint64_t __wrap_ledger_read_record(uint64_t members, const uint8_t *record, size_t record_len, uint64_t *fields,
+                                   size_t fields_len, uint64_t *detail) {
+  uint64_t number = __real_ledger_read_record(members, record, record_len, fields, fields_len, detail);
+  if (does("reads past the fields") && fields_len > 0) *detail += 0 * ((volatile uint64_t *)fields)[fields_len];
+  if (number == LEDGER_RECORD_UNSOUND && does("fills fields from a bad record")) fields[LEDGER_RECORD_KIND] = 0;
+  if (number == LEDGER_RECORD_UNSOUND && does("answers a bad record with 0")) return LEDGER_ACCEPTED;
+  if (number != LEDGER_ACCEPTED) return number;
+  if (does("exchanges the prices of day limits") && record[0] == LEDGER_KIND_DAY_LIMITS) {
+    const uint64_t low = fields[LEDGER_DAY_LIMITS_LOW];
+    fields[LEDGER_DAY_LIMITS_LOW] = fields[LEDGER_DAY_LIMITS_HIGH], fields[LEDGER_DAY_LIMITS_HIGH] = low;
+  }
+  if (does("tells the fields of a proposal without its last leg") && record[0] == LEDGER_KIND_PROPOSAL)
+    *detail -= LEDGER_LEG_FIELDS;
+  if (does("clears the field past a record") && *detail < LEDGER_RECORD_FIELDS) fields[*detail] = 0;
+  return number;
+}
+
+uint64_t __wrap_ledger_write_record(uint64_t members, const uint64_t *fields, size_t fields_len, uint8_t *record,
+                                    size_t record_len, uint64_t *detail) {
+  uint64_t number = __real_ledger_write_record(members, fields, fields_len, record, record_len, detail);
+  if (number == LEDGER_TABLE_UNSOUND && record_len > 0 && does("begins a record that does not fit")) record[0] = 1;
+  if (number != LEDGER_ACCEPTED) return number;
+  if (does("writes lots the wrong way round") && record[0] == LEDGER_KIND_SUBMIT) {
+    const uint8_t high = record[13];
+    record[13] = record[14], record[14] = high;
+  }
+  if (does("writes a byte past the record") && *detail < record_len) record[*detail] = 0;
+  return number;
+}
+
+uint64_t __wrap_ledger_front_record(const uint8_t *bytes, size_t bytes_len, uint64_t *detail) {
+  uint64_t number = __real_ledger_front_record(bytes, bytes_len, detail);
+  if (number == LEDGER_ACCEPTED && does("splits a journal a byte early")) *detail -= 1;
+  if (number == LEDGER_ACCEPTED && *detail == bytes_len && does("finds the last record cut")) {
+    *detail = 0;
+    return LEDGER_RECORD_UNSOUND;
+  }
   return number;
 }

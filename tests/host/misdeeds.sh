@@ -4,16 +4,18 @@
 set -uo pipefail
 cd "$(dirname "$0")/../.."
 tests/library.sh host || exit 1
-tests=(make ranges guarded replay any_bytes)
+tests=(make ranges guarded replay any_bytes record_fields header_fields)
+entries=(make apply is_damaged read_header write_header read_record write_record front_record)
 for test in "${tests[@]}"; do
-  gcc -std=c11 -Wall -Wextra -Werror -O1 -fsanitize=address,undefined -I include -Wl,--wrap=ledger_make,--wrap=ledger_apply,--wrap=ledger_is_damaged \
-    -o "target/${test}_misled" "tests/host/$test.c" tests/host/lent.c tests/host/misdeeds.c target/staticlib/libhost.a || exit 1
+  gcc -std=c11 -Wall -Wextra -Werror -O1 -fsanitize=address,undefined -I include "${entries[@]/#/-Wl,--wrap=ledger_}" \
+    -o "target/${test}_misled" "tests/host/$test.c" tests/host/lent.c tests/host/fields.c tests/host/misdeeds.c target/staticlib/libhost.a || exit 1
 done
 passes() {
   case $1 in
   ranges) target/ranges_misled | diff - tests/host/ranges.out ;;
   replay) target/replay_misled printed tests/journals/*.vjr && target/replay_misled tables tests/host/stored/*.tables ;;
   any_bytes) target/any_bytes_misled 4000 ;;
+  record_fields) target/record_fields_misled tests/journals/*.vjr ;;
   *) "target/$1_misled" ;;
   esac > /dev/null 2>&1
 }

@@ -59,7 +59,7 @@ pub data Says (s : List ℕ) : Event → Type 0 where
 pub nothing : {P : Type 0} {e : Event} → Unsound ≡ Sound e → P
 nothing h = absurd (let z : _≡_ {A = ℕ} 0 1 = cc in omega arith)
 
-if-true : (b : Bool) (r : Reading) (e : Event) → cond b r Unsound ≡ Sound e → (b ≡ true) × (r ≡ Sound e)
+pub if-true : (b : Bool) (r : Reading) (e : Event) → cond b r Unsound ≡ Sound e → (b ≡ true) × (r ≡ Sound e)
 if-true true r e h = (refl, h)
 if-true false r e h = nothing h
 

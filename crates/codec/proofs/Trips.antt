@@ -64,11 +64,11 @@ wide-fields n (CloseOut e) legs t = bound (e .ratio) mostRatio (λ h. sym (simp 
 wide-fields n (CloseOfDay s) legs t = bound s lastSecond (λ h. sym (simp (lt-leb s lastSecond h) at t))
 
 -- ---- written, then read
-side-back : (x : Side) → (sideOf (sideNumber x) ≡ x) × (sideSound (sideNumber x) ≡ true)
+pub side-back : (x : Side) → (sideOf (sideNumber x) ≡ x) × (sideSound (sideNumber x) ≡ true)
 side-back Buy = (refl, refl)
 side-back Sell = (refl, refl)
 
-order-kind-back : (x : OrderKind) → (orderKindOf (orderKindNumber x) ≡ x) × (orderKindSound (orderKindNumber x) ≡ true)
+pub order-kind-back : (x : OrderKind) → (orderKindOf (orderKindNumber x) ≡ x) × (orderKindSound (orderKindNumber x) ≡ true)
 order-kind-back Resting = (refl, refl)
 order-kind-back Oeye = (refl, refl)
 order-kind-back Teye = (refl, refl)
@@ -137,7 +137,7 @@ beside n (Default m) legs t = ap length (no-leg legs (λ h. sym (simp (ne-eqb (l
 beside n (CloseOut e) legs t = ap length (no-leg legs (λ h. sym (simp (ne-eqb (length legs) 0 h, and-false) at t)))
 beside n (CloseOfDay s) legs t = ap length (no-leg legs (λ h. sym (simp (ne-eqb (length legs) 0 h, and-false) at t)))
 
-none : (legs : List Leg) → length legs ≡ 0 → [] ≡ legs
+pub none : (legs : List Leg) → length legs ≡ 0 → [] ≡ legs
 none [] l = refl
 none (g ∷ legs) l = absurd (omega arith)
 
@@ -169,10 +169,10 @@ legs-written : (n : ℕ) (e : Event) (legs : List Leg) → eventSound n e legs �
 legs-written n e legs t = legs-back n e legs t (beside n e legs t)
 
 -- ---- read, then written
-side-again : (b : ℕ) → b ≤ 1 → sideNumber (sideOf b) ≡ b
+pub side-again : (b : ℕ) → b ≤ 1 → sideNumber (sideOf b) ≡ b
 side-again b h = same-or b 0 (λ e. rw e refl) (λ n. let e : b ≡ 1 = omega arith in rw e refl)
 
-order-kind-again : (b : ℕ) → b ≤ 2 → orderKindNumber (orderKindOf b) ≡ b
+pub order-kind-again : (b : ℕ) → b ≤ 2 → orderKindNumber (orderKindOf b) ≡ b
 order-kind-again b h =
     same-or b 0 (λ e. rw e refl) (λ n. same-or b 1 (λ e. rw e refl) (λ m. let e : b ≡ 2 = omega arith in rw e refl))
 

@@ -7,8 +7,12 @@ mod stream;
 mod write;
 
 pub use legs::Legs;
+pub use legs::leg_of;
 pub use legs::read_legs;
+pub use lengths::leg_count;
+pub use read::order_kind_of;
 pub use read::read_record;
 pub use sound::is_proposal_sound;
 pub use stream::front_record;
+pub use write::order_kind_number;
 pub use write::write_record;

@@ -34,7 +34,7 @@ use rules::kinds::PROPOSAL;
 use rules::kinds::SUBMIT;
 use sides::side_of;
 
-fn order_kind_of(b: u64) -> OrderKind
+pub fn order_kind_of(b: u64) -> OrderKind
     ensures { λ r. ⌜ r ≡ orderKindOf b ⌝ }
 {
     if b == 0 {

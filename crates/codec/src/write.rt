@@ -31,7 +31,7 @@ use rules::Side;
 use rules::Submission;
 use sides::side_number;
 
-fn order_kind_number(kind: OrderKind) -> u64
+pub fn order_kind_number(kind: OrderKind) -> u64
     ensures { λ r. ⌜ (r ≡ orderKindNumber kind) × (r < 256) ⌝ }
 {
     match kind {

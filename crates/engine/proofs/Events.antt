@@ -27,7 +27,7 @@ use Rattle.tables.specs.Fit.{membersIn, lotsRunIn, Fits}
 use Rattle.submit.specs.Fit.{SubmissionFit}
 use Rattle.proposal.specs.Columns.{columnLegs, LegsFit}
 use Rattle.proposal.proofs.LegColumns.{orderOf, lotsOf, priceOf, counted, columns-are, columns-fit}
-use Rattle.engine.proofs.Columns.{column, room}
+use Rattle.header.proofs.Columns.{column, room}
 
 module _ (head s : List ℕ) where
   pub submission-fits : (e : Submission) → readOf (membersIn head) s ≡ Sound (Submit e) → SubmissionFit head e

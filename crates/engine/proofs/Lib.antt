@@ -1,4 +1,2 @@
-pub mod Columns
-pub mod Reading
 pub mod Events
 pub mod Demand3

@@ -1,2 +1,4 @@
 pub mod Headers
 pub mod Trips
+pub mod Columns
+pub mod Readings

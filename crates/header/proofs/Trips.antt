@@ -156,7 +156,7 @@ module _ (s : List ℕ) (small : (i : ℕ) → getD s i 0 < 256) (begins : sameB
       rw (length-u16s s 11 (getD s 10 0))
       (ap (λ l. lettersAndVersion ++ l) (rest-again (getD s 10 0) (getD s 9 0) long) ∙ letters-again)
 
-begun : (s : List ℕ) → beginsWithHeader s ≡ true → (sameBytes (take 5 s) lettersAndVersion ≡ true) × (headerLength s ≤ length s) × (headerSound (headerOf s) ≡ true)
+pub begun : (s : List ℕ) → beginsWithHeader s ≡ true → (sameBytes (take 5 s) lettersAndVersion ≡ true) × (headerLength s ≤ length s) × (headerSound (headerOf s) ≡ true)
 unfolding beginsWithHeader
 begun s e = (
   must (sameBytes (take 5 s) lettersAndVersion) (λ f. sym (simp (f, and-false) at e)),
@@ -185,7 +185,7 @@ abbrev soundReading : List ℕ → HeaderReading
 soundReading s = record { answer = Accepted (headerLength s); header = headerColumns (headerOf s) }
 
 -- what a reading says that gives a header
-given : (s : List ℕ) (k : ℕ) (h : JournalHeader) → headerReading s ≡ record { answer = Accepted k; header = h } → (beginsWithHeader s ≡ true) × (k ≡ headerLength s) × (h ≡ headerColumns (headerOf s))
+pub given : (s : List ℕ) (k : ℕ) (h : JournalHeader) → headerReading s ≡ record { answer = Accepted k; header = h } → (beginsWithHeader s ≡ true) × (k ≡ headerLength s) × (h ≡ headerColumns (headerOf s))
 unfolding headerReading
 given s k h r = go (beginsWithHeader s) r
   where

@@ -1,4 +1,4 @@
--- What making a ledger and applying a record answer, as numbers. Assumes nothing.
+-- What the entries answer, as numbers. Assumes nothing.
 use Prim.Native.Nat.{ℕ}
 use mathlib.Core.Path.{_≡_, sym, ap, _∙_}
 use mathlib.Core.List.{List}
@@ -7,7 +7,7 @@ use Rattle.rules.specs.declared.answer.Answer.{Answer}
 use Rattle.rules.specs.Answers.{Outcome, told}
 use Rattle.rules.specs.Header.{beginsWithHeader}
 use Rattle.rules.specs.Ledger.{Tables, ledgerShort}
-use Rattle.rules.specs.Refusals.{makeSpec, applySpec}
+use Rattle.rules.specs.Refusals.{makeSpec}
 use Rattle.host.specs.Sent.{sent}
 
 no-value : (t : Tables) (s : List ℕ) → told (makeSpec t s .answer) .value ≡ 0
@@ -21,6 +21,7 @@ made t after s a r e f =
     let v-is : told a .value ≡ 0 = ap (λ (x : Answer). told x .value) a-is ∙ no-value t s in
     rw (← e, f) (ap (λ (v : ℕ). record { number = told a .number; value = v; after = after }) (sym v-is))
 
-pub applied : (t after : Tables) (s : List ℕ) (a : Answer) (number detail : ℕ) → record { answer = a; after = after } ≡ applySpec t s
-    → number ≡ told a .number → detail ≡ told a .value → record { number = number; value = detail; after = after } ≡ sent (applySpec t s)
-applied t after s a number detail e n d = rw (← e, n, d)
+-- What a call answers, with what goes with it and what it leaves.
+pub answered : {S : Type 0} {after : S} {a : Answer} {number detail : ℕ} (o : Outcome S) → record { answer = a; after = after } ≡ o
+    → number ≡ told a .number → detail ≡ told a .value → record { number = number; value = detail; after = after } ≡ sent o
+answered o e n d = rw (← e, n, d)

@@ -1,16 +1,16 @@
--- An outcome as a host gets it: the paper's number and value, and the tables.
+-- An outcome as a host gets it: the paper's number and value, and what it lent.
 use Prim.Native.Nat.{ℕ}
 use mathlib.Core.Bool.{cond}
 use Rattle.rules.specs.Answers.{Outcome, told}
 use Rattle.rules.specs.Ledger.{Tables}
 use Rattle.rules.specs.Refusals.{unsound}
 
-pub record Sent : Type 0 where
+pub record Sent (S : Type 0) : Type 0 where
   pub number : ℕ
   pub value : ℕ
-  pub after : Tables
+  pub after : S
 
-abbrev pub sent : Outcome Tables → Sent
+abbrev pub sent : {S : Type 0} → Outcome S → Sent S
 sent o = record { number = told (o .answer) .number; value = told (o .answer) .value; after = o .after }
 
 -- 1, the number of a short or damaged table, or 0.

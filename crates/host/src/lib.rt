@@ -6,12 +6,20 @@ ghost use Rattle.rules.specs.Answers.{told};
 ghost use Rattle.rules.specs.Refusals.{makeSpec, applySpec};
 ghost use Rattle.rules.specs.Ledger.{lent};
 ghost use Rattle.host.specs.Sent.{sent, damageNumber};
+
+mod bytes;
+
+pub use bytes::ledger_front_record;
+pub use bytes::ledger_read_header;
+pub use bytes::ledger_read_record;
+pub use bytes::ledger_write_header;
+pub use bytes::ledger_write_record;
 use rules::Answer;
 
 // An answer as a host gets it: the paper's number, and what goes with it.
 struct Told {
     number: u64,
-    // Of an accepted record its lines, with 5 the member, with 6 the contract, else 0.
+    // What an accepted call counts, with 5 the member, with 6 the contract, else 0.
     detail: u64,
 }
 

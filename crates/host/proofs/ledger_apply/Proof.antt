@@ -1,5 +1,4 @@
-use Rattle.rules.specs.Ledger.{lent}
-use Rattle.host.proofs.Answers.{applied}
+use Rattle.host.proofs.Answers.{answered}
 use borrow.Author.Needs.{needs}
 use Rattle.host.proofs.ledger_apply.Statement.{statement}
 use Rattle.host.proofs.ledger_apply.Tie as tie
@@ -29,9 +28,7 @@ same-length-6 : tie.Need-same-length-6
 same-length-6 c = search needs
 
 returns : tie.Need-returns
-returns c = let a = c .before .before .before .before .before .before .before .before .before .before .before .before .before .before .before .before .before .before .before .before .before .args in
-    let t = lent (a .head .now) (a .prices .now) (a .lots .now) (a .value .now) (a .book .now) (a .lines .now) in
-    applied t _ (a .bytes .now) (c .before .before .before .before .before .before .before .before .before .before .apply .result) _ _ (c .before .before .before .before .before .before .before .before .before .before .apply .ensures) (c .told-of .ensures .0) (c .told-of .ensures .1)
+returns c = answered _ (c .before .before .before .before .before .before .before .before .before .before .apply .ensures) (c .told-of .ensures .0) (c .told-of .ensures .1)
 
 pub ledger-apply-spec : {M : Type 1} → statement M
 ledger-apply-spec =

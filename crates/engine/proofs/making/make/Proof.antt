@@ -6,7 +6,7 @@ use Rattle.rules.specs.Header.{beginsWithHeader}
 use Rattle.rules.specs.Refusals.{makeSpec}
 use Rattle.rules.specs.Ledger.{lent}
 use Rattle.tables.proofs.Sound.{lengths}
-use Rattle.engine.proofs.Reading.{turned-back, read-well, holiday-room, limit-room, holiday-most, limit-most, as-written}
+use Rattle.header.proofs.Readings.{turned-back, read-well, holiday-room, limit-room, holiday-most, limit-most, as-listed}
 use borrow.Author.Needs.{needs}
 use Rattle.engine.proofs.making.make.Statement.{statement}
 use Rattle.engine.proofs.making.make.Tie as tie
@@ -95,7 +95,7 @@ returns-3 c =
     let r = c .before .before .before .before .before .before .before .before .before .before .before .before .before .before .before .before .before .before .read-header .result in
     let e = c .before .before .before .before .before .before .before .before .before .before .before .before .before .before .before .before .before .before .read-header .ensures in
     let b = sound-at (c .before .before .before .before .before .before .before .before .before .before .before .before .before .before .before) in
-    λ n. rw (sym (c .before .before .before .before .before .before .before .before .before .before .before .before .before .before .before .before .before .before .before .before .is-ledger-short .ensures n) ∙ c .before .before .before .before .before .before .before .before .before .before .before .before .before .before .before .before .before .before .before .if1 .left, b, c .before .before .before .before .before .before .write-fresh .ensures (a .book .now) n, as-written s r e b)
+    λ n. rw (sym (c .before .before .before .before .before .before .before .before .before .before .before .before .before .before .before .before .before .before .before .before .is-ledger-short .ensures n) ∙ c .before .before .before .before .before .before .before .before .before .before .before .before .before .before .before .before .before .before .before .if1 .left, b, c .before .before .before .before .before .before .write-fresh .ensures (a .book .now) n, as-listed s r e b)
 
 pub make-spec : {M : Type 1} → statement M
 make-spec =

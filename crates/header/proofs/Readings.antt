@@ -11,19 +11,19 @@ use Rattle.arith.specs.Lists.{every, from}
 use Rattle.arith.proofs.Tests.{true-or, and-left, and-right}
 use Rattle.rules.specs.declared.answer.Answer.the-variants.{Accepted}
 use Rattle.rules.specs.Days.{inSpan}
-use Rattle.rules.specs.Header.{Header, u16At, u32At, u16sAt, u32sAt, headerLength, headerOf, rising, calendarOf, calendarSound, membersSound, limitSound, daySound, sameBytes, lettersAndVersion, headerSound, beginsWithHeader}
+use Rattle.rules.specs.Header.{Header, u16At, u32At, u16sAt, u32sAt, headerLength, headerOf, rising, calendarOf, calendarSound, membersSound, limitSound, daySound, headerSound, beginsWithHeader}
 use Rattle.header.specs.declared.reader.HeaderReading.{HeaderReading}
 use Rattle.header.specs.Journal.{headerColumns, headerReading}
-use Rattle.tables.specs.Headers.{header}
 use Rattle.arith.proofs.Appends.{from-length}
-use Rattle.engine.proofs.Columns.{column, room}
+use Rattle.header.proofs.Columns.{column, room}
+use Rattle.header.proofs.Trips.{begun}
 
 -- ---- the lists of a header
 holidays-length : (s : List ℕ) → length (headerOf s .holidays) ≡ getD s 10 0
 unfolding headerOf u16sAt
 holidays-length s = length-map (from 0 (getD s 10 0)) (λ j. u16At s (11 + 2 * j)) ∙ from-length 0 (getD s 10 0)
 
-limits-length : (s : List ℕ) → length (headerOf s .limits) ≡ headerOf s .members
+pub limits-length : (s : List ℕ) → length (headerOf s .limits) ≡ headerOf s .members
 unfolding headerOf u32sAt
 limits-length s = length-map (from 0 (getD s 9 0)) (λ j. u32At s (11 + 2 * getD s 10 0 + 4 * j)) ∙ from-length 0 (getD s 9 0)
 
@@ -34,7 +34,7 @@ first-of-five true false c d e h = absurd (let z : _≡_ {A = ℕ} 0 1 = cc in o
 first-of-five false b c d e h = absurd (let z : _≡_ {A = ℕ} 0 1 = cc in omega arith)
 
 -- A sound header's counts.
-counts : (h : Header) → headerSound h ≡ true → (1 ≤ h .members) × (h .members ≤ 32) × (length (h .holidays) ≤ 120)
+pub counts : (h : Header) → headerSound h ≡ true → (1 ≤ h .members) × (h .members ≤ 32) × (length (h .holidays) ≤ 120)
 unfolding headerSound calendarSound
 counts h e =
     let k = calendarOf h in
@@ -43,20 +43,16 @@ counts h e =
     let n = h .members in
     (leb-true 1 n (and-left (leb 1 n) (leb n 32) (two .1)), leb-true n 32 (and-right (leb 1 n) (leb n 32) (two .1)), leb-true (length (h .holidays)) 120 (three .1))
 
-begun : (s : List ℕ) → beginsWithHeader s ≡ true → headerSound (headerOf s) ≡ true
-unfolding beginsWithHeader
-begun s e = and-right (leb 11 (length s) && sameBytes (take 5 s) lettersAndVersion && leb (headerLength s) (length s)) (headerSound (headerOf s)) e
-
 -- ---- a reading
 module _ (s : List ℕ) (r : HeaderReading) (e : r ≡ headerReading s) where
-  as-read : beginsWithHeader s ≡ true → r ≡ record { answer = Accepted (headerLength s); header = headerColumns (headerOf s) }
+  pub as-read : beginsWithHeader s ≡ true → r ≡ record { answer = Accepted (headerLength s); header = headerColumns (headerOf s) }
   unfolding headerReading
   as-read b = e ∙ rw b
 
   pub turned-back : r .header .members ≡ 0 → beginsWithHeader s ≡ false
   turned-back z =
       true-or (beginsWithHeader s)
-      (λ b. let m = counts (headerOf s) (begun s b) in absurd (omega (arith, rw (as-read b) at z)))
+      (λ b. let m = counts (headerOf s) (begun s b .2) in absurd (omega (arith, rw (as-read b) at z)))
       (λ b. b)
 
   pub read-well : (r .header .members ≡ 0 → ⊥) → beginsWithHeader s ≡ true
@@ -65,19 +61,23 @@ module _ (s : List ℕ) (r : HeaderReading) (e : r ≡ headerReading s) where
 
   module _ (b : beginsWithHeader s ≡ true) where
     pub holiday-room : r .header .«holiday_count» ≤ length (r .header .holidays)
-    holiday-room = let m = counts (headerOf s) (begun s b) in rw (as-read b) (room 120 (headerOf s .holidays) (m .2))
+    holiday-room = let m = counts (headerOf s) (begun s b .2) in rw (as-read b) (room 120 (headerOf s .holidays) (m .2))
 
     pub limit-room : r .header .members ≤ length (r .header .limits)
     limit-room =
-        let m = counts (headerOf s) (begun s b) in
+        let m = counts (headerOf s) (begun s b .2) in
         let h = room 32 (headerOf s .limits) (rw (limits-length s) (m .1)) in
         rw (as-read b) (omega (arith, limits-length s))
 
     pub holiday-most : length (take (r .header .«holiday_count») (r .header .holidays)) ≤ 120
-    holiday-most = let m = counts (headerOf s) (begun s b) in rw (as-read b, column 120 (headerOf s .holidays)) (m .2)
+    holiday-most = let m = counts (headerOf s) (begun s b .2) in rw (as-read b, column 120 (headerOf s .holidays)) (m .2)
 
     pub limit-most : length (take (r .header .members) (r .header .limits)) ≤ 32
-    limit-most = let m = counts (headerOf s) (begun s b) in rw (as-read b) (rw (← limits-length s, column 32 (headerOf s .limits), limits-length s) (m .1))
+    limit-most = let m = counts (headerOf s) (begun s b .2) in rw (as-read b) (rw (← limits-length s, column 32 (headerOf s .limits), limits-length s) (m .1))
 
-    pub as-written : header (r .header .«first_year») (r .header .«start_day» .0) (take (r .header .«holiday_count») (r .header .holidays)) (take (r .header .members) (r .header .limits)) ≡ headerOf s
-    as-written = rw (as-read b) (rw (column 120 (headerOf s .holidays), ← limits-length s, column 32 (headerOf s .limits)))
+    -- The header by its parts; each member has a limit.
+    pub as-listed :
+        let h = r .header in
+        let limits = take (h .members) (h .limits) in
+        record { firstYear = h .«first_year»; startDay = h .«start_day» .0; members = length limits; holidays = take (h .«holiday_count») (h .holidays); limits = limits } ≡ headerOf s
+    as-listed = rw (as-read b) (rw (column 120 (headerOf s .holidays), ← limits-length s, column 32 (headerOf s .limits)))

@@ -1,0 +1,86 @@
+use mathlib.Core.Path.{ap, _∙_}
+use Rattle.rules.specs.declared.event.Event.the-variants.{Cancel, DayLimits, CloseOut}
+use Rattle.rules.specs.declared.event.Reading.the-variants.{Sound}
+use Rattle.fields.specs.RecordFields.{eventByKind}
+use Rattle.fields.proofs.Rows.{by-kind, no-kind}
+use borrow.Author.Needs.{needs}
+use Rattle.fields.proofs.event.event_in.Statement.{statement}
+use Rattle.fields.proofs.event.event_in.Tie as tie
+
+shared-slice-read-kind : tie.Need-shared-slice-read-kind
+shared-slice-read-kind c = search needs
+
+submit-in-requires : tie.Need-submit-in-requires
+submit-in-requires c κs = search needs
+
+cancellation-in-requires : tie.Need-cancellation-in-requires
+cancellation-in-requires c κs = search needs
+
+new-day-limits-in-requires : tie.Need-new-day-limits-in-requires
+new-day-limits-in-requires c κs = search needs
+
+proposal-in-requires : tie.Need-proposal-in-requires
+proposal-in-requires c κs = search needs
+
+shared-slice-read-t11 : tie.Need-shared-slice-read-t11
+shared-slice-read-t11 c = search needs
+
+close-out-in-requires : tie.Need-close-out-in-requires
+close-out-in-requires c κs = search needs
+
+shared-slice-read-t16 : tie.Need-shared-slice-read-t16
+shared-slice-read-t16 c = search needs
+
+returns : tie.Need-returns
+unfolding eventByKind
+returns c = c .submit-in .ensures ∙ by-kind (c .before .before .before .before .args .row .now) 1 (c .before .match .keys1)
+
+returns-2 : tie.Need-returns-2
+unfolding eventByKind
+returns-2 c = ap (λ e. Sound (Cancel e)) (c .cancellation-in .ensures) ∙ by-kind (c .before .before .before .before .args .row .now) 2 (c .before .match .keys2)
+
+returns-3 : tie.Need-returns-3
+unfolding eventByKind
+returns-3 c = ap (λ e. Sound (DayLimits e)) (c .new-day-limits-in .ensures) ∙ by-kind (c .before .before .before .before .args .row .now) 3 (c .before .match .keys3)
+
+returns-4 : tie.Need-returns-4
+unfolding eventByKind
+returns-4 c = c .proposal-in .ensures ∙ by-kind (c .before .before .before .before .args .row .now) 4 (c .before .match .keys4)
+
+returns-5 : tie.Need-returns-5
+unfolding eventByKind
+returns-5 c = by-kind (c .before .before .before .before .args .row .now) 5 (c .before .match .keys5)
+
+returns-6 : tie.Need-returns-6
+unfolding eventByKind
+returns-6 c = ap (λ e. Sound (CloseOut e)) (c .close-out-in .ensures) ∙ by-kind (c .before .before .before .before .args .row .now) 6 (c .before .match .keys6)
+
+returns-7 : tie.Need-returns-7
+unfolding eventByKind
+returns-7 c = by-kind (c .before .before .before .before .args .row .now) 7 (c .before .match .keys7)
+
+returns-8 : tie.Need-returns-8
+returns-8 c =
+    let r = c .match .rest in
+    no-kind (c .before .before .before .args .row .now) _ (r .0 .0 .0 .0 .0 .0 .1) (r .0 .0 .0 .0 .0 .1) (r .0 .0 .0 .0 .1) (r .0 .0 .0 .1) (r .0 .0 .1) (r .0 .1) (r .1)
+
+pub event-in-spec : {M : Type 1} → statement M
+event-in-spec =
+    tie.close
+    (tie.spec
+    shared-slice-read-kind
+    submit-in-requires
+    cancellation-in-requires
+    new-day-limits-in-requires
+    proposal-in-requires
+    shared-slice-read-t11
+    close-out-in-requires
+    shared-slice-read-t16
+    returns
+    returns-2
+    returns-3
+    returns-4
+    returns-5
+    returns-6
+    returns-7
+    returns-8)

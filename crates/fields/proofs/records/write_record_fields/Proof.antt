@@ -1,0 +1,66 @@
+use Rattle.fields.proofs.RecordOutcomes.{write-short, write-none, few-in, write-event}
+use borrow.Author.Needs.{needs}
+use Rattle.fields.proofs.records.write_record_fields.Statement.{statement}
+use Rattle.fields.proofs.records.write_record_fields.Tie as tie
+
+returns : tie.Need-returns
+returns c = let a = c .before .before .before .args in write-short (a .members) (a .row .now) (a .out .now) (c .if1 .taken)
+
+event-in-requires : tie.Need-event-in-requires
+event-in-requires c κs = search needs
+
+enum-known-event : tie.Need-enum-known-event
+enum-known-event c = search needs
+
+leg-count-requires : tie.Need-leg-count-requires
+leg-count-requires c κs = search needs
+
+legs-in-requires : tie.Need-legs-in-requires
+legs-in-requires c κs =
+    let start = c .before .before .before .before .before .before .before .before in
+    let test1 = c .before .before .before .before .before .if1 in
+    let event-in = c .before .before .before .before .event-in in
+    let event = c .before .before .event in
+    let a = start .args in
+    (test1 .left, rw (c .leg-count .ensures) (few-in (a .members) (a .row .now) (a .out .now) (event-in .ensures) (event .given .1)))
+
+write-record-requires : tie.Need-write-record-requires
+write-record-requires c κs = search needs
+
+enum-told : tie.Need-enum-told
+enum-told c = search needs
+
+same-length : tie.Need-same-length
+same-length c = search needs
+
+returns-2 : tie.Need-returns-2
+returns-2 c =
+    let start = c .before .before .before .before .before .before .before .before .before .before .before .before .before in
+    let event-in = c .before .before .before .before .before .before .before .before .before .event-in in
+    let event = c .before .before .before .before .before .before .before .event in
+    let test1 = c .before .before .before .before .before .before .before .before .before .before .if1 in
+    let leg-count = c .before .before .before .before .before .leg-count in
+    let legs-in = c .before .before .before .before .legs-in in
+    let write-record = c .before .before .write-record in
+    let a = start .args in
+    write-event (a .members) (a .row .now) (a .out .now) (event-in .ensures) (event .given .1) (test1 .left) (leg-count .ensures) (legs-in .ensures) (write-record .ensures)
+
+returns-3 : tie.Need-returns-3
+returns-3 c =
+    let a = c .before .before .before .before .before .before .args in
+    write-none (a .members) (a .row .now) (a .out .now) (c .before .before .event-in .ensures) (c .before .before .before .if1 .left) (c .enum-told .given .1)
+
+pub write-record-fields-spec : {M : Type 1} → statement M
+write-record-fields-spec =
+    tie.close
+    (tie.spec
+    returns
+    event-in-requires
+    enum-known-event
+    leg-count-requires
+    legs-in-requires
+    write-record-requires
+    enum-told
+    same-length
+    returns-2
+    returns-3)

@@ -1,0 +1,4 @@
+pub mod RecordFields
+pub mod HeaderFields
+pub mod Trips
+pub mod Examples

@@ -1,0 +1,165 @@
+// The event of a row of numbers, in whatever ranges, and its legs in columns.
+ghost use mathlib.Core.Path.{_≡_};
+ghost use Prim.Native.Nat.{_+_, _≤_};
+ghost use lib.ListN.{length};
+ghost use Rattle.rules.specs.Ranges.{mostLegs};
+ghost use Rattle.codec.specs.Columns.{legColumns};
+ghost use Rattle.fields.specs.RecordFields.{recordFields, cancellationIn, newDayLimitsIn, closeOutIn, submitIn, proposalIn, eventIn, legIn, firstLegs};
+use crate::places::CANCEL_MEMBER;
+use crate::places::CANCEL_ORDER;
+use crate::places::CANCEL_TIME;
+use crate::places::CLOSE_OF_DAY_TIME;
+use crate::places::CLOSE_OUT_CONTRACT;
+use crate::places::CLOSE_OUT_RATIO;
+use crate::places::DAY_LIMITS_CONTRACT;
+use crate::places::DAY_LIMITS_HIGH;
+use crate::places::DAY_LIMITS_LOW;
+use crate::places::DEFAULT_MEMBER;
+use crate::places::FIRST_LEG;
+use crate::places::KIND;
+use crate::places::LEG_WIDTH;
+use crate::places::PROPOSAL_LEGS;
+use crate::places::SUBMIT_CONTRACT;
+use crate::places::SUBMIT_LOTS;
+use crate::places::SUBMIT_MEMBER;
+use crate::places::SUBMIT_ORDER_KIND;
+use crate::places::SUBMIT_PRICE;
+use crate::places::SUBMIT_SIDE;
+use crate::places::SUBMIT_TIME;
+use codec::Legs;
+use codec::order_kind_of;
+use rules::Cancellation;
+use rules::CloseOutTerms;
+use rules::Event;
+use rules::Kurus;
+use rules::Leg;
+use rules::Lots;
+use rules::NewDayLimits;
+use rules::Reading;
+use rules::Submission;
+use rules::kinds::CANCEL;
+use rules::kinds::CLOSE_OF_DAY;
+use rules::kinds::CLOSE_OUT;
+use rules::kinds::DAY_LIMITS;
+use rules::kinds::DEFAULT;
+use rules::kinds::PROPOSAL;
+use rules::kinds::SUBMIT;
+use rules::ranges::MOST_LEGS;
+use sides::side_of;
+
+fn submit_in(row: &[u64]) -> Reading
+    requires { ⌜ recordFields ≤ length (now row) ⌝ }
+    ensures { λ r. ⌜ r ≡ submitIn (now (row .entry)) ⌝ }
+{
+    let side = row[SUBMIT_SIDE];
+    let kind = row[SUBMIT_ORDER_KIND];
+    if 1 < side {
+        return Reading::Unsound;
+    }
+    if 2 < kind {
+        return Reading::Unsound;
+    }
+    Reading::Sound(Event::Submit(Submission {
+        time: row[SUBMIT_TIME],
+        member: row[SUBMIT_MEMBER],
+        contract: row[SUBMIT_CONTRACT],
+        side: side_of(side),
+        kind: order_kind_of(kind),
+        price: Kurus(row[SUBMIT_PRICE]),
+        lots: Lots(row[SUBMIT_LOTS]),
+    }))
+}
+
+fn cancellation_in(row: &[u64]) -> Cancellation
+    requires { ⌜ recordFields ≤ length (now row) ⌝ }
+    ensures { λ r. ⌜ r ≡ cancellationIn (now (row .entry)) ⌝ }
+{
+    Cancellation {
+        time: row[CANCEL_TIME],
+        member: row[CANCEL_MEMBER],
+        order: row[CANCEL_ORDER],
+    }
+}
+
+fn new_day_limits_in(row: &[u64]) -> NewDayLimits
+    requires { ⌜ recordFields ≤ length (now row) ⌝ }
+    ensures { λ r. ⌜ r ≡ newDayLimitsIn (now (row .entry)) ⌝ }
+{
+    NewDayLimits {
+        contract: row[DAY_LIMITS_CONTRACT],
+        low: Kurus(row[DAY_LIMITS_LOW]),
+        high: Kurus(row[DAY_LIMITS_HIGH]),
+    }
+}
+
+fn proposal_in(row: &[u64]) -> Reading
+    requires { ⌜ recordFields ≤ length (now row) ⌝ }
+    ensures { λ r. ⌜ r ≡ proposalIn (now (row .entry)) ⌝ }
+{
+    let count = row[PROPOSAL_LEGS];
+    if MOST_LEGS < count {
+        return Reading::Unsound;
+    }
+    Reading::Sound(Event::Proposal(count))
+}
+
+fn close_out_in(row: &[u64]) -> CloseOutTerms
+    requires { ⌜ recordFields ≤ length (now row) ⌝ }
+    ensures { λ r. ⌜ r ≡ closeOutIn (now (row .entry)) ⌝ }
+{
+    CloseOutTerms {
+        contract: row[CLOSE_OUT_CONTRACT],
+        ratio: row[CLOSE_OUT_RATIO],
+    }
+}
+
+pub fn event_in(row: &[u64]) -> Reading
+    requires { ⌜ recordFields ≤ length (now row) ⌝ }
+    ensures { λ r. ⌜ r ≡ eventIn (now (row .entry)) ⌝ }
+{
+    let kind = row[KIND];
+    match kind {
+        SUBMIT => submit_in(row),
+        CANCEL => Reading::Sound(Event::Cancel(cancellation_in(row))),
+        DAY_LIMITS => Reading::Sound(Event::DayLimits(new_day_limits_in(row))),
+        PROPOSAL => proposal_in(row),
+        DEFAULT => Reading::Sound(Event::Default(row[DEFAULT_MEMBER])),
+        CLOSE_OUT => Reading::Sound(Event::CloseOut(close_out_in(row))),
+        CLOSE_OF_DAY => Reading::Sound(Event::CloseOfDay(row[CLOSE_OF_DAY_TIME])),
+        _ => Reading::Unsound,
+    }
+}
+
+fn leg_in(row: &[u64], at: usize) -> Leg
+    requires { ⌜ at + 3 ≤ length (now row) ⌝ }
+    ensures { λ r. ⌜ r ≡ legIn (now (row .entry)) at ⌝ }
+{
+    Leg {
+        order: row[at],
+        lots: Lots(row[at + 1]),
+        price: Kurus(row[at + 2]),
+    }
+}
+
+// The first legs of a row, and 0 in the places past them.
+pub fn legs_in(row: &[u64], count: usize) -> Legs
+    requires { ⌜ (recordFields ≤ length (now row)) × (count ≤ mostLegs) ⌝ }
+    ensures { λ r. ⌜ r ≡ legColumns (firstLegs (now (row .entry)) count) ⌝ }
+{
+    let mut orders = [0u64; 12];
+    let mut lots = [0u64; 12];
+    let mut prices = [0u64; 12];
+    let mut i: usize = 0;
+    while i < count {
+        let leg = leg_in(row, FIRST_LEG + LEG_WIDTH * i);
+        orders[i] = leg.order;
+        lots[i] = leg.lots.0;
+        prices[i] = leg.price.0;
+        i += 1;
+    }
+    Legs {
+        orders: orders,
+        lots: lots,
+        prices: prices,
+    }
+}
