@@ -41,8 +41,8 @@ pub fn write_columns(book: &[u64], o: Order, left: &mut [u64], ranks: &mut [u64]
     let mut i: usize = 0;
     while i < left.len() {
         let r = order_at(book, i);
-        left[i] = r.lots.0;
         ranks[i] = rank_in(o, r);
+        left[i] = r.lots.0;
         i += 1;
     }
 }

@@ -26,12 +26,6 @@ loop-holds c = (refl, refl, omega arith, refl, refl)
 order-at-requires : tie.Need-order-at-requires Inv-loop μ-loop
 order-at-requires c κs = search needs
 
-mul-left : tie.Need-mul-left Inv-loop μ-loop
-mul-left c = search needs
-
-slice-write-left : tie.Need-slice-write-left Inv-loop μ-loop
-slice-write-left c = search needs
-
 rank-in-requires : tie.Need-rank-in-requires Inv-loop μ-loop
 rank-in-requires c κs = let f = c .before .before .before .before .before .before .pre .1 (c .before .before .loop .i) (omega arith) in rw (c .order-at .ensures) f
 
@@ -40,6 +34,12 @@ mul-ranks c = search needs
 
 slice-write-ranks : tie.Need-slice-write-ranks Inv-loop μ-loop
 slice-write-ranks c = search needs
+
+mul-left : tie.Need-mul-left Inv-loop μ-loop
+mul-left c = search needs
+
+slice-write-left : tie.Need-slice-write-left Inv-loop μ-loop
+slice-write-left c = search needs
 
 add-i : tie.Need-add-i Inv-loop μ-loop
 add-i c = search needs
@@ -94,11 +94,11 @@ write-columns-spec =
     μ-loop
     loop-holds
     order-at-requires
-    mul-left
-    slice-write-left
     rank-in-requires
     mul-ranks
     slice-write-ranks
+    mul-left
+    slice-write-left
     add-i
     loop-less
     loop-again

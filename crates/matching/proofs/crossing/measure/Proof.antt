@@ -26,7 +26,8 @@ add-own c =
     let at-loop-test = c .before .before .before in
     let at-loop = at-loop-test .before in
     let start = at-loop .before .before in
-    let m = measuring-next _ _ _ _ _ (at-loop .loop .inv .1) _ (c .before .before .order-at .ensures) (start .pre .1 _ (at-loop-test .loop-test .taken)) _ _ (c .before .found-in .ensures) in omega (arith, m .own-few)
+    let m = measuring-next _ _ _ _ _ (at-loop .loop .inv .1) _ (c .before .before .order-at .ensures) (start .pre .1 _ (at-loop-test .loop-test .taken)) _ _ (c .before .found-in .ensures) in
+    omega (arith, m .own-few)
 
 add-lots : tie.Need-add-lots Inv-loop μ-loop
 add-lots c =
@@ -34,7 +35,8 @@ add-lots c =
     let at-loop-test = at-order-at .before in
     let at-loop = at-loop-test .before in
     let start = at-loop .before .before in
-    let m = measuring-next _ _ _ _ _ (at-loop .loop .inv .1) _ (at-order-at .order-at .ensures) (start .pre .1 _ (at-loop-test .loop-test .taken)) _ _ (c .before .before .found-in .ensures) in omega (arith, m .crossing-few)
+    let m = measuring-next _ _ _ _ _ (at-loop .loop .inv .1) _ (at-order-at .order-at .ensures) (start .pre .1 _ (at-loop-test .loop-test .taken)) _ _ (c .before .before .found-in .ensures) in
+    omega (arith, m .crossing-few)
 
 add-i : tie.Need-add-i Inv-loop μ-loop
 add-i c = search needs
