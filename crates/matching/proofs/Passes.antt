@@ -2,11 +2,11 @@
 use mathlib.Core.Path.{_≡_, refl, sym, ap, _∙_}
 use mathlib.Core.Bool.{false, cond}
 use mathlib.Core.List.{List, [], _∷_, _++_, map}
-use Prim.Native.Nat.{ℕ, zero, suc, _+_, _*_, _≤_, _<_}
+use Prim.Native.Nat.{ℕ, _+_, _*_, _≤_, _<_}
 use native.Mathlib.Omega.{arith}
 use native.Mathlib.Nat.{zero-add, add-zero}
 use lib.ListN.{getD, length-map}
-use Rattle.arith.specs.Lists.{from, total, All}
+use Rattle.arith.specs.Lists.{from, total}
 use lib.Dec.{eqb}
 use Rattle.arith.proofs.Tests.{by-bool, and-false}
 use Rattle.rules.specs.Matching.{opposes}

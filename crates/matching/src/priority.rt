@@ -2,7 +2,6 @@
 ghost use mathlib.Core.Path.{_≡_};
 ghost use Prim.Native.Nat.{_≤_};
 ghost use Rattle.rules.specs.Ranges.{mostPrice};
-ghost use Rattle.rules.specs.Sides.{sameSide, otherSide};
 ghost use Rattle.rules.specs.Matching.{opposes, meets};
 ghost use Rattle.matching.specs.Ranks.{Ranked, priceRank, rankOf};
 use rules::Order;
