@@ -35,6 +35,7 @@ book-reads head book h b =
       most-orders = h .most-orders;
       long = b .long;
       contract-below = λ i k. b .order-fit i k .contract-below;
+      most-side = λ i k. b .order-fit i k .most-side;
       least-lots = λ i k. b .order-fit i k .least-lots;
       least-price = λ i k. b .order-fit i k .least-price;
       most-price = λ i k. b .order-fit i k .most-price;

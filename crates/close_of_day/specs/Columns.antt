@@ -11,7 +11,7 @@ use Rattle.rules.specs.declared.order.Order.{Order}
 use Rattle.rules.specs.declared.order.Side.{Side}
 use Rattle.rules.specs.Ranges.{contractCount, mostOrders, mostPrice, mostLotsRun, lastSecond}
 use Rattle.rules.specs.Contracts.{thresholdOf, kindOf}
-use Rattle.rules.specs.Ledger.{Tables, pricesLength, bookLength, ggfPlace, dayLotsPlace, dayValuePlace, orderAt}
+use Rattle.rules.specs.Ledger.{Tables, pricesLength, bookLength, ggfPlace, dayLotsPlace, dayValuePlace, sideAt, orderAt}
 use Rattle.rules.specs.Sides.{sameSide}
 use Rattle.rules.specs.Matching.{betterPrice, best}
 use Rattle.rules.specs.CloseOfDay.{enteredBefore, roundedHalfUp, priced, closingContracts, withClosed, onDay}
@@ -60,6 +60,7 @@ pub record BookReads (count : ℕ) (book : List ℕ) : Type 0 where
   pub most-orders : count ≤ mostOrders
   pub long : bookLength ≤ length book
   pub contract-below : (i : ℕ) → i < count → orderAt book i .contract < contractCount
+  pub most-side : (i : ℕ) → i < count → sideAt book i ≤ 1
   pub least-lots : (i : ℕ) → i < count → 1 ≤ orderAt book i .lots .0
   pub least-price : (i : ℕ) → i < count → 1 ≤ orderAt book i .price .0
   pub most-price : (i : ℕ) → i < count → orderAt book i .price .0 ≤ mostPrice

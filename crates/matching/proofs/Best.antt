@@ -14,7 +14,7 @@ use Rattle.arith.proofs.Tests.{by-bool, true-or, le-or-lt, by-eqb, and-left, an
 use Rattle.rules.specs.declared.order.Order.{Order}
 use Rattle.rules.specs.declared.order.Side.{Side}
 use Rattle.rules.specs.declared.order.Side.the-variants.{Buy, Sell}
-use Rattle.rules.specs.Ranges.{mostPrice}
+use Rattle.rules.specs.Ranges.{mostPrice, mostOrders}
 use Rattle.rules.specs.Sides.{sameSide, otherSide}
 use Rattle.rules.specs.Matching.{betterPrice, precedes, better, best, opposes, meetsPrice, meets, withLots}
 use Rattle.tables.specs.Left.{leftOver}
@@ -70,6 +70,11 @@ price-below r f = go (r .side)
 pub rank-below : (r : Order) → Ranked r → rankOf r < noRank
 unfolding rankOf
 rank-below r f = omega (arith, price-below r f)
+
+-- and leaves room for a place
+pub rank-room : (r : Order) → Ranked r → rankOf r * mostOrders + mostOrders ≤ noRank
+unfolding rankOf
+rank-room r f = omega (arith, price-below r f)
 
 -- A price that does not meet stays so for every order of a higher rank.
 module _ (p q m n v : ℕ) (hp : p ≤ mostPrice) (hq : q ≤ mostPrice) (hm : m < numbersEnd) (hn : n < numbersEnd) where

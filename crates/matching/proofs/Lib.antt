@@ -3,7 +3,6 @@ pub mod Used
 pub mod Running
 pub mod Measures
 pub mod Passes
-pub mod Scanning
 pub mod Lows
 pub mod Going
 pub mod Totals

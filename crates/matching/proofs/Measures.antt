@@ -2,7 +2,7 @@
 use mathlib.Core.Path.{_≡_, refl, ap, _∙_}
 use mathlib.Core.Bool.{true, false, cond}
 use mathlib.Core.List.{List, [], _∷_}
-use mathlib.Core.Option.{none, some}
+use mathlib.Core.Option.{some}
 use Prim.Native.Nat.{ℕ, zero, suc, _+_, _-_, _≤_, _<_, min}
 use native.Mathlib.Omega.{arith}
 use lib.Dec.{ltb}
@@ -12,7 +12,7 @@ use Rattle.arith.specs.Lists.{howMany, All}
 use Rattle.arith.proofs.Alls.{all-place, all-map}
 use Rattle.arith.proofs.Tests.{by-bool, true-or, le-or-lt}
 use Rattle.rules.specs.declared.order.Order.{Order}
-use Rattle.rules.specs.Matching.{opposes, meets, used, matching, matched}
+use Rattle.rules.specs.Matching.{opposes, meets, matched}
 use Rattle.matching.specs.declared.deals.Counterparty.{Counterparty}
 use Rattle.tables.specs.Left.{leftOver}
 use Rattle.matching.specs.Ranks.{Ranked, rankOf, noRank, rankIn, ranksOf, Lowest, crossing}
@@ -123,26 +123,25 @@ module _ (o : Order) (os : List Order) (z : Order) (h : All Ranked os) (d : Dist
     pub fewer : 0 < crossing o left os → 0 < matched o os .left → length (matched o os .resting) < howMany (ltb 0) left
 
   -- the order of the lowest rank is one of them, opposes and is not used up
-  met-place : (left ranks : List ℕ) (x : ℕ) (ds : List Counterparty) → Running o os left ranks x ds → (i : ℕ) → Lowest ranks i → i < length os
-  met-place left ranks x ds r i l = let low : Lowest (ranksOf o left os) i = rw (r .ranked) at l in omega (arith, low .below, ranks-length o left os (r .sized))
+  met-place : (left : List ℕ) → length left ≡ length os → (i : ℕ) → Lowest (ranksOf o left os) i → i < length os
+  met-place left e i l = omega (arith, l .below, ranks-length o left os e)
 
-  met : (left ranks : List ℕ) (x : ℕ) (ds : List Counterparty) → Running o os left ranks x ds → (i : ℕ) → Lowest ranks i → (opposes o (getD os i z) ≡ true) × (0 < getD left i 0)
-  met left ranks x ds r i l =
-      let low : Lowest (ranksOf o left os) i = rw (r .ranked) at l in
-      let alive = live o (getD left i 0) (getD os i z) (rw (ranks-at o z left os i (r .sized) (met-place left ranks x ds r i l)) at (low .some)) in
+  met : (left : List ℕ) → length left ≡ length os → (i : ℕ) → Lowest (ranksOf o left os) i → (opposes o (getD os i z) ≡ true) × (0 < getD left i 0)
+  met left e i l =
+      let alive = live o (getD left i 0) (getD os i z) (rw (ranks-at o z left os i e (met-place left e i l)) at (l .some)) in
       (alive .0, alive .1)
 
   -- where no lots cross nothing is dealt
-  pub untouched : (left ranks : List ℕ) (x : ℕ) (ds : List Counterparty) → Running o os left ranks x ds → crossing o left os ≡ 0 → Ended o os left x ds
-  untouched left ranks x ds r e = go (found ranks)
+  pub untouched : (left : List ℕ) (x : ℕ) (ds : List Counterparty) → Running o os left x ds → crossing o left os ≡ 0 → Ended o os left x ds
+  untouched left x ds r e = go (found (ranksOf o left os))
     where
-      go : Found ranks → Ended o os left x ds
-      go (nowhere f) = ended-none o os left ranks x ds r h f
+      go : Found (ranksOf o left os) → Ended o os left x ds
+      go (nowhere f) = ended-none o os left x ds r h f
       go (lowest i l) =
           true-or (meets o (getD os i z))
-          (λ m. let alive = met left ranks x ds r i l in
-          absurd (omega (arith, alive .1, crossing-used o z left os i (getD left i 0) (r .sized) (met-place left ranks x ds r i l) (rw (alive .0) m) (omega arith))))
-          (λ m. ended-far o os left ranks x ds r z i h l m)
+          (λ m. let alive = met left (r .sized) i l in
+          absurd (omega (arith, alive .1, crossing-used o z left os i (getD left i 0) (r .sized) (met-place left (r .sized) i l) (rw (alive .0) m) (omega arith))))
+          (λ m. ended-far o os left x ds r z i h l m)
 
   at-end : (left : List ℕ) (x : ℕ) (ds : List Counterparty) → length left ≡ length os → Ended o os left x ds → (0 < x → crossing o left os ≡ 0) → Measured left x
   at-end left x ds e f n =
@@ -153,12 +152,12 @@ module _ (o : Order) (os : List Order) (z : Order) (h : All Ranked os) (d : Dist
       }
 
   -- with one deal more
-  deal-measured : (x : ℕ) → 0 < x → (left ranks : List ℕ) (ds : List Counterparty) (r : Running o os left ranks x ds) (i : ℕ) → Lowest ranks i → meets o (getD os i z) ≡ true
+  deal-measured : (x : ℕ) → 0 < x → (left : List ℕ) (ds : List Counterparty) (r : Running o os left x ds) (i : ℕ) → Lowest (ranksOf o left os) i → meets o (getD os i z) ≡ true
       → Measured (set left i (getD left i 0 - min x (getD left i 0))) (x - min x (getD left i 0)) → Measured left x
-  deal-measured x g left ranks ds r i l m next =
+  deal-measured x g left ds r i l m next =
       let q = min x (getD left i 0) in
-      let alive = met left ranks x ds r i l in
-      let place = met-place left ranks x ds r i l in
+      let alive = met left (r .sized) i l in
+      let place = met-place left (r .sized) i l in
       let cross = crossing-used o z left os i q (r .sized) place (rw (alive .0) m) (omega arith) in
       let down = count-fewer left i (omega (arith, r .sized)) (alive .1) in
       record {
@@ -168,17 +167,17 @@ module _ (o : Order) (os : List Order) (z : Order) (h : All Ranked os) (d : Dist
         fewer = λ c f. let up : getD left i 0 - q ≡ 0 = omega (arith, next .lots) in omega (arith, rw up at (next .most));
       }
 
-  pub measured : (n x : ℕ) → x ≤ n → (left ranks : List ℕ) (ds : List Counterparty) → Running o os left ranks x ds → Measured left x
-  measured zero x b left ranks ds r = at-end left x ds (r .sized) (ended-full o os left ranks x ds r (omega arith)) (λ g. absurd (omega arith))
-  measured (suc n) x b left ranks ds r = le-or-lt x 0 (λ g. at-end left x ds (r .sized) (ended-full o os left ranks x ds r (omega arith)) (λ f. absurd (omega arith)))
-      (λ g. go g (λ i l m. measured n (x - min x (getD left i 0)) (smaller i l) _ _ _ (running-deal o os left ranks x ds r z i (min x (getD left i 0)) h d l m g refl _ refl)) (found ranks))
+  pub measured : (n x : ℕ) → x ≤ n → (left : List ℕ) (ds : List Counterparty) → Running o os left x ds → Measured left x
+  measured zero x b left ds r = at-end left x ds (r .sized) (ended-full o os left x ds r (omega arith)) (λ g. absurd (omega arith))
+  measured (suc n) x b left ds r = le-or-lt x 0 (λ g. at-end left x ds (r .sized) (ended-full o os left x ds r (omega arith)) (λ f. absurd (omega arith)))
+      (λ g. go g (λ i l m. measured n (x - min x (getD left i 0)) (smaller i l) _ _ (running-deal o os left x ds r z i (min x (getD left i 0)) h d l m g refl)) (found (ranksOf o left os)))
     where
-      smaller : (i : ℕ) → Lowest ranks i → x - min x (getD left i 0) ≤ n
-      smaller i l = omega (arith, met left ranks x ds r i l .1)
+      smaller : (i : ℕ) → Lowest (ranksOf o left os) i → x - min x (getD left i 0) ≤ n
+      smaller i l = omega (arith, met left (r .sized) i l .1)
 
-      go : 0 < x → ((i : ℕ) → Lowest ranks i → meets o (getD os i z) ≡ true → Measured (set left i (getD left i 0 - min x (getD left i 0))) (x - min x (getD left i 0)))
-          → Found ranks → Measured left x
-      go g ih (nowhere f) = at-end left x ds (r .sized) (ended-none o os left ranks x ds r h f) (λ _. far-none left (r .sized) (rw (r .ranked) at f))
+      go : 0 < x → ((i : ℕ) → Lowest (ranksOf o left os) i → meets o (getD os i z) ≡ true → Measured (set left i (getD left i 0 - min x (getD left i 0))) (x - min x (getD left i 0)))
+          → Found (ranksOf o left os) → Measured left x
+      go g ih (nowhere f) = at-end left x ds (r .sized) (ended-none o os left x ds r h f) (λ _. far-none left (r .sized) f)
       go g ih (lowest i l) =
-          true-or (meets o (getD os i z)) (λ m. deal-measured x g left ranks ds r i l m (ih i l m))
-          (λ m. at-end left x ds (r .sized) (ended-far o os left ranks x ds r z i h l m) (λ _. far-all left i (r .sized) (rw (r .ranked) at l) m))
+          true-or (meets o (getD os i z)) (λ m. deal-measured x g left ds r i l m (ih i l m))
+          (λ m. at-end left x ds (r .sized) (ended-far o os left x ds r z i h l m) (λ _. far-all left i (r .sized) l m))

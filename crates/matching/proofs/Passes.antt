@@ -1,13 +1,15 @@
 -- One more order of a pass over the book. Assumes nothing.
 use mathlib.Core.Path.{_≡_, refl, sym, ap, _∙_}
-use mathlib.Core.Bool.{cond}
+use mathlib.Core.Bool.{false, cond}
 use mathlib.Core.List.{List, [], _∷_, _++_, map}
-use Prim.Native.Nat.{ℕ, zero, suc, _+_, _*_, _≤_, _<_}
+use Prim.Native.Nat.{ℕ, _+_, _*_, _≤_, _<_}
 use native.Mathlib.Omega.{arith}
 use native.Mathlib.Nat.{zero-add, add-zero}
 use lib.ListN.{getD, length-map}
-use Rattle.arith.specs.Lists.{from, total, All}
-use Rattle.arith.proofs.Tests.{by-bool}
+use Rattle.arith.specs.Lists.{from, total}
+use lib.Dec.{eqb}
+use Rattle.arith.proofs.Tests.{by-bool, and-false}
+use Rattle.rules.specs.Matching.{opposes}
 use Rattle.arith.proofs.Appends.{from-length, map-at, from-at}
 use Rattle.tables.proofs.Left.{orders-more, orders-length}
 use Rattle.rules.specs.declared.order.Order.{Order}
@@ -46,6 +48,11 @@ module _ (b : List ℕ) where
         ∙ rw (lots-here, order-here n i (orderAt b i) h)
 
 -- ---- what an incoming order finds among the first i orders
+-- nothing in an order of another contract
+pub none-found : (o r : Order) → eqb (r .contract) (o .contract) ≡ false → (0 ≡ ownLots o r) × (0 ≡ crossingLots o r)
+unfolding ownLots crossingLots opposes
+none-found o r e = (rw (e, and-false (eqb (r .member) (o .member))), rw e)
+
 pub own-most : (o r : Order) → ownLots o r ≤ r .lots .0
 unfolding ownLots
 own-most o r = by-bool (λ t. cond t (r .lots .0) 0 ≤ r .lots .0) (isOwn o r) (λ _. omega arith) (λ _. omega arith)
@@ -65,11 +72,11 @@ unfolding ownIn crossingIn total from
 measuring-start o b = record { own-lots = refl; crossing-lots = refl; own-few = omega arith; crossing-few = omega arith }
 
 pub measuring-next : (o : Order) (b : List ℕ) (i own lots : ℕ) → Measuring o b i own lots → (r : Order) → r ≡ orderAt b i → orderAt b i .lots .0 ≤ mostLots
-    → (x y : ℕ) → x ≡ ownLots o r → y ≡ crossingLots o r → Measuring o b (i + 1) (own + x) (lots + y)
+    → (x y : ℕ) → (x ≡ ownLots o r) × (y ≡ crossingLots o r) → Measuring o b (i + 1) (own + x) (lots + y)
 unfolding ownIn crossingIn
-measuring-next o b i own lots m r e f x y p q =
-    let here = p ∙ ap (ownLots o) e in
-    let there = q ∙ ap (crossingLots o) e in
+measuring-next o b i own lots m r e f x y p =
+    let here = p .0 ∙ ap (ownLots o) e in
+    let there = p .1 ∙ ap (crossingLots o) e in
     record {
       own-lots = rw here (total-next b (ownLots o) i own (m .own-lots));
       crossing-lots = rw there (total-next b (crossingLots o) i lots (m .crossing-lots));

@@ -1,6 +1,6 @@
 -- How far matching has come, and one deal more. Assumes nothing.
 use mathlib.Core.Path.{_≡_, refl, sym, ap, _∙_}
-use mathlib.Core.Bool.{Bool, true, false}
+use mathlib.Core.Bool.{true, false}
 use mathlib.Core.List.{List, [], _∷_, _++_, map, append-assoc, append-nil}
 use mathlib.Core.Option.{some}
 use Prim.Native.Nat.{ℕ, zero, suc, _+_, _-_, _≤_, _<_, min}
@@ -11,7 +11,7 @@ use borrow.Author.Tests.{lt-ltb, ne-eqb}
 use Rattle.arith.specs.Lists.{howMany, All}
 use Rattle.arith.proofs.Tests.{true-or}
 use Rattle.rules.specs.declared.order.Order.{Order}
-use Rattle.rules.specs.Matching.{best, opposes, meets, withLots, used, stopped, afterDeal, matching, matched}
+use Rattle.rules.specs.Matching.{best, opposes, meets, withLots, stopped, afterDeal, matching, matched}
 use Rattle.matching.specs.declared.deals.Counterparty.{Counterparty}
 use Rattle.tables.specs.Left.{leftOver}
 use Rattle.matching.specs.Ranks.{Ranked, rankOf, noRank, rankIn, ranksOf, lotsOf, Lowest}
@@ -57,16 +57,15 @@ ranks-set o z (q ∷ qs) (r ∷ rs) zero p e h = refl
 ranks-set o z (q ∷ qs) (r ∷ rs) (suc i) p e h = ap (λ l. rankIn o q r ∷ l) (ranks-set o z qs rs i p (omega arith) (omega arith))
 
 -- ---- from the whole of matching to what is left of it
-pub record Running (o : Order) (os : List Order) (left ranks : List ℕ) (x : ℕ) (ds : List Counterparty) : Type 0 where
+pub record Running (o : Order) (os : List Order) (left : List ℕ) (x : ℕ) (ds : List Counterparty) : Type 0 where
   pub fuel : ℕ
   pub sized : length left ≡ length os
-  pub ranked : ranks ≡ ranksOf o left os
   pub enough : 0 < x → howMany (ltb 0) left ≤ fuel
   pub deals : map counterpartyOf (matched o os .deals) ≡ ds ++ map counterpartyOf (matching fuel (withLots x o) (leftOver left os) .deals)
   pub lots : matched o os .left ≡ matching fuel (withLots x o) (leftOver left os) .left
   pub resting : matched o os .resting ≡ matching fuel (withLots x o) (leftOver left os) .resting
 
-module _ (o : Order) (os : List Order) (left ranks : List ℕ) (x : ℕ) (ds : List Counterparty) (r : Running o os left ranks x ds) where
+module _ (o : Order) (os : List Order) (left : List ℕ) (x : ℕ) (ds : List Counterparty) (r : Running o os left x ds) where
   ends : matching (r .fuel) (withLots x o) (leftOver left os) ≡ stopped (withLots x o) (leftOver left os) → Ended o os left x ds
   ends e =
       record {
@@ -79,26 +78,23 @@ module _ (o : Order) (os : List Order) (left ranks : List ℕ) (x : ℕ) (ds : L
   ended-full e = ends (ap (λ n. matching (r .fuel) (withLots n o) (leftOver left os)) e ∙ stops-empty o (leftOver left os) (r .fuel) ∙ ap
       (λ n. stopped (withLots n o) (leftOver left os)) (sym e))
 
-  pub ended-far : (z : Order) (i : ℕ) → All Ranked os → Lowest ranks i → meets o (getD os i z) ≡ false → Ended o os left x ds
+  pub ended-far : (z : Order) (i : ℕ) → All Ranked os → Lowest (ranksOf o left os) i → meets o (getD os i z) ≡ false → Ended o os left x ds
   ended-far z i h l e =
       ends (stops-far (withLots x o) (leftOver left os) (r .fuel) (withLots (getD left i 0) (getD os i z))
-      (same-best x o (leftOver left os) ∙ best-lowest o z left os i (r .sized) h (rw (r .ranked) at l)) (same-meets x o (getD left i 0) (getD os i z) ∙ e))
+      (same-best x o (leftOver left os) ∙ best-lowest o z left os i (r .sized) h l) (same-meets x o (getD left i 0) (getD os i z) ∙ e))
 
-  pub ended-none : All Ranked os → ((j : ℕ) → j < length ranks → noRank ≤ getD ranks j 0) → Ended o os left x ds
+  pub ended-none : All Ranked os → ((j : ℕ) → j < length (ranksOf o left os) → noRank ≤ getD (ranksOf o left os) j 0) → Ended o os left x ds
   ended-none h f =
-      let g : (j : ℕ) → j < length os → noRank ≤ getD (ranksOf o left os) j 0 = λ j k. rw (r .ranked) at (f j (rw (r .ranked, ranks-length o left os (r .sized)) k)) in
-      ends (stops-none (withLots x o) (leftOver left os) (r .fuel) (same-best x o (leftOver left os) ∙ best-none o left os (r .sized) h g))
+      ends (stops-none (withLots x o) (leftOver left os) (r .fuel)
+      (same-best x o (leftOver left os) ∙ best-none o left os (r .sized) h (λ j k. f j (rw (ranks-length o left os (r .sized)) k))))
 
   -- a deal with the order of the lowest rank
-  module _ (z : Order) (i q : ℕ) (h : All Ranked os) (d : Distinct os) (l : Lowest ranks i) (e : meets o (getD os i z) ≡ true) (n : 0 < x) (s : q ≡ min x (getD left i 0)) where
-    low : Lowest (ranksOf o left os) i
-    low = rw (r .ranked) at l
-
+  module _ (z : Order) (i q : ℕ) (h : All Ranked os) (d : Distinct os) (l : Lowest (ranksOf o left os) i) (e : meets o (getD os i z) ≡ true) (n : 0 < x) (s : q ≡ min x (getD left i 0)) where
     place : i < length os
-    place = omega (arith, low .below, ranks-length o left os (r .sized))
+    place = omega (arith, l .below, ranks-length o left os (r .sized))
 
     alive : (opposes o (getD os i z) ≡ true) × (0 < getD left i 0) × (rankIn o (getD left i 0) (getD os i z) ≡ rankOf (getD os i z))
-    alive = live o (getD left i 0) (getD os i z) (rw (ranks-at o z left os i (r .sized) place) at (low .some))
+    alive = live o (getD left i 0) (getD os i z) (rw (ranks-at o z left os i (r .sized) place) at (l .some))
 
     abbrev left′ : List ℕ
     left′ = set left i (getD left i 0 - q)
@@ -106,25 +102,21 @@ module _ (o : Order) (os : List Order) (left ranks : List ℕ) (x : ℕ) (ds : L
     step : (k : ℕ) → matching (suc k) (withLots x o) (leftOver left os)
         ≡ afterDeal (record { resting = withLots (getD left i 0) (getD os i z); lots = q }) (matching k (withLots (x - q) o) (leftOver left′ os))
     step k =
-        deals-best (withLots x o) (leftOver left os) k (withLots (getD left i 0) (getD os i z)) (same-best x o (leftOver left os) ∙ best-lowest o z left os i (r .sized) h low)
+        deals-best (withLots x o) (leftOver left os) k (withLots (getD left i 0) (getD os i z)) (same-best x o (leftOver left os) ∙ best-lowest o z left os i (r .sized) h l)
         (same-meets x o (getD left i 0) (getD os i z) ∙ e) n q s
         ∙ ap (λ l. afterDeal (record { resting = withLots (getD left i 0) (getD os i z); lots = q }) (matching k (withLots (x - q) o) l))
         (used-left z left os i q (r .sized) d place (alive .1) (omega arith))
 
-    pub ranks-after : ranksOf o left′ os ≡ set ranks i (rankIn o (getD left i 0 - q) (getD os i z))
-    ranks-after = ranks-set o z left os i (getD left i 0 - q) (r .sized) place ∙ ap (λ l. set l i (rankIn o (getD left i 0 - q) (getD os i z))) (sym (r .ranked))
-
-    pub running-deal : (ranks′ : List ℕ) → ranks′ ≡ set ranks i (rankIn o (getD left i 0 - q) (getD os i z)) → Running o os left′ ranks′ (x - q) (ds ++ (counterparty (getD os i z) q ∷ []))
-    running-deal ranks′ same = go (r .fuel) refl
+    pub running-deal : Running o os left′ (x - q) (ds ++ (counterparty (getD os i z) q ∷ []))
+    running-deal = go (r .fuel) refl
       where
-        go : (k : ℕ) → r .fuel ≡ k → Running o os left′ ranks′ (x - q) (ds ++ (counterparty (getD os i z) q ∷ []))
+        go : (k : ℕ) → r .fuel ≡ k → Running o os left′ (x - q) (ds ++ (counterparty (getD os i z) q ∷ []))
         go zero f = absurd (omega (arith, r .enough n, count-some left i (omega (arith, r .sized, place)) (alive .1)))
         go (suc k) f =
             let now = ap (λ j. matching j (withLots x o) (leftOver left os)) f ∙ step k in
             record {
               fuel = k;
               sized = length-set left i _ ∙ r .sized;
-              ranked = same ∙ sym ranks-after;
               enough = λ m. let up : getD left i 0 - q ≡ 0 = omega arith in rw up (omega (arith, r .enough n, count-fewer left i (omega (arith, r .sized, place)) (alive .1)));
               deals = r .deals ∙ ap (λ m. ds ++ map counterpartyOf (m .deals)) now ∙ sym (append-assoc ds (counterparty (getD os i z) q ∷ []) _);
               lots = r .lots ∙ ap (λ m. m .left) now;
@@ -137,14 +129,13 @@ unfolding leftOver
 left-all [] h = refl
 left-all (o ∷ os) h = rw (ne-eqb (o .lots .0) 0 (λ e. omega (arith, h .0))) (ap (λ l. o ∷ l) (left-all os (h .1)))
 
-pub running-start : (o : Order) (os : List Order) → All (λ r. 0 < lotsOf r) os → Running o os (map lotsOf os) (ranksOf o (map lotsOf os) os) (o .lots .0) []
+pub running-start : (o : Order) (os : List Order) → All (λ r. 0 < lotsOf r) os → Running o os (map lotsOf os) (o .lots .0) []
 unfolding matched
 running-start o os h =
     let same = ap (λ l. matching (length os) o l) (sym (left-all os h)) in
     record {
       fuel = length os;
       sized = length-map os lotsOf;
-      ranked = refl;
       enough = λ _. omega (arith, count-most (map lotsOf os), length-map os lotsOf);
       deals = ap (λ m. map counterpartyOf (m .deals)) same;
       lots = ap (λ m. m .left) same;

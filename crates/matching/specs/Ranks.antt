@@ -1,15 +1,14 @@
 -- Priority as one number: of the orders that an incoming one may meet, the first has the lowest rank.
-use Prim.Native.Nat.{ℕ, _+_, _*_, _-_, _≤_, _<_, min}
+use Prim.Native.Nat.{ℕ, _+_, _*_, _-_, _%_, _≤_, _<_}
 use mathlib.Core.Path.{_≡_}
 use mathlib.Core.Bool.{cond, _&&_}
 use mathlib.Core.List.{List, [], _∷_, map}
 use lib.Dec.{ltb}
-use lib.ListN.{length, getD, take, drop}
-use Rattle.arith.specs.Lists.{from}
+use lib.ListN.{length, getD}
 use Rattle.rules.specs.declared.order.Order.{Order}
 use Rattle.rules.specs.declared.order.Side.{Side}
 use Rattle.rules.specs.declared.order.Side.the-variants.{Buy, Sell}
-use Rattle.rules.specs.Ranges.{mostPrice}
+use Rattle.rules.specs.Ranges.{mostPrice, mostOrders}
 use Rattle.rules.specs.Matching.{opposes}
 use Rattle.matching.specs.Crossing.{crosses}
 
@@ -63,24 +62,40 @@ pub record LowestOf (ranks : List ℕ) (i : ℕ) : Type 0 where
   pub lowest : i < length ranks → Lowest ranks i
   pub none : i ≡ length ranks → (j : ℕ) → j < length ranks → noRank ≤ getD ranks j 0
 
--- The lowest of some ranks, or noRank where there is none.
-unfoldable pub lowestIn : List ℕ → ℕ
-lowestIn [] = noRank
-lowestIn (r ∷ ranks) = min r (lowestIn ranks)
+-- A rank with its place in its last digits to the base 256, so that the lowest of such ranks tells where it stands.
+unfoldable pub placedRank : ℕ → ℕ → ℕ
+placedRank i x = cond (ltb x noRank) (x * mostOrders + i) noRank
 
--- The 256 places of the book make 16 blocks of 16 ranks; the last may be shorter, or empty.
+-- The column of the ranks with their places, one for each place of the book; there is none behind the orders.
+pub record Placed (ranks column : List ℕ) : Type 0 where
+  pub long : length column ≡ mostOrders
+  pub placed : (i : ℕ) → i < mostOrders → getD column i 0 ≡ placedRank i (getD ranks i noRank)
+
+-- x is the lowest of the n numbers from place a on.
+pub record LowestAmong (l : List ℕ) (a n x : ℕ) : Type 0 where
+  pub least : (j : ℕ) → a ≤ j → j < a + n → x ≤ getD l j 0
+  pub place : ℕ
+  pub from : a ≤ place
+  pub below : place < a + n
+  pub same : x ≡ getD l place 0
+
+-- The 256 places of the book make 16 blocks of 16 ranks.
 abbrev pub blockSize : ℕ
 blockSize = 16
 
 abbrev pub blockCount : ℕ
 blockCount = 16
 
-abbrev pub rankBlock : ℕ → List ℕ → List ℕ
-rankBlock b ranks = take blockSize (drop (b * blockSize) ranks)
-
 -- The lowest rank of each block.
-unfoldable pub lowsOf : List ℕ → List ℕ
-lowsOf ranks = map (λ b. lowestIn (rankBlock b ranks)) (from 0 blockCount)
+pub record BlockLows (column lows : List ℕ) : Type 0 where
+  pub long : length lows ≡ blockCount
+  pub low : (b : ℕ) → b < blockCount → LowestAmong column (b * blockSize) blockSize (getD lows b 0)
+
+-- The place that the lowest rank of all tells, or the count of the orders where there is none.
+pub record BestPlace (lows : List ℕ) (count place : ℕ) : Type 0 where
+  pub low : ℕ
+  pub lowest : LowestAmong lows 0 blockCount low
+  pub told : place ≡ cond (ltb low noRank) (low % mostOrders) count
 
 -- The lots that cross where so many are left.
 unfoldable pub crossing : Order → List ℕ → List Order → ℕ

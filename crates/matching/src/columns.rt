@@ -1,71 +1,55 @@
-// Two columns, one number a place of the book: what is left of each order, and its rank. A third has the lowest rank of
-// each block of places, so that the best order is found without a look at every rank.
+// Two columns, one number a place of the book: what is left of each order, and its rank with its place. A third has the
+// lowest rank of each block of places, so that the best order is found without a look at every rank.
 ghost use mathlib.Core.Path.{_≡_};
 ghost use mathlib.Core.Bool.{cond};
 ghost use mathlib.Core.List.{map};
-ghost use Prim.Native.Nat.{ℕ, _-_, _≤_, _<_, min};
+ghost use Prim.Native.Nat.{ℕ, _+_, _-_, _≤_, _<_, min};
 ghost use lib.Dec.{eqb};
-ghost use lib.ListN.{length, getD, set};
+ghost use lib.ListN.{length, getD, set, replicate};
 ghost use Rattle.tables.specs.Fit.{ordersIn};
 ghost use Rattle.rules.specs.Ranges.{mostOrders};
 ghost use Rattle.rules.specs.Ledger.{bookLength, orderAt};
-ghost use Rattle.matching.specs.Ranks.{Ranked, LowestOf, noRank, lotsOf, rankIn, ranksOf, firstRank, blockCount, rankBlock, lowestIn, lowsOf};
+ghost use Rattle.matching.specs.Ranks.{Ranked, noRank, lotsOf, rankIn, firstRank, placedRank, Placed, LowestAmong, blockSize, blockCount, BlockLows, BestPlace};
 use crate::priority::does_oppose;
 use crate::priority::rank_of;
 use rules::Order;
+use rules::ranges::MOST_ORDERS;
 use tables::order_at;
 
 // The rank of an order that is not to be met.
-const NO_RANK: u64 = 18446744073709551615;
+pub const NO_RANK: u64 = 18446744073709551615;
 
 // How many places of the book make a block.
 const BLOCK: usize = 16;
 
-fn rank_in(o: Order, r: Order) -> u64
-    requires { ⌜ Ranked r × (0 < r .lots .0) ⌝ }
-    ensures { λ x. ⌜ x ≡ rankIn o (r .lots .0) r ⌝ }
+// The rank of the order at place i, with that place in its last digits to the base 256: the lowest tells where it stands.
+fn rank_at(o: Order, r: Order, i: usize) -> u64
+    requires { ⌜ Ranked r × (0 < r .lots .0) × (i < mostOrders) ⌝ }
+    ensures { λ x. ⌜ x ≡ placedRank i (rankIn o (r .lots .0) r) ⌝ }
 {
     if does_oppose(o, r) {
-        return rank_of(r);
+        return rank_of(r) * MOST_ORDERS + i as u64;
     }
     NO_RANK
 }
 
 // Nothing is used yet: each order has its lots, and those that oppose the incoming one their ranks.
 pub fn write_columns(book: &[u64], o: Order, left: &mut [u64], ranks: &mut [u64])
-    requires { ⌜ (length (now left) ≤ mostOrders) × (length (now ranks) ≡ length (now left)) × (bookLength ≤ length (now book)) ⌝ }
+    requires { ⌜ (length (now left) ≤ mostOrders) × (now ranks ≡ replicate mostOrders noRank) × (bookLength ≤ length (now book)) ⌝ }
     requires { ⌜ ((i : ℕ) → i < length (now left) → Ranked (orderAt (now book) i) × (0 < orderAt (now book) i .lots .0)) ⌝ }
     ensures { λ _. ⌜ now (left .exit) ≡ map lotsOf (ordersIn (length (now (left .entry))) (now (book .entry))) ⌝ }
-    ensures { λ _. ⌜ now (ranks .exit) ≡ firstRank o (ordersIn (length (now (left .entry))) (now (book .entry))) ⌝ }
+    ensures { λ _. ⌜ Placed (firstRank o (ordersIn (length (now (left .entry))) (now (book .entry)))) (now (ranks .exit)) ⌝ }
 {
     let mut i: usize = 0;
     while i < left.len() {
         let r = order_at(book, i);
+        ranks[i] = rank_at(o, r, i);
         left[i] = r.lots.0;
-        ranks[i] = rank_in(o, r);
         i += 1;
     }
 }
 
-// The place of the lowest rank, or the end where there is none.
-pub fn lowest_of(ranks: &[u64]) -> usize
-    ensures { λ r. ⌜ LowestOf (now (ranks .entry)) r ⌝ }
-{
-    let mut lowest = NO_RANK;
-    let mut place = ranks.len();
-    let mut i: usize = 0;
-    while i < ranks.len() {
-        let rank = ranks[i];
-        if rank < lowest {
-            lowest = rank;
-            place = i;
-        }
-        i += 1;
-    }
-    place
-}
-
-fn earlier(a: usize, b: usize) -> usize
+pub fn least(a: u64, b: u64) -> u64
     ensures { λ r. ⌜ r ≡ min a b ⌝ }
 {
     if a <= b {
@@ -74,65 +58,64 @@ fn earlier(a: usize, b: usize) -> usize
     b
 }
 
-// The ranks of a block; the last may be shorter.
-fn block_of(ranks: &[u64], b: usize) -> &[u64]
-    requires { ⌜ b < blockCount ⌝ }
-    ensures { λ r. ⌜ now r ≡ rankBlock b (now (ranks .entry)) ⌝ }
+fn lowest_of_four(ranks: &[u64], at: usize) -> u64
+    requires { ⌜ at + 4 ≤ length (now ranks) ⌝ }
+    ensures { λ r. ⌜ LowestAmong (now (ranks .entry)) at 4 r ⌝ }
 {
-    let start = earlier(b * BLOCK, ranks.len());
-    let end = earlier(b * BLOCK + BLOCK, ranks.len());
-    &ranks[start..end]
+    least(
+        least(ranks[at], ranks[at + 1]),
+        least(ranks[at + 2], ranks[at + 3]),
+    )
 }
 
-// The lowest rank of a block.
-fn low_of(ranks: &[u64], b: usize) -> u64
-    requires { ⌜ b < blockCount ⌝ }
-    ensures { λ r. ⌜ r ≡ lowestIn (rankBlock b (now (ranks .entry))) ⌝ }
+// The lowest of a block, by fours: no comparison waits for all those before it.
+fn lowest_of_block(ranks: &[u64], at: usize) -> u64
+    requires { ⌜ at + blockSize ≤ length (now ranks) ⌝ }
+    ensures { λ r. ⌜ LowestAmong (now (ranks .entry)) at blockSize r ⌝ }
 {
-    let block = block_of(ranks, b);
-    let place = lowest_of(block);
-    if place < block.len() {
-        return block[place];
-    }
-    NO_RANK
+    let first = lowest_of_four(ranks, at);
+    let second = lowest_of_four(ranks, at + 4);
+    let third = lowest_of_four(ranks, at + 8);
+    let fourth = lowest_of_four(ranks, at + 12);
+    least(least(first, second), least(third, fourth))
 }
 
 // The lowest rank of every block.
 pub fn write_lows(ranks: &[u64], lows: &mut [u64])
-    requires { ⌜ length (now lows) ≡ blockCount ⌝ }
-    ensures { λ _. ⌜ now (lows .exit) ≡ lowsOf (now (ranks .entry)) ⌝ }
+    requires { ⌜ (length (now ranks) ≡ mostOrders) × (length (now lows) ≡ blockCount) ⌝ }
+    ensures { λ _. ⌜ BlockLows (now (ranks .entry)) (now (lows .exit)) ⌝ }
 {
     let mut b: usize = 0;
     while b < lows.len() {
-        lows[b] = low_of(ranks, b);
+        lows[b] = lowest_of_block(ranks, b * BLOCK);
         b += 1;
     }
 }
 
-// The place of the lowest rank, or the end where there is none: the block of the lowest, and its place there.
-pub fn lowest_by(ranks: &[u64], lows: &[u64]) -> usize
-    requires { ⌜ (length (now ranks) ≤ mostOrders) × (now lows ≡ lowsOf (now ranks)) ⌝ }
-    ensures { λ r. ⌜ LowestOf (now (ranks .entry)) r ⌝ }
+// The place that the lowest rank of all tells, or the count of the orders where there is none.
+pub fn best_place(lows: &[u64], count: usize) -> usize
+    requires { ⌜ length (now lows) ≡ blockCount ⌝ }
+    ensures { λ r. ⌜ BestPlace (now (lows .entry)) count r ⌝ }
 {
-    let b = lowest_of(lows);
-    if b == lows.len() {
-        return ranks.len();
+    let low = lowest_of_block(lows, 0);
+    if low < NO_RANK {
+        return (low % MOST_ORDERS) as usize;
     }
-    b * BLOCK + lowest_of(block_of(ranks, b))
+    count
 }
 
 // Lots of order i are used; an order used up has no rank.
 pub fn use_lots(left: &mut [u64], ranks: &mut [u64], lows: &mut [u64], i: usize, lots: u64)
-    requires { ⌜ (i < length (now left)) × (length (now ranks) ≡ length (now left)) × (length (now left) ≤ mostOrders) × (lots ≤ getD (now left) i 0) × (now lows ≡ lowsOf (now ranks)) ⌝ }
+    requires { ⌜ (i < length (now left)) × (length (now left) ≤ mostOrders) × (lots ≤ getD (now left) i 0) × (length (now ranks) ≡ mostOrders) × BlockLows (now ranks) (now lows) ⌝ }
     ensures { λ _. ⌜ now (left .exit) ≡ set (now (left .entry)) i (getD (now (left .entry)) i 0 - lots) ⌝ }
     ensures { λ _. ⌜ now (ranks .exit) ≡ cond (eqb (getD (now (left .entry)) i 0 - lots) 0) (set (now (ranks .entry)) i noRank) (now (ranks .entry)) ⌝ }
-    ensures { λ _. ⌜ now (lows .exit) ≡ lowsOf (now (ranks .exit)) ⌝ }
+    ensures { λ _. ⌜ BlockLows (now (ranks .exit)) (now (lows .exit)) ⌝ }
 {
     let rest = left[i] - lots;
     left[i] = rest;
     if rest == 0 {
         let b = i / BLOCK;
         ranks[i] = NO_RANK;
-        lows[b] = low_of(&*ranks, b);
+        lows[b] = lowest_of_block(&*ranks, b * BLOCK);
     }
 }

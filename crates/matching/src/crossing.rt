@@ -38,6 +38,19 @@ fn crossing_lots(o: Order, r: Order) -> u64
     0
 }
 
+// What a resting order adds. Most are of another contract: one comparison passes them over.
+fn found_in(o: Order, r: Order) -> Crossing
+    ensures { λ x. ⌜ (x .own ≡ ownLots o r) × (x .lots ≡ crossingLots o r) ⌝ }
+{
+    if r.contract != o.contract {
+        return Crossing { own: 0, lots: 0 };
+    }
+    Crossing {
+        own: own_lots(o, r),
+        lots: crossing_lots(o, r),
+    }
+}
+
 pub fn measure(book: &[u64], count: usize, o: Order) -> Crossing
     requires { ⌜ (count ≤ mostOrders) × (bookLength ≤ length (now book)) ⌝ }
     requires { ⌜ ((i : ℕ) → i < count → orderAt (now book) i .lots .0 ≤ mostLots) ⌝ }
@@ -49,9 +62,9 @@ pub fn measure(book: &[u64], count: usize, o: Order) -> Crossing
     let mut lots: u64 = 0;
     let mut i: usize = 0;
     while i < count {
-        let r = order_at(book, i);
-        own += own_lots(o, r);
-        lots += crossing_lots(o, r);
+        let found = found_in(o, order_at(book, i));
+        own += found.own;
+        lots += found.lots;
         i += 1;
     }
     Crossing {

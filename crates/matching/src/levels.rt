@@ -1,16 +1,20 @@
 // Matching: the orders of the book in their priority, price level by price level.
 ghost use mathlib.Core.Path.{_≡_};
 ghost use mathlib.Core.Bool.{true};
-ghost use Prim.Native.Nat.{ℕ, _*_, _≤_, _<_, min};
-ghost use lib.ListN.{length, drop};
+ghost use mathlib.Core.List.{map};
+ghost use Prim.Native.Nat.{_*_, _≤_, _<_};
+ghost use lib.ListN.{length};
 ghost use Rattle.rules.specs.Ranges.{mostLots, mostOrders};
 ghost use Rattle.rules.specs.Ledger.{bookLength, orderAt};
 ghost use Rattle.tables.specs.Fit.{ordersIn};
-ghost use Rattle.matching.specs.Deals.{dealWidth, dealAt, dealsIn, FromBook};
-ghost use Rattle.matching.specs.Matching.{DealMade, Matchable, Ended};
-ghost use Rattle.matching.specs.Ranks.{ranksOf, lowsOf};
-use crate::columns::lowest_by;
+ghost use Rattle.matching.specs.Deals.{dealWidth};
+ghost use Rattle.matching.specs.Matching.{DealMade, Matchable, MatchMade};
+ghost use Rattle.matching.specs.Ranks.{lotsOf, firstRank, Placed, BlockLows};
+use crate::columns::NO_RANK;
+use crate::columns::best_place;
+use crate::columns::least;
 use crate::columns::use_lots;
+use crate::columns::write_columns;
 use crate::columns::write_lows;
 use crate::deals::Counterparty;
 use crate::deals::put_deal;
@@ -26,15 +30,6 @@ pub struct Matched {
     pub left: u64,
 }
 
-pub fn least(a: u64, b: u64) -> u64
-    ensures { λ r. ⌜ r ≡ min a b ⌝ }
-{
-    if a <= b {
-        return a;
-    }
-    b
-}
-
 // A deal with the order at i, as far as its lots and those wanted go; what is still wanted.
 fn deal(
     book: &[u64],
@@ -46,10 +41,10 @@ fn deal(
     i: usize,
     wanted: u64,
 ) -> u64
-    requires { ⌜ (i < length (now left)) × (length (now left) ≤ mostOrders) × (length (now ranks) ≡ length (now left)) × (bookLength ≤ length (now book)) × (now lows ≡ lowsOf (now ranks)) ⌝ }
+    requires { ⌜ (i < length (now left)) × (length (now left) ≤ mostOrders) × (length (now ranks) ≡ mostOrders) × (bookLength ≤ length (now book)) × BlockLows (now ranks) (now lows) ⌝ }
     requires { ⌜ (k < mostLots) × (mostLots * dealWidth ≤ length (now deals)) ⌝ }
     ensures { λ r. ⌜ DealMade (now (book .entry)) k i wanted (now (left .entry)) (now (ranks .entry)) (now (deals .entry)) r (now (left .exit)) (now (ranks .exit)) (now (deals .exit)) ⌝ }
-    ensures { λ _. ⌜ now (lows .exit) ≡ lowsOf (now (ranks .exit)) ⌝ }
+    ensures { λ _. ⌜ BlockLows (now (ranks .exit)) (now (lows .exit)) ⌝ }
 {
     let resting = order_at(book, i);
     let lots = least(wanted, left[i]);
@@ -78,26 +73,22 @@ fn is_at(book: &[u64], count: usize, i: usize, level: u64) -> bool
 }
 
 // Level by level and in each level by rising number, until nothing is wanted or an order does not cross.
-pub fn match_orders(
+fn match_levels(
     book: &[u64],
     o: Order,
     left: &mut [u64],
     ranks: &mut [u64],
+    lows: &mut [u64],
     deals: &mut [u64],
 ) -> Matched
-    requires { ⌜ Matchable o (now book) (now left) (now ranks) × (mostLots * dealWidth ≤ length (now deals)) ⌝ }
-    ensures { λ r. ⌜ Ended o (ordersIn (length (now (left .entry))) (now (book .entry))) (now (left .exit)) (r .left) (dealsIn (r .deals) (now (deals .exit))) ⌝ }
-    ensures { λ r. ⌜ r .deals ≤ mostLots ⌝ }
-    ensures { λ r. ⌜ ((j : ℕ) → j < r .deals → FromBook (now (book .entry)) (length (now (left .entry))) (dealAt (now (deals .exit)) j)) ⌝ }
-    ensures { λ _. ⌜ now (ranks .exit) ≡ ranksOf o (now (left .exit)) (ordersIn (length (now (left .entry))) (now (book .entry))) ⌝ }
-    ensures { λ r. ⌜ drop (r .deals * dealWidth) (now (deals .exit)) ≡ drop (r .deals * dealWidth) (now (deals .entry)) ⌝ }
+    requires { ⌜ Matchable o (now book) (length (now left)) × (mostLots * dealWidth ≤ length (now deals)) ⌝ }
+    requires { ⌜ (now left ≡ map lotsOf (ordersIn (length (now left)) (now book))) × Placed (firstRank o (ordersIn (length (now left)) (now book))) (now ranks) × BlockLows (now ranks) (now lows) ⌝ }
+    ensures { λ r. ⌜ MatchMade o (now (book .entry)) (length (now (left .entry))) (now (deals .entry)) r (now (left .exit)) (now (deals .exit)) ⌝ }
 {
     let count = left.len();
     let mut wanted = o.lots.0;
     let mut k: usize = 0;
-    let mut lows = [0u64; 16];
-    write_lows(&*ranks, &mut lows);
-    let mut best = lowest_by(&*ranks, &lows);
+    let mut best = best_place(&*lows, count);
     'levels: while best < count {
         let first = order_at(book, best);
         if !does_meet(o, first) {
@@ -109,7 +100,7 @@ pub fn match_orders(
                 book,
                 &mut *left,
                 &mut *ranks,
-                &mut lows,
+                &mut *lows,
                 &mut *deals,
                 k,
                 best,
@@ -119,7 +110,7 @@ pub fn match_orders(
             if wanted == 0 {
                 break 'levels;
             }
-            best = lowest_by(&*ranks, &lows);
+            best = best_place(&*lows, count);
             if !is_at(book, count, best, level) {
                 break 'orders;
             }
@@ -129,4 +120,16 @@ pub fn match_orders(
         deals: k,
         left: wanted,
     }
+}
+
+// An incoming order is matched with the orders of the book, in their priority.
+pub fn match_orders(book: &[u64], o: Order, left: &mut [u64], deals: &mut [u64]) -> Matched
+    requires { ⌜ Matchable o (now book) (length (now left)) × (mostLots * dealWidth ≤ length (now deals)) ⌝ }
+    ensures { λ r. ⌜ MatchMade o (now (book .entry)) (length (now (left .entry))) (now (deals .entry)) r (now (left .exit)) (now (deals .exit)) ⌝ }
+{
+    let mut ranks = [NO_RANK; 256];
+    let mut lows = [NO_RANK; 16];
+    write_columns(book, o, &mut *left, &mut ranks);
+    write_lows(&ranks, &mut lows);
+    match_levels(book, o, &mut *left, &mut ranks, &mut lows, &mut *deals)
 }

@@ -5,11 +5,10 @@ mod deals;
 mod levels;
 mod priority;
 
-pub use columns::write_columns;
+pub use columns::least;
 pub use crossing::Crossing;
 pub use crossing::measure;
 pub use deals::Counterparty;
 pub use deals::deal_at;
 pub use levels::Matched;
-pub use levels::least;
 pub use levels::match_orders;

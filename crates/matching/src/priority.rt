@@ -2,7 +2,6 @@
 ghost use mathlib.Core.Path.{_≡_};
 ghost use Prim.Native.Nat.{_≤_};
 ghost use Rattle.rules.specs.Ranges.{mostPrice};
-ghost use Rattle.rules.specs.Sides.{sameSide, otherSide};
 ghost use Rattle.rules.specs.Matching.{opposes, meets};
 ghost use Rattle.matching.specs.Ranks.{Ranked, priceRank, rankOf};
 use rules::Order;
@@ -14,13 +13,17 @@ use sides::other_side;
 // Order numbers are below it.
 const NUMBERS_END: u64 = 4294967296;
 
-// Whether the resting order r has the incoming order's contract and the other side.
+// Whether the resting order r has the incoming order's contract and the other side. Most have another contract: one
+// comparison passes them over.
 pub fn does_oppose(o: Order, r: Order) -> bool
     ensures { λ x. ⌜ x ≡ opposes o r ⌝ }
 {
+    if r.contract != o.contract {
+        return false;
+    }
     let incoming = o.side;
     let resting = r.side;
-    (r.contract == o.contract) & is_same_side(resting, other_side(incoming))
+    is_same_side(resting, other_side(incoming))
 }
 
 // Whether the resting price meets the incoming one.

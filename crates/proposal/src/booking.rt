@@ -1,10 +1,10 @@
 // A proposal is booked: one line a leg, and each leg's lots taken from its order.
 ghost use mathlib.Core.Path.{_≡_};
-ghost use Prim.Native.Nat.{_-_, _≤_};
+ghost use Prim.Native.Nat.{ℕ, _-_, _≤_, _<_};
 ghost use lib.ListN.{length, getD};
 ghost use Rattle.arith.specs.Lists.{total, from};
 ghost use Rattle.rules.specs.Ranges.{mostOrders};
-ghost use Rattle.rules.specs.Ledger.{Tables, withHead, withRows, withBook, withLines, withOrders, headLength, bookLength, booked};
+ghost use Rattle.rules.specs.Ledger.{Tables, withHead, withRows, withBook, withLines, withOrders, headLength, bookLength, sideAt, booked};
 ghost use Rattle.tables.specs.Fit.{BookFit, ordersIn, orderCountIn};
 ghost use Rattle.tables.specs.Left.{leftOver};
 ghost use Rattle.proposal.specs.Columns.{LegsFit, PlacesFit};
@@ -110,7 +110,7 @@ fn write_left(book: &[u64], left: &mut [u64], places: &[usize], lots: &[u64])
 
 // Orders used up leave the book, the others keep what is left of them.
 pub fn use_orders(head: &mut [u64], book: &mut [u64], places: &[usize], lots: &[u64])
-    requires { ⌜ (headLength ≤ length (now head)) × (orderCountIn (now head) ≤ mostOrders) × (bookLength ≤ length (now book)) × PlacesFit (orderCountIn (now head)) (now places) × (length (now lots) ≡ length (now places)) ⌝ }
+    requires { ⌜ (headLength ≤ length (now head)) × (orderCountIn (now head) ≤ mostOrders) × (bookLength ≤ length (now book)) × PlacesFit (orderCountIn (now head)) (now places) × (length (now lots) ≡ length (now places)) × ((i : ℕ) → i < orderCountIn (now head) → sideAt (now book) i ≤ 1) ⌝ }
     ensures { λ _. ⌜ ((t : Tables) → withHead (now (head .exit)) (withBook (now (book .exit)) t)
         ≡ withOrders (leftOver (leftAfter (now (places .entry)) (now (lots .entry)) (length (now (places .entry))) (lotsIn (orderCountIn (now (head .entry))) (now (book .entry)))) (ordersIn (orderCountIn (now (head .entry))) (now (book .entry))))
         (withHead (now (head .entry)) (withBook (now (book .entry)) t))) ⌝ }

@@ -20,7 +20,7 @@ use Rattle.rules.specs.Ranges.{mostSubmitsInSecond, mostOrders, mostLotsRun, mo
 use Rattle.rules.specs.Ledger.{Tables, time, acceptedSubmits, lotsRun, orderCount, orders, limit, lotsAt, lineRun}
 use Rattle.rules.specs.Matching.{isTeye, isResting, mirrored, matched, incoming, submitMatched, submitLines, wouldRest, submitsAt, restingLots, aboveLimit}
 use Rattle.rules.specs.Refusals.{submitCauses, runWouldPass}
-use Rattle.matching.specs.Ranks.{Ranked, lotsOf, ranksOf}
+use Rattle.matching.specs.Ranks.{Ranked, lotsOf}
 use Rattle.matching.specs.Crossing.{isOwn, ownLots, ownIn, crossingIn}
 use Rattle.matching.specs.Deals.{counterpartyOf, linesWith}
 use Rattle.matching.specs.Matching.{Ended}
@@ -49,17 +49,17 @@ decide-both ((false, a) ∷ cs) ds t b = decide-both cs ds t b
 
 -- ---- an order and resting orders that are sound
 module _ (o : Order) (os : List Order) (ranked : All Ranked os) (numbers : Distinct os) (has-lots : All (λ r. 0 < r .lots .0) os) (some : 1 ≤ o .lots .0) where
-  start : Running o os (map lotsOf os) (ranksOf o (map lotsOf os) os) (o .lots .0) []
+  start : Running o os (map lotsOf os) (o .lots .0) []
   start = running-start o os has-lots
 
   known : Measured o os o ranked numbers (map lotsOf os) (o .lots .0)
-  known = measured o os o ranked numbers (o .lots .0) (o .lots .0) (omega arith) (map lotsOf os) (ranksOf o (map lotsOf os) os) [] start
+  known = measured o os o ranked numbers (o .lots .0) (o .lots .0) (omega arith) (map lotsOf os) [] start
 
   pub left-is : matched o os .left ≡ o .lots .0 - crossingIn o os
   left-is = known .lots ∙ ap (λ n. o .lots .0 - n) (crossing-all o os)
 
   pub still : crossingIn o os ≡ 0 → Ended o os (map lotsOf os) (o .lots .0) []
-  still e = untouched o os o ranked numbers (map lotsOf os) (ranksOf o (map lotsOf os) os) (o .lots .0) [] start (crossing-all o os ∙ e)
+  still e = untouched o os o ranked numbers (map lotsOf os) (o .lots .0) [] start (crossing-all o os ∙ e)
 
   pub resting-still : crossingIn o os ≡ 0 → matched o os .resting ≡ os
   resting-still e = still e .resting ∙ left-all os has-lots

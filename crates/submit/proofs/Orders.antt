@@ -8,21 +8,15 @@ use native.Mathlib.Nat.{zero-add}
 use native.Mathlib.Numerals.{add-one, add-two, add-three, add-four, add-five, add-six, add-seven}
 use lib.ListN.{length, take, drop, length-append, take-append-drop}
 use lib.Seq.{drop-cons, take-add, getD-set-same, set-set, length-take-le}
-use borrow.Author.Tests.{eq-eqb, ne-eqb}
 use Rattle.arith.specs.Lists.{over, from}
-use Rattle.arith.proofs.Tests.{same-or}
 use Rattle.arith.proofs.Appends.{flat-append, flat-one}
 use Rattle.arith.proofs.Writes.{over-more}
 use Rattle.rules.specs.declared.order.Order.{Order}
-use Rattle.rules.specs.Sides.{sideOf, sideNumber}
 use Rattle.rules.specs.Ledger.{Tables, withHead, withBook, withOrderCount, sideAt, orderAt, orderPlaces, withOrders}
 use Rattle.tables.specs.Fit.{ordersIn, orderCountIn}
-use Rattle.tables.proofs.Left.{orders-more, places-length}
+use Rattle.tables.proofs.Left.{orders-more, places-length, side-back}
 
 -- ---- orders written where they stand
-side-back : (n : ℕ) → n ≤ 1 → sideNumber (sideOf n) ≡ n
-side-back n h = same-or n 0 (λ e. rw (eq-eqb n 0 e) (sym e)) (λ e. rw (ne-eqb n 0 e) (omega (arith, e)))
-
 module _ (b : List ℕ) where
   block-is : (i : ℕ) → i * 8 + 8 ≤ length b → sideAt b i ≤ 1 → orderPlaces (orderAt b i) ≡ take 8 (drop (i * 8) b)
   block-is i h s =

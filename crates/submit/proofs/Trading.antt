@@ -4,21 +4,21 @@ use mathlib.Core.List.{List, [], map}
 use Prim.Native.Nat.{ℕ, _+_, _*_, _-_, _≤_, _<_}
 use native.Mathlib.Omega.{arith}
 use native.Mathlib.Nat.{add-zero}
-use lib.ListN.{length, getD, length-map}
+use lib.ListN.{length, getD}
 use lib.Seq.{set-getD}
 use Rattle.arith.specs.Lists.{from, total, All}
 use Rattle.rules.specs.declared.order.Order.{Order}
 use Rattle.rules.specs.Ranges.{mostLots}
-use Rattle.rules.specs.Ledger.{Tables, lent, withHead, withBook, withOrders, withDealt, dayLotsPlace, dayValuePlace, sideAt}
+use Rattle.rules.specs.Ledger.{Tables, lent, withHead, withBook, withOrders, withDealt, dayLotsPlace, dayValuePlace}
 use Rattle.rules.specs.Matching.{matched, Deal}
 use Rattle.tables.specs.Fit.{orderCountIn, ordersIn}
 use Rattle.tables.specs.Left.{leftOver}
 use Rattle.tables.proofs.Left.{orders-length, all-orders}
 use Rattle.matching.specs.declared.levels.Matched.{Matched}
-use Rattle.matching.specs.Ranks.{Ranked, lotsOf, firstRank}
+use Rattle.matching.specs.Ranks.{Ranked, lotsOf}
 use Rattle.matching.specs.Crossing.{crossingIn}
-use Rattle.matching.specs.Deals.{dealWidth, dealAt, dealsIn, counterpartyOf, FromBook}
-use Rattle.matching.specs.Matching.{Matchable, Ended}
+use Rattle.matching.specs.Deals.{dealWidth, dealsIn, counterpartyOf}
+use Rattle.matching.specs.Matching.{Matchable, Ended, MatchMade}
 use Rattle.matching.proofs.Used.{Distinct, distinct-numbers}
 use Rattle.matching.proofs.Totals.{dealt-and-left, lots-kept, worth-kept}
 use Rattle.submit.specs.Deals.{DealsFit, Tradable, Traded, lotsDealt, worthOf}
@@ -33,26 +33,27 @@ module _ (head prices book : List ℕ) (o : Order) (x : Tradable head prices boo
   abbrev os : List Order
   os = ordersIn n book
 
-  pub matchable : (left ranks : List ℕ) → left ≡ map lotsOf os → ranks ≡ firstRank o os → Matchable o book left ranks
-  matchable left ranks e f =
-      let many : length left ≡ n = ap length e ∙ length-map os lotsOf ∙ orders-length book n in
-      record {
+  pub matchable : (many : ℕ) → many ≡ n → Matchable o book many
+  matchable many e =
+      rw e
+      (record {
         least-lots = x .least-lots;
         most-lots = x .most-lots;
         long = x .book-long;
-        most-orders = omega (arith, x .most-orders);
-        ranked = λ i h. x .ranked i (omega arith);
-        has-lots = λ i h. x .has-lots i (omega arith);
-        numbers-distinct = rw many (x .numbers-distinct);
-        all-left = rw many e;
-        all-ranked = rw many f;
-      }
+        most-orders = x .most-orders;
+        ranked = x .ranked;
+        has-lots = x .has-lots;
+        numbers-distinct = x .numbers-distinct;
+      })
 
-  -- ---- after the deals
-  module _ (m : Matched) (left deals : List ℕ) (e : Ended o os left (m .left) (dealsIn (m .deals) deals)) (few : m .deals ≤ mostLots) (room : mostLots * dealWidth ≤ length deals)
-      (from-book : (j : ℕ) → j < m .deals → FromBook book n (dealAt deals j)) where
+  -- ---- after the deals, which stand in a column
+  module _ (m : Matched) (first left deals : List ℕ) (many : ℕ) (count : many ≡ n) (long : length deals ≡ length first) (room : mostLots * dealWidth ≤ length first)
+      (made : MatchMade o book many first m left deals) where
+    pub ended : Ended o os left (m .left) (dealsIn (m .deals) deals)
+    ended = rw count at (made .ended)
+
     lots-dealt : total lotsDealt (dealsIn (m .deals) deals) + m .left ≡ o .lots .0
-    lots-dealt = omega (arith, dealt-and-left o os, lots-kept (matched o os .deals), ap (total lotsDealt) (e .deals), e .lots)
+    lots-dealt = omega (arith, dealt-and-left o os, lots-kept (matched o os .deals), ap (total lotsDealt) (ended .deals), ended .lots)
 
     pub left-most : m .left ≤ o .lots .0
     left-most = omega (arith, lots-dealt)
@@ -60,9 +61,9 @@ module _ (head prices book : List ℕ) (o : Order) (x : Tradable head prices boo
     pub deals-fit : DealsFit (m .deals) deals
     deals-fit =
         record {
-          room = room;
-          most = few;
-          most-price = λ j h. let b = from-book j h in omega (arith, b .price, x .ranked (b .place) (b .below) .price);
+          room = omega (arith, long, room);
+          most = made .few;
+          most-price = λ j h. let b = made .from-book j h in omega (arith, b .price, x .ranked (b .place) (omega (arith, b .below, count)) .price);
           most-lots = λ j h. omega (arith, total-at deals lotsDealt j (m .deals) h, lots-dealt, x .most-lots);
         }
 
@@ -73,22 +74,22 @@ module _ (head prices book : List ℕ) (o : Order) (x : Tradable head prices boo
     unfolding withOrders
     traded head′ prices′ book′ worth w p k =
         let ds = matched o os .deals in
-        let lots : o .lots .0 - m .left ≡ total (λ d. d .lots) ds = omega (arith, dealt-and-left o os, e .lots) in
-        let value : worth ≡ total (λ d. d .lots * d .resting .price .0) ds = w ∙ ap (total worthOf) (sym (e .deals)) ∙ sym (worth-kept ds) in
+        let lots : o .lots .0 - m .left ≡ total (λ d. d .lots) ds = omega (arith, dealt-and-left o os, ended .lots) in
+        let value : worth ≡ total (λ d. d .lots * d .resting .price .0) ds = w ∙ ap (total worthOf) (sym (ended .deals)) ∙ sym (worth-kept ds) in
         let kept = k (lent [] [] [] [] [] []) in
         record {
-          head-after = rw (e .resting) (ap (λ t. t .head) kept);
+          head-after = rw (ended .resting) (ap (λ t. t .head) kept);
           prices-after = p ∙ ap (λ q. withDealt (o .contract) (getD prices (dayLotsPlace (o .contract)) 0 + q) (getD prices (dayValuePlace (o .contract)) 0 + worth) prices) lots
               ∙ ap (λ v. withDealt (o .contract) (getD prices (dayLotsPlace (o .contract)) 0 + total (λ d. d .lots) ds) (getD prices (dayValuePlace (o .contract)) 0 + v) prices) value;
-          book-after = rw (e .resting) (ap (λ t. t .book) kept);
-          deals-kept = e .deals;
-          lots-left = e .lots;
-          few = few;
-          from-book = from-book;
+          book-after = rw (ended .resting) (ap (λ t. t .book) kept);
+          deals-kept = ended .deals;
+          lots-left = ended .lots;
+          few = made .few;
+          from-book = rw count at (made .from-book);
         }
 
   -- ---- no lots cross
-  module _ (none : crossingIn o os ≡ 0) (sides : (i : ℕ) → i < n → sideAt book i ≤ 1) where
+  module _ (none : crossingIn o os ≡ 0) where
     ranked : All Ranked os
     ranked = all-orders Ranked book n (x .ranked)
 
@@ -98,8 +99,8 @@ module _ (head prices book : List ℕ) (o : Order) (x : Tradable head prices boo
     apart : Distinct os
     apart = distinct-numbers os (x .numbers-distinct)
 
-    ended : Ended o os (map lotsOf os) (o .lots .0) []
-    ended = still o os ranked apart has-lots (x .least-lots) none
+    untouched : Ended o os (map lotsOf os) (o .lots .0) []
+    untouched = still o os ranked apart has-lots (x .least-lots) none
 
     nothing : (ds : List Deal) → map counterpartyOf ds ≡ [] → (total (λ d. d .lots) ds ≡ 0) × (total (λ d. d .lots * d .resting .price .0) ds ≡ 0)
     unfolding total
@@ -109,16 +110,16 @@ module _ (head prices book : List ℕ) (o : Order) (x : Tradable head prices boo
     unfolding dealsIn from
     untraded deals =
         let rs = resting-still o os ranked apart has-lots (x .least-lots) none in
-        let zero-dealt = nothing (matched o os .deals) (ended .deals) in
+        let zero-dealt = nothing (matched o os .deals) (untouched .deals) in
         let c = o .contract in
         record {
           head-after = rw (rs, orders-length book n) (sym (set-getD head 7 0));
           prices-after =
               rw (zero-dealt .0, zero-dealt .1, add-zero (getD prices (dayLotsPlace c) 0), add-zero (getD prices (dayValuePlace c) 0), set-getD prices (dayLotsPlace c) 0)
               (sym (set-getD prices (dayValuePlace c) 0));
-          book-after = rw rs (sym (written-back book n (omega (arith, x .most-orders, x .book-long)) sides));
-          deals-kept = ended .deals;
-          lots-left = ended .lots;
+          book-after = rw rs (sym (written-back book n (omega (arith, x .most-orders, x .book-long)) (x .most-side)));
+          deals-kept = untouched .deals;
+          lots-left = untouched .lots;
           few = omega arith;
           from-book = λ j h. absurd (omega arith);
         }

@@ -8,7 +8,7 @@ use lib.ListN.{length, getD}
 use Rattle.arith.specs.Lists.{over, total}
 use Rattle.rules.specs.declared.order.Order.{Order}
 use Rattle.rules.specs.Ranges.{contractCount, mostMembers, mostOrders, mostLots, mostPrice, mostLotsRun}
-use Rattle.rules.specs.Ledger.{Tables, withHead, withRows, withLines, headLength, pricesLength, bookLength, linesLength, dayLotsPlace, dayValuePlace, withOrderCount, withDealt, orderAt, orderPlaces}
+use Rattle.rules.specs.Ledger.{Tables, withHead, withRows, withLines, headLength, pricesLength, bookLength, linesLength, dayLotsPlace, dayValuePlace, withOrderCount, withDealt, sideAt, orderAt, orderPlaces}
 use Rattle.rules.specs.Matching.{matched}
 use Rattle.rules.specs.Refusals.{distinct}
 use Rattle.tables.specs.Fit.{RowsFit, membersIn, lotsRunIn, orderCountIn, ordersIn}
@@ -58,6 +58,7 @@ pub record Tradable (head prices book : List ℕ) (o : Order) : Type 0 where
   pub most-lots : o .lots .0 ≤ mostLots
   pub most-day-lots : getD prices (dayLotsPlace (o .contract)) 0 ≤ mostLotsRun
   pub most-day-value : getD prices (dayValuePlace (o .contract)) 0 ≤ mostPrice * mostLotsRun
+  pub most-side : (i : ℕ) → i < orderCountIn head → sideAt book i ≤ 1
   pub ranked : (i : ℕ) → i < orderCountIn head → Ranked (orderAt book i)
   pub has-lots : (i : ℕ) → i < orderCountIn head → 1 ≤ orderAt book i .lots .0
   pub numbers-distinct : distinct (map (λ r. r .number) (ordersIn (orderCountIn head) book)) ≡ true

@@ -1,3 +1,4 @@
 pub mod Fit
 pub mod Causes
 pub mod Deals
+pub mod Placing

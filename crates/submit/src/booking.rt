@@ -1,30 +1,21 @@
 // An accepted submit is booked.
 ghost use mathlib.Core.Path.{_≡_};
-ghost use mathlib.Core.Bool.{cond, true, _&&_};
-ghost use Prim.Native.Nat.{ℕ, _+_, _*_, _≤_, _<_, min};
-ghost use lib.Dec.{ltb};
+ghost use Prim.Native.Nat.{_+_, _*_, _≤_, _<_};
 ghost use lib.ListN.{length, getD};
-ghost use Rattle.arith.specs.Lists.{over};
-ghost use Rattle.rules.specs.Answers.{Outcome};
-ghost use Rattle.rules.specs.Ranges.{mostMembers, mostOrders, mostLotsRun, mostPrice, mostSubmitsInSecond, mostAcceptedSubmits};
-ghost use Rattle.rules.specs.Ledger.{Tables, lent, withHead, withAcceptedSubmits, withSubmitsThisSecond, withOrderCount, submitsFrom, headLength, bookLength, linesLength, orderWidth, orderPlaces};
-ghost use Rattle.rules.specs.Matching.{incoming, isResting, withLots, submitBooked};
-ghost use Rattle.tables.specs.Fit.{HeadFit, PricesFit, RowsFit, BookFit, membersIn, acceptedIn, lotsRunIn, orderCountIn, ordersIn};
-ghost use Rattle.matching.specs.Crossing.{crossingIn};
+ghost use Rattle.rules.specs.Ranges.{mostMembers, mostPrice, mostSubmitsInSecond, mostAcceptedSubmits};
+ghost use Rattle.rules.specs.Ledger.{Tables, lent, withHead, withAcceptedSubmits, withSubmitsThisSecond, submitsFrom, headLength, linesLength};
+ghost use Rattle.rules.specs.Matching.{incoming, submitBooked};
+ghost use Rattle.tables.specs.Fit.{HeadFit, PricesFit, RowsFit, BookFit, membersIn, acceptedIn, lotsRunIn};
 ghost use Rattle.submit.specs.Fit.{SubmissionFit, Acceptable};
-use crate::causes::is_resting;
-use crate::deals::book_deals;
-use crate::trade::trade;
+use crate::placing::place_order;
 use rules::Answer;
 use rules::DayNo;
 use rules::Kurus;
 use rules::Lots;
 use rules::Order;
-use rules::OrderKind;
 use rules::Submission;
 use rules::layout::ACCEPTED_SUBMITS;
 use rules::layout::DAY;
-use rules::layout::ORDER_COUNT;
 use rules::layout::SUBMITS;
 
 // The order that comes in; its number is the accepted submits before it.
@@ -56,19 +47,6 @@ fn count_submit(head: &mut [u64], member: u64)
     head[ACCEPTED_SUBMITS] = accepted + 1;
 }
 
-// What is left of an order that rests comes last in the book, under its own number.
-fn rest_order(head: &mut [u64], book: &mut [u64], kind: OrderKind, o: Order, left: u64)
-    requires { ⌜ (headLength ≤ length (now head)) × (bookLength ≤ length (now book)) × (isResting kind && ltb 0 left ≡ true → orderCountIn (now head) < mostOrders) ⌝ }
-    ensures { λ _. ⌜ now (head .exit) ≡ cond (isResting kind && ltb 0 left) (withOrderCount (orderCountIn (now (head .entry)) + 1) (now (head .entry))) (now (head .entry)) ⌝ }
-    ensures { λ _. ⌜ now (book .exit) ≡ cond (isResting kind && ltb 0 left) (over (orderCountIn (now (head .entry)) * orderWidth) (orderPlaces (withLots left o)) (now (book .entry))) (now (book .entry)) ⌝ }
-{
-    if is_resting(kind) & (0 < left) {
-        let count = head[ORDER_COUNT];
-        tables::put_order(&mut *book, count as usize, tables::with_lots(o, left));
-        head[ORDER_COUNT] = count + 1;
-    }
-}
-
 // The tables after an accepted submit, step by step as the rules have them.
 pub fn book_submit(
     head: &mut [u64],
@@ -88,27 +66,17 @@ pub fn book_submit(
 {
     let kind = e.kind;
     let o = order_of(&*head, e);
-    let mut deals = [0u64; 300];
     tables::set_time(&mut *head, e.time);
     count_submit(&mut *head, e.member);
-    let m = trade(
+    place_order(
         &mut *head,
         &mut *prices,
-        &mut *book,
-        o,
-        crossing,
-        &mut deals,
-    );
-    rest_order(&mut *head, &mut *book, kind, o, m.left);
-    let count = m.deals;
-    book_deals(
-        &mut *head,
         &mut *lots,
         &mut *value,
+        &mut *book,
         &mut *lines,
+        kind,
         o,
-        &deals,
-        count,
-    );
-    Answer::Accepted(count as u64 * 2)
+        crossing,
+    )
 }

@@ -1,11 +1,11 @@
 // Why a submit is turned back, known before anything is written.
 ghost use mathlib.Core.Path.{_≡_};
 ghost use mathlib.Core.Bool.{_||_};
-ghost use Prim.Native.Nat.{ℕ, _*_, _≤_, _<_, min};
+ghost use Prim.Native.Nat.{_*_, _≤_, _<_};
 ghost use lib.Dec.{ltb};
 ghost use lib.ListN.{length, getD};
 ghost use Rattle.rules.specs.Answers.{Outcome, decide};
-ghost use Rattle.rules.specs.Ranges.{contractCount, mostMembers, mostLots, mostOrders, mostPrice};
+ghost use Rattle.rules.specs.Ranges.{contractCount, mostMembers, mostLots, mostOrders};
 ghost use Rattle.rules.specs.Ledger.{Tables, withHead, withPrices, withRows, headLength, pricesLength, lowPlace, highPlace};
 ghost use Rattle.rules.specs.Matching.{isTeye, isResting, submitsAt};
 ghost use Rattle.tables.specs.Fit.{HeadFit, RowsFit, membersIn, lotsRunIn};

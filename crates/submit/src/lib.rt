@@ -2,6 +2,7 @@
 mod booking;
 mod causes;
 mod deals;
+mod placing;
 mod position;
 mod trade;
 

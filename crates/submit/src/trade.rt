@@ -1,21 +1,20 @@
 // An incoming order is matched: the day's totals grow by its deals, and the book keeps what is left of its orders.
 ghost use mathlib.Core.Path.{_≡_};
-ghost use Prim.Native.Nat.{ℕ, _+_, _*_, _≤_, _<_};
+ghost use Prim.Native.Nat.{_+_, _*_, _≤_, _<_};
 ghost use lib.ListN.{length, getD};
 ghost use Rattle.rules.specs.Ranges.{contractCount, mostLots, mostLotsRun, mostPrice};
-ghost use Rattle.rules.specs.Ledger.{pricesLength, dayLotsPlace, dayValuePlace, withDealt, sideAt};
+ghost use Rattle.rules.specs.Ledger.{pricesLength, dayLotsPlace, dayValuePlace, withDealt};
+ghost use Rattle.rules.specs.Matching.{matched};
 ghost use Rattle.tables.specs.Fit.{orderCountIn, ordersIn};
-ghost use Rattle.matching.specs.Crossing.{crossingIn};
+ghost use Rattle.tables.specs.Left.{leftOver};
 ghost use Rattle.matching.specs.Deals.{dealWidth};
-ghost use Rattle.submit.specs.Deals.{Tradable, Traded};
+ghost use Rattle.submit.specs.Deals.{DealsFit, Tradable, Traded};
 use crate::deals::worth_of;
 use matching::Matched;
 use matching::match_orders;
-use matching::write_columns;
 use rules::Order;
 use rules::layout::DAY_LOTS;
 use rules::layout::DAY_VALUE;
-use rules::layout::ORDER_COUNT;
 use rules::layout::PRICE_WIDTH;
 
 // M grows by the lots, V by their worth.
@@ -31,58 +30,23 @@ fn add_dealt(prices: &mut [u64], contract: u64, lots: u64, worth: u64)
     prices[at + DAY_VALUE] = all_worth;
 }
 
-// With a column for what is left of each order and one for the ranks.
-fn settle(
+// With a column for what is left of each order and one for the deals.
+pub fn settle(
     head: &mut [u64],
     prices: &mut [u64],
     book: &mut [u64],
     o: Order,
     left: &mut [u64],
-    ranks: &mut [u64],
     deals: &mut [u64],
 ) -> Matched
-    requires { ⌜ Tradable (now head) (now prices) (now book) o ⌝ }
-    requires { ⌜ (length (now left) ≡ orderCountIn (now head)) × (length (now ranks) ≡ orderCountIn (now head)) × (mostLots * dealWidth ≤ length (now deals)) ⌝ }
+    requires { ⌜ Tradable (now head) (now prices) (now book) o × (length (now left) ≡ orderCountIn (now head)) × (mostLots * dealWidth ≤ length (now deals)) ⌝ }
     ensures { λ r. ⌜ Traded o (now (head .entry)) (now (prices .entry)) (now (book .entry)) r (now (head .exit)) (now (prices .exit)) (now (book .exit)) (now (deals .exit)) ⌝ }
+    ensures { λ r. ⌜ DealsFit (r .deals) (now (deals .exit)) ⌝ }
+    ensures { λ _. ⌜ matched o (ordersIn (orderCountIn (now (head .entry))) (now (book .entry))) .resting ≡ leftOver (now (left .exit)) (ordersIn (orderCountIn (now (head .entry))) (now (book .entry))) ⌝ }
 {
-    write_columns(&*book, o, &mut *left, &mut *ranks);
-    let m = match_orders(&*book, o, &mut *left, &mut *ranks, &mut *deals);
+    let m = match_orders(&*book, o, &mut *left, &mut *deals);
     let worth = worth_of(&*deals, m.deals);
     add_dealt(&mut *prices, o.contract, o.lots.0 - m.left, worth);
     tables::keep_orders(&mut *head, &mut *book, &*left);
     m
-}
-
-// Where no lots cross, the tables stay as they are.
-pub fn trade(
-    head: &mut [u64],
-    prices: &mut [u64],
-    book: &mut [u64],
-    o: Order,
-    crossing: u64,
-    deals: &mut [u64],
-) -> Matched
-    requires { ⌜ Tradable (now head) (now prices) (now book) o × (mostLots * dealWidth ≤ length (now deals)) ⌝ }
-    requires { ⌜ ((i : ℕ) → i < orderCountIn (now head) → sideAt (now book) i ≤ 1) ⌝ }
-    requires { ⌜ crossing ≡ crossingIn o (ordersIn (orderCountIn (now head)) (now book)) ⌝ }
-    ensures { λ r. ⌜ Traded o (now (head .entry)) (now (prices .entry)) (now (book .entry)) r (now (head .exit)) (now (prices .exit)) (now (book .exit)) (now (deals .exit)) ⌝ }
-{
-    if crossing == 0 {
-        return Matched {
-            deals: 0,
-            left: o.lots.0,
-        };
-    }
-    let count = head[ORDER_COUNT] as usize;
-    let mut left = [0u64; 256];
-    let mut ranks = [0u64; 256];
-    settle(
-        &mut *head,
-        &mut *prices,
-        &mut *book,
-        o,
-        &mut left[..count],
-        &mut ranks[..count],
-        &mut *deals,
-    )
 }

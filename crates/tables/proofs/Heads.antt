@@ -16,7 +16,13 @@ use Rattle.tables.specs.Fit.{HeadFit, BookFit, OrdersFit, orderCountIn}
 
 -- The orders of an undamaged book.
 pub orders-fit : (head book : List ℕ) → HeadFit head → BookFit head book → OrdersFit (orderCountIn head) book
-orders-fit head book h b = record { most-orders = h .most-orders; long = b .long; least-lots = λ i k. b .order-fit i k .least-lots }
+orders-fit head book h b =
+    record {
+      most-orders = h .most-orders;
+      long = b .long;
+      most-side = λ i k. b .order-fit i k .most-side;
+      least-lots = λ i k. b .order-fit i k .least-lots;
+    }
 
 -- A record's time changes its own place and the counts of the present second.
 module _ (s : ℕ) (t : Tables) (long : headLength ≤ length (t .head)) (few : members t ≤ mostMembers) where

@@ -1,22 +1,23 @@
 -- What is left of a book's orders: one step of the pass that writes them from the front. Assumes nothing.
 use mathlib.Core.Path.{_≡_, refl, sym, ap, _∙_}
-use mathlib.Core.Bool.{Bool, true, false, not, cond}
+use mathlib.Core.Bool.{Bool, not, cond}
 use mathlib.Core.List.{List, [], _∷_, _++_, map, flatMap, append-nil}
 use Prim.Native.Nat.{ℕ, zero, suc, _+_, _*_, _<_, _≤_}
 use native.Mathlib.Omega.{arith}
 use native.Mathlib.Nat.{zero-add}
-use native.Mathlib.Numerals.{add-one}
+use native.Mathlib.Numerals.{add-one, add-two, add-three, add-four, add-five, add-six, add-seven}
 use lib.Dec.{eqb}
-use lib.ListN.{length, getD, take, drop, length-append, length-map}
-use lib.Seq.{length-take-le}
-use borrow.Author.Tests.{ne-eqb}
+use lib.ListN.{length, getD, set, take, drop, length-append, length-map}
+use lib.Seq.{length-take-le, set-getD, getD-set-other}
+use borrow.Author.Tests.{eq-eqb, ne-eqb}
 use Rattle.arith.specs.Lists.{All, kept, from, over}
 use Rattle.arith.proofs.Overs.{over-outside}
-use Rattle.arith.proofs.Tests.{true-or}
+use Rattle.arith.proofs.Tests.{true-or, same-or}
 use Rattle.arith.proofs.Appends.{from-more, from-length, map-append, flat-append, flat-one, flat-length, map-at, from-at}
-use Rattle.arith.proofs.Writes.{over-more, again-long, again-front, again-many}
+use Rattle.arith.proofs.Writes.{stored, over-more, again-long, again-front, again-many}
 use Rattle.rules.specs.declared.order.Order.{Order}
-use Rattle.rules.specs.Ledger.{orderAt, orderPlaces}
+use Rattle.rules.specs.Sides.{sideOf, sideNumber}
+use Rattle.rules.specs.Ledger.{sideAt, orderAt, orderPlaces}
 use Rattle.rules.specs.Matching.{withLots}
 use Rattle.tables.specs.Fit.{ordersIn}
 use Rattle.tables.specs.Left.{leftOver, staying}
@@ -105,6 +106,39 @@ order-there xs b i h s l =
       over-outside 0 xs b fits (i * 8 + 6) 0 (λ _. omega arith),
       over-outside 0 xs b fits (i * 8 + 7) 0 (λ _. omega arith),
     )
+
+pub side-there : (xs b : List ℕ) (i : ℕ) → length xs ≤ i * 8 → i < 256 → 2048 ≤ length b → sideAt (over 0 xs b) i ≡ sideAt b i
+side-there xs b i h s l = over-outside 0 xs b (omega arith) (i * 8 + 3) 0 (λ _. omega arith)
+
+pub side-back : (n : ℕ) → n ≤ 1 → sideNumber (sideOf n) ≡ n
+side-back n h = same-or n 0 (λ e. rw (eq-eqb n 0 e) (sym e)) (λ e. rw (ne-eqb n 0 e) (omega (arith, e)))
+
+-- An order written where it stands changes its lots.
+pub lots-written : (b : List ℕ) (i q : ℕ) → i * 8 + 8 ≤ length b → sideAt b i ≤ 1 → set b (i * 8 + 5) q ≡ over (i * 8) (orderPlaces (withLots q (orderAt b i))) b
+lots-written b i q h s =
+    let at = i * 8 in
+    let behind = suc (suc (suc (suc (suc at)))) in
+    sym
+    (sym (stored (orderPlaces (withLots q (orderAt b i))) b at h)
+    ∙ rw (
+      side-back (sideAt b i) s,
+      add-one at,
+      add-two at,
+      add-three at,
+      add-four at,
+      add-five at,
+      add-six at,
+      add-seven at,
+      set-getD b at 0,
+      set-getD b (suc at) 0,
+      set-getD b (suc (suc at)) 0,
+      set-getD b (suc (suc (suc at))) 0,
+      set-getD b (suc (suc (suc (suc at)))) 0,
+      ← getD-set-other b behind (suc behind) q 0 (λ e. omega arith),
+      ← getD-set-other b behind (suc (suc behind)) q 0 (λ e. omega arith),
+      set-getD (set b behind q) (suc behind) 0,
+      set-getD (set b behind q) (suc (suc behind)) 0,
+    ))
 
 pub places-length : (os : List Order) → length (flatMap orderPlaces os) ≡ length os * 8
 places-length os = flat-length 8 orderPlaces (λ o. refl) os

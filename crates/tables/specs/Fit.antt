@@ -93,6 +93,7 @@ pub record BookFit (head book : List ℕ) : Type 0 where
 pub record OrdersFit (count : ℕ) (book : List ℕ) : Type 0 where
   pub most-orders : count ≤ mostOrders
   pub long : bookLength ≤ length book
+  pub most-side : (i : ℕ) → i < count → sideAt book i ≤ 1
   pub least-lots : (i : ℕ) → i < count → 1 ≤ orderAt book i .lots .0
 
 -- All lent tables.

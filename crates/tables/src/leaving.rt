@@ -1,13 +1,13 @@
 // Orders leave the book: what is left of each stands in a column, one number a place of the book.
 ghost use mathlib.Core.Path.{_≡_};
 ghost use mathlib.Core.Bool.{cond, not};
-ghost use mathlib.Core.List.{List, flatMap};
+ghost use mathlib.Core.List.{flatMap};
 ghost use Prim.Native.Nat.{ℕ, _*_, _+_, _≤_, _<_};
 ghost use lib.Dec.{eqb};
-ghost use lib.ListN.{length, getD};
+ghost use lib.ListN.{length};
 ghost use Rattle.arith.specs.Lists.{over, any, kept};
 ghost use Rattle.rules.specs.Ranges.{mostOrders};
-ghost use Rattle.rules.specs.Ledger.{Tables, withHead, withBook, headLength, bookLength, orderWidth, orderAt, orderPlaces, orders, withOrders};
+ghost use Rattle.rules.specs.Ledger.{Tables, withHead, withBook, headLength, bookLength, orderWidth, sideAt, orderAt, orderPlaces, orders, withOrders};
 ghost use Rattle.rules.specs.Matching.{withLots};
 ghost use Rattle.tables.specs.Fit.{OrdersFit, orderCountIn, ordersIn};
 ghost use Rattle.tables.specs.Left.{leftOver, leaves, staying};
@@ -18,6 +18,8 @@ use rules::Kurus;
 use rules::Lots;
 use rules::Order;
 use rules::layout::ORDER_COUNT;
+use rules::layout::ORDER_LOTS;
+use rules::layout::ORDER_WIDTH;
 
 // Which orders leave the book: the one of a number if it is the member's, or all of a member.
 pub enum Leaving {
@@ -89,14 +91,19 @@ pub fn with_lots(o: Order, left: u64) -> Order
     }
 }
 
-// Order i with what is left of it is written at the next free place, unless nothing is left; the answer is the next free place.
+// Order i with what is left of it is written at the next free place, unless nothing is left; the answer is the next free
+// place. While none has left, an order stands where it stood and only its lots are written.
 fn keep_order(book: &mut [u64], i: usize, free: usize, left: u64) -> usize
-    requires { ⌜ (free ≤ i) × (i < mostOrders) × (bookLength ≤ length (now book)) ⌝ }
+    requires { ⌜ (free ≤ i) × (i < mostOrders) × (bookLength ≤ length (now book)) × (sideAt (now book) i ≤ 1) ⌝ }
     ensures { λ r. ⌜ r ≡ cond (eqb left 0) free (free + 1) ⌝ }
     ensures { λ _. ⌜ now (book .exit) ≡ cond (eqb left 0) (now (book .entry)) (over (free * orderWidth) (orderPlaces (withLots left (orderAt (now (book .entry)) i))) (now (book .entry))) ⌝ }
 {
     if left == 0 {
         return free;
+    }
+    if free == i {
+        book[i * ORDER_WIDTH + ORDER_LOTS] = left;
+        return free + 1;
     }
     let o = order_at(&*book, i);
     put_order(&mut *book, free, with_lots(o, left));
@@ -105,7 +112,7 @@ fn keep_order(book: &mut [u64], i: usize, free: usize, left: u64) -> usize
 
 // The orders that stay are written from the front, in their order; the answer is their count.
 fn write_staying(book: &mut [u64], left: &[u64], count: usize) -> usize
-    requires { ⌜ (count ≤ mostOrders) × (count ≤ length (now left)) × (bookLength ≤ length (now book)) ⌝ }
+    requires { ⌜ (count ≤ mostOrders) × (count ≤ length (now left)) × (bookLength ≤ length (now book)) × ((i : ℕ) → i < count → sideAt (now book) i ≤ 1) ⌝ }
     ensures { λ r. ⌜ r ≡ length (leftOver (now (left .entry)) (ordersIn count (now (book .entry)))) ⌝ }
     ensures { λ _. ⌜ now (book .exit) ≡ over 0 (flatMap orderPlaces (leftOver (now (left .entry)) (ordersIn count (now (book .entry))))) (now (book .entry)) ⌝ }
 {
@@ -121,6 +128,7 @@ fn write_staying(book: &mut [u64], left: &[u64], count: usize) -> usize
 // The book holds what is left of its orders, and no other.
 pub fn keep_orders(head: &mut [u64], book: &mut [u64], left: &[u64])
     requires { ⌜ (headLength ≤ length (now head)) × (bookLength ≤ length (now book)) × (orderCountIn (now head) ≤ mostOrders) × (orderCountIn (now head) ≤ length (now left)) ⌝ }
+    requires { ⌜ ((i : ℕ) → i < orderCountIn (now head) → sideAt (now book) i ≤ 1) ⌝ }
     ensures { λ _. ⌜ ((t : Tables) → withHead (now (head .exit)) (withBook (now (book .exit)) t)
         ≡ withOrders (leftOver (now (left .entry)) (ordersIn (orderCountIn (now (head .entry))) (now (book .entry)))) (withHead (now (head .entry)) (withBook (now (book .entry)) t))) ⌝ }
 {

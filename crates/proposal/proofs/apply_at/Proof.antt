@@ -108,21 +108,30 @@ book-legs-requires c κs = let a = c .before .before .before .before .before .be
 -- src/lib.rt:56:5
 use-orders-requires : tie.Need-use-orders-requires
 unfolding orders
-use-orders-requires c κs = let a = c .before .before .before .before .before .before .before .before .before .before .before .before .before .before .before .before .before .before .before .before .before .before .before .before .before .before .before .args in
+use-orders-requires c κs =
+    let start = c .before .before .before .before .before .before .before .before .before .before .before .before .before .before .before .before .before .before .before .before .before .before .before .before .before .before .before in
+    let at-book-legs = c .before .before .before .before .before .before .before in
+    let a = start .args in
     let n = getD (a .head .now) 7 0 in
     let book = a .book .now in
     let places = a .places .now in
     let numbers = a .orders .now in
     let q = a .leg-lots .now in
     let p = a .leg-prices .now in
-    let fit = c .before .before .before .before .before .before .before .before .before .before .before .before .before .before .before .before .before .before .before .before .before .before .before .before .before .before .before .pre .1 .1 .0 in
-    let at = c .before .before .before .before .before .before .before .before .before .before .before .before .before .before .before .before .before .before .before .before .before .before .before .before .before .before .before .pre .1 .1 .1 in
+    let fit = start .pre .1 .1 .0 in
+    let at = start .pre .1 .1 .1 in
     let u = lent (a .head .now) (a .prices .now) (a .lots .now) (a .value .now) book (a .lines .now) in
     let ok = sym (c .before .before .before .before .before .before .before .before .before .before .before .before .before .before .before .before .before .is-acceptable .ensures u) ∙ not-false _ (c .before .before .before .before .before .before .before .before .before .before .before .before .before .before .before .before .if1 .left) in
     let there = places-there u n book places numbers q p fit refl at ok in
     let many = places-many u n book places numbers q p fit refl at in
-    let count = ap (λ x. getD (x .head) 7 0) (c .before .before .before .before .before .before .before .book-legs .ensures u) ∙ count-after-lines (linesTo book places q p (length places)) u in
-    (omega (arith, c .before .before .before .before .before .before .before .book-legs .kept .0, c .before .before .before .before .before .before .before .before .before .before .before .before .before .before .before .before .before .before .before .before .before .before .before .before .before .before .before .pre .0 .0 .long), omega (arith, count, c .before .before .before .before .before .before .before .before .before .before .before .before .before .before .before .before .before .before .before .before .before .before .before .before .before .before .before .pre .0 .0 .most-orders), c .before .before .before .before .before .before .before .before .before .before .before .before .before .before .before .before .before .before .before .before .before .before .before .before .before .before .before .pre .0 .2 .long, subst (λ k. PlacesFit k places) (sym count) there, fit .lots-length ∙ sym many)
+    let count = ap (λ x. getD (x .head) 7 0) (at-book-legs .book-legs .ensures u) ∙ count-after-lines (linesTo book places q p (length places)) u in (
+      omega (arith, at-book-legs .book-legs .kept .0, start .pre .0 .0 .long),
+      omega (arith, count, start .pre .0 .0 .most-orders),
+      start .pre .0 .2 .long,
+      subst (λ k. PlacesFit k places) (sym count) there,
+      fit .lots-length ∙ sym many,
+      λ i k. start .pre .0 .2 .order-fit i (omega (arith, count)) .most-side,
+    )
 
 -- src/lib.rt:29:1
 same-length-5 : tie.Need-same-length-5

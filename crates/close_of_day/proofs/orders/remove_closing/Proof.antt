@@ -50,14 +50,14 @@ slice-aggregate-keep-orders c =
 -- src/orders.rt:49:5
 keep-orders-requires : tie.Need-keep-orders-requires
 keep-orders-requires c κs =
-    let a = c .before .before .before .before .before .before .before .before .before .before .before .args in
+    let start = c .before .before .before .before .before .before .before .before .before .before .before in
+    let a = start .args in
     let n = getD (a .head .now) 7 0 in
-    let p : Order → Bool = λ o. closes (a .column .now) (o .contract) in (
-      c .before .before .before .before .before .before .before .before .before .before .before .pre .0,
-      c .before .before .before .before .before .before .before .before .before .before .before .pre .1 .long,
-      c .before .before .before .before .before .before .before .before .before .before .before .pre .1 .most-orders,
-      rw (← column-many p n (c .before .before .before .before .write-left .last .1 .1 .0) (replicate 256 0) (a .book .now) (c .before .before .before .before .before .before .before .before .before .before .before .pre .1 .most-orders) (c .before .before .before .before .write-left .ensures)) (omega arith),
-    )
+    let p : Order → Bool = λ o. closes (a .column .now) (o .contract) in
+    let reads = start .pre .1 in
+    let left = c .before .before .before .before .write-left in
+    let many = column-many p n (left .last .1 .1 .0) (replicate 256 0) (a .book .now) (reads .most-orders) (left .ensures) in
+    ((start .pre .0, reads .long, reads .most-orders, rw (← many) (omega arith)), reads .most-side)
 
 -- src/orders.rt:41:1
 same-length : tie.Need-same-length

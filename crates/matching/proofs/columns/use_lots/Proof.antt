@@ -1,9 +1,8 @@
+use mathlib.Core.Path.{refl}
 use native.Mathlib.Omega.{arith}
-use lib.ListN.{length, getD, length-set}
-use mathlib.Core.Path.{_≡_, refl, sym, ap, _∙_}
+use lib.ListN.{length-set}
 use borrow.Author.Tests.{eq-eqb, ne-eqb}
-use Rattle.matching.specs.Ranks.{lowsOf, noRank}
-use Rattle.matching.proofs.Lows.{lows-length, lows-set}
+use Rattle.matching.proofs.Lows.{lows-renewed}
 use borrow.Author.Needs.{needs}
 use Rattle.matching.proofs.columns.use_lots.Statement.{statement}
 use Rattle.matching.proofs.columns.use_lots.Tie as tie
@@ -29,16 +28,17 @@ mul-ranks c = search needs
 slice-write-ranks : tie.Need-slice-write-ranks
 slice-write-ranks c = search needs
 
-low-of-requires : tie.Need-low-of-requires
-low-of-requires c κs = search needs
+mul-lowest-of-block : tie.Need-mul-lowest-of-block
+mul-lowest-of-block c = search needs
+
+lowest-of-block-requires : tie.Need-lowest-of-block-requires
+lowest-of-block-requires c κs = simp length-set (omega arith)
 
 mul-lows : tie.Need-mul-lows
 mul-lows c = search needs
 
 slice-write-lows : tie.Need-slice-write-lows
-slice-write-lows c =
-    let start = c .before .before .before .before .before .before .before in
-    omega (arith, lows-length (start .args .ranks .now), ap length (start .pre .4))
+slice-write-lows c = search needs
 
 same-length : tie.Need-same-length
 same-length c = search needs
@@ -52,14 +52,15 @@ same-length-3 c = search needs
 returns : tie.Need-returns
 returns c =
     let start = c .before .before .before .before .before .before .before in
-    let a = start .args in
-    (refl, (rw (eq-eqb _ 0 (c .before .before .if1 .taken)) refl, rw (start .pre .4, c .low-of .ensures) (lows-set (a .ranks .now) (a .i) noRank (omega arith))))
+    (refl, (rw (eq-eqb _ 0 (c .before .before .if1 .taken)) refl, lows-renewed _ _ (start .pre .4) _ _ _ (omega arith) (c .lowest-of-block .ensures)))
 
 same-length-4 : tie.Need-same-length-4
 same-length-4 c = search needs
 
 returns-2 : tie.Need-returns-2
-returns-2 c = (refl, (rw (ne-eqb _ 0 (c .if1 .left)) refl, c .before .before .before .before .before .pre .4))
+returns-2 c =
+    let start = c .before .before .before .before .before in
+    (refl, (rw (ne-eqb _ 0 (c .if1 .left)) refl, start .pre .4))
 
 pub use-lots-spec : {M : Type 1} → statement M
 use-lots-spec =
@@ -72,7 +73,8 @@ use-lots-spec =
     slice-write-left
     mul-ranks
     slice-write-ranks
-    low-of-requires
+    mul-lowest-of-block
+    lowest-of-block-requires
     mul-lows
     slice-write-lows
     same-length

@@ -1,45 +1,48 @@
-use borrow.Author.Needs.{needs}
 use mathlib.Core.Path.{_≡_, refl, sym, ap, _∙_}
 use mathlib.Core.List.{_++_, map}
 use Prim.Native.Nat.{_-_, _≤_, _<_}
 use lib.ListN.{length, length-set, length-map, take, drop, getD}
 use native.Mathlib.Omega.{arith}
+use borrow.Author.Needs.{needs}
 use Rattle.arith.proofs.Writes.{front-next, front-end}
-use Rattle.matching.specs.Ranks.{lotsOf, firstRank, rankIn}
+use Rattle.matching.specs.Ranks.{lotsOf, firstRank, rankIn, placedRank}
 use Rattle.matching.proofs.Best.{ranks-length}
 use Rattle.tables.specs.Fit.{ordersIn}
 use Rattle.tables.proofs.Left.{orders-length}
 use Rattle.matching.proofs.Passes.{lots-here, rank-here}
+use Rattle.matching.proofs.Lows.{PlacedTo, placed-start, placed-next, placed-all}
 use Rattle.matching.proofs.columns.write_columns.Statement.{statement}
 use Rattle.matching.proofs.columns.write_columns.Tie as tie
 
 abbrev Inv-loop : tie.InvT-loop
-Inv-loop book o left₀ ranks₀ i₀ left ranks i = (length left ≡ length left₀) × (length ranks ≡ length ranks₀) × (i ≤ length left₀) ×
-    (left ≡ take i (map lotsOf (ordersIn (length left₀) book)) ++ drop i left₀) × (ranks ≡ take i (firstRank o (ordersIn (length left₀) book)) ++ drop i ranks₀)
+Inv-loop book o left₀ ranks₀ i₀ left ranks i = (length left ≡ length left₀) × (i ≤ length left₀) ×
+    (left ≡ take i (map lotsOf (ordersIn (length left₀) book)) ++ drop i left₀) × PlacedTo (firstRank o (ordersIn (length left₀) book)) i ranks
 
 abbrev μ-loop : tie.MeasureT-loop
 μ-loop book o left₀ ranks₀ i₀ left ranks i = length left₀ - i
 
 loop-holds : tie.Need-loop-holds Inv-loop μ-loop
-loop-holds c = (refl, refl, omega arith, refl, refl)
+loop-holds c = (refl, omega arith, refl, placed-start _ _ (c .before .before .before .pre .0 .1))
 
 order-at-requires : tie.Need-order-at-requires Inv-loop μ-loop
 order-at-requires c κs = search needs
+
+rank-at-requires : tie.Need-rank-at-requires Inv-loop μ-loop
+rank-at-requires c κs =
+    let start = c .before .before .before .before .before .before in
+    let f = start .pre .1 (c .before .before .loop .i) (omega arith) in rw (c .order-at .ensures) (f .0, f .1, omega arith)
+
+mul-ranks : tie.Need-mul-ranks Inv-loop μ-loop
+mul-ranks c = search needs
+
+slice-write-ranks : tie.Need-slice-write-ranks Inv-loop μ-loop
+slice-write-ranks c = omega (arith, c .before .before .before .loop .inv .3 .long)
 
 mul-left : tie.Need-mul-left Inv-loop μ-loop
 mul-left c = search needs
 
 slice-write-left : tie.Need-slice-write-left Inv-loop μ-loop
 slice-write-left c = search needs
-
-rank-in-requires : tie.Need-rank-in-requires Inv-loop μ-loop
-rank-in-requires c κs = let f = c .before .before .before .before .before .before .pre .1 (c .before .before .loop .i) (omega arith) in rw (c .order-at .ensures) f
-
-mul-ranks : tie.Need-mul-ranks Inv-loop μ-loop
-mul-ranks c = search needs
-
-slice-write-ranks : tie.Need-slice-write-ranks Inv-loop μ-loop
-slice-write-ranks c = search needs
 
 add-i : tie.Need-add-i Inv-loop μ-loop
 add-i c = search needs
@@ -49,29 +52,30 @@ loop-less c = search needs
 
 loop-again : tie.Need-loop-again Inv-loop μ-loop
 loop-again c =
-    let start = c .before .before .before .before .before .before .before in
+    let at-loop = c .before .before .before in
+    let start = at-loop .before .before .before .before in
     let a = start .args in
-    let l = c .before .before .before .loop in
+    let l = at-loop .loop in
     let n = length (a .left .now) in
     let os = ordersIn n (a .book .now) in
     let h : l .i < n = omega arith in
-    let ranks = ranks-length (a .o) (map lotsOf os) os (length-map os lotsOf) in
-    let lots : c .before .order-at .result .lots .0 ≡ getD (map lotsOf os) (l .i) 0 = ap (λ r. r .lots .0) (c .before .order-at .ensures) ∙ sym
-    (lots-here (a .book .now) (a .o) n (l .i) h) in
-    let rank : c .rank-in .result ≡ getD (firstRank (a .o) os) (l .i) 0
-    = c .rank-in .ensures ∙ ap (λ r. rankIn (a .o) (r .lots .0) r) (c .before .order-at .ensures) ∙ sym (rank-here (a .book .now) (a .o) n (l .i) h) in (
+    let here = c .before .order-at .ensures in
+    let lots : c .before .order-at .result .lots .0 ≡ getD (map lotsOf os) (l .i) 0 = ap (λ r. r .lots .0) here ∙ sym (lots-here (a .book .now) (a .o) n (l .i) h) in
+    let rank : c .rank-at .result ≡ placedRank (l .i) (getD (firstRank (a .o) os) (l .i) 0)
+    = c .rank-at .ensures ∙ ap (λ r. placedRank (l .i) (rankIn (a .o) (r .lots .0) r)) here ∙ ap (placedRank (l .i)) (sym (rank-here (a .book .now) (a .o) n (l .i) h)) in (
       length-set (l .left) (l .i) _ ∙ l .inv .0,
-      length-set (l .ranks) (l .i) _ ∙ l .inv .1,
       omega arith,
-      rw (lots, l .inv .3) (front-next (l .i) (map lotsOf os) (a .left .now) 0 (omega (arith, length-map os lotsOf, orders-length (a .book .now) n)) h),
-      rw (rank, l .inv .4) (front-next (l .i) (firstRank (a .o) os) (a .ranks .now) 0 (omega (arith, orders-length (a .book .now) n)) (omega (arith, start .pre .0 .1))),
+      rw (lots, l .inv .2) (front-next (l .i) (map lotsOf os) (a .left .now) 0 (omega (arith, length-map os lotsOf, orders-length (a .book .now) n)) h),
+      placed-next _ _ _ _ (omega (arith, ranks-length (a .o) (map lotsOf os) os (length-map os lotsOf), orders-length (a .book .now) n)) (omega arith) (l .inv .3) rank,
     )
 
 same-length : tie.Need-same-length Inv-loop μ-loop
 same-length c = search needs
 
 same-length-2 : tie.Need-same-length-2 Inv-loop μ-loop
-same-length-2 c = search needs
+same-length-2 c =
+    let start = c .before .before .before .before .before in
+    c .before .loop .inv .3 .long ∙ sym (ap length (start .pre .0 .1))
 
 returns : tie.Need-returns Inv-loop μ-loop
 returns c =
@@ -81,9 +85,8 @@ returns c =
     let n = length (a .left .now) in
     let os = ordersIn n (a .book .now) in
     let h : n ≤ l .i = omega arith in (
-      l .inv .3 ∙ front-end (l .i) (map lotsOf os) (a .left .now) (omega (arith, length-map os lotsOf, orders-length (a .book .now) n)) h,
-      l .inv .4 ∙ front-end (l .i) (firstRank (a .o) os) (a .ranks .now)
-          (omega (arith, ranks-length (a .o) (map lotsOf os) os (length-map os lotsOf), orders-length (a .book .now) n)) (omega (arith, start .pre .0 .1)),
+      l .inv .2 ∙ front-end (l .i) (map lotsOf os) (a .left .now) (omega (arith, length-map os lotsOf, orders-length (a .book .now) n)) h,
+      placed-all _ _ _ (omega (arith, ranks-length (a .o) (map lotsOf os) os (length-map os lotsOf), orders-length (a .book .now) n)) (l .inv .3),
     )
 
 pub write-columns-spec : {M : Type 1} → statement M
@@ -94,11 +97,11 @@ write-columns-spec =
     μ-loop
     loop-holds
     order-at-requires
-    mul-left
-    slice-write-left
-    rank-in-requires
+    rank-at-requires
     mul-ranks
     slice-write-ranks
+    mul-left
+    slice-write-left
     add-i
     loop-less
     loop-again

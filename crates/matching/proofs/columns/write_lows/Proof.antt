@@ -1,26 +1,27 @@
-use borrow.Author.Needs.{needs}
-use Prim.Native.Nat.{_≤_, _-_, _+_}
-use mathlib.Core.Path.{_≡_, refl, sym, _∙_}
-use mathlib.Core.List.{_++_}
+use Prim.Native.Nat.{ℕ, _-_, _*_, _≤_, _<_}
+use mathlib.Core.Path.{_≡_, refl, _∙_}
+use lib.ListN.{length, getD, length-set}
 use native.Mathlib.Omega.{arith}
-use lib.ListN.{length, take, drop, length-set}
-use Rattle.arith.proofs.Writes.{front-next, front-end}
-use Rattle.matching.specs.Ranks.{lowsOf}
-use Rattle.matching.proofs.Lows.{lows-length, low-at}
+use borrow.Author.Needs.{needs}
+use Rattle.matching.specs.Ranks.{LowestAmong, blockSize}
+use Rattle.matching.proofs.Lows.{lows-next}
 use Rattle.matching.proofs.columns.write_lows.Statement.{statement}
 use Rattle.matching.proofs.columns.write_lows.Tie as tie
 
 abbrev Inv-loop : tie.InvT-loop
-Inv-loop ranks lows₀ b₀ lows b = (b ≤ length lows₀) × (length lows ≡ length lows₀) × (lows ≡ take b (lowsOf ranks) ++ drop b lows₀)
+Inv-loop ranks lows₀ b₀ lows b = (length lows ≡ length lows₀) × (b ≤ length lows₀) × ((c : ℕ) → c < b → LowestAmong ranks (c * blockSize) blockSize (getD lows c 0))
 
 abbrev μ-loop : tie.MeasureT-loop
 μ-loop ranks lows₀ b₀ lows b = length lows₀ - b
 
 loop-holds : tie.Need-loop-holds Inv-loop μ-loop
-loop-holds c = (omega arith, refl, refl)
+loop-holds c = (refl, omega arith, λ c h. absurd (omega arith))
 
-low-of-requires : tie.Need-low-of-requires Inv-loop μ-loop
-low-of-requires c κs = search needs
+mul-lowest-of-block : tie.Need-mul-lowest-of-block Inv-loop μ-loop
+mul-lowest-of-block c = search needs
+
+lowest-of-block-requires : tie.Need-lowest-of-block-requires Inv-loop μ-loop
+lowest-of-block-requires c κs = search needs
 
 mul-lows : tie.Need-mul-lows Inv-loop μ-loop
 mul-lows c = search needs
@@ -36,20 +37,17 @@ loop-less c = search needs
 
 loop-again : tie.Need-loop-again Inv-loop μ-loop
 loop-again c =
-    let start = c .before .before .before .before .before in
-    let a = start .args in
+    let ranks = c .before .before .before .before .before .args .ranks .now in
     let l = c .before .before .loop in
-    let long = lows-length (a .ranks .now) in
-    let low = c .low-of .ensures ∙ sym (low-at (a .ranks .now) (l .b) (omega (arith, start .pre))) in
-    (omega arith, length-set (l .lows) (l .b) _ ∙ l .inv .1, rw (low, l .inv .2) (front-next (l .b) (lowsOf (a .ranks .now)) (a .lows .now) 0 (omega (arith, start .pre)) (omega arith)))
+    (length-set (l .lows) (l .b) _ ∙ l .inv .0, omega arith, lows-next ranks (l .lows) (l .b) _ (omega arith) (l .inv .2) (c .lowest-of-block .ensures))
 
 same-length : tie.Need-same-length Inv-loop μ-loop
 same-length c = search needs
 
 returns : tie.Need-returns Inv-loop μ-loop
-returns c = let a = c .before .before .before .before .args in
-    let l = c .before .loop in
-    l .inv .2 ∙ front-end (l .b) (lowsOf (a .ranks .now)) (a .lows .now) (omega (arith, c .before .before .before .before .pre, lows-length (a .ranks .now))) (omega arith)
+returns c =
+    let start = c .before .before .before .before in
+    record { long = c .before .loop .inv .0 ∙ start .pre .1; low = λ b h. c .before .loop .inv .2 b (omega arith) }
 
 pub write-lows-spec : {M : Type 1} → statement M
 write-lows-spec =
@@ -58,7 +56,8 @@ write-lows-spec =
     Inv-loop
     μ-loop
     loop-holds
-    low-of-requires
+    mul-lowest-of-block
+    lowest-of-block-requires
     mul-lows
     slice-write-lows
     add-b

@@ -1,8 +1,7 @@
 use Rattle.matching.proofs.Passes.{Measuring, measuring-start, measuring-next}
 use Prim.Native.Nat.{_-_, _≤_}
 use borrow.Author.Needs.{needs}
-use mathlib.Core.Path.{_≡_, refl}
-use Prim.Native.Nat.{_-_, _≤_}
+use mathlib.Core.Path.{_≡_}
 use native.Mathlib.Omega.{arith}
 use Rattle.matching.proofs.crossing.measure.Statement.{statement}
 use Rattle.matching.proofs.crossing.measure.Tie as tie
@@ -19,24 +18,25 @@ loop-holds c = (omega arith, measuring-start _ _)
 order-at-requires : tie.Need-order-at-requires Inv-loop μ-loop
 order-at-requires c κs = search needs
 
-own-lots-requires : tie.Need-own-lots-requires Inv-loop μ-loop
-own-lots-requires c κs = search needs
+found-in-requires : tie.Need-found-in-requires Inv-loop μ-loop
+found-in-requires c κs = search needs
 
 add-own : tie.Need-add-own Inv-loop μ-loop
 add-own c =
-    let start = c .before .before .before .before .before in
-    let m = measuring-next _ _ _ _ _ (c .before .before .before .loop .inv .1) _ (c .before .order-at .ensures) (start .pre .1 _ (c .before .before .loop-test .taken)) _ _
-    (c .own-lots .ensures) refl in omega (arith, m .own-few)
-
-crossing-lots-requires : tie.Need-crossing-lots-requires Inv-loop μ-loop
-crossing-lots-requires c κs = search needs
+    let at-loop-test = c .before .before .before in
+    let at-loop = at-loop-test .before in
+    let start = at-loop .before .before in
+    let m = measuring-next _ _ _ _ _ (at-loop .loop .inv .1) _ (c .before .before .order-at .ensures) (start .pre .1 _ (at-loop-test .loop-test .taken)) _ _ (c .before .found-in .ensures) in
+    omega (arith, m .own-few)
 
 add-lots : tie.Need-add-lots Inv-loop μ-loop
 add-lots c =
-    let at-loop = c .before .before .before .before in
+    let at-order-at = c .before .before .before in
+    let at-loop-test = at-order-at .before in
+    let at-loop = at-loop-test .before in
     let start = at-loop .before .before in
-    let m = measuring-next _ _ _ _ _ (at-loop .loop .inv .1) _ (c .before .before .order-at .ensures) (start .pre .1 _ (c .before .before .before .loop-test .taken)) _ _
-    (c .before .own-lots .ensures) (c .crossing-lots .ensures) in omega (arith, m .crossing-few)
+    let m = measuring-next _ _ _ _ _ (at-loop .loop .inv .1) _ (at-order-at .order-at .ensures) (start .pre .1 _ (at-loop-test .loop-test .taken)) _ _ (c .before .before .found-in .ensures) in
+    omega (arith, m .crossing-few)
 
 add-i : tie.Need-add-i Inv-loop μ-loop
 add-i c = search needs
@@ -46,15 +46,16 @@ loop-less c = search needs
 
 loop-again : tie.Need-loop-again Inv-loop μ-loop
 loop-again c =
-    let at-loop = c .before .before .before .before in
-    let start = at-loop .before .before in (
-      omega arith,
-      measuring-next _ _ _ _ _ (at-loop .loop .inv .1) _ (c .before .before .order-at .ensures) (start .pre .1 _ (c .before .before .before .loop-test .taken)) _ _
-          (c .before .own-lots .ensures) (c .crossing-lots .ensures),
-    )
+    let at-order-at = c .before .before .before in
+    let at-loop-test = at-order-at .before in
+    let at-loop = at-loop-test .before in
+    let start = at-loop .before .before in
+    (omega arith, measuring-next _ _ _ _ _ (at-loop .loop .inv .1) _ (at-order-at .order-at .ensures) (start .pre .1 _ (at-loop-test .loop-test .taken)) _ _ (c .before .before .found-in .ensures))
 
 returns : tie.Need-returns Inv-loop μ-loop
-returns c = let same : c .before .loop .i ≡ c .before .before .before .args .count = omega arith in
+returns c =
+    let start = c .before .before .before in
+    let same : c .before .loop .i ≡ start .args .count = omega arith in
     (rw same at (c .before .loop .inv .1 .own-lots), (omega (arith, same, c .before .loop .inv .1 .own-few), rw same at (c .before .loop .inv .1 .crossing-lots)))
 
 pub measure-spec : {M : Type 1} → statement M
@@ -65,9 +66,8 @@ measure-spec =
     μ-loop
     loop-holds
     order-at-requires
-    own-lots-requires
+    found-in-requires
     add-own
-    crossing-lots-requires
     add-lots
     add-i
     loop-less

@@ -1,7 +1,12 @@
+use borrow.Author.Tests.{eq-eqb, ne-eqb}
 use Rattle.rules.specs.Matching.{opposes}
 use borrow.Author.Needs.{needs}
 use Rattle.matching.proofs.priority.does_oppose.Statement.{statement}
 use Rattle.matching.proofs.priority.does_oppose.Tie as tie
+
+returns : tie.Need-returns
+unfolding opposes
+returns c = rw (ne-eqb _ _ (c .if1 .taken))
 
 other-side-requires : tie.Need-other-side-requires
 other-side-requires c κs = search needs
@@ -9,9 +14,9 @@ other-side-requires c κs = search needs
 is-same-side-requires : tie.Need-is-same-side-requires
 is-same-side-requires c κs = search needs
 
-returns : tie.Need-returns
+returns-2 : tie.Need-returns-2
 unfolding opposes
-returns c = rw (c .is-same-side .ensures, c .before .other-side .ensures)
+returns-2 c = rw (eq-eqb _ _ (c .before .before .if1 .left), c .is-same-side .ensures, c .before .other-side .ensures)
 
 pub does-oppose-spec : {M : Type 1} → statement M
-does-oppose-spec = tie.close (tie.spec other-side-requires is-same-side-requires returns)
+does-oppose-spec = tie.close (tie.spec returns other-side-requires is-same-side-requires returns-2)

@@ -42,9 +42,14 @@ slice-aggregate-keep-orders c = let a = c .before .before .before .before .befor
 
 -- src/booking.rt:121:5
 keep-orders-requires : tie.Need-keep-orders-requires
-keep-orders-requires c κs = let a = c .before .before .before .before .before .before .before .before .before .before .before .before .args in
-    let many = left-many (a .places .now) (a .lots .now) (length (a .places .now)) (getD (a .head .now) 7 0) _ (replicate 256 0) (a .book .now) (c .before .before .before .before .before .before .before .before .before .before .before .before .pre .1) (c .before .before .before .before .write-left .ensures) in
-    (c .before .before .before .before .before .before .before .before .before .before .before .before .pre .0, c .before .before .before .before .before .before .before .before .before .before .before .before .pre .2, c .before .before .before .before .before .before .before .before .before .before .before .before .pre .1, rw (← many) (omega arith))
+keep-orders-requires c κs =
+    let start = c .before .before .before .before .before .before .before .before .before .before .before .before in
+    let a = start .args in
+    let n = getD (a .head .now) 7 0 in
+    let p = start .pre in
+    let left = c .before .before .before .before .write-left in
+    let many = left-many (a .places .now) (a .lots .now) (length (a .places .now)) n _ (replicate 256 0) (a .book .now) (p .1) (left .ensures) in
+    ((p .0, p .2, p .1, rw (← many) (omega arith)), p .5)
 
 -- src/booking.rt:112:1
 same-length : tie.Need-same-length

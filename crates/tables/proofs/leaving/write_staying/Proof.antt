@@ -7,13 +7,9 @@ use Prim.Native.Nat.{_-_, _≤_}
 use lib.ListN.{length}
 use Rattle.arith.specs.Lists.{over, from}
 use Rattle.rules.specs.Ledger.{orderPlaces}
-use Rattle.tables.specs.Left.{leftOver}
-use Rattle.tables.proofs.Left.{leftTo, left-few, left-nothing, kept-count, kept-book}
+use Rattle.tables.proofs.Left.{leftTo, left-few, left-nothing, kept-count, kept-book, side-there, places-length}
 use Rattle.tables.proofs.leaving.write_staying.Statement.{statement}
 use Rattle.tables.proofs.leaving.write_staying.Tie as tie
-use Rattle.tables.proofs.leaving.write_staying.Reads as reads
-use Rattle.tables.proofs.leaving.write_staying.Lts as lts
-use Rattle.tables.proofs.leaving.keep_order.Reads as keep-order-reads
 
 abbrev Inv-loop : tie.InvT-loop
 Inv-loop book₀ left count free₀ i₀ book free i = (i ≤ count) × (length book ≡ length book₀) × (free ≡ length (leftTo left book₀ i)) × (book ≡ over 0 (flatMap orderPlaces (leftTo left book₀ i)) book₀)
@@ -21,36 +17,38 @@ Inv-loop book₀ left count free₀ i₀ book free i = (i ≤ count) × (length 
 abbrev μ-loop : tie.MeasureT-loop
 μ-loop book₀ left count free₀ i₀ book free i = count - i
 
--- src/leaving.rt:113:5
 loop-holds : tie.Need-loop-holds Inv-loop μ-loop
 unfolding from flatMap over
 loop-holds c = (omega arith, refl, ap length (sym (left-nothing (c .before .before .args .left .now))), rw (left-nothing (c .before .before .args .left .now)))
 
--- src/leaving.rt:114:48
 mul-keep-order : tie.Need-mul-keep-order Inv-loop μ-loop
 mul-keep-order c = search needs
 
--- src/leaving.rt:114:48
 shared-slice-read-keep-order : tie.Need-shared-slice-read-keep-order Inv-loop μ-loop
 shared-slice-read-keep-order c = search needs
 
--- src/leaving.rt:114:9
 keep-order-requires : tie.Need-keep-order-requires Inv-loop μ-loop
-keep-order-requires c κs = (omega (arith, left-few (c .before .before .before .before .before .before .args .left .now) (c .before .before .before .before .before .before .args .book .now) (c .before .before .before .loop .i)), omega arith, omega arith)
+keep-order-requires c κs =
+    let start = c .before .before .before .before .before .before in
+    let l = c .before .before .before .loop in
+    let qs = start .args .left .now in
+    let b = start .args .book .now in
+    let few = left-few qs b (l .i) in
+    let side = side-there (flatMap orderPlaces (leftTo qs b (l .i))) b (l .i) (omega (arith, places-length (leftTo qs b (l .i)), few)) (omega arith) (omega arith) in
+    (omega (arith, few), omega arith, omega arith, rw (l .inv .3, side) (start .pre .3 (l .i) (omega arith)))
 
--- src/leaving.rt:115:9
 add-i : tie.Need-add-i Inv-loop μ-loop
 add-i c = search needs
 
--- src/leaving.rt:113:5
 loop-less : tie.Need-loop-less Inv-loop μ-loop
 loop-less c = search needs
 
--- src/leaving.rt:113:5
 loop-again : tie.Need-loop-again Inv-loop μ-loop
 loop-again c =
-    let a = c .before .before .before .before .before .before .before .before .before .args in
-    let l = c .before .before .before .before .before .before .loop in
+    let at-loop = c .before .before .before .before .before .before in
+    let start = at-loop .before .before .before in
+    let a = start .args in
+    let l = at-loop .loop in
     let qs = a .left .now in (
       omega arith,
       omega (arith, c .before .before .keep-order .kept .0),
@@ -58,13 +56,13 @@ loop-again c =
       c .before .before .keep-order .ensures .1 ∙ kept-book qs (a .book .now) (l .i) (omega arith) (omega arith) (omega arith) (l .free) (l .book) (l .inv .2) (l .inv .3),
     )
 
--- src/leaving.rt:106:1
 same-length : tie.Need-same-length Inv-loop μ-loop
 same-length c = search needs
 
--- src/leaving.rt:106:1
 returns : tie.Need-returns Inv-loop μ-loop
-returns c = let l = c .before .loop in let e : l .i ≡ c .before .before .before .before .args .count = omega arith in (rw e at (l .inv .2), rw e at (l .inv .3))
+returns c =
+    let start = c .before .before .before .before in
+    let l = c .before .loop in let e : l .i ≡ start .args .count = omega arith in (rw e at (l .inv .2), rw e at (l .inv .3))
 
 pub write-staying-spec : {M : Type 1} → statement M
 write-staying-spec =

@@ -5,8 +5,8 @@ use Rattle.rules.specs.Ledger.{orderPlaces}
 use native.Mathlib.Omega.{arith}
 use mathlib.Core.Path.{refl, ap, _∙_}
 use borrow.Author.Needs.{needs}
-use Rattle.submit.proofs.booking.rest_order.Statement.{statement}
-use Rattle.submit.proofs.booking.rest_order.Tie as tie
+use Rattle.submit.proofs.placing.rest_order.Statement.{statement}
+use Rattle.submit.proofs.placing.rest_order.Tie as tie
 
 is-resting-requires : tie.Need-is-resting-requires
 is-resting-requires c κs = search needs
