@@ -5,7 +5,7 @@ use mathlib.Core.List.{List}
 use mathlib.Core.Path.{_≡_, refl, sym, _∙_}
 use native.Mathlib.Omega.{arith}
 use borrow.Author.Tests.{eq-eqb, ne-eqb, lt-leb, leb-true}
-use lib.Dec.{eqb, leb}
+use lib.Dec.{leb}
 use lib.ListN.{length, getD}
 use Rattle.arith.proofs.Tests.{by-eqb, same-or, and-left, and-right, and-false}
 use Rattle.rules.specs.declared.event.Event.the-variants.{Submit, Cancel, DayLimits, Proposal, Default, CloseOut, CloseOfDay}
@@ -13,7 +13,7 @@ use Rattle.rules.specs.declared.event.Event.{Event}
 use Rattle.rules.specs.declared.event.Reading.the-variants.{Sound, Unsound}
 use Rattle.rules.specs.declared.event.Reading.{Reading}
 use Rattle.rules.specs.Header.{u32At, membersSound}
-use Rattle.rules.specs.Records.{submitLength, cancelLength, dayLimitsLength, defaultLength, closeOutLength, closeOfDayLength, legPlace, recordLength, frontLength, sideSound, orderKindSound, submissionOf, cancellationOf, newDayLimitsOf, closeOutOf, submitOf, fieldsByKind, fieldsOf, legsOf, eventSound, ifSound, readOf}
+use Rattle.rules.specs.Records.{submitLength, cancelLength, dayLimitsLength, defaultLength, closeOutLength, closeOfDayLength, legPlace, recordLength, frontLength, submissionOf, cancellationOf, newDayLimitsOf, closeOutOf, submitOf, fieldsByKind, fieldsOf, legsOf, eventSound, ifSound, readOf}
 
 -- ---- by the kind and the length, as they were read
 module _ (s : List ℕ) {k second n : ℕ} (kind : k ≡ getD s 0 0) (next : second ≡ getD s 1 0) (sized : n ≡ recordLength k second) where

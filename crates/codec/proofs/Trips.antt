@@ -1,6 +1,6 @@
 -- Records written and read back, and read and written again. Assumes nothing.
 use Prim.Native.Nat.{ℕ, _+_, _*_, _≤_, _<_}
-use mathlib.Core.Bool.{Bool, true, false, not, _&&_}
+use mathlib.Core.Bool.{true, false, _&&_}
 use mathlib.Core.List.{List, [], _∷_, _++_, flatMap, append-assoc, append-nil}
 use mathlib.Core.Path.{_≡_, refl, sym, ap, _∙_}
 use native.Mathlib.Omega.{arith}
@@ -12,7 +12,7 @@ use Rattle.arith.proofs.Alls.{every-all}
 use Rattle.arith.proofs.Appends.{flat-length}
 use Rattle.arith.proofs.Beside.{take-over}
 use Rattle.arith.proofs.Tests.{never, same-or, and-left, and-right, and-false}
-use Rattle.rules.specs.declared.answer.Answer.the-variants.{Accepted, RecordUnsound}
+use Rattle.rules.specs.declared.answer.Answer.the-variants.{RecordUnsound}
 use Rattle.rules.specs.declared.event.Event.the-variants.{Submit, Cancel, DayLimits, Proposal, Default, CloseOut, CloseOfDay}
 use Rattle.rules.specs.declared.event.Event.{Event}
 use Rattle.rules.specs.declared.event.Leg.{Leg}

@@ -1,6 +1,6 @@
 -- What applySpec answers and leaves, computed: a call, and a list of records.
 use Prim.Native.Nat.{ℕ}
-use mathlib.Core.List.{List, [], _∷_, map, flatMap, zipWith}
+use mathlib.Core.List.{List, [], _∷_, flatMap, zipWith}
 use lib.ListN.{replicate}
 use lib.IntN.{pos}
 use Rattle.arith.specs.Ints.{up, dn}

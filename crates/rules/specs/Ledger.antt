@@ -9,8 +9,6 @@ use lib.IntN.{ℤ, pos, natAbs, _+ℤ_, _*ℤ_}
 use Rattle.arith.specs.Lists.{from, over, total, inEachBlock}
 use Rattle.rules.specs.declared.answer.Answer.the-variants.{Accepted}
 use Rattle.rules.specs.declared.order.Order.{Order}
-use Rattle.rules.specs.declared.order.Side.{Side}
-use Rattle.rules.specs.declared.order.Side.the-variants.{Buy, Sell}
 use Rattle.rules.specs.Answers.{Outcome}
 use Rattle.rules.specs.Ranges.{contractCount, mostMembers, mostOrders, mostPrice, leastLines}
 use Rattle.rules.specs.Sides.{sideOf, sideNumber}

@@ -5,7 +5,7 @@ use mathlib.Core.List.{List, [], _∷_, map}
 use lib.ListN.{replicate}
 use lib.IntN.{pos, negsuc}
 use Rattle.arith.specs.Lists.{from}
-use Rattle.rules.specs.declared.event.OrderKind.the-variants.{Resting, Oeye, Teye}
+use Rattle.rules.specs.declared.event.OrderKind.the-variants.{Oeye, Teye}
 use Rattle.rules.specs.declared.order.Side.the-variants.{Buy}
 use Rattle.rules.specs.Answers.{Told, told}
 use Rattle.rules.specs.Header.{headerBytes}

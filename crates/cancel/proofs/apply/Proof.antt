@@ -1,17 +1,14 @@
 use mathlib.Core.List.{[]}
 use Rattle.rules.specs.Ledger.{lent}
 use Rattle.tables.specs.Fit.{OrdersFit}
-use Rattle.rules.specs.Ledger.{timed}
-use mathlib.Core.Path.{_≡_, sym, ap, subst, _∙_}
-use mathlib.Core.Bool.{true, false}
+use mathlib.Core.Path.{sym, ap, subst, _∙_}
 use native.Mathlib.Omega.{arith}
-use lib.ListN.{getD, length-set, set}
+use lib.ListN.{getD}
 use borrow.Author.Tests.{lt-ltb, le-ltb, not-true, not-false}
-use Rattle.arith.specs.Lists.{any}
 use Rattle.rules.specs.Ledger.{orders, withHead, withBook}
-use Rattle.rules.specs.Refusals.{isCancelled, cancelSpec}
+use Rattle.rules.specs.Refusals.{cancelSpec}
 use Rattle.tables.proofs.Booked.{booked-none}
-use Rattle.tables.proofs.Heads.{orders-fit, timed-length, timed-place}
+use Rattle.tables.proofs.Heads.{orders-fit, timed-place}
 use borrow.Author.Needs.{needs}
 use Rattle.cancel.proofs.apply.Statement.{statement}
 use Rattle.cancel.proofs.apply.Tie as tie

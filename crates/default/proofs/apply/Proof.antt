@@ -1,8 +1,7 @@
 use Rattle.tables.specs.Fit.{OrdersFit}
-use Rattle.rules.specs.Ledger.{withOrders}
-use mathlib.Core.Path.{_≡_, sym, ap, subst, _∙_}
+use mathlib.Core.Path.{sym, subst}
 use native.Mathlib.Omega.{arith}
-use lib.ListN.{getD, length-set, set}
+use lib.ListN.{length-set}
 use lib.Seq.{getD-set-other}
 use borrow.Author.Tests.{eq-eqb, ne-eqb}
 use Prim.Native.Nat.{_+_}

@@ -1,5 +1,5 @@
-use mathlib.Core.Path.{_≡_, sym, ap, _∙_}
-use lib.ListN.{length, take, getD}
+use mathlib.Core.Path.{sym, ap, _∙_}
+use lib.ListN.{getD}
 use lib.Seq.{length-take-le}
 use Rattle.rules.specs.Ledger.{lent}
 use Rattle.rules.specs.Refusals.{proposalSpec}
