@@ -24,7 +24,8 @@ use Rattle.rules.specs.declared.order.Side.{Side}
 use Rattle.rules.specs.Ranges.{lastSecond, mostPrice, mostLots, leastLegs, mostLegs, mostRatio}
 use Rattle.rules.specs.Header.{u16At, u32At, u16Bytes, u32Bytes, membersSound}
 use Rattle.rules.specs.Sides.{sideNumber, sideOf}
-use Rattle.rules.specs.Records.{legPlace, recordLength, frontLength, sideSound, orderKindNumber, orderKindOf, orderKindSound, legSound, eventSound, legBytes, fieldBytes, bytesOf, writeSpec, fieldsByKind, fieldsOf, legAt, legsOf, readOf, frontOf}
+use Rattle.rules.specs.Records.{legPlace, recordLength, frontLength, sideSound, orderKindNumber, orderKindOf, orderKindSound, legSound, eventSound, legBytes, fieldBytes, bytesOf}
+use Rattle.rules.specs.Records.{writeSpec, fieldsByKind, fieldsOf, legAt, legsOf, readOf, frontOf}
 use Rattle.rules.proofs.Writing.{written, not-refused}
 use Rattle.big_endian.proofs.Numbers.{bytes-small, u16-wide, u32-wide, u16-back, u32-back, all-back, u8-again, u16-again, u32-again, u8-last, u16-last, u32-last, u8-first, none-past, all-again}
 use Rattle.codec.specs.Columns.{legRows, legCount}

@@ -83,7 +83,8 @@ some-bytes (CloseOut e) = omega arith
 some-bytes (CloseOfDay s) = omega arith
 
 -- its kind, then its fields
-pub record-put : (e : Event) (legs : List Leg) (out m k : List ℕ) {kind : ℕ} → kind ≡ kindNumber e → m ≡ over 0 (kind ∷ []) out → k ≡ over 1 (fieldBytes e legs) m → 1 ≤ length out → k ≡ over 0 (bytesOf e legs) out
+pub record-put : (e : Event) (legs : List Leg) (out m k : List ℕ) {kind : ℕ} → kind ≡ kindNumber e → m ≡ over 0 (kind ∷ []) out → k ≡ over 1 (fieldBytes e legs) m → 1 ≤ length out
+    → k ≡ over 0 (bytesOf e legs) out
 unfolding bytesOf
 record-put e legs out m k {kind} q a b h = rw (← q) (over-then 1 (kind ∷ []) (fieldBytes e legs) out m k a b refl h)
 
@@ -103,6 +104,7 @@ module _ (n : ℕ) (e : Event) (legs : List Leg) (out : List ℕ) where
       unfolding writeSpec
       write-short h = rw (m, t, lt-ltb (length out) (length (bytesOf e legs)) h) refl
 
-      pub write-whole : (k : ℕ) (after : List ℕ) → k ≡ length (bytesOf e legs) → length (bytesOf e legs) ≤ length out → after ≡ over 0 (bytesOf e legs) out → record { answer = Accepted k; after = after } ≡ writeSpec n e legs out
+      pub write-whole : (k : ℕ) (after : List ℕ) → k ≡ length (bytesOf e legs) → length (bytesOf e legs) ≤ length out → after ≡ over 0 (bytesOf e legs) out
+          → record { answer = Accepted k; after = after } ≡ writeSpec n e legs out
       unfolding writeSpec
       write-whole k after a h w = rw (m, t, le-ltb (length out) (length (bytesOf e legs)) h, a, w) refl
