@@ -56,20 +56,15 @@ same-length c = search needs
 returns : tie.Need-returns
 returns c =
     let earlier = c .before .before .before .before .before .before .before .before .before .before in
-    let wide = earlier .before .before .before .before .before .before .before .before .before .before .before .before .before .wide in
-    let put-u8 = earlier .before .before .before .before .before .before .before .before .before .before .before .before .put-u8 in
-    let wide2 = earlier .before .before .before .before .before .before .before .before .wide2 in
-    let put-u82 = earlier .before .before .before .before .before .before .before .put-u82 in
-    let wide3 = earlier .before .before .before .wide3 in
-    let put-u83 = earlier .before .before .put-u83 in
-    let wide4 = c .before .before .before .before .before .before .before .before .wide4 in
-    let put-u84 = c .before .before .before .before .before .before .before .put-u84 in
-    let wide5 = c .before .before .before .wide5 in
-    let put-u85 = c .before .before .put-u85 in
-    over-then _ _ _ _ _ _ (over-then _ _ _ _ _ _
-        (over-then _ _ _ _ _ _ (over-then _ _ _ _ _ _ ((rw (wide .ensures .0) at (put-u8 .ensures))) (rw (wide2 .ensures .0) at (put-u82 .ensures)) refl (omega arith))
-        (rw (wide3 .ensures .0) at (put-u83 .ensures)) refl (omega arith)) (rw (wide4 .ensures .0) at (put-u84 .ensures)) refl (omega arith))
-        (rw (wide5 .ensures .0) at (put-u85 .ensures)) refl (omega arith)
+    over-then _ _ _ _ _ _ (over-then _ _ _ _ _ _ (over-then _ _ _ _ _ _ (over-then _ _ _ _ _ _
+    (rw (earlier .before .before .before .before .before .before .before .before .before .before .before .before .before .wide .ensures .0)
+        at (earlier .before .before .before .before .before .before .before .before .before .before .before .before .put-u8 .ensures))
+    (rw (earlier .before .before .before .before .before .before .before .before .wide2 .ensures .0)
+        at (earlier .before .before .before .before .before .before .before .put-u82 .ensures)) refl (omega arith))
+    (rw (earlier .before .before .before .wide3 .ensures .0) at (earlier .before .before .put-u83 .ensures)) refl (omega arith))
+    (rw (c .before .before .before .before .before .before .before .before .wide4 .ensures .0)
+        at (c .before .before .before .before .before .before .before .put-u84 .ensures)) refl (omega arith))
+    (rw (c .before .before .before .wide5 .ensures .0) at (c .before .before .put-u85 .ensures)) refl (omega arith)
 
 pub put-letters-spec : {M : Type 1} → statement M
 put-letters-spec =
