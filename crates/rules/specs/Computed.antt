@@ -1,15 +1,13 @@
 -- What applySpec answers and leaves, computed: a call, and a list of records.
 use Prim.Native.Nat.{ℕ}
 use mathlib.Core.List.{List, [], _∷_, map, flatMap, zipWith}
-use lib.ListN.{replicate}
-use lib.IntN.{pos}
 use Rattle.arith.specs.Ints.{up, dn}
 use Rattle.arith.specs.Lists.{every, any, kept, howMany, total, over, everyBlock, inEachBlock, allOf, from, count}
 use Rattle.rules.specs.Answers.{Outcome, Told, told}
 use Rattle.rules.specs.Days.{leapYear, monthDays, yearStart, monthLength, monthStart, businessDay, spanStart, dayAfterSpan, inSpan, firstBusinessDay, nextBusinessDay, businessDayBefore}
 use Rattle.rules.specs.Contracts.{termOf, contractsOf, childrenOf, termFirstDay, termDayAfter, daysOf, holdsDay, holdsHour, termClosingDay, stillToClose, openOfKind, openContracts, openOn, hasCascaded}
 use Rattle.rules.specs.Header.{u16At, u32At, u16Bytes, u32Bytes, u16sAt, u32sAt, sameBytes, headerLength, headerOf, headerBytes, rising, calendarSound, daySound, headerSound, beginsWithHeader}
-use Rattle.rules.specs.Ledger.{Tables, Line, headLength, pricesLength, rowsLength, bookLength, linesLength, isOpen, orders, withOrders, firstLines, posted, lineRun, booked, withoutSubmits, timed, ledgerShort, linesShort, freshHead, freshPrices, freshRows, fresh}
+use Rattle.rules.specs.Ledger.{Tables, Line, isOpen, orders, withOrders, firstLines, posted, lineRun, booked, withoutSubmits, timed, ledgerShort, linesShort, freshHead, freshPrices, freshRows, fresh}
 use Rattle.rules.specs.Records.{recordLength, eventSound, fieldBytes, bytesOf, writeSpec, fieldsByKind, fieldsOf, legsOf, readOf}
 use Rattle.rules.specs.Matching.{precedes, best, opposes, meets, used, matching, matched, submitMatched, submitLines, wouldRest, submitsAt, restingLots, aboveLimit, submitOrders, withDeals, counted, submitBooked}
 use Rattle.rules.specs.Synthetic.{numbered, namedLegs, priceAllowed, twoOccur, inHour, balancedInHour, balanced, inFull, priorityKept, acceptable, proposalLines, usedByLegs, proposalBooked}
@@ -17,18 +15,6 @@ use Rattle.rules.specs.CloseOfDay.{enteredBefore, quotes, bestQuote, ggf
 use Rattle.rules.specs.Default.{defaultBooked, sumOf, defaultedLongs, defaultedShorts, givenUp, changeLines, smallerTotal, nettedLongs, nettedShorts, nettingChanges, longsLeft, shortsLeft, lotsLeft, othersLots, openWeight, weights, minimum, minimums, comesFirst, placed, inOrder, turn, round, rounds, dealtOut, taken, defaultedChanges, takerChanges, closeOutLines, closeOutBooked}
 use Rattle.rules.specs.Refusals.{everyRow, rowsSound, contractPricesSound, pricesSound, memberSound, headSound, orderSound, distinct, sidesSound, bookSound, damaged, unsound, submitSpec, cancelSpec, dayLimitsSpec, proposalSpec, defaultSpec, closeOutSpec, closeSpec, eventSpec, readingSpec, applySpec, makeSpec}
 use Rattle.rules.specs.Accounts.{linesOf}
-
--- Tables of the least length, all zero.
-abbrev pub zeroTables : Tables
-zeroTables =
-    record {
-      head = replicate headLength 0;
-      prices = replicate pricesLength 0;
-      lots = replicate rowsLength (pos 0);
-      value = replicate rowsLength (pos 0);
-      book = replicate bookLength 0;
-      lines = replicate linesLength (pos 0);
-    }
 
 -- What a call prints: its answer and the deal lines.
 pub record Printed : Type 0 where
