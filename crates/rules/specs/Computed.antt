@@ -1,8 +1,6 @@
 -- What applySpec answers and leaves, computed: a call, and a list of records.
 use Prim.Native.Nat.{ℕ}
 use mathlib.Core.List.{List, [], _∷_, flatMap, zipWith}
-use lib.ListN.{replicate}
-use lib.IntN.{pos}
 use Rattle.arith.specs.Ints.{up, dn}
 use Rattle.arith.specs.Lists.{every, any, kept, howMany, total, over, everyBlock, inEachBlock, allOf, from, count}
 use Rattle.rules.specs.Answers.{Outcome, Told, told}
@@ -10,8 +8,8 @@ use Rattle.rules.specs.Days.{leapYear, monthDays, yearStart, monthLength
 use Rattle.rules.specs.Contracts.{termOf, contractsOf, childrenOf, termFirstDay, termDayAfter, daysOf, holdsDay, holdsHour, termClosingDay, stillToClose, openOfKind}
 use Rattle.rules.specs.Contracts.{openContracts, openOn, hasCascaded}
 use Rattle.rules.specs.Header.{u16At, u32At, u16Bytes, u32Bytes, u16sAt, u32sAt, sameBytes, headerLength, headerOf, headerBytes, rising, calendarSound, daySound, headerSound, beginsWithHeader}
-use Rattle.rules.specs.Ledger.{Tables, Line, headLength, pricesLength, rowsLength, bookLength, linesLength, isOpen, orders, withOrders, firstLines, posted, lineRun, booked}
-use Rattle.rules.specs.Ledger.{withoutSubmits, timed, ledgerShort, linesShort, freshHead, freshPrices, freshRows, fresh}
+use Rattle.rules.specs.Ledger.{Tables, Line, isOpen, orders, withOrders, firstLines, posted, lineRun, booked, withoutSubmits, timed, ledgerShort}
+use Rattle.rules.specs.Ledger.{linesShort, freshHead, freshPrices, freshRows, fresh}
 use Rattle.rules.specs.Records.{recordLength, eventSound, fieldBytes, bytesOf, writeSpec, fieldsByKind, fieldsOf, legsOf, readOf}
 use Rattle.rules.specs.Matching.{precedes, best, opposes, meets, used, matching, matched, submitMatched, submitLines, wouldRest, submitsAt, restingLots, aboveLimit}
 use Rattle.rules.specs.Matching.{submitOrders, withDeals, counted, submitBooked}
@@ -24,18 +22,6 @@ use Rattle.rules.specs.Default.{dealtOut, taken, defaultedChanges, taker
 use Rattle.rules.specs.Refusals.{everyRow, rowsSound, contractPricesSound, pricesSound, memberSound, headSound, orderSound, distinct, sidesSound, bookSound, damaged, unsound}
 use Rattle.rules.specs.Refusals.{submitSpec, cancelSpec, dayLimitsSpec, proposalSpec, defaultSpec, closeOutSpec, closeSpec, eventSpec, readingSpec, applySpec, makeSpec}
 use Rattle.rules.specs.Accounts.{linesOf}
-
--- Tables of the least length, all zero.
-abbrev pub zeroTables : Tables
-zeroTables =
-    record {
-      head = replicate headLength 0;
-      prices = replicate pricesLength 0;
-      lots = replicate rowsLength (pos 0);
-      value = replicate rowsLength (pos 0);
-      book = replicate bookLength 0;
-      lines = replicate linesLength (pos 0);
-    }
 
 -- What a call prints: its answer and the deal lines.
 pub record Printed : Type 0 where

@@ -345,6 +345,18 @@ bookLength = mostOrders * orderWidth
 abbrev pub linesLength : ℕ
 linesLength = leastLines * lineWidth
 
+-- Tables of the least length, all zero.
+abbrev pub zeroTables : Tables
+zeroTables =
+    record {
+      head = replicate headLength 0;
+      prices = replicate pricesLength 0;
+      lots = replicate rowsLength (pos 0);
+      value = replicate rowsLength (pos 0);
+      book = replicate bookLength 0;
+      lines = replicate linesLength (pos 0);
+    }
+
 unfoldable pub ledgerShort : Tables → Bool
 ledgerShort t =
     ltb (length (t .head)) headLength

@@ -1,6 +1,6 @@
 use borrow.Author.Needs.{needs}
-use Rattle.host.proofs.told_of.Statement.{statement}
-use Rattle.host.proofs.told_of.Tie as tie
+use Rattle.engine.proofs.told.told_of.Statement.{statement}
+use Rattle.engine.proofs.told.told_of.Tie as tie
 
 enum-known-answer : tie.Need-enum-known-answer
 enum-known-answer c = search needs
