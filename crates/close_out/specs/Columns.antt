@@ -6,8 +6,6 @@ use lib.ListN.{getD}
 use lib.IntN.{ℤ, pos, natAbs}
 use Rattle.arith.specs.Ints.{up, dn}
 use Rattle.arith.specs.Lists.{from, total}
-use Rattle.rules.specs.Contracts.{daysOf, openOn}
-use Rattle.rules.specs.Days.{Calendar}
 use Rattle.rules.specs.Default.{byMember, openWeight}
 use Rattle.rules.specs.Ledger.{Tables, defaulted, lotsAt, rowPlace}
 use Rattle.rules.specs.Ranges.{contractCount}
@@ -22,10 +20,6 @@ lotsIn Others marked net = cond marked 0 (natAbs net)
 
 unfoldable pub columnOf : Part → Tables → ℕ → List ℕ
 columnOf part t c = byMember t (λ m. lotsIn part (defaulted t m) (lotsAt t c m))
-
--- The delivery days of each contract that is open on a day, none of the others.
-unfoldable pub openDays : Calendar → ℕ → List ℕ
-openDays k d = map (λ c. cond (openOn k d c) (daysOf k c) 0) (from 0 contractCount)
 
 -- Days times absolute lots of a member over all contracts.
 unfoldable pub weightBy : List ℕ → List ℤ → ℕ → ℕ

@@ -7,14 +7,12 @@ ghost use Prim.Native.Nat.{ℕ, _+_, _*_, _≤_, _<_};
 ghost use lib.IntN.{ℤ};
 ghost use lib.ListN.{length, getD};
 ghost use Rattle.arith.specs.Lists.{from};
-ghost use Rattle.calendar.specs.Bounds.{FirstYear};
-ghost use Rattle.rules.specs.Contracts.{daysOf, openOn};
 ghost use Rattle.rules.specs.Ranges.{contractCount, mostMembers, mostLotsRun, mostRatio};
 ghost use Rattle.rules.specs.Default.{lotsLeft, weights};
 ghost use Rattle.dealing.specs.Levels.{mostDays, mostWeight, Column};
 ghost use Rattle.rules.specs.Ledger.{Tables, withHead, withRows, marksFrom};
 ghost use Rattle.tables.specs.Fit.{HeadFit, RowsFit, membersIn};
-ghost use Rattle.close_out.specs.Columns.{openDays, weightBy, daysWeights};
+ghost use Rattle.close_out.specs.Columns.{weightBy, daysWeights};
 use crate::columns::Part;
 use crate::columns::read_column;
 use crate::columns::size;
@@ -30,27 +28,6 @@ use rules::layout::MARKS;
 use rules::layout::ROW_WIDTH;
 
 const PER_MILLE: u64 = 1000;
-
-fn days_if_open(first_year: u64, holidays: &[u64], day: DayNo, contract: u64) -> u64
-    requires { ⌜ FirstYear «first_year» × (contract < contractCount) ⌝ }
-    ensures { λ r. ⌜ r ≡ cond (openOn (record { firstYear = «first_year»; holidays = now (holidays .entry) }) (day .0) contract) (daysOf (record { firstYear = «first_year»; holidays = now (holidays .entry) }) contract) 0 ⌝ }
-{
-    if calendar::is_open(first_year, holidays, day, contract) {
-        return calendar::days_of(first_year, contract);
-    }
-    0
-}
-
-fn find_open_days(first_year: u64, holidays: &[u64], day: DayNo, days: &mut [u64])
-    requires { ⌜ FirstYear «first_year» × (length (now days) ≡ contractCount) ⌝ }
-    ensures { λ _. ⌜ now (days .exit) ≡ openDays (record { firstYear = «first_year»; holidays = now (holidays .entry) }) (day .0) ⌝ }
-{
-    let mut contract: usize = 0;
-    while contract < days.len() {
-        days[contract] = days_if_open(first_year, holidays, day, contract as u64);
-        contract += 1;
-    }
-}
 
 fn weight_by(days: &[u64], lots: &[i64], member: usize) -> u64
     requires { ⌜ (length (now days) ≡ contractCount) × ((i : ℕ) → getD (now days) i 0 ≤ mostDays) ⌝ }
@@ -89,7 +66,7 @@ pub fn weigh_by_days(head: &[u64], lots: &[i64], weights: &mut [u64])
 {
     let mut days = [0u64; CONTRACTS];
     let end = HOLIDAYS + head[HOLIDAY_COUNT] as usize;
-    find_open_days(
+    calendar::find_open_days(
         head[FIRST_YEAR],
         &head[HOLIDAYS..end],
         DayNo(head[DAY]),
