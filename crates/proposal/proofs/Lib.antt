@@ -2,7 +2,7 @@ pub mod Lists
 pub mod Named
 pub mod Together
 pub mod Rising
-pub mod Months
+pub mod Sums
 pub mod Checks
 pub mod Takes
 pub mod Taken
