@@ -20,23 +20,13 @@ use Rattle.rules.specs.declared.order.Side.{Side}
 use Rattle.rules.specs.declared.order.Side.the-variants.{Buy, Sell}
 use Rattle.rules.specs.Ranges.{monthsInSpan, mostLots, mostPrice}
 use Rattle.rules.specs.Ledger.{orderAt}
-use Rattle.rules.specs.Sides.{sameSide, sideNumber}
+use Rattle.rules.specs.Sides.{sameSide}
 use Rattle.rules.specs.OtherForms.{yearOf, quarterOf, monthOf, holdsMonth}
 use Rattle.proposal.specs.Columns.{LegsFit, countsAt, inMonth, balancedMonths}
 use Rattle.proposal.proofs.Lists.{each-same}
-use Rattle.proposal.specs.Sums.{SumsTo, SumsFit, sidePlace, sidePlaces, sidePlaceOf, lotUnit, amountAt, mostAmount, sumAt, monthSum, balancedSums}
-
--- ---- places
-pub side-below : (s : Side) → sideNumber s ≤ 1
-side-below Buy = omega arith
-side-below Sell = omega arith
-
--- A place is that of one contract and one side.
-pub place-same : (c y : ℕ) (u s : Side) → eqb (sidePlace c u) (sidePlace y s) ≡ sameSide u s && eqb y c
-place-same c y Buy Buy = by-eqb (λ b. eqb (c * 2 + 0) (y * 2 + 0) ≡ b) y c (λ e. eq-eqb (c * 2 + 0) (y * 2 + 0) (omega arith)) (λ d. ne-eqb (c * 2 + 0) (y * 2 + 0) (λ e. d (omega arith)))
-place-same c y Buy Sell = ne-eqb (c * 2 + 0) (y * 2 + 1) (λ e. omega arith)
-place-same c y Sell Buy = ne-eqb (c * 2 + 1) (y * 2 + 0) (λ e. omega arith)
-place-same c y Sell Sell = by-eqb (λ b. eqb (c * 2 + 1) (y * 2 + 1) ≡ b) y c (λ e. eq-eqb (c * 2 + 1) (y * 2 + 1) (omega arith)) (λ d. ne-eqb (c * 2 + 1) (y * 2 + 1) (λ e. d (omega arith)))
+use Rattle.proposal.proofs.SidePlaces.{side-below, place-same}
+use Rattle.proposal.specs.SidePlaces.{sidePlace, sidePlaces, sidePlaceOf}
+use Rattle.proposal.specs.Sums.{SumsTo, SumsFit, lotUnit, amountAt, mostAmount, sumAt, monthSum, balancedSums}
 
 -- ---- a month's three contracts are different
 one-of-three : (y q n c a : ℕ) → y < q → q < n

@@ -1,4 +1,4 @@
--- Columns with two places for each contract, its buys and its sells, and the legs' amounts summed in one.
+-- The legs' amounts summed by contract and side.
 use Prim.Native.Nat.{ℕ, _+_, _*_, _≤_, _<_}
 use mathlib.Core.Path.{_≡_}
 use mathlib.Core.Bool.{Bool, cond}
@@ -6,23 +6,12 @@ use mathlib.Core.List.{List}
 use lib.Dec.{eqb}
 use lib.ListN.{length, getD}
 use Rattle.arith.specs.Lists.{every, total, from}
-use Rattle.rules.specs.declared.order.Order.{Order}
 use Rattle.rules.specs.declared.order.Side.{Side}
 use Rattle.rules.specs.declared.order.Side.the-variants.{Buy, Sell}
 use Rattle.rules.specs.Ranges.{monthsInSpan, mostLots, mostPrice, mostLegs}
 use Rattle.rules.specs.Ledger.{orderAt}
 use Rattle.rules.specs.OtherForms.{yearOf, quarterOf, monthOf}
-use Rattle.rules.specs.Sides.{sideNumber}
-
-abbrev pub sidePlace : ℕ → Side → ℕ
-sidePlace c s = c * 2 + sideNumber s
-
-abbrev pub sidePlaces : ℕ
-sidePlaces = 204
-
--- The place of the order's contract and side.
-abbrev pub sidePlaceOf : Order → ℕ
-sidePlaceOf o = sidePlace (o .contract) (o .side)
+use Rattle.proposal.specs.SidePlaces.{sidePlace, sidePlaces, sidePlaceOf}
 
 -- Lots and value as one number: a lot is worth more in it than all legs' values together.
 abbrev pub lotUnit : ℕ

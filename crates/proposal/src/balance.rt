@@ -7,32 +7,21 @@ ghost use Prim.Native.Nat.{_+_, _*_, _<_};
 ghost use lib.Dec.{eqb};
 ghost use lib.ListN.{length, getD, replicate};
 ghost use Rattle.rules.specs.declared.order.Side.the-variants.{Buy, Sell};
-ghost use Rattle.rules.specs.Ranges.{contractCount, monthsInSpan, mostOrders};
+ghost use Rattle.rules.specs.Ranges.{monthsInSpan, mostOrders};
 ghost use Rattle.rules.specs.OtherForms.{yearOf, quarterOf, monthOf};
 ghost use Rattle.proposal.specs.Columns.{LegsFit, PlacesFit, ContractsFit, balancedMonths};
-ghost use Rattle.proposal.specs.Sums.{SumsTo, SumsFit, sidePlaces, sidePlaceOf, monthSum, balancedSums};
-use rules::Order;
-use sides::side_number;
+ghost use Rattle.proposal.specs.SidePlaces.{sidePlaces};
+ghost use Rattle.proposal.specs.Sums.{SumsTo, SumsFit, monthSum, balancedSums};
+use crate::side_places::SIDES;
+use crate::side_places::side_place;
 use tables::order_at;
 
 // Months of the six years.
 const MONTHS_IN_SPAN: u64 = 72;
 
-// Buys and sells.
-const SIDES: u64 = 2;
-
 // What a lot adds to a sum beside its price: more than the values of all legs together, so that sums are equal exactly if
 // lots and values both are.
 const LOT_UNIT: u64 = 4294967296;
-
-// The place of an order's contract and side in a column.
-pub fn side_place(o: Order) -> usize
-    requires { ⌜ o .contract < contractCount ⌝ }
-    ensures { λ r. ⌜ (r ≡ sidePlaceOf o) × (r < sidePlaces) ⌝ }
-{
-    let side = o.side;
-    (o.contract * SIDES + side_number(side)) as usize
-}
 
 // Each leg is added to the sum of its contract and side.
 fn write_sums(book: &[u64], places: &[usize], lots: &[u64], prices: &[u64], sums: &mut [u64])

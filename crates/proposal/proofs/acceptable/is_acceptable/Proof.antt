@@ -7,6 +7,7 @@ use lib.ListN.{getD}
 use Rattle.tables.specs.Fit.{ordersIn}
 use Rattle.rules.specs.Ledger.{withHead, withPrices, withBook, orders, calendar}
 use Rattle.proposal.proofs.Checks.{two-columns, balanced-columns, priority-columns, acceptable-not, acceptable-found, places-many}
+use Rattle.proposal.proofs.LastRanks.{orders-ranked}
 use Rattle.proposal.proofs.Named.{found-fit, places-wider, contracts-fit}
 use Rattle.proposal.specs.Columns.{LegsFit}
 use borrow.Author.Needs.{needs}
@@ -68,12 +69,10 @@ are-both-balanced-requires c κs = let a = c .before .before .before .before .be
     (wide, contracts-fit (a .head .now) (a .book .now) (a .places .now) (c .before .before .before .before .before .before .before .before .before .before .before .before .before .before .pre .0 .1) fit, subst (λ k. LegsFit k (a .leg-lots .now) (a .leg-prices .now)) (sym many) (c .before .before .before .before .before .before .before .before .before .before .before .before .before .before .pre .1 .0))
 
 is-priority-kept-requires : tie.Need-is-priority-kept-requires
-is-priority-kept-requires c κs = let a = c .before .before .before .before .before .before .before .before .before .before .before .before .before .before .before .args in
-    let n = getD (a .head .now) 7 0 in
+is-priority-kept-requires c κs =
+    let start = c .before .before .before .before .before .before .before .before .before .before .before .before .before .before .before in
     let found = sym (c .before .before .before .before .before .before .are-found .ensures) ∙ not-false _ (c .before .before .before .before .before .if1 .left) in
-    let fit = found-fit n (a .places .now) found in
-    let wide = places-wider n 256 (a .places .now) (c .before .before .before .before .before .before .before .before .before .before .before .before .before .before .before .pre .0 .0 .most-orders) fit in
-    (c .before .before .before .before .before .before .before .before .before .before .before .before .before .before .before .pre .0 .1 .long, c .before .before .before .before .before .before .before .before .before .before .before .before .before .before .before .pre .0 .0 .most-orders, wide, c .before .before .before .before .before .before .before .before .before .before .before .before .before .before .before .pre .1 .0 .lots-length)
+    (orders-ranked (start .args .head .now) (start .args .book .now) (start .pre .0 .0) (start .pre .0 .1), found-fit _ (start .args .places .now) found, start .pre .1 .0 .lots-length)
 
 returns-2 : tie.Need-returns-2
 unfolding orders

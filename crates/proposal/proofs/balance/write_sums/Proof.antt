@@ -3,7 +3,8 @@ use native.Mathlib.Omega.{arith}
 use mathlib.Core.Path.{_≡_, refl, ap, _∙_}
 use Prim.Native.Nat.{_-_, _≤_}
 use lib.ListN.{length, length-set}
-use Rattle.proposal.specs.Sums.{SumsTo, sidePlaceOf, amountAt}
+use Rattle.proposal.specs.SidePlaces.{sidePlaceOf}
+use Rattle.proposal.specs.Sums.{SumsTo, amountAt}
 use Rattle.proposal.proofs.Sums.{sums-start, sums-next, most-sum, most-at}
 use Rattle.proposal.proofs.balance.write_sums.Statement.{statement}
 use Rattle.proposal.proofs.balance.write_sums.Tie as tie

@@ -1,8 +1,8 @@
 use native.Mathlib.Omega.{arith}
-use Rattle.proposal.proofs.Sums.{side-below}
+use Rattle.proposal.proofs.SidePlaces.{side-below}
 use borrow.Author.Needs.{needs}
-use Rattle.proposal.proofs.balance.side_place.Statement.{statement}
-use Rattle.proposal.proofs.balance.side_place.Tie as tie
+use Rattle.proposal.proofs.side_places.side_place.Statement.{statement}
+use Rattle.proposal.proofs.side_places.side_place.Tie as tie
 
 mul-result : tie.Need-mul-result
 mul-result c = search needs
