@@ -11,7 +11,7 @@ use Rattle.arith.specs.Lists.{every, any, total, from, allOf}
 use Rattle.arith.proofs.Overs.{zip-at}
 use Rattle.arith.proofs.Tests.{and-false, and-true}
 use Rattle.arith.proofs.Scans.{every-both}
-use Rattle.rules.specs.declared.event.Leg.{Leg}
+use Rattle.arith.proofs.Totals.{total-same}
 use Rattle.rules.specs.declared.order.Order.{Order}
 use Rattle.rules.specs.declared.order.Side.{Side}
 use Rattle.rules.specs.declared.order.Side.the-variants.{Buy, Sell}
@@ -24,7 +24,7 @@ use Rattle.rules.specs.Sides.{sameSide}
 use Rattle.rules.specs.Synthetic.{Named, namedLegs, hasLots, priceAllowed, twoOccur, inHour, legLots, legValue, balancedInHour, balanced, inFull, priorityKept, acceptable}
 use Rattle.tables.specs.Fit.{ordersIn}
 use Rattle.proposal.specs.Columns.{LegsFit, columnLeg, columnLegs, placeOf, placesOf, namedAt, namedTo, countsAt, inMonth, balancedMonths, isBefore, isAhead, isFullLeg}
-use Rattle.proposal.proofs.Lists.{map-places, any-map, every-same, total-map, total-same}
+use Rattle.proposal.proofs.Lists.{map-places, any-map, every-same, total-map}
 use Rattle.proposal.proofs.Named.{columns-orders, named-columns, not-named}
 use Rattle.proposal.proofs.Together.{two-first, hour-month, before, priority-orders}
 

@@ -1,7 +1,7 @@
 -- The lines of the legs booked one after the other. Assumes nothing.
 use mathlib.Core.Path.{_≡_, refl, sym, ap, subst, _∙_}
-use mathlib.Core.List.{List, [], _∷_, _++_}
-use Prim.Native.Nat.{ℕ, _+_, _*_, _-_, _<_, _≤_}
+use mathlib.Core.List.{List, []}
+use Prim.Native.Nat.{ℕ, _+_, _-_, _<_}
 use native.Mathlib.Omega.{arith}
 use native.Mathlib.Nat.{sub-zero}
 use lib.IntN.{ℤ, natAbs}
@@ -9,7 +9,7 @@ use lib.ListN.{length, getD}
 use Rattle.arith.specs.Lists.{total, from}
 use Rattle.arith.proofs.Scans.{from-next}
 use Rattle.rules.specs.declared.order.Order.{Order}
-use Rattle.rules.specs.Ledger.{Tables, Line, withHead, withRows, withLines, lent, orderAt, booked}
+use Rattle.rules.specs.Ledger.{Tables, withHead, withRows, withLines, lent, orderAt, booked}
 use Rattle.rules.specs.Sides.{signed}
 use Rattle.tables.specs.declared.lines.DealLine.{DealLine}
 use Rattle.tables.specs.Fit.{BookFit, OrderFit, membersIn, orderCountIn}

@@ -6,6 +6,7 @@ mod columns;
 mod conditions;
 mod places;
 mod priority;
+mod side_places;
 
 ghost use mathlib.Core.Path.{_≡_};
 ghost use Prim.Native.Nat.{_*_, _≤_};
