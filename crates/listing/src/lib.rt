@@ -1,0 +1,7 @@
+// A journal in words: a line for its header and for each record, and the first field that is out of its range.
+mod field;
+
+pub use field::Field;
+pub use field::Range;
+pub use field::Shape;
+pub use field::Verdict;
