@@ -266,6 +266,6 @@ pub making-keeps-lengths : MakingKeepsLengths
 unfolding makeSpec
 making-keeps-lengths t bytes =
     decide-shows (λ o. SameLengths t (o .after)) t (record { answer = Accepted 0; after = fresh (headerOf bytes) t })
-        ((ledgerShort t, TableUnsound) ∷ (not (beginsWithHeader bytes), HeaderUnsound) ∷ [])
+    ((ledgerShort t, TableUnsound) ∷ (not (beginsWithHeader bytes), HeaderUnsound) ∷ [])
     (λ a q. same-lengths t) (refl, (refl, tt))
     (λ none. fresh-lengths (headerOf bytes) t (header-gives (headerOf bytes) (begun bytes (not-false _ (none .1 .0)))) (long-enough t (none .0)))

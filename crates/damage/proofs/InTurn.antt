@@ -25,7 +25,7 @@ in-turn false l h m d v = refl
 
 pub contract-in-turn : (run : ℕ) (l : List ℕ)
     → allOf (leb (getD l 0 0) 1000000 ∷ leb (getD l 2 0) 1000000 ∷ between 1 (getD l 2 0 + 1) (getD l 1 0) ∷ leb (getD l 3 0) run ∷ between (getD l 3 0) (1000000 * getD l 3 0 + 1)
-        (getD l 4 0) ∷ []) ≡ contractPricesSound run l
+    (getD l 4 0) ∷ []) ≡ contractPricesSound run l
 unfolding contractPricesSound
 contract-in-turn run l =
     let low = getD l 1 0 in

@@ -115,7 +115,7 @@ module _ (h : Header) (x : Holds h) (rest : List ℕ) where
       let year : u16At (headerBytes h ++ rest) 5 ≡ h .firstYear = u16-back lettersAndVersion (u16Bytes (h .startDay) ++ tail) 5 refl (h .firstYear) (omega arith) in
       let start : u16At (headerBytes h ++ rest) 7 ≡ h .startDay = u16-back (lettersAndVersion ++ u16Bytes (h .firstYear)) tail 7 refl (h .startDay) s in
       let limits : u32sAt (headerBytes h ++ rest) (11 + 2 * length (h .holidays)) (h .members) ≡ h .limits =
-          ap (u32sAt (headerBytes h ++ rest) (11 + 2 * length (h .holidays))) (sym (x .sized)) ∙ limits-back in
+      ap (u32sAt (headerBytes h ++ rest) (11 + 2 * length (h .holidays))) (sym (x .sized)) ∙ limits-back in
       λ i. record { firstYear = year i; startDay = start i; members = h .members; holidays = days-back i; limits = limits i }
 
   length-back : length (headerBytes h) ≡ 11 + 2 * length (h .holidays) + 4 * h .members
@@ -136,8 +136,12 @@ module _ (h : Header) (x : Holds h) (rest : List ℕ) where
   begins-back t =
       let long : length (headerBytes h ++ rest) ≡ length (headerBytes h) + length rest = length-append (headerBytes h) rest in
       let least = length-back in
-      rw (le-leb 11 (length (headerBytes h ++ rest)) (omega arith), letters-back,
-          le-leb (headerLength (headerBytes h ++ rest)) (length (headerBytes h ++ rest)) (rw length-read (omega arith)), fields-back) t
+      rw (
+        le-leb 11 (length (headerBytes h ++ rest)) (omega arith),
+        letters-back,
+        le-leb (headerLength (headerBytes h ++ rest)) (length (headerBytes h ++ rest)) (rw length-read (omega arith)),
+        fields-back,
+      ) t
 
 -- ---- read, then written
 module _ (s : List ℕ) (small : (i : ℕ) → getD s i 0 < 256) (begins : sameBytes (take 5 s) lettersAndVersion ≡ true) (long : headerLength s ≤ length s) where

@@ -367,7 +367,7 @@ module _ (k : Calendar) where
   open-stays d e c l o h =
       let t = termOf c in
       let below = ltb-true (ahead k d (t .kind) (t .index)) (openCount (t .kind))
-          (and-right (stillToClose k d t) (ltb (ahead k d (t .kind) (t .index)) (openCount (t .kind))) (sym (open-by-count d c (open-in-ledger d c o)) ∙ o)) in
+      (and-right (stillToClose k d t) (ltb (ahead k d (t .kind) (t .index)) (openCount (t .kind))) (sym (open-by-count d c (open-in-ledger d c o)) ∙ o)) in
       let fewer = count-imp (λ j. stillToClose k e (nth (t .kind) j)) (λ j. stillToClose k d (nth (t .kind) j)) (t .index) (λ j. to-close-down d e (nth (t .kind) j) l) in
       open-by-count e c (open-in-ledger d c o) ∙ rw h (lt-ltb (ahead k e (t .kind) (t .index)) (openCount (t .kind)) (omega (arith, below, fewer)))
 

@@ -85,8 +85,14 @@ returns-3 c =
     λ t.
     let u = withHead (a .head .now) (withBook (a .book .now) t) in
     let count = ap (λ t. getD (t .head) 7 0) (set-time .ensures u) ∙ timed-place (a .e .time) u (pre .0 .long) (pre .0 .most-members) 7 (omega arith) (λ e. omega arith) in
-    rw (le-ltb (a .e .time) (getD (a .head .now) 4 0) (if1 .left), sym (would-any-leave .ensures) ∙ not-false _ (if2 .left), ← set-time .ensures (withBook (a .book .now) t),
-        booked-none _, ← count, ← remove-orders .ensures t)
+    rw (
+      le-ltb (a .e .time) (getD (a .head .now) 4 0) (if1 .left),
+      sym (would-any-leave .ensures) ∙ not-false _ (if2 .left),
+      ← set-time .ensures (withBook (a .book .now) t),
+      booked-none _,
+      ← count,
+      ← remove-orders .ensures t,
+    )
 
 pub apply-spec : {M : Type 1} → statement M
 apply-spec =

@@ -56,7 +56,7 @@ returns-2 c =
     let if1 = c .before .before .if1 in
     let sound = placeSound (a .accepted) (a .members) (a .span .start .0) (a .span .end .0) (a .book .now) in
     rw (each-stop sound (a .count) (l .i) (ltb (l .sides) 2) _ (l .inv .2) (loop-test .taken)
-        (rw (lt-ltb _ _ (if1 .left), asked-false (c .before .is-rest-sound .ensures) (c .if2 .taken))))
+    (rw (lt-ltb _ _ (if1 .left), asked-false (c .before .is-rest-sound .ensures) (c .if2 .taken))))
 
 add-sides : tie.Need-add-sides Inv-loop μ-loop
 add-sides c = search needs

@@ -65,12 +65,11 @@ loop-again c =
     let args = c .before .before .before .before .before .args in
     let s = c .before .before .before .before .loop in
     let loop-test = c .before .before .before .loop-test in
-    let h = args .head .now in
-    (
+    let h = args .head .now in (
       omega arith,
       λ p l v b n. rw (all-three (leb (getD h (128 + s .m) 0) 100000) (leb (getD h (160 + s .m) 0) 1) (leb (getD h (192 + s .m) 0) 5))
           (each-next (memberSound (lent h p l v b n)) (args .members) (s .m) (s .ok) (every (memberSound (lent h p l v b n)) (from 0 (args .members))) (s .inv .1 p l v b n)
-              (loop-test .taken)),
+          (loop-test .taken)),
     )
 
 returns : tie.Need-returns Inv-loop μ-loop
@@ -79,7 +78,7 @@ returns c =
     let h = args .head .now in
     let s = c .before .loop in
     λ p l v b n. each-end (memberSound (lent h p l v b n)) (args .members) (s .m) (s .ok) (every (memberSound (lent h p l v b n)) (from 0 (args .members))) (s .inv .1 p l v b n)
-        (c .loop-test .left)
+    (c .loop-test .left)
 
 pub are-members-sound-spec : {M : Type 1} → statement M
 are-members-sound-spec =

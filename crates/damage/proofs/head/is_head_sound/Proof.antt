@@ -70,8 +70,12 @@ returns-4 c =
     let if2 = c .before .before .if2 in
     let h = args .head .now in
     let cut : 8 + getD h 2 0 - 8 ≡ getD h 2 0 = omega arith in
-    λ p l v b n. rw (le-leb _ _ (if1 .left), asked-true (rw cut at (is-calendar-sound .ensures)) (if2 .left), le-leb 1 (getD h 1 0) (c .before .if3 .left),
-        lt-leb (getD h 1 0) 32 (c .if4 .taken))
+    λ p l v b n. rw (
+      le-leb _ _ (if1 .left),
+      asked-true (rw cut at (is-calendar-sound .ensures)) (if2 .left),
+      le-leb 1 (getD h 1 0) (c .before .if3 .left),
+      lt-leb (getD h 1 0) 32 (c .if4 .taken),
+    )
 
 shared-slice-read-counts : tie.Need-shared-slice-read-counts
 shared-slice-read-counts c = search needs
@@ -113,7 +117,7 @@ returns-5 c =
     let day = rw cut at (is-day-sound .ensures (getD h 0 0) (pre .2 _)) in
     λ p l v b n. rw (day, c .are-members-sound .ensures p l v b n)
     (all-nine (leb (getD h 2 0) 120) (calendarSound k) (membersSound (getD h 1 0)) (daySound k (getD h 3 0)) (leb (getD h 4 0) 86399) (leb (getD h 5 0) 4000000000)
-        (leb (getD h 6 0) 5000000) (leb (getD h 7 0) 256) (every (memberSound (lent h p l v b n)) (from 0 (getD h 1 0)))
+    (leb (getD h 6 0) 5000000) (leb (getD h 7 0) 256) (every (memberSound (lent h p l v b n)) (from 0 (getD h 1 0)))
     (le-leb _ _ (if1 .left)) calendar some)
 
 pub is-head-sound-spec : {M : Type 1} → statement M

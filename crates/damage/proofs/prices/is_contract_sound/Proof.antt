@@ -65,7 +65,7 @@ returns-5 c =
     let is-between = c .before .before .before .before .before .is-between in
     let if3 = c .before .before .before .before .if3 in
     rw (← contract-in-turn (args .run) (args .prices .now), asked-true (is-between .ensures) (if3 .left), ← (c .is-between2 .ensures), and-true (c .is-between2 .result))
-        (search tests)
+    (search tests)
 
 pub is-contract-sound-spec : {M : Type 1} → statement M
 is-contract-sound-spec =

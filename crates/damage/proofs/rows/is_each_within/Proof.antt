@@ -56,16 +56,18 @@ loop-again c =
     let a = c .before .before .before .before .args in
     let l = c .before .before .before .loop in
     let loop-test = c .before .before .loop-test in
-    let cut : l .contract * 32 + a .n - l .contract * 32 ≡ a .n = omega arith in
-    (omega arith, rw (c .are-within .ensures, cut, ← take-take (a .n) 32 (drop (l .contract * 32) (a .rows .now)) (omega arith))
-        (block-next 32 (λ block. every (λ z. leb (natAbs z) (a .bound)) (take (a .n) block)) 102 (a .rows .now) (l .contract) (l .ok)
-        (everyRow (λ z. leb (natAbs z) (a .bound)) (a .n) (a .rows .now)) (l .inv .1) (loop-test .taken)))
+    let cut : l .contract * 32 + a .n - l .contract * 32 ≡ a .n = omega arith in (
+      omega arith,
+      rw (c .are-within .ensures, cut, ← take-take (a .n) 32 (drop (l .contract * 32) (a .rows .now)) (omega arith))
+          (block-next 32 (λ block. every (λ z. leb (natAbs z) (a .bound)) (take (a .n) block)) 102 (a .rows .now) (l .contract) (l .ok)
+          (everyRow (λ z. leb (natAbs z) (a .bound)) (a .n) (a .rows .now)) (l .inv .1) (loop-test .taken)),
+    )
 
 returns : tie.Need-returns Inv-loop μ-loop
 returns c =
     let a = c .before .before .args in
     let l = c .before .loop in block-end 32 (λ block. every (λ z. leb (natAbs z) (a .bound)) (take (a .n) block)) 102 (a .rows .now) (l .contract) (l .ok)
-        (everyRow (λ z. leb (natAbs z) (a .bound)) (a .n) (a .rows .now)) (l .inv .1) (c .loop-test .left)
+    (everyRow (λ z. leb (natAbs z) (a .bound)) (a .n) (a .rows .now)) (l .inv .1) (c .loop-test .left)
 
 pub is-each-within-spec : {M : Type 1} → statement M
 is-each-within-spec =

@@ -57,10 +57,12 @@ loop-again c =
     let x = getD (a .rows .now) (l .contract * 32 + a .member) (pos 0) in
     let fits = c .before .x .given in (
       omega arith,
-      λ k h. rw (or-window k (l .seen) (c .raised .result) (a .half) x h fits (rw (back-mag x fits) at (c .raised .ensures)),
-          ← place-at (a .rows .now) (pos 0) 32 (l .contract) (a .member) (omega arith))
+      λ k h. rw (
+        or-window k (l .seen) (c .raised .result) (a .half) x h fits (rw (back-mag x fits) at (c .raised .ensures)),
+        ← place-at (a .rows .now) (pos 0) 32 (l .contract) (a .member) (omega arith),
+      )
           (block-next 32 (λ rows. inWindow (2 ^ k) (getD rows (a .member) (pos 0))) 102 (a .rows .now) (l .contract) (ltb (l .seen) (2 ^ k))
-              (everyColumn (inWindow (2 ^ k)) (a .member) (a .rows .now)) (l .inv .1 k h) (loop-test .taken)),
+          (everyColumn (inWindow (2 ^ k)) (a .member) (a .rows .now)) (l .inv .1 k h) (loop-test .taken)),
     )
 
 returns : tie.Need-returns Inv-loop μ-loop
@@ -68,7 +70,7 @@ returns c =
     let a = c .before .before .args in
     let l = c .before .loop in
     λ k h. block-end 32 (λ rows. inWindow (2 ^ k) (getD rows (a .member) (pos 0))) 102 (a .rows .now) (l .contract) (ltb (l .seen) (2 ^ k))
-        (everyColumn (inWindow (2 ^ k)) (a .member) (a .rows .now)) (l .inv .1 k h) (c .loop-test .left)
+    (everyColumn (inWindow (2 ^ k)) (a .member) (a .rows .now)) (l .inv .1 k h) (c .loop-test .left)
 
 pub or-of-column-spec : {M : Type 1} → statement M
 or-of-column-spec =

@@ -84,10 +84,14 @@ loop-again c =
     let x-is = rw (back-mag x x-fits) at (first .ensures) in
     let y-is = rw (back-mag y y-fits) at (second .ensures) in (
       omega arith,
-      λ k h. rw (or-windows k (l .seen) (first .result) (second .result) (a .half) x y h x-fits x-is y-fits y-is, next,
-          ← place-at rows (pos 0) 32 (l .contract) (a .member) (omega arith), ← place-at rows (pos 0) 32 (l .contract) (a .member + 1) (omega arith))
+      λ k h. rw (
+        or-windows k (l .seen) (first .result) (second .result) (a .half) x y h x-fits x-is y-fits y-is,
+        next,
+        ← place-at rows (pos 0) 32 (l .contract) (a .member) (omega arith),
+        ← place-at rows (pos 0) 32 (l .contract) (a .member + 1) (omega arith),
+      )
           (block-next 32 (bothIn (2 ^ k) (a .member)) 102 rows (l .contract) (ltb (l .seen) (2 ^ k)) (everyBlock 32 (bothIn (2 ^ k) (a .member)) 102 rows) (l .inv .1 k h)
-              (loop-test .taken)),
+          (loop-test .taken)),
     )
 
 returns : tie.Need-returns Inv-loop μ-loop

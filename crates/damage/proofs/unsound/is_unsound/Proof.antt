@@ -141,7 +141,7 @@ returns-8 c =
     let lots = asked-true (are-rows-within .ensures) (if6 .left) in
     let value = asked-true (are-rows-within2 .ensures) (c .before .if7 .left) in
     rw (c .is-book-sound .ensures (t .prices) (t .lots) (t .value) (t .lines))
-        (book-decides t (long (before-here)) (lines-long (before-here14)) (head-good (before-here8)) prices lots value)
+    (book-decides t (long (before-here)) (lines-long (before-here14)) (head-good (before-here8)) prices lots value)
 
 pub is-unsound-spec : {M : Type 1} → statement M
 is-unsound-spec =

@@ -50,9 +50,11 @@ apply-event-requires c κs =
     let is-unsound = earlier .before .before .is-unsound in
     let if1 = earlier .before .if1 in
     let read-record = c .before .before .before .before .before .before .before .before .before .read-record in
-    let event = c .before .before .before .before .before .before .before .event in
-    (fits (lent (a .head .now) (a .prices .now) (a .lots .now) (a .value .now) (a .book .now) (a .lines .now)) (sym (is-unsound .ensures) ∙ if1 .left), sym (read-record .ensures)
-        ∙ event .given .1)
+    let event = c .before .before .before .before .before .before .before .event in (
+      fits (lent (a .head .now) (a .prices .now) (a .lots .now) (a .value .now) (a .book .now) (a .lines .now)) (sym (is-unsound .ensures) ∙ if1 .left),
+      sym (read-record .ensures)
+          ∙ event .given .1,
+    )
 
 enum-told : tie.Need-enum-told
 enum-told c = search needs

@@ -66,9 +66,10 @@ apply-requires-5 c κs =
     let event6 = c .before .before .before .before .before .before .event6 in
     let f = pre .0 in
     let r = pre .1 ∙ ap Sound (event6 .given .1) in
-    let run = most-run-left (lent (a .head .now) (a .prices .now) (a .lots .now) (a .value .now) (a .book .now) (a .lines .now)) f in
-    ((record { head-fit = f .head-fit; lots-fit = f .lots-fit; value-fit = f .value-fit; lines-long = f .lines-long; most-run = run }, f .prices-fit),
-        (close-out-contract-below (a .head .now) (a .bytes .now) _ r, close-out-ratio (a .head .now) (a .bytes .now) _ r))
+    let run = most-run-left (lent (a .head .now) (a .prices .now) (a .lots .now) (a .value .now) (a .book .now) (a .lines .now)) f in (
+      (record { head-fit = f .head-fit; lots-fit = f .lots-fit; value-fit = f .value-fit; lines-long = f .lines-long; most-run = run }, f .prices-fit),
+      (close-out-contract-below (a .head .now) (a .bytes .now) _ r, close-out-ratio (a .head .now) (a .bytes .now) _ r),
+    )
 
 enum-known-event-7 : tie.Need-enum-known-event-7
 enum-known-event-7 c = search needs

@@ -58,9 +58,10 @@ apply-requires c κs =
     let pre = c .before .before .before .before .before .before .before .before .before .before .before .before .before .before .before .before .pre in
     let a = c .before .before .before .before .before .before .before .before .before .before .before .before .before .before .before .before .args in
     let read-legs = c .before .before .before .before .before .before .before .before .before .before .before .read-legs in
-    let f = pre .0 in
-    ((f .head-fit, f .prices-fit, f .book-fit, f .lines-long),
-        ((f .lots-fit, f .value-fit), legs-fit (getD (a .head .now) 1 0) (a .count) (a .bytes .now) (read-legs .result) (read-legs .ensures) (pre .1)))
+    let f = pre .0 in (
+      (f .head-fit, f .prices-fit, f .book-fit, f .lines-long),
+      ((f .lots-fit, f .value-fit), legs-fit (getD (a .head .now) 1 0) (a .count) (a .bytes .now) (read-legs .result) (read-legs .ensures) (pre .1)),
+    )
 
 same-length : tie.Need-same-length
 same-length c = search needs

@@ -74,7 +74,7 @@ slice-aggregate-write-fresh c =
     let read-header = c .before .before .before .before .before .before .before .before .before .before .read-header in
     let before = c .before .before .before .before .before .before .before in
     sym (length-take-le (read-header .result .header .«holiday_count») (read-header .result .header .holidays)
-        (holiday-room (args .bytes .now) (read-header .result) (read-header .ensures) (sound-at (before))))
+    (holiday-room (args .bytes .now) (read-header .result) (read-header .ensures) (sound-at (before))))
 
 array-share-prefix-limits : tie.Need-array-share-prefix-limits
 array-share-prefix-limits c =
@@ -90,7 +90,7 @@ slice-aggregate-write-fresh-2 c =
     let read-header = earlier .before .read-header in
     let before = c .before .before .before .before .before .before .before .before in
     sym (length-take-le (read-header .result .header .members) (read-header .result .header .limits)
-        (limit-room (args .bytes .now) (read-header .result) (read-header .ensures) (sound-at (before))))
+    (limit-room (args .bytes .now) (read-header .result) (read-header .ensures) (sound-at (before))))
 
 write-fresh-requires : tie.Need-write-fresh-requires
 write-fresh-requires c κs =

@@ -80,7 +80,7 @@ returns-6 c =
     let is-header-sound = c .before .before .is-header-sound in
     c .unsound6 .ensures ∙ reading-unsound _
     (begins-by (args .bytes .now) (omega arith) (asked-true (begins-with-letters .ensures) (if2 .left)) (omega arith) (fields-at .ensures) (is-header-sound .ensures)
-        (not-true (is-header-sound .result) (c .before .if6 .taken)))
+    (not-true (is-header-sound .result) (c .before .if6 .taken)))
 
 returns-7 : tie.Need-returns-7
 unfolding headerLength
@@ -92,7 +92,7 @@ returns-7 c =
     rw (fields-at .ensures)
     (reading-sound (args .bytes .now) _
     (begins-by (args .bytes .now) (omega arith) (asked-true (begins-with-letters .ensures) (if2 .left)) (omega arith) (fields-at .ensures) (c .before .is-header-sound .ensures)
-        (not-false (c .before .is-header-sound .result) (c .if6 .left)))
+    (not-false (c .before .is-header-sound .result) (c .if6 .left)))
     (omega arith))
 
 pub read-header-spec : {M : Type 1} → statement M

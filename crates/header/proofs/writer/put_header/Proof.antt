@@ -54,10 +54,10 @@ returns c =
     let room = start .pre .2 in
     rw (length-firsts (start .args .h .«holiday_count»))
     (over-then _ _ _ _ _ _ (over-then _ _ _ _ _ _
-        (over-then _ _ _ _ _ _ (over-then _ _ _ _ _ _
-        (over-then _ _ _ _ _ _ (over-then _ _ _ _ _ _ (put-letters .ensures) (put-u16 .ensures) refl (omega arith)) (put-u162 .ensures) refl (omega arith)) (put-u8 .ensures) refl
-        (omega arith)) (put-u82 .ensures) refl (omega arith)) (put-holidays .ensures) refl (omega arith)) (put-limits .ensures) (omega (arith, length-holidays (start .args .h)))
-        (omega arith))
+    (over-then _ _ _ _ _ _ (over-then _ _ _ _ _ _
+    (over-then _ _ _ _ _ _ (over-then _ _ _ _ _ _ (put-letters .ensures) (put-u16 .ensures) refl (omega arith)) (put-u162 .ensures) refl (omega arith)) (put-u8 .ensures) refl
+    (omega arith)) (put-u82 .ensures) refl (omega arith)) (put-holidays .ensures) refl (omega arith)) (put-limits .ensures) (omega (arith, length-holidays (start .args .h)))
+    (omega arith))
 
 pub put-header-spec : {M : Type 1} → statement M
 put-header-spec =

@@ -43,9 +43,15 @@ add-at-requires-2 : tie.Need-add-at-requires-2
 add-at-requires-2 c κs =
     let pre = c .before .before .before .before .before .before .before .pre in
     let args = c .before .before .before .before .before .before .before .args in
-    let l = args .line in
-    (omega arith, omega (arith, c .with-sign2 .ensures .1, worth-most (l .lots .0) (l .price .0) (omega arith) (omega arith),
-        pre .0 .1 .within (l .contract) (l .member) (omega arith) (omega arith)))
+    let l = args .line in (
+      omega arith,
+      omega (
+        arith,
+        c .with-sign2 .ensures .1,
+        worth-most (l .lots .0) (l .price .0) (omega arith) (omega arith),
+        pre .0 .1 .within (l .contract) (l .member) (omega arith) (omega arith),
+      ),
+    )
 
 -- src/lines.rt:58:1
 same-length : tie.Need-same-length

@@ -93,8 +93,17 @@ returns c =
     let with-sign = c .before .before .before .before .with-sign in
     let l = args .line in
     let at = args .i * 4 in
-    rw (rd-pos (l .member) (omega arith), rd-pos (l .contract) (omega arith), rd-pos (l .price .0) (omega arith),
-        back (with-sign .result .0) (omega (arith, with-sign .ensures .1)), with-sign .ensures .0, add-zero at, add-one at, add-two at, add-three at)
+    rw (
+      rd-pos (l .member) (omega arith),
+      rd-pos (l .contract) (omega arith),
+      rd-pos (l .price .0) (omega arith),
+      back (with-sign .result .0) (omega (arith, with-sign .ensures .1)),
+      with-sign .ensures .0,
+      add-zero at,
+      add-one at,
+      add-two at,
+      add-three at,
+    )
     (stored (linePlaces (lineOf l)) (args .lines .now) at (omega arith))
 
 pub print-line-spec : {M : Type 1} → statement M
