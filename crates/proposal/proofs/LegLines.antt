@@ -70,7 +70,8 @@ module _ (book places lots prices : List ℕ) where
       same-line = ap (λ x. lineOf (dealLine x (getD lots i 0) (getD prices i 0))) at
 
       pub legs-next : (head′ : List ℕ) (rows′ value′ lines′ : List ℤ)
-          → ((t : Tables) → withHead head′ (withRows rows′ value′ (withLines lines′ t)) ≡ withLine i (lineOf (dealLine o (getD lots i 0) (getD prices i 0))) (withHead head (withRows rows value (withLines lines t))))
+          → ((t : Tables) → withHead head′ (withRows rows′ value′ (withLines lines′ t)) ≡ withLine i (lineOf (dealLine o (getD lots i 0) (getD prices i 0)))
+          (withHead head (withRows rows value (withLines lines t))))
           → LegsBooked head₀ rows₀ value₀ lines₀ (i + 1) head′ rows′ value′ lines′
       legs-next head′ rows′ value′ lines′ says =
           let l = lineAt book places lots prices i in
@@ -78,7 +79,8 @@ module _ (book places lots prices : List ℕ) where
           let says-line : (t : Tables) → withHead head′ (withRows rows′ value′ (withLines lines′ t)) ≡ withLine i l (withHead head (withRows rows value (withLines lines t)))
           = λ t. says t ∙ ap (λ x. withLine i x (withHead head (withRows rows value (withLines lines t)))) same-line in
           record {
-            able = subst (λ x. Bookable (lotsFrom (i + 1)) (x .head) (x .lots) (x .value) (x .lines)) (sym (says-line u)) (takes-line (lotsFrom (i + 1)) i l u (omega (arith, fit .most-legs)) sound room);
+            able = subst (λ x. Bookable (lotsFrom (i + 1)) (x .head) (x .lots) (x .value) (x .lines)) (sym (says-line u))
+                (takes-line (lotsFrom (i + 1)) i l u (omega (arith, fit .most-legs)) sound room);
             same-members = ap (λ x. membersIn (x .head)) (says-line u) ∙ line-members i l u ∙ done .same-members;
             tables = λ t. says-line t ∙ ap (withLine i l) (done .tables t)
                 ∙ booked-more (linesTo book places lots prices i) l i (withHead head₀ (withRows rows₀ value₀ (withLines lines₀ t))) (sym (lines-length book places lots prices i)) long

@@ -1,7 +1,6 @@
 pub mod Lists
 pub mod Named
 pub mod Together
-pub mod Rising
 pub mod SidePlaces
 pub mod Sums
 pub mod LastRanks

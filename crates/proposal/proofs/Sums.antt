@@ -148,7 +148,8 @@ module _ (book places lots prices : List ℕ) (fit : LegsFit (length places) lot
         arith,
         fit .most-legs,
         total-most (λ i. cond (countsAt book s m (getD places i 0)) (getD values i 0) 0) (mostLots * mostPrice) 0 legs
-            (λ i _ h. by-bool (λ b. cond b (getD values i 0) 0 ≤ mostLots * mostPrice) (countsAt book s m (getD places i 0)) (λ _. rw (value-at i (omega arith)) (most-value i (omega arith))) (λ _. omega arith)),
+            (λ i _ h. by-bool (λ b. cond b (getD values i 0) 0 ≤ mostLots * mostPrice) (countsAt book s m (getD places i 0))
+            (λ _. rw (value-at i (omega arith)) (most-value i (omega arith))) (λ _. omega arith)),
       )
 
   module _ (sums : List ℕ) (s : SumsTo book places lots prices legs sums) where

@@ -92,7 +92,8 @@ fn are_months_balanced(sums: &[u64]) -> bool
 // Whether lots and lots times price are balanced.
 pub fn are_both_balanced(book: &[u64], places: &[usize], lots: &[u64], prices: &[u64]) -> bool
     requires { ⌜ PlacesFit mostOrders (now places) × ContractsFit (now book) (now places) × LegsFit (length (now places)) (now lots) (now prices) ⌝ }
-    ensures { λ r. ⌜ r ≡ balancedMonths (now (book .entry)) (now (places .entry)) (now (lots .entry)) && balancedMonths (now (book .entry)) (now (places .entry)) (zipWith (λ q p. q * p) (now (lots .entry)) (now (prices .entry))) ⌝ }
+    ensures { λ r. ⌜ r ≡ balancedMonths (now (book .entry)) (now (places .entry)) (now (lots .entry))
+        && balancedMonths (now (book .entry)) (now (places .entry)) (zipWith (λ q p. q * p) (now (lots .entry)) (now (prices .entry))) ⌝ }
 {
     let mut sums = [0u64; 204];
     write_sums(book, places, lots, prices, &mut sums);

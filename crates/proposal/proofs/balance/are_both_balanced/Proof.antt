@@ -14,10 +14,15 @@ slice-aggregate-are-months-balanced : tie.Need-slice-aggregate-are-months-balanc
 slice-aggregate-are-months-balanced c = search needs
 
 are-months-balanced-requires : tie.Need-are-months-balanced-requires
-are-months-balanced-requires c κs = let a = c .before .before .before .before .before .before .before .before .args in sums-fit (a .book .now) (a .places .now) (a .lots .now) (a .prices .now) (c .before .before .before .before .before .before .before .before .pre .2) _ (c .before .before .write-sums .ensures)
+are-months-balanced-requires c κs =
+    let start = c .before .before .before .before .before .before .before .before in
+    let a = start .args in sums-fit (a .book .now) (a .places .now) (a .lots .now) (a .prices .now) (start .pre .2) _ (c .before .before .write-sums .ensures)
 
 returns : tie.Need-returns
-returns c = let a = c .before .before .before .before .before .before .before .before .before .args in c .are-months-balanced .ensures ∙ sums-balanced (a .book .now) (a .places .now) (a .lots .now) (a .prices .now) (c .before .before .before .before .before .before .before .before .before .pre .2) _ (c .before .before .before .write-sums .ensures)
+returns c =
+    let start = c .before .before .before .before .before .before .before .before .before in
+    let a = start .args in c .are-months-balanced .ensures
+    ∙ sums-balanced (a .book .now) (a .places .now) (a .lots .now) (a .prices .now) (start .pre .2) _ (c .before .before .before .write-sums .ensures)
 
 pub are-both-balanced-spec : {M : Type 1} → statement M
 are-both-balanced-spec =

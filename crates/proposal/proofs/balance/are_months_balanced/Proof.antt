@@ -31,11 +31,15 @@ loop-less : tie.Need-loop-less Inv-loop μ-loop
 loop-less c = search needs
 
 loop-again : tie.Need-loop-again Inv-loop μ-loop
-loop-again c = let a = c .before .before .before .before .args in let l = c .before .before .loop in
-    (omega arith, rw (c .is-month-balanced .ensures) (each-next (λ m. eqb (monthSum (a .sums .now) Buy m) (monthSum (a .sums .now) Sell m)) 72 (l .month) (l .ok) _ (l .inv .1) (c .before .loop-test .taken)))
+loop-again c = let a = c .before .before .before .before .args in let l = c .before .before .loop in (
+  omega arith,
+  rw (c .is-month-balanced .ensures)
+      (each-next (λ m. eqb (monthSum (a .sums .now) Buy m) (monthSum (a .sums .now) Sell m)) 72 (l .month) (l .ok) _ (l .inv .1) (c .before .loop-test .taken)),
+)
 
 returns : tie.Need-returns Inv-loop μ-loop
-returns c = let a = c .before .before .before .args in let l = c .before .loop in each-end (λ m. eqb (monthSum (a .sums .now) Buy m) (monthSum (a .sums .now) Sell m)) 72 (l .month) (l .ok) _ (l .inv .1) (c .loop-test .left)
+returns c = let a = c .before .before .before .args in let l = c .before .loop in
+    each-end (λ m. eqb (monthSum (a .sums .now) Buy m) (monthSum (a .sums .now) Sell m)) 72 (l .month) (l .ok) _ (l .inv .1) (c .loop-test .left)
 
 pub are-months-balanced-spec : {M : Type 1} → statement M
 are-months-balanced-spec =

@@ -16,7 +16,11 @@ shared-slice-read-result-2 : tie.Need-shared-slice-read-result-2
 shared-slice-read-result-2 c = search needs
 
 add-result : tie.Need-add-result
-add-result c = omega (arith, c .before .before .pre .0 .most (c .before .before .args .year) (c .before .before .pre .1), c .before .before .pre .0 .most (c .before .before .args .quarter) (c .before .before .pre .2))
+add-result c = omega (
+  arith,
+  c .before .before .pre .0 .most (c .before .before .args .year) (c .before .before .pre .1),
+  c .before .before .pre .0 .most (c .before .before .args .quarter) (c .before .before .pre .2),
+)
 
 mul-result-3 : tie.Need-mul-result-3
 mul-result-3 c = search needs
@@ -25,7 +29,9 @@ shared-slice-read-result-3 : tie.Need-shared-slice-read-result-3
 shared-slice-read-result-3 c = search needs
 
 add-result-2 : tie.Need-add-result-2
-add-result-2 c = omega (arith, c .before .before .before .pre .0 .most (c .before .before .before .args .year) (c .before .before .before .pre .1), c .before .before .before .pre .0 .most (c .before .before .before .args .quarter) (c .before .before .before .pre .2), c .before .before .before .pre .0 .most (c .before .before .before .args .month) (c .before .before .before .pre .3))
+add-result-2 c =
+    let start = c .before .before .before in
+    omega (arith, start .pre .0 .most (start .args .year) (start .pre .1), start .pre .0 .most (start .args .quarter) (start .pre .2), start .pre .0 .most (start .args .month) (start .pre .3))
 
 returns : tie.Need-returns
 returns c = search needs

@@ -16,7 +16,9 @@ abbrev μ-loop : tie.MeasureT-loop
 μ-loop book places lots prices sums₀ i₀ sums i = length places - i
 
 loop-holds : tie.Need-loop-holds Inv-loop μ-loop
-loop-holds c = (refl, omega arith, rw (c .before .before .before .before .before .pre .3) (sums-start (c .before .before .before .before .before .args .book .now) (c .before .before .before .before .before .args .places .now) (c .before .before .before .before .before .args .lots .now) (c .before .before .before .before .before .args .prices .now) (c .before .before .before .before .before .pre .2)))
+loop-holds c =
+    let start = c .before .before .before .before .before in
+    (refl, omega arith, rw (start .pre .3) (sums-start (start .args .book .now) (start .args .places .now) (start .args .lots .now) (start .args .prices .now) (start .pre .2)))
 
 mul-order-at : tie.Need-mul-order-at Inv-loop μ-loop
 mul-order-at c = search needs
@@ -25,10 +27,14 @@ shared-slice-read-order-at : tie.Need-shared-slice-read-order-at Inv-loop μ-loo
 shared-slice-read-order-at c = search needs
 
 order-at-requires : tie.Need-order-at-requires Inv-loop μ-loop
-order-at-requires c κs = (c .before .before .before .before .before .before .before .before .pre .0 .below (c .before .before .loop .i) (c .before .loop-test .taken), c .before .before .before .before .before .before .before .before .pre .1 .long)
+order-at-requires c κs =
+    let start = c .before .before .before .before .before .before .before .before in
+    (start .pre .0 .below (c .before .before .loop .i) (c .before .loop-test .taken), start .pre .1 .long)
 
 side-place-requires : tie.Need-side-place-requires Inv-loop μ-loop
-side-place-requires c κs = rw (c .order-at .ensures) (c .before .before .before .before .before .before .before .before .before .pre .1 .contract-below (c .before .before .before .loop .i) (c .before .before .loop-test .taken))
+side-place-requires c κs =
+    let start = c .before .before .before .before .before .before .before .before .before in
+    rw (c .order-at .ensures) (start .pre .1 .contract-below (c .before .before .before .loop .i) (c .before .before .loop-test .taken))
 
 mul-sum : tie.Need-mul-sum Inv-loop μ-loop
 mul-sum c = search needs
@@ -46,25 +52,40 @@ mul-sum-3 : tie.Need-mul-sum-3 Inv-loop μ-loop
 mul-sum-3 c = search needs
 
 shared-slice-read-sum-2 : tie.Need-shared-slice-read-sum-2 Inv-loop μ-loop
-shared-slice-read-sum-2 c = omega (arith, c .before .before .before .before .before .before .before .before .before .before .before .before .before .pre .2 .prices-length)
+shared-slice-read-sum-2 c =
+    let start = c .before .before .before .before .before .before .before .before .before .before .before .before .before in
+    omega (arith, start .pre .2 .prices-length)
 
 add-sum : tie.Need-add-sum Inv-loop μ-loop
-add-sum c = omega (arith, c .before .before .before .before .before .before .before .before .before .before .before .before .before .pre .2 .most-price (c .before .before .before .before .before .before .before .loop .i) (c .before .before .before .before .before .before .loop-test .taken))
+add-sum c =
+    let at-loop-test = c .before .before .before .before .before .before in
+    let at-loop = at-loop-test .before in
+    let start = at-loop .before .before .before .before .before .before in
+    omega (arith, start .pre .2 .most-price (at-loop .loop .i) (at-loop-test .loop-test .taken))
 
 mul-sum-4 : tie.Need-mul-sum-4 Inv-loop μ-loop
 unfolding amountAt
-mul-sum-4 c = omega (arith, most-at (c .before .before .before .before .before .before .before .before .before .before .before .before .before .args .book .now) (c .before .before .before .before .before .before .before .before .before .before .before .before .before .args .places .now) (c .before .before .before .before .before .before .before .before .before .before .before .before .before .args .lots .now) (c .before .before .before .before .before .before .before .before .before .before .before .before .before .args .prices .now) (c .before .before .before .before .before .before .before .before .before .before .before .before .before .pre .2) (c .before .before .before .before .before .before .before .loop .i) (c .before .before .before .before .before .before .loop-test .taken))
+mul-sum-4 c =
+    let at-loop-test = c .before .before .before .before .before .before in
+    let at-loop = at-loop-test .before in
+    let start = at-loop .before .before .before .before .before .before in
+    omega (arith, most-at (start .args .book .now) (start .args .places .now) (start .args .lots .now) (start .args .prices .now) (start .pre .2) (at-loop .loop .i) (at-loop-test .loop-test .taken))
 
 add-sum-2 : tie.Need-add-sum-2 Inv-loop μ-loop
 unfolding amountAt
-add-sum-2 c = let a = c .before .before .before .before .before .before .before .before .before .before .before .before .before .args in
+add-sum-2 c =
+    let at-side-place = c .before .before .before in
+    let at-loop-test = at-side-place .before .before .before in
+    let at-loop = at-loop-test .before in
+    let start = at-loop .before .before .before .before .before .before in
+    let a = start .args in
     omega (
       arith,
-      c .before .before .before .before .before .before .before .before .before .before .before .before .before .pre .2 .most-legs,
-      c .before .before .before .before .before .before .before .loop .inv .1,
-      c .before .before .before .before .before .before .before .loop .inv .2 .at (c .before .before .before .side-place .result) (c .before .before .before .side-place .ensures .1),
-      most-at (a .book .now) (a .places .now) (a .lots .now) (a .prices .now) (c .before .before .before .before .before .before .before .before .before .before .before .before .before .pre .2) (c .before .before .before .before .before .before .before .loop .i) (c .before .before .before .before .before .before .loop-test .taken),
-      most-sum (a .book .now) (a .places .now) (a .lots .now) (a .prices .now) (c .before .before .before .before .before .before .before .before .before .before .before .before .before .pre .2) (c .before .before .before .before .before .before .before .loop .i) (c .before .before .before .side-place .result) (c .before .before .before .before .before .before .before .loop .inv .1),
+      start .pre .2 .most-legs,
+      at-loop .loop .inv .1,
+      at-loop .loop .inv .2 .at (at-side-place .side-place .result) (at-side-place .side-place .ensures .1),
+      most-at (a .book .now) (a .places .now) (a .lots .now) (a .prices .now) (start .pre .2) (at-loop .loop .i) (at-loop-test .loop-test .taken),
+      most-sum (a .book .now) (a .places .now) (a .lots .now) (a .prices .now) (start .pre .2) (at-loop .loop .i) (at-side-place .side-place .result) (at-loop .loop .inv .1),
     )
 
 mul-sums : tie.Need-mul-sums Inv-loop μ-loop
@@ -81,12 +102,16 @@ loop-less c = search needs
 
 loop-again : tie.Need-loop-again Inv-loop μ-loop
 unfolding amountAt
-loop-again c = let a = c .before .before .before .before .before .before .before .before .before .before .before .before .before .args in (
-  length-set (c .before .before .before .before .before .before .before .loop .sums) _ _ ∙ c .before .before .before .before .before .before .before .loop .inv .0,
-  omega arith,
-  sums-next (a .book .now) (a .places .now) (a .lots .now) (a .prices .now) (c .before .before .before .before .before .before .before .before .before .before .before .before .before .pre .2) (c .before .before .before .before .before .before .before .loop .i) (c .before .before .before .side-place .result) (c .before .before .before .before .before .before .before .loop .sums) (c .before .before .before .before .before .before .before .loop .inv .2)
-      (c .before .before .before .side-place .ensures .0 ∙ ap sidePlaceOf (c .before .before .before .before .order-at .ensures)) (c .before .before .before .side-place .ensures .1),
-)
+loop-again c =
+    let at-side-place = c .before .before .before in
+    let at-loop = at-side-place .before .before .before .before in
+    let start = at-loop .before .before .before .before .before .before in
+    let a = start .args in (
+      length-set (at-loop .loop .sums) _ _ ∙ at-loop .loop .inv .0,
+      omega arith,
+      sums-next (a .book .now) (a .places .now) (a .lots .now) (a .prices .now) (start .pre .2) (at-loop .loop .i) (at-side-place .side-place .result) (at-loop .loop .sums) (at-loop .loop .inv .2)
+          (at-side-place .side-place .ensures .0 ∙ ap sidePlaceOf (c .before .before .before .before .order-at .ensures)) (at-side-place .side-place .ensures .1),
+    )
 
 same-length : tie.Need-same-length Inv-loop μ-loop
 same-length c = search needs

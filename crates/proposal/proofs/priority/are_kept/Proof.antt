@@ -13,7 +13,8 @@ use Rattle.proposal.proofs.priority.are_kept.Statement.{statement}
 use Rattle.proposal.proofs.priority.are_kept.Tie as tie
 
 abbrev Inv-loop : tie.InvT-loop
-Inv-loop book count lasts orders lots ok₀ i₀ ok i = (i ≤ count) × (ok && every (keptBy lasts orders lots) (map (orderAt book) (from i (count - i))) ≡ every (keptBy lasts orders lots) (map (orderAt book) (from 0 count)))
+Inv-loop book count lasts orders lots ok₀ i₀ ok i = (i ≤ count)
+    × (ok && every (keptBy lasts orders lots) (map (orderAt book) (from i (count - i))) ≡ every (keptBy lasts orders lots) (map (orderAt book) (from 0 count)))
 
 abbrev μ-loop : tie.MeasureT-loop
 μ-loop book count lasts orders lots ok₀ i₀ ok i = count - i
@@ -25,8 +26,14 @@ order-at-requires : tie.Need-order-at-requires Inv-loop μ-loop
 order-at-requires c κs = (omega (arith, c .before .before .before .before .before .before .pre .0 .most-orders), c .before .before .before .before .before .before .pre .0 .long)
 
 is-kept-requires : tie.Need-is-kept-requires Inv-loop μ-loop
-is-kept-requires c κs = let fit = c .before .before .before .before .before .before .before .pre .0 in
-    (c .before .before .before .before .before .before .before .pre .1, c .before .before .before .before .before .before .before .pre .2, rw (c .order-at .ensures) (fit .contract-below (c .before .before .loop .i) (c .before .loop-test .taken)), rw (c .order-at .ensures) (fit .ranked (c .before .before .loop .i) (c .before .loop-test .taken)))
+is-kept-requires c κs =
+    let start = c .before .before .before .before .before .before .before in
+    let fit = start .pre .0 in (
+      start .pre .1,
+      start .pre .2,
+      rw (c .order-at .ensures) (fit .contract-below (c .before .before .loop .i) (c .before .loop-test .taken)),
+      rw (c .order-at .ensures) (fit .ranked (c .before .before .loop .i) (c .before .loop-test .taken)),
+    )
 
 add-i : tie.Need-add-i Inv-loop μ-loop
 add-i c = search needs
@@ -35,9 +42,15 @@ loop-less : tie.Need-loop-less Inv-loop μ-loop
 loop-less c = search needs
 
 loop-again : tie.Need-loop-again Inv-loop μ-loop
-loop-again c = let a = c .before .before .before .before .before .before .before .before .args in
-    let kept = keptBy (a .lasts .now) (a .orders .now) (a .lots .now) in
-    (omega arith, rw (c .is-kept .ensures ∙ ap kept (c .before .order-at .ensures)) (all-next (orderAt (a .book .now)) kept (a .count) (c .before .before .before .loop .i) (c .before .before .before .loop .ok) _ (c .before .before .before .loop .inv .1) (c .before .before .loop-test .taken)))
+loop-again c =
+    let at-loop = c .before .before .before in
+    let start = at-loop .before .before .before .before .before in
+    let a = start .args in
+    let kept = keptBy (a .lasts .now) (a .orders .now) (a .lots .now) in (
+      omega arith,
+      rw (c .is-kept .ensures ∙ ap kept (c .before .order-at .ensures))
+          (all-next (orderAt (a .book .now)) kept (a .count) (at-loop .loop .i) (at-loop .loop .ok) _ (at-loop .loop .inv .1) (c .before .before .loop-test .taken)),
+    )
 
 returns : tie.Need-returns Inv-loop μ-loop
 returns c = let a = c .before .before .before .before .before .before .args in

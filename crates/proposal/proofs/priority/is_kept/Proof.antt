@@ -17,14 +17,22 @@ rank-of-requires : tie.Need-rank-of-requires
 rank-of-requires c κs = search needs
 
 returns : tie.Need-returns
-returns c = let a = c .before .before .before .before .before .before .before .args in kept-behind (a .lasts .now) (a .orders .now) (a .lots .now) (a .o) (c .before .before .before .side-place .result) (c .before .rank-of .result) (c .before .before .before .side-place .ensures .0) (c .before .rank-of .ensures) (c .if1 .taken)
+returns c =
+    let at-side-place = c .before .before .before in
+    let start = at-side-place .before .before .before .before in
+    let a = start .args in kept-behind (a .lasts .now) (a .orders .now) (a .lots .now) (a .o) (at-side-place .side-place .result) (c .before .rank-of .result)
+    (at-side-place .side-place .ensures .0) (c .before .rank-of .ensures) (c .if1 .taken)
 
 is-full-leg-requires : tie.Need-is-full-leg-requires
 is-full-leg-requires c κs = search needs
 
 returns-2 : tie.Need-returns-2
-returns-2 c = let a = c .before .before .before .before .before .before .before .before .args in
-    c .is-full-leg .ensures ∙ kept-ahead (a .lasts .now) (a .orders .now) (a .lots .now) (a .o) (c .before .before .before .before .side-place .result) (c .before .before .rank-of .result) (c .before .before .before .before .side-place .ensures .0) (c .before .before .rank-of .ensures) (c .before .if1 .left)
+returns-2 c =
+    let at-side-place = c .before .before .before .before in
+    let start = at-side-place .before .before .before .before in
+    let a = start .args in
+    c .is-full-leg .ensures ∙ kept-ahead (a .lasts .now) (a .orders .now) (a .lots .now) (a .o) (at-side-place .side-place .result) (c .before .before .rank-of .result)
+    (at-side-place .side-place .ensures .0) (c .before .before .rank-of .ensures) (c .before .if1 .left)
 
 pub is-kept-spec : {M : Type 1} → statement M
 is-kept-spec =

@@ -8,17 +8,24 @@ slice-aggregate-write-last-ranks : tie.Need-slice-aggregate-write-last-ranks
 slice-aggregate-write-last-ranks c = search needs
 
 write-last-ranks-requires : tie.Need-write-last-ranks-requires
-write-last-ranks-requires c κs = let a = c .before .before .before .before .before .args in (legs-ranked (a .count) (a .book .now) (a .places .now) (c .before .before .before .before .before .pre .0) (c .before .before .before .before .before .pre .1), refl)
+write-last-ranks-requires c κs =
+    let start = c .before .before .before .before .before in
+    let a = start .args in (legs-ranked (a .count) (a .book .now) (a .places .now) (start .pre .0) (start .pre .1), refl)
 
 slice-aggregate-are-kept : tie.Need-slice-aggregate-are-kept
 slice-aggregate-are-kept c = search needs
 
 are-kept-requires : tie.Need-are-kept-requires
-are-kept-requires c κs = (c .before .before .before .before .before .before .before .before .pre .0, c .before .before .write-last-ranks .ensures .long, c .before .before .before .before .before .before .before .before .pre .2)
+are-kept-requires c κs =
+    let start = c .before .before .before .before .before .before .before .before in
+    (start .pre .0, c .before .before .write-last-ranks .ensures .long, start .pre .2)
 
 returns : tie.Need-returns
-returns c = let a = c .before .before .before .before .before .before .before .before .before .args in
-    c .are-kept .ensures ∙ kept-last (a .count) (a .book .now) (a .places .now) (c .before .before .before .before .before .before .before .before .before .pre .0) (c .before .before .before .before .before .before .before .before .before .pre .1) _ (c .before .before .before .write-last-ranks .ensures) (a .orders .now) (a .lots .now)
+returns c =
+    let start = c .before .before .before .before .before .before .before .before .before in
+    let a = start .args in
+    c .are-kept .ensures ∙ kept-last (a .count) (a .book .now) (a .places .now) (start .pre .0) (start .pre .1) _ (c .before .before .before .write-last-ranks .ensures)
+    (a .orders .now) (a .lots .now)
 
 pub is-priority-kept-spec : {M : Type 1} → statement M
 is-priority-kept-spec =
