@@ -12,7 +12,7 @@ use Rattle.arith.proofs.Tests.{true-or, le-or-lt, and-false}
 use Rattle.listing.specs.declared.field.Field.{Field}
 use Rattle.listing.specs.declared.field.Verdict.{Verdict}
 use Rattle.listing.specs.declared.field.Verdict.the-variants.{OutOfRange}
-use Rattle.listing.specs.Fields.{sizeOf, numberAt, rangeOf, within, dayVerdict, verdictOf, passes, Fault, isNone, faultIn}
+use Rattle.listing.specs.Fields.{sizeOf, numberAt, quantityOf, rangeOf, within, dayVerdict, verdictOf, passes, Fault, isNone, faultIn}
 
 unfoldable pub sizes : List Field → ℕ
 sizes [] = 0
@@ -23,7 +23,7 @@ unfoldable pub inRanges : ℕ → List ℕ → ℕ → List Field → Bool
 inRanges n s place [] = true
 inRanges n s place (f ∷ fs) =
     let v = numberAt s place (sizeOf f) in
-    within (rangeOf n s place f) v && (passes (dayVerdict s f v) && inRanges n s (place + sizeOf f) fs)
+    within (rangeOf n s place f) v && (passes (dayVerdict s (quantityOf f) v) && inRanges n s (place + sizeOf f) fs)
 
 verdict-passes : (w : Bool) (d : Verdict) (a b : Fault) → isNone b ≡ false → isNone (cond (passes (cond w d OutOfRange)) a b) ≡ w && (passes d && isNone a)
 verdict-passes false d a b g = g
@@ -43,6 +43,6 @@ none-is n s place (f ∷ fs) h =
     let v = numberAt s place (sizeOf f) in
     le-or-lt (place + sizeOf f) (length s)
     (λ k. rw (le-ltb (length s) (place + sizeOf f) k)
-    (verdict-passes (within (rangeOf n s place f) v) (dayVerdict s f v) (faultIn n s (place + sizeOf f) fs) _ refl
-    ∙ rw (none-is n s (place + sizeOf f) fs k, add-assoc place (sizeOf f) (sizes fs)) (length-first (within (rangeOf n s place f) v) (passes (dayVerdict s f v)) (leb (place + (sizeOf f + sizes fs)) (length s)) (inRanges n s (place + sizeOf f) fs))))
+    (verdict-passes (within (rangeOf n s place f) v) (dayVerdict s (quantityOf f) v) (faultIn n s (place + sizeOf f) fs) _ refl
+    ∙ rw (none-is n s (place + sizeOf f) fs k, add-assoc place (sizeOf f) (sizes fs)) (length-first (within (rangeOf n s place f) v) (passes (dayVerdict s (quantityOf f) v)) (leb (place + (sizeOf f + sizes fs)) (length s)) (inRanges n s (place + sizeOf f) fs))))
     (λ k. rw (lt-ltb (length s) (place + sizeOf f) k, lt-leb (place + (sizeOf f + sizes fs)) (length s) (omega arith)) refl)

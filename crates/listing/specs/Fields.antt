@@ -1,8 +1,9 @@
 -- The fields of a header and of a record, in the order of their bytes: the size and the range of each, and the first that is out of it.
 -- The ranges are document 01's, "Records"; each is told from the bytes before the field.
-use Prim.Native.Nat.{ℕ, zero, suc, _+_, _-_}
+use Prim.Native.Nat.{ℕ, zero, suc, _+_, _-_, _≤_}
 use mathlib.Core.Bool.{Bool, true, false, cond, _&&_, _||_}
 use mathlib.Core.List.{List, [], _∷_, _++_}
+use mathlib.Core.Path.{_≡_}
 use lib.Dec.{eqb, leb, ltb}
 use lib.ListN.{length, getD, replicate}
 use Rattle.rules.specs.Ranges.{contractCount, leastFirstYear, mostFirstYear, mostMembers, lastSecond, mostHolidays, mostLimit, mostPrice, mostLots, leastLegs, mostLegs, mostRatio}
@@ -12,6 +13,8 @@ use Rattle.rules.specs.Records.{submitKind, cancelKind, dayLimitsKind, proposal
 use Rattle.listing.specs.declared.field.Field.{Field}
 use Rattle.listing.specs.declared.field.Field.the-variants.{LetterV, LetterJ, LetterR, Version, FirstYear, StartDay, Members, HolidayCount, Holiday, Limit}
 use Rattle.listing.specs.declared.field.Field.the-variants.{Kind, Time, Member, Contract, Side, OrderKind, Price, Lots, Order, Low, High, Legs, Ratio}
+use Rattle.listing.specs.declared.field.Quantity.{Quantity}
+use Rattle.listing.specs.declared.field.Quantity.the-variants.{Letter, Number, StartDayNumber, HolidayNumber, KindNumber, SideNumber, OrderKindNumber, Seconds, ContractNumber, Kurus}
 use Rattle.listing.specs.declared.field.Range.{Range}
 use Rattle.listing.specs.declared.field.Shape.{Shape}
 use Rattle.listing.specs.declared.field.Shape.the-variants.{Header, Record}
@@ -24,20 +27,37 @@ unfoldable pub legFields : ℕ → List Field
 legFields zero = []
 legFields (suc n) = Order ∷ Lots ∷ Price ∷ legFields n
 
+abbrev pub submitFields : List Field
+submitFields = Time ∷ Member ∷ Contract ∷ Side ∷ OrderKind ∷ Price ∷ Lots ∷ []
+
+abbrev pub cancelFields : List Field
+cancelFields = Time ∷ Member ∷ Order ∷ []
+
+abbrev pub dayLimitsFields : List Field
+dayLimitsFields = Contract ∷ Low ∷ High ∷ []
+
+abbrev pub proposalFields : ℕ → List Field
+proposalFields legs = Legs ∷ legFields legs
+
+abbrev pub closeOutFields : List Field
+closeOutFields = Contract ∷ Ratio ∷ []
+
 -- After the kind; none where no kind has that number.
 unfoldable pub fieldsOfKind : ℕ → ℕ → List Field
 fieldsOfKind kind legs =
-    cond (eqb kind submitKind) (Time ∷ Member ∷ Contract ∷ Side ∷ OrderKind ∷ Price ∷ Lots ∷ [])
-    (cond (eqb kind cancelKind) (Time ∷ Member ∷ Order ∷ [])
-    (cond (eqb kind dayLimitsKind) (Contract ∷ Low ∷ High ∷ [])
-    (cond (eqb kind proposalKind) (Legs ∷ legFields legs)
+    cond (eqb kind submitKind) submitFields
+    (cond (eqb kind cancelKind) cancelFields
+    (cond (eqb kind dayLimitsKind) dayLimitsFields
+    (cond (eqb kind proposalKind) (proposalFields legs)
     (cond (eqb kind defaultKind) (Member ∷ [])
-    (cond (eqb kind closeOutKind) (Contract ∷ Ratio ∷ [])
+    (cond (eqb kind closeOutKind) closeOutFields
     (cond (eqb kind closeOfDayKind) (Time ∷ []) []))))))
 
+abbrev pub fixedFields : List Field
+fixedFields = LetterV ∷ LetterJ ∷ LetterR ∷ Version ∷ FirstYear ∷ StartDay ∷ Members ∷ HolidayCount ∷ []
+
 unfoldable pub fieldsOf : Shape → List Field
-fieldsOf (Header holidays members) =
-    LetterV ∷ LetterJ ∷ LetterR ∷ Version ∷ FirstYear ∷ StartDay ∷ Members ∷ HolidayCount ∷ replicate holidays Holiday ++ replicate members Limit
+fieldsOf (Header holidays members) = fixedFields ++ (replicate holidays Holiday ++ replicate members Limit)
 fieldsOf (Record kind legs) = Kind ∷ fieldsOfKind kind legs
 
 -- What the bytes have, as far as they go: a header's counts are its bytes 9 and 10, a record's kind is its first, its legs its second.
@@ -73,6 +93,38 @@ sizeOf Low = 4
 sizeOf High = 4
 sizeOf Legs = 1
 sizeOf Ratio = 2
+
+-- 1, 2 or 4.
+pub record IsSize (size : ℕ) : Type 0 where
+  pub least : 1 ≤ size
+  pub most : size ≤ 4
+  pub notThree : size ≡ 3 → ⊥
+
+-- What its number stands for.
+abbrev pub quantityOf : Field → Quantity
+quantityOf LetterV = Letter
+quantityOf LetterJ = Letter
+quantityOf LetterR = Letter
+quantityOf Version = Number
+quantityOf FirstYear = Number
+quantityOf StartDay = StartDayNumber
+quantityOf Members = Number
+quantityOf HolidayCount = Number
+quantityOf Holiday = HolidayNumber
+quantityOf Limit = Number
+quantityOf Kind = KindNumber
+quantityOf Time = Seconds
+quantityOf Member = Number
+quantityOf Contract = ContractNumber
+quantityOf Side = SideNumber
+quantityOf OrderKind = OrderKindNumber
+quantityOf Price = Kurus
+quantityOf Lots = Number
+quantityOf Order = Number
+quantityOf Low = Kurus
+quantityOf High = Kurus
+quantityOf Legs = Number
+quantityOf Ratio = Number
 
 -- The number of so many bytes at a place.
 unfoldable pub numberAt : List ℕ → ℕ → ℕ → ℕ
@@ -139,36 +191,23 @@ within r v = leb (r .least) v && leb v (r .most)
 
 -- ---- verdicts
 -- A start day is no Saturday and no Sunday; that it is no holiday is told at the holiday.
-abbrev pub dayVerdict : List ℕ → Field → ℕ → Verdict
-dayVerdict s LetterV v = Passes
-dayVerdict s LetterJ v = Passes
-dayVerdict s LetterR v = Passes
-dayVerdict s Version v = Passes
-dayVerdict s FirstYear v = Passes
-dayVerdict s StartDay v = cond (saturday v || sunday v) NoBusinessDay Passes
-dayVerdict s Members v = Passes
-dayVerdict s HolidayCount v = Passes
-dayVerdict s Holiday v = cond (eqb v (u16At s startDayPlace)) OnStartDay Passes
-dayVerdict s Limit v = Passes
-dayVerdict s Kind v = Passes
-dayVerdict s Time v = Passes
-dayVerdict s Member v = Passes
-dayVerdict s Contract v = Passes
-dayVerdict s Side v = Passes
-dayVerdict s OrderKind v = Passes
-dayVerdict s Price v = Passes
-dayVerdict s Lots v = Passes
-dayVerdict s Order v = Passes
-dayVerdict s Low v = Passes
-dayVerdict s High v = Passes
-dayVerdict s Legs v = Passes
-dayVerdict s Ratio v = Passes
+abbrev pub dayVerdict : List ℕ → Quantity → ℕ → Verdict
+dayVerdict s Letter v = Passes
+dayVerdict s Number v = Passes
+dayVerdict s StartDayNumber v = cond (saturday v || sunday v) NoBusinessDay Passes
+dayVerdict s HolidayNumber v = cond (eqb v (u16At s startDayPlace)) OnStartDay Passes
+dayVerdict s KindNumber v = Passes
+dayVerdict s SideNumber v = Passes
+dayVerdict s OrderKindNumber v = Passes
+dayVerdict s Seconds v = Passes
+dayVerdict s ContractNumber v = Passes
+dayVerdict s Kurus v = Passes
 
 unfoldable pub verdictOf : ℕ → List ℕ → ℕ → Field → Verdict
 verdictOf n s place f =
     let v = numberAt s place (sizeOf f) in
     cond (ltb (length s) (place + sizeOf f)) Cut
-    (cond (within (rangeOf n s place f) v) (dayVerdict s f v) OutOfRange)
+    (cond (within (rangeOf n s place f) v) (dayVerdict s (quantityOf f) v) OutOfRange)
 
 abbrev pub passes : Verdict → Bool
 passes Passes = true

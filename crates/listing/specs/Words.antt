@@ -13,10 +13,12 @@ use Rattle.rules.specs.Text.{space, newline, digit, decimal}
 use Rattle.listing.specs.declared.field.Field.{Field}
 use Rattle.listing.specs.declared.field.Field.the-variants.{LetterV, LetterJ, LetterR, Version, FirstYear, StartDay, Members, HolidayCount, Holiday, Limit}
 use Rattle.listing.specs.declared.field.Field.the-variants.{Kind, Time, Member, Contract, Side, OrderKind, Price, Lots, Order, Low, High, Legs, Ratio}
+use Rattle.listing.specs.declared.field.Quantity.{Quantity}
+use Rattle.listing.specs.declared.field.Quantity.the-variants.{Letter, Number, StartDayNumber, HolidayNumber, KindNumber, SideNumber, OrderKindNumber, Seconds, ContractNumber, Kurus}
 use Rattle.listing.specs.declared.field.Range.{Range}
 use Rattle.listing.specs.declared.field.Verdict.{Verdict}
 use Rattle.listing.specs.declared.field.Verdict.the-variants.{Passes, Cut, OutOfRange, NoBusinessDay, OnStartDay}
-use Rattle.listing.specs.Fields.{fieldsOf, headerShape, recordShape, sizeOf, numberAt, rangeOf, within, verdictOf, passes, faultPlace}
+use Rattle.listing.specs.Fields.{fieldsOf, headerShape, recordShape, sizeOf, quantityOf, numberAt, rangeOf, within, verdictOf, passes, faultPlace}
 
 -- ---- names
 abbrev pub nameOf : Field → List ℕ
@@ -90,33 +92,20 @@ unfoldable pub contractText : ℕ → ℕ → List ℕ
 contractText first c = (space ∷ decimal c) ++ (space ∷ 40 ∷ contractName first c ++ (41 ∷ []))
 
 -- ---- a field in words, in a ledger of a first year
-abbrev pub named : Field → List ℕ → List ℕ
-named f text = nameOf f ++ (space ∷ text)
+unfoldable pub quantityWords : ℕ → Field → Quantity → ℕ → List ℕ
+quantityWords first f Letter v = v ∷ []
+quantityWords first f Number v = nameOf f ++ (space ∷ decimal v)
+quantityWords first f StartDayNumber v = nameOf f ++ (space ∷ decimal v)
+quantityWords first f HolidayNumber v = nameOf f ++ (space ∷ decimal v)
+quantityWords first f KindNumber v = kindWord v
+quantityWords first f SideNumber v = sideWord v
+quantityWords first f OrderKindNumber v = orderKindWord v
+quantityWords first f Seconds v = space ∷ timeText v
+quantityWords first f ContractNumber v = nameOf f ++ contractText first v
+quantityWords first f Kurus v = nameOf f ++ (space ∷ priceText v)
 
 abbrev pub fieldWords : ℕ → Field → ℕ → List ℕ
-fieldWords first LetterV v = v ∷ []
-fieldWords first LetterJ v = v ∷ []
-fieldWords first LetterR v = v ∷ []
-fieldWords first Version v = named Version (decimal v)
-fieldWords first FirstYear v = named FirstYear (decimal v)
-fieldWords first StartDay v = named StartDay (decimal v)
-fieldWords first Members v = named Members (decimal v)
-fieldWords first HolidayCount v = named HolidayCount (decimal v)
-fieldWords first Holiday v = named Holiday (decimal v)
-fieldWords first Limit v = named Limit (decimal v)
-fieldWords first Kind v = kindWord v
-fieldWords first Time v = space ∷ timeText v
-fieldWords first Member v = named Member (decimal v)
-fieldWords first Contract v = nameOf Contract ++ contractText first v
-fieldWords first Side v = sideWord v
-fieldWords first OrderKind v = orderKindWord v
-fieldWords first Price v = named Price (priceText v)
-fieldWords first Lots v = named Lots (decimal v)
-fieldWords first Order v = named Order (decimal v)
-fieldWords first Low v = named Low (priceText v)
-fieldWords first High v = named High (priceText v)
-fieldWords first Legs v = named Legs (decimal v)
-fieldWords first Ratio v = named Ratio (decimal v)
+fieldWords first f v = quantityWords first f (quantityOf f) v
 
 -- ---- a fault in words
 -- The number whose bytes are those of v the other way round.

@@ -27,6 +27,20 @@ pub enum Field {
     Ratio,
 }
 
+// What a field's number stands for.
+pub enum Quantity {
+    Letter,
+    Number,
+    StartDayNumber,
+    HolidayNumber,
+    KindNumber,
+    SideNumber,
+    OrderKindNumber,
+    Seconds,
+    ContractNumber,
+    Kurus,
+}
+
 // Which fields the bytes have, one after the other.
 pub enum Shape {
     // With how many holidays and members.
