@@ -1,11 +1,12 @@
 // The records of cases.
 use rules::Cancellation;
 use rules::CloseOutTerms;
+use rules::DayNo;
 use rules::Event;
 use rules::Kurus;
-use rules::Leg;
 use rules::Lots;
 use rules::NewDayLimits;
+use rules::Order;
 use rules::OrderKind;
 use rules::Side;
 use rules::Submission;
@@ -83,10 +84,19 @@ pub fn close_out(contract: u64, ratio: u64) -> Event {
     })
 }
 
-pub fn leg(order: u64, lots: u64, price: u64) -> Leg {
-    Leg {
-        order: order,
-        lots: Lots(lots),
-        price: Kurus(price),
+// What rests of an order, entered on Monday, 369.
+pub fn rests(number: u64, s: Submission) -> Order {
+    let side = s.side;
+    let price = s.price;
+    let lots = s.lots;
+    Order {
+        number: number,
+        member: s.member,
+        contract: s.contract,
+        side: side,
+        price: price,
+        lots: lots,
+        day: DayNo(369),
+        time: s.time,
     }
 }

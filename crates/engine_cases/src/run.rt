@@ -1,4 +1,9 @@
 // The steps of a case, taken.
+use crate::applied::ask;
+use crate::applied::ask_for_count;
+use crate::applied::ask_with_byte;
+use crate::applied::give;
+use crate::applied::give_series;
 use crate::places::ggf_place;
 use crate::places::put;
 use crate::places::put_order;
@@ -6,25 +11,17 @@ use crate::places::put_row;
 use crate::places::read;
 use crate::places::show_book;
 use crate::places::show_row;
-use crate::records::at;
 use crate::show::at_most;
-use crate::show::line_count;
 use crate::show::number;
 use crate::show::show_answer;
-use crate::show::show_lines;
 use crate::show::text;
 use crate::steps::Case;
 use crate::steps::MOST_STEPS;
 use crate::steps::Step;
 use codec::Legs;
 use rules::Answer;
-use rules::Event;
 use rules::Leg;
-use rules::Submission;
-use rules::layout::MEMBERS;
 use rules::ranges::MOST_LEGS;
-
-const RECORD_LENGTH: usize = 122;
 
 // The legs gathered for the next proposal.
 struct Gathered {
@@ -60,101 +57,6 @@ fn with_leg(g: Gathered, leg: Leg) -> Gathered {
     }
     text(b" a leg too many");
     g
-}
-
-// The event as a record, written by the codec and applied.
-fn apply(
-    head: &mut [u64],
-    prices: &mut [u64],
-    lots: &mut [i64],
-    value: &mut [i64],
-    book: &mut [u64],
-    lines: &mut [i64],
-    legs: Legs,
-    event: Event,
-) -> Answer {
-    let mut out = [0u8; 122];
-    let members = read(&*head, MEMBERS);
-    let written = codec::write_record(members, event, legs, &mut out);
-    let end = line_count(written) as usize;
-    if end <= RECORD_LENGTH {
-        return engine::apply(head, prices, lots, value, book, lines, &out[..end]);
-    }
-    written
-}
-
-// A record that is accepted: only a refusal is shown.
-fn give(
-    head: &mut [u64],
-    prices: &mut [u64],
-    lots: &mut [i64],
-    value: &mut [i64],
-    book: &mut [u64],
-    lines: &mut [i64],
-    legs: Legs,
-    event: Event,
-) {
-    let answer = apply(head, prices, lots, value, book, lines, legs, event);
-    match answer {
-        Answer::Accepted(_) => {}
-        _ => {
-            text(b" given");
-            show_answer(answer);
-        }
-    }
-}
-
-fn ask(
-    head: &mut [u64],
-    prices: &mut [u64],
-    lots: &mut [i64],
-    value: &mut [i64],
-    book: &mut [u64],
-    lines: &mut [i64],
-    legs: Legs,
-    event: Event,
-) {
-    let answer = apply(head, prices, lots, value, book, &mut *lines, legs, event);
-    show_answer(answer);
-    show_lines(&*lines, line_count(answer));
-}
-
-// Times end at 86399 s.
-fn a_second_later(s: Submission) -> Submission {
-    let time = s.time;
-    if time < 86399 {
-        return at(time + 1, s);
-    }
-    s
-}
-
-fn give_series(
-    head: &mut [u64],
-    prices: &mut [u64],
-    lots: &mut [i64],
-    value: &mut [i64],
-    book: &mut [u64],
-    lines: &mut [i64],
-    legs: Legs,
-    first: Submission,
-    count: u64,
-) {
-    let mut order = first;
-    let mut i: u64 = 0;
-    while i < count {
-        give(
-            &mut *head,
-            &mut *prices,
-            &mut *lots,
-            &mut *value,
-            &mut *book,
-            &mut *lines,
-            legs,
-            Event::Submit(order),
-        );
-        order = a_second_later(order);
-        i += 1;
-    }
 }
 
 // A ledger that is not made is shown.
@@ -206,6 +108,7 @@ fn take_step(
 ) -> Gathered {
     let legs = g.legs;
     match step {
+        Step::WithLeg(leg) => with_leg(g, leg),
         Step::Given(event) => {
             give(head, prices, lots, value, book, lines, legs, event);
             no_legs()
@@ -218,7 +121,14 @@ fn take_step(
             ask(head, prices, lots, value, book, lines, legs, event);
             no_legs()
         }
-        Step::WithLeg(leg) => with_leg(g, leg),
+        Step::AskedForCount(event) => {
+            ask_for_count(head, prices, lots, value, book, lines, legs, event);
+            no_legs()
+        }
+        Step::AskedWithByte { event, place, byte } => {
+            ask_with_byte(head, prices, lots, value, book, lines, event, place, byte);
+            g
+        }
         _ => {
             take_table_step(head, prices, lots, value, book, step);
             g

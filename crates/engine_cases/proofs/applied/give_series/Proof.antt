@@ -2,8 +2,8 @@ use Prim.Native.Nat.{_-_, _≤_}
 use mathlib.Core.Path.{_≡_}
 use lib.ListN.{length}
 use borrow.Author.Needs.{needs}
-use Rattle.engine_cases.proofs.run.give_series.Statement.{statement}
-use Rattle.engine_cases.proofs.run.give_series.Tie as tie
+use Rattle.engine_cases.proofs.applied.give_series.Statement.{statement}
+use Rattle.engine_cases.proofs.applied.give_series.Tie as tie
 
 abbrev Inv-loop : tie.InvT-loop
 Inv-loop head₀ prices₀ lots₀ value₀ book₀ lines₀ legs count order₀ i₀ head prices lots value book lines order i =

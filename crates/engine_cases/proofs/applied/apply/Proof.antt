@@ -1,8 +1,8 @@
 use native.Mathlib.Omega.{arith}
 use lib.ListN.{length-take}
 use borrow.Author.Needs.{needs}
-use Rattle.engine_cases.proofs.run.apply.Statement.{statement}
-use Rattle.engine_cases.proofs.run.apply.Tie as tie
+use Rattle.engine_cases.proofs.applied.apply.Statement.{statement}
+use Rattle.engine_cases.proofs.applied.apply.Tie as tie
 
 read-requires : tie.Need-read-requires
 read-requires c κs = search needs
