@@ -9,9 +9,11 @@ use Rattle.rules.specs.Default.{sumOf, changeLines}
 use Rattle.rules.specs.Ledger.{Tables, Line, withHead, withRows, withLines}
 use Rattle.rules.specs.Ranges.{contractCount, mostPrice, leastLines}
 use Rattle.tables.specs.Fit.{membersIn}
-use Rattle.close_out.specs.Booking.{withEach, changes, Bookable}
+use Rattle.tables.specs.Room.{Bookable}
+use Rattle.close_out.specs.Booking.{withEach, changes}
 use Rattle.close_out.proofs.Changes.{minus-size, change-most, each-append, lines-next, sum-next}
-use Rattle.close_out.proofs.Takes.{Takes, less-room, takes-change, each-members}
+use Rattle.tables.proofs.Takes.{Takes, less-room}
+use Rattle.close_out.proofs.Takes.{takes-change, each-members}
 
 -- The lent tables put into others.
 abbrev pub put : List ℕ → List ℤ → List ℤ → List ℤ → Tables → Tables

@@ -20,7 +20,8 @@ use Rattle.rules.proofs.Netting.{sum-cons, sum-none, sum-zeros, given-sum, give
 use Rattle.dealing.proofs.Dealt.{all-dealt}
 use Rattle.close_out.specs.Booking.{withEach, changes, takerLines}
 use Rattle.close_out.proofs.Changes.{minus-size, change-most, change-cons, each-append}
-use Rattle.close_out.proofs.Takes.{Takes, takes-change, each-members}
+use Rattle.tables.proofs.Takes.{Takes}
+use Rattle.close_out.proofs.Takes.{takes-change, each-members}
 
 -- ---- what is left
 less-sum : (xs ys : List ℕ) → length ys ≡ length xs → ((i : ℕ) → getD ys i 0 ≤ getD xs i 0) → sumOf (less xs ys) + sumOf ys ≡ sumOf xs

@@ -13,9 +13,11 @@ use Rattle.rules.specs.Ranges.{contractCount, mostPrice, leastLines, mostMember
 use Rattle.rules.proofs.Netting.{given-length}
 use Rattle.tables.specs.Fit.{membersIn}
 use Rattle.dealing.specs.Levels.{mostWeight, Column}
-use Rattle.close_out.specs.Booking.{withEach, changes, nettingLines, defaultedLines, takerLines, stepLines, Bookable, Dealable}
+use Rattle.tables.specs.Room.{Bookable}
+use Rattle.close_out.specs.Booking.{withEach, changes, nettingLines, defaultedLines, takerLines, stepLines, Dealable}
 use Rattle.close_out.proofs.Changes.{each-append}
-use Rattle.close_out.proofs.Takes.{Takes, less-room, each-members}
+use Rattle.tables.proofs.Takes.{Takes, less-room}
+use Rattle.close_out.proofs.Takes.{each-members}
 use Rattle.close_out.proofs.Running.{put, blank}
 use Rattle.close_out.proofs.StepColumns.{netting-room}
 use Rattle.close_out.proofs.Runs.{change-length, most-run, no-takers, takes-lines}

@@ -23,9 +23,10 @@ use Rattle.dealing.specs.Levels.{mostWeight, Column}
 use Rattle.close_out.specs.declared.columns.Part.{Part}
 use Rattle.close_out.specs.declared.columns.Part.the-variants.{DefaultedLongs, DefaultedShorts}
 use Rattle.close_out.specs.Columns.{columnOf}
-use Rattle.close_out.specs.Booking.{withEach, changes, nettingLines, defaultedLines, takerLines, stepLines, Bookable, Dealable}
+use Rattle.tables.specs.Room.{Bookable}
+use Rattle.close_out.specs.Booking.{withEach, changes, nettingLines, defaultedLines, takerLines, stepLines, Dealable}
 use Rattle.close_out.proofs.Changes.{each-booked}
-use Rattle.close_out.proofs.Takes.{rows-wider}
+use Rattle.tables.proofs.Takes.{rows-wider}
 use Rattle.close_out.proofs.Running.{blank}
 use Rattle.close_out.proofs.Runs.{left-sum, change-run, run-append, Apart, apart-run, takers-run}
 use Rattle.close_out.proofs.StepBooking.{less-length, less-le}

@@ -1,14 +1,15 @@
 // Lines of a close-out booked: a line for each member whose lots change.
 ghost use mathlib.Core.Path.{_≡_};
-ghost use mathlib.Core.List.{List, [], _∷_};
-ghost use Prim.Native.Nat.{ℕ, _+_, _≤_, _<_};
-ghost use lib.IntN.{ℤ, pos, _-ℤ_};
+ghost use mathlib.Core.List.{[], _∷_};
+ghost use Prim.Native.Nat.{_+_, _≤_, _<_};
+ghost use lib.IntN.{pos, _-ℤ_};
 ghost use lib.ListN.{length};
 ghost use Rattle.rules.specs.Default.{sumOf, changeLines};
 ghost use Rattle.rules.specs.Ledger.{Tables, withHead, withRows, withLines};
 ghost use Rattle.rules.specs.Ranges.{contractCount, mostPrice, leastLines};
 ghost use Rattle.tables.specs.Fit.{membersIn};
-ghost use Rattle.close_out.specs.Booking.{withEach, changes, Bookable};
+ghost use Rattle.tables.specs.Room.{Bookable};
+ghost use Rattle.close_out.specs.Booking.{withEach, changes};
 use rules::Kurus;
 use rules::Lots;
 use rules::Side;

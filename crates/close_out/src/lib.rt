@@ -9,13 +9,13 @@ mod weights;
 
 ghost use mathlib.Core.Path.{_≡_};
 ghost use mathlib.Core.Bool.{true};
-ghost use Prim.Native.Nat.{ℕ, _*_, _≤_, _<_};
+ghost use Prim.Native.Nat.{_*_, _≤_, _<_};
 ghost use lib.ListN.{length};
 ghost use Rattle.rules.specs.Ranges.{contractCount, mostPrice, mostRatio};
-ghost use Rattle.rules.specs.Ledger.{Tables, withHead, withPrices, withRows, withLines, isOpen, ggf, linesLength};
+ghost use Rattle.rules.specs.Ledger.{Tables, withHead, withPrices, withRows, withLines, isOpen, ggf};
 ghost use Rattle.rules.specs.Refusals.{closeOutSpec};
-ghost use Rattle.tables.specs.Fit.{HeadFit, PricesFit, RowsFit, membersIn, lotsRunIn};
-ghost use Rattle.close_out.specs.Booking.{Bookable};
+ghost use Rattle.tables.specs.Fit.{PricesFit, membersIn, lotsRunIn};
+ghost use Rattle.tables.specs.Room.{Bookable};
 use columns::Part;
 use columns::read_column;
 use dealing::smaller;

@@ -1,13 +1,13 @@
 // The lines of a close-out, step after step.
 ghost use mathlib.Core.Path.{_≡_};
-ghost use Prim.Native.Nat.{ℕ, _+_, _≤_, _<_};
+ghost use Prim.Native.Nat.{_+_, _≤_, _<_};
 ghost use lib.ListN.{length};
-ghost use Rattle.rules.specs.Default.{sumOf, givenUp, less};
+ghost use Rattle.rules.specs.Default.{givenUp, less};
 ghost use Rattle.rules.specs.Ledger.{Tables, withHead, withRows, withLines};
 ghost use Rattle.rules.specs.Ranges.{contractCount, mostPrice};
 ghost use Rattle.tables.specs.Fit.{membersIn};
-ghost use Rattle.dealing.specs.Levels.{mostWeight, Column};
-ghost use Rattle.close_out.specs.Booking.{withEach, stepLines, Bookable, Dealable};
+ghost use Rattle.tables.specs.Room.{Bookable};
+ghost use Rattle.close_out.specs.Booking.{withEach, stepLines, Dealable};
 use crate::booking::book_changes;
 use crate::netting::book_netting;
 use crate::takers::book_takers;

@@ -1,13 +1,14 @@
 // Step 2, the takers: the lots left are dealt out to the members that are not defaulted.
 ghost use mathlib.Core.Path.{_≡_};
-ghost use Prim.Native.Nat.{ℕ, _+_, _≤_, _<_};
+ghost use Prim.Native.Nat.{_+_, _≤_, _<_};
 ghost use lib.ListN.{length, replicate};
 ghost use Rattle.rules.specs.Default.{sumOf};
 ghost use Rattle.rules.specs.Ledger.{Tables, withHead, withRows, withLines};
 ghost use Rattle.rules.specs.Ranges.{contractCount, mostPrice, leastLines};
 ghost use Rattle.tables.specs.Fit.{membersIn};
 ghost use Rattle.dealing.specs.Levels.{mostWeight, Column};
-ghost use Rattle.close_out.specs.Booking.{withEach, takerLines, Bookable};
+ghost use Rattle.tables.specs.Room.{Bookable};
+ghost use Rattle.close_out.specs.Booking.{withEach, takerLines};
 use crate::booking::book_changes;
 use dealing::deal_out;
 use rules::Kurus;

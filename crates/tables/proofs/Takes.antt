@@ -11,10 +11,10 @@ use Rattle.arith.proofs.Overs.{over-length}
 use Rattle.arith.proofs.Sizes.{abs-times}
 use Rattle.rules.specs.Ledger.{Tables, Line, withLotsRun, lotsRun, members, linePlaces, lineLots, lineValue}
 use Rattle.rules.specs.Ranges.{contractCount, mostPrice, mostLotsRun, leastLines}
 use Rattle.tables.proofs.Booked.{rows-fit-line}
 use Rattle.tables.specs.Fit.{HeadFit, RowsFit, membersIn, lotsRunIn}
 use Rattle.tables.specs.Lines.{withLine}
-use Rattle.proposal.specs.Booking.{Bookable}
+use Rattle.tables.specs.Room.{Bookable}
 
 -- ---- the head with another lots run
 module _ (head : List ℕ) (run : ℕ) (fit : HeadFit head) (most : run ≤ mostLotsRun) where
@@ -82,6 +82,10 @@ takes-line room i l t below ok f =
       lines-long = rw (over-length (i * 4) (linePlaces l) (t .lines) (omega (arith, f .lines-long))) (f .lines-long);
       most-run = rw e (omega (arith, f .most-run));
     }
+
+pub less-room : (a b : ℕ) {head : List ℕ} {lots value lines : List ℤ} → a ≤ b → Bookable b head lots value lines → Bookable a head lots value lines
+less-room a b h f =
+    record { head-fit = f .head-fit; lots-fit = f .lots-fit; value-fit = f .value-fit; lines-long = f .lines-long; most-run = omega (arith, f .most-run) }
 
 -- A line changes no member count.
 pub line-members : (i : ℕ) (l : Line) (t : Tables) → membersIn (withLine i l t .head) ≡ membersIn (t .head)
