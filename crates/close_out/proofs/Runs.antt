@@ -113,6 +113,7 @@ takes-lines c p hc hp (z ∷ zs) room i m t a b f =
     let one = changeLines c p m (z ∷ []) in
     let rest = total natAbs zs + room in
     let u = withEach i one t in
-    let now : Takes rest u = takes-change rest i c p m z t (omega arith) (record { contract-below = hc; member-below = omega arith; most-price = hp }) (rw (add-assoc (natAbs z) (total natAbs zs) room) at f) in
+    let now : Takes rest u = takes-change rest i c p m z t (omega arith) (record { contract-below = hc; member-below = omega arith; most-price = hp })
+    (rw (add-assoc (natAbs z) (total natAbs zs) room) at f) in
     rw (change-cons c p m z zs, each-append i one (changeLines c p (suc m) zs) t)
     (takes-lines c p hc hp zs room (i + length one) (suc m) u (rw (each-members i one t) (omega arith)) (omega (arith, change-most c p m z)) now)

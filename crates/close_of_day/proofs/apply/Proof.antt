@@ -1,10 +1,10 @@
-use Rattle.rules.specs.Ledger.{Tables, withHead, withPrices, withRows, withBook}
+use Rattle.rules.specs.Ledger.{withHead, withPrices, withRows, withBook}
 use Rattle.close_of_day.proofs.Closes.{close-last, close-next}
-use mathlib.Core.Path.{_≡_, refl, sym, ap, _∙_}
+use mathlib.Core.Path.{_≡_, sym, _∙_}
 use Prim.Native.Nat.{_+_, _-_}
 use native.Mathlib.Omega.{arith}
 use lib.ListN.{getD}
-use borrow.Author.Tests.{lt-ltb, le-ltb}
+use borrow.Author.Tests.{lt-ltb}
 use Rattle.rules.specs.Refusals.{closeSpec}
 use borrow.Author.Needs.{needs}
 use Rattle.close_of_day.proofs.apply.Statement.{statement}
@@ -90,13 +90,22 @@ same-length-5 c = search needs
 -- src/lib.rt:98:1
 returns-2 : tie.Need-returns-2
 returns-2 c =
-    let a = c .before .before .before .before .before .before .before .before .before .before .before .before .before .before .before .before .before .before .before .before .before .before .before .before .before .before .before .args in
+    let at-close = c .before .before .before .before .before .before .before .before in
+    let close = at-close .close in
+    let at-next = at-close .before .before .before .before .before .before .before in
+    let next = at-next .next in
+    let at-next-business-day = at-next .before .before in
+    let next-business-day = at-next-business-day .next-business-day in
+    let at-if1 = at-next-business-day .before .before .before .before .before in
+    let if1 = at-if1 .if1 in
+    let start = at-if1 .before .before .before .before .before in
+    let a = start .args in
     let h = a .head .now in
     let cut : 8 + getD h 2 0 - 8 ≡ getD h 2 0 = omega arith in
-    let found = rw cut at (sym (c .before .before .before .before .before .before .before .before .before .before .before .before .before .before .before .before .before .next-business-day .ensures) ∙ c .before .before .before .before .before .before .before .before .before .before .before .before .before .before .before .next .given .1) in
+    let found = rw cut at (sym (next-business-day .ensures) ∙ next .given .1) in
     λ t.
     let u = withHead h (withPrices (a .prices .now) (withRows (a .lots .now) (a .value .now) (withBook (a .book .now) t))) in
-    rw (c .before .before .before .before .before .before .before .before .close .ensures t) (sym (close-next u (a .time) _ (c .before .before .before .before .before .before .before .before .before .before .before .before .before .before .before .before .before .before .before .before .before .before .if1 .left) found))
+    rw (close .ensures t) (sym (close-next u (a .time) _ (if1 .left) found))
 
 -- src/lib.rt:98:1
 same-length-6 : tie.Need-same-length-6

@@ -5,19 +5,38 @@ use Rattle.close_out.proofs.netting.book_netting.Statement.{statement}
 use Rattle.close_out.proofs.netting.book_netting.Tie as tie
 
 array-borrow-prefix-given-longs : tie.Need-array-borrow-prefix-given-longs
-array-borrow-prefix-given-longs c = omega (arith, c .before .before .before .before .before .before .before .before .before .pre .0 .head-fit .most-members, c .before .before .before .before .before .before .before .before .before .pre .1 .2)
+array-borrow-prefix-given-longs c =
+    let start = c .before .before .before .before .before .before .before .before .before in
+    omega (arith, start .pre .0 .head-fit .most-members, start .pre .1 .2)
 
 slice-aggregate-net-columns : tie.Need-slice-aggregate-net-columns
-slice-aggregate-net-columns c = simp length-take (omega (arith, c .before .before .before .before .before .before .before .before .before .before .pre .0 .head-fit .most-members, c .before .before .before .before .before .before .before .before .before .before .pre .1 .2))
+slice-aggregate-net-columns c =
+    let start = c .before .before .before .before .before .before .before .before .before .before in
+    simp length-take (omega (arith, start .pre .0 .head-fit .most-members, start .pre .1 .2))
 
 array-borrow-prefix-given-shorts : tie.Need-array-borrow-prefix-given-shorts
-array-borrow-prefix-given-shorts c = omega (arith, c .before .before .before .before .before .before .before .before .before .before .pre .0 .head-fit .most-members, c .before .before .before .before .before .before .before .before .before .before .pre .1 .2)
+array-borrow-prefix-given-shorts c =
+    let start = c .before .before .before .before .before .before .before .before .before .before in
+    omega (arith, start .pre .0 .head-fit .most-members, start .pre .1 .2)
 
 slice-aggregate-net-columns-2 : tie.Need-slice-aggregate-net-columns-2
-slice-aggregate-net-columns-2 c = simp length-take (omega (arith, c .before .before .before .before .before .before .before .before .before .before .before .pre .0 .head-fit .most-members, c .before .before .before .before .before .before .before .before .before .before .before .pre .1 .2))
+slice-aggregate-net-columns-2 c =
+    let start = c .before .before .before .before .before .before .before .before .before .before .before in
+    simp length-take (omega (arith, start .pre .0 .head-fit .most-members, start .pre .1 .2))
 
 net-columns-requires : tie.Need-net-columns-requires
-net-columns-requires c κs = (c .before .before .before .before .before .before .before .before .before .before .before .pre .0, (c .before .before .before .before .before .before .before .before .before .before .before .pre .1, (simp length-take (omega (arith, c .before .before .before .before .before .before .before .before .before .before .before .pre .0 .head-fit .most-members, c .before .before .before .before .before .before .before .before .before .before .before .pre .1 .2)), simp length-take (omega (arith, c .before .before .before .before .before .before .before .before .before .before .before .pre .0 .head-fit .most-members, c .before .before .before .before .before .before .before .before .before .before .before .pre .1 .2)))))
+net-columns-requires c κs =
+    let start = c .before .before .before .before .before .before .before .before .before .before .before in (
+      start .pre .0,
+      (
+        start .pre .1,
+        (
+          simp length-take (omega (arith, start .pre .0 .head-fit .most-members, start .pre .1 .2)),
+          simp length-take
+              (omega (arith, start .pre .0 .head-fit .most-members, start .pre .1 .2)),
+        ),
+      ),
+    )
 
 same-length : tie.Need-same-length
 same-length c = search needs
