@@ -32,7 +32,8 @@ fn book_change(
     requires { ⌜ (i < leastLines) × (contract < contractCount) × (price .0 ≤ mostPrice) × (member < membersIn (now head)) ⌝ }
     ensures { λ r. ⌜ r ≡ i + length (changeLines contract (price .0) member ((pos gain -ℤ pos loss) ∷ [])) ⌝ }
     ensures { λ _. ⌜ ((t : Tables) → withHead (now (head .exit)) (withRows (now (lots .exit)) (now (value .exit)) (withLines (now (lines .exit)) t))
-        ≡ withEach i (changeLines contract (price .0) member ((pos gain -ℤ pos loss) ∷ [])) (withHead (now (head .entry)) (withRows (now (lots .entry)) (now (value .entry)) (withLines (now (lines .entry)) t)))) ⌝ }
+        ≡ withEach i (changeLines contract (price .0) member ((pos gain -ℤ pos loss) ∷ []))
+        (withHead (now (head .entry)) (withRows (now (lots .entry)) (now (value .entry)) (withLines (now (lines .entry)) t)))) ⌝ }
 {
     if gain == loss {
         return i;
@@ -78,7 +79,8 @@ pub fn book_changes(
     requires { ⌜ (length (now gains) ≡ membersIn (now head)) × (length (now losses) ≡ length (now gains)) ⌝ }
     ensures { λ r. ⌜ r ≡ i + length (changeLines contract (price .0) 0 (changes (now (gains .entry)) (now (losses .entry)))) ⌝ }
     ensures { λ _. ⌜ ((t : Tables) → withHead (now (head .exit)) (withRows (now (lots .exit)) (now (value .exit)) (withLines (now (lines .exit)) t))
-        ≡ withEach i (changeLines contract (price .0) 0 (changes (now (gains .entry)) (now (losses .entry)))) (withHead (now (head .entry)) (withRows (now (lots .entry)) (now (value .entry)) (withLines (now (lines .entry)) t)))) ⌝ }
+        ≡ withEach i (changeLines contract (price .0) 0 (changes (now (gains .entry)) (now (losses .entry))))
+        (withHead (now (head .entry)) (withRows (now (lots .entry)) (now (value .entry)) (withLines (now (lines .entry)) t)))) ⌝ }
 {
     let mut at = i;
     let mut member: usize = 0;

@@ -34,7 +34,8 @@ pub fn book_steps(
     ensures { λ _. ⌜ now (longs .exit) ≡ less (now (longs .entry)) (givenUp netted (now (longs .entry))) ⌝ }
     ensures { λ _. ⌜ now (shorts .exit) ≡ less (now (shorts .entry)) (givenUp netted (now (shorts .entry))) ⌝ }
     ensures { λ _. ⌜ ((t : Tables) → withHead (now (head .exit)) (withRows (now (lots .exit)) (now (value .exit)) (withLines (now (lines .exit)) t))
-        ≡ withEach 0 (stepLines contract (price .0) netted left (now (longs .entry)) (now (shorts .entry)) (now (weights .entry))) (withHead (now (head .entry)) (withRows (now (lots .entry)) (now (value .entry)) (withLines (now (lines .entry)) t)))) ⌝ }
+        ≡ withEach 0 (stepLines contract (price .0) netted left (now (longs .entry)) (now (shorts .entry)) (now (weights .entry)))
+        (withHead (now (head .entry)) (withRows (now (lots .entry)) (now (value .entry)) (withLines (now (lines .entry)) t)))) ⌝ }
 {
     let first = book_netting(
         &mut *head,
