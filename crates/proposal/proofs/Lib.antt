@@ -1,8 +1,9 @@
 pub mod Lists
 pub mod Named
 pub mod Together
-pub mod Rising
-pub mod Months
+pub mod SidePlaces
+pub mod Sums
+pub mod LastRanks
 pub mod Checks
 pub mod Takes
 pub mod Taken

@@ -1,9 +1,9 @@
 -- Tables that can take lines still can, with less room, after one. Assumes nothing.
-use Prim.Native.Nat.{ℕ, suc, _+_, _*_, _-_, _≤_, _<_}
-use mathlib.Core.Path.{_≡_, refl, _∙_}
-use mathlib.Core.List.{List, [], _∷_}
+use Prim.Native.Nat.{ℕ, _+_, _*_, _≤_, _<_}
+use mathlib.Core.Path.{_≡_}
+use mathlib.Core.List.{List}
 use native.Mathlib.Omega.{arith}
-use native.Mathlib.Nat.{zero-add, mul-le-mul-left}
+use native.Mathlib.Nat.{mul-le-mul-left}
 use lib.IntN.{ℤ, pos, natAbs}
 use lib.ListN.{getD, take, length-set}
 use lib.Seq.{getD-set-same, getD-set-other, drop-set-lt}

@@ -37,7 +37,8 @@ pub fn are_rising(numbers: &[u64]) -> bool
 // Whether a field of the legs' orders, their member or contract, is not the same in all of them.
 pub fn do_two_occur(book: &[u64], places: &[usize], field: usize) -> bool
     requires { ⌜ (bookLength ≤ length (now book)) × (field < orderWidth) × (1 ≤ length (now places)) × PlacesFit mostOrders (now places) ⌝ }
-    ensures { λ r. ⌜ r ≡ any (λ p. not (eqb (getD (now (book .entry)) (p * orderWidth + field) 0) (getD (now (book .entry)) (getD (now (places .entry)) 0 0 * orderWidth + field) 0))) (now (places .entry)) ⌝ }
+    ensures { λ r. ⌜ r ≡ any (λ p. not (eqb (getD (now (book .entry)) (p * orderWidth + field) 0)
+        (getD (now (book .entry)) (getD (now (places .entry)) 0 0 * orderWidth + field) 0))) (now (places .entry)) ⌝ }
 {
     let first = book[places[0] * ORDER_WIDTH + field];
     let mut found = false;

@@ -1,0 +1,48 @@
+-- No field is at fault exactly if the bytes hold them all and each is in its range. Assumes nothing.
+use Prim.Native.Nat.{ℕ, _+_, _≤_, _<_}
+use mathlib.Core.Bool.{Bool, true, false, cond, _&&_}
+use mathlib.Core.List.{List, [], _∷_, _++_}
+use mathlib.Core.Path.{_≡_, refl, sym, _∙_}
+use native.Mathlib.Nat.{add-assoc, add-zero}
+use native.Mathlib.Omega.{arith}
+use borrow.Author.Tests.{le-ltb, lt-ltb, le-leb, lt-leb}
+use lib.Dec.{leb, ltb}
+use lib.ListN.{length}
+use Rattle.arith.proofs.Tests.{true-or, le-or-lt, and-false}
+use Rattle.listing.specs.declared.field.Field.{Field}
+use Rattle.listing.specs.declared.field.Verdict.{Verdict}
+use Rattle.listing.specs.declared.field.Verdict.the-variants.{OutOfRange}
+use Rattle.listing.specs.Fields.{sizeOf, numberAt, quantityOf, rangeOf, within, dayVerdict, verdictOf, passes, Fault, isNone, faultIn}
+
+unfoldable pub sizes : List Field → ℕ
+sizes [] = 0
+sizes (f ∷ fs) = sizeOf f + sizes fs
+
+-- Whatever the bytes hold.
+unfoldable pub inRanges : ℕ → List ℕ → ℕ → List Field → Bool
+inRanges n s place [] = true
+inRanges n s place (f ∷ fs) =
+    let v = numberAt s place (sizeOf f) in
+    within (rangeOf n s place f) v && (passes (dayVerdict s (quantityOf f) v) && inRanges n s (place + sizeOf f) fs)
+
+verdict-passes : (w : Bool) (d : Verdict) (a b : Fault) → isNone b ≡ false → isNone (cond (passes (cond w d OutOfRange)) a b) ≡ w && (passes d && isNone a)
+verdict-passes false d a b g = g
+verdict-passes true d a b g = true-or (passes d) (λ h. rw h refl) (λ h. rw h g)
+
+-- The bytes' length is tested first.
+length-first : (w d l r : Bool) → w && (d && (l && r)) ≡ l && (w && (d && r))
+length-first true true l r = refl
+length-first true false l r = sym (and-false l)
+length-first false d l r = sym (and-false l)
+
+pub none-is : (n : ℕ) (s : List ℕ) (place : ℕ) (fs : List Field) → place ≤ length s
+    → isNone (faultIn n s place fs) ≡ leb (place + sizes fs) (length s) && inRanges n s place fs
+unfolding faultIn inRanges sizes verdictOf
+none-is n s place [] h = rw (add-zero place, le-leb place (length s) h)
+none-is n s place (f ∷ fs) h =
+    let v = numberAt s place (sizeOf f) in
+    le-or-lt (place + sizeOf f) (length s)
+    (λ k. rw (le-ltb (length s) (place + sizeOf f) k)
+    (verdict-passes (within (rangeOf n s place f) v) (dayVerdict s (quantityOf f) v) (faultIn n s (place + sizeOf f) fs) _ refl
+    ∙ rw (none-is n s (place + sizeOf f) fs k, add-assoc place (sizeOf f) (sizes fs)) (length-first (within (rangeOf n s place f) v) (passes (dayVerdict s (quantityOf f) v)) (leb (place + (sizeOf f + sizes fs)) (length s)) (inRanges n s (place + sizeOf f) fs))))
+    (λ k. rw (lt-ltb (length s) (place + sizeOf f) k, lt-leb (place + (sizeOf f + sizes fs)) (length s) (omega arith)) refl)

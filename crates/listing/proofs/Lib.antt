@@ -1,0 +1,5 @@
+pub mod Faults
+pub mod RecordFaults
+pub mod Spelled
+pub mod FieldPlaces
+pub mod FieldSizes

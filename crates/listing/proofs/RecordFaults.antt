@@ -1,0 +1,206 @@
+-- A record is sound exactly if no field is at fault and no bytes are past its fields. Assumes nothing.
+use Prim.Native.Nat.{ℕ, zero, suc, _+_, _*_, _-_, _≤_, _<_}
+use mathlib.Core.Bool.{Bool, true, false, cond, _&&_, and-assoc}
+use mathlib.Core.List.{List, [], _∷_, map}
+use mathlib.Core.Path.{_≡_, refl, sym, _∙_}
+use native.Mathlib.Nat.{zero-add}
+use native.Mathlib.Omega.{arith}
+use borrow.Author.Tests.{eq-eqb, ne-eqb, le-leb, lt-leb, le-ltb, leb-true, ltb-true, lt-ltb}
+use lib.Dec.{eqb, leb, ltb}
+use lib.ListN.{length, getD}
+use Rattle.arith.specs.Lists.{from, every}
+use Rattle.arith.proofs.Columns.{mapped-length}
+use Rattle.arith.proofs.Tests.{same-or, le-or-lt, true-or, same-test, and-false, and-true, and-left}
+use Rattle.codec.proofs.Fields.{unknown-kind}
+use Rattle.rules.specs.declared.event.Event.{Event}
+use Rattle.rules.specs.declared.event.Event.the-variants.{Submit, Cancel, DayLimits, Proposal, Default, CloseOut, CloseOfDay}
+use Rattle.rules.specs.declared.event.Leg.{Leg}
+use Rattle.rules.specs.declared.event.Reading.{Reading}
+use Rattle.rules.specs.declared.event.Reading.the-variants.{Sound, Unsound}
+use Rattle.rules.specs.Ranges.{mostMembers, mostPrice, leastLegs, mostLegs}
+use Rattle.rules.specs.Header.{u16At, u32At, membersSound}
+use Rattle.rules.specs.Records.{recordLength, frontLength, timeSound, contractSound, sideSound, orderKindSound, priceSound, lotsSound, dayLimitsSound, numberSound, legSound, legAt, legPlace, submissionOf, submitOf, cancellationOf, newDayLimitsOf, closeOutOf, fieldsByKind, fieldsOf as readFields, legsOf, eventSound, ifSound, readOf}
+use Rattle.listing.specs.Exact.{isSound, RecordExact}
+use Rattle.listing.specs.Fields.{legFields, fieldsOfKind, fieldsOf, numberAt, range, within, recordShape, isNone, faultOf}
+use Rattle.listing.proofs.Faults.{sizes, inRanges, none-is}
+
+-- ---- tests in another order
+sound-event : (n : ℕ) (legs : List Leg) (e : Event) → isSound (ifSound n legs (Sound e)) ≡ eventSound n e legs
+sound-event n legs e = true-or (eventSound n e legs) (λ h. rw h refl) (λ h. rw h refl)
+
+-- A record of a kind, whose length is m.
+of-length : (len m : ℕ) (n : ℕ) (legs : List Leg) (r : Reading) (ranges : Bool) → isSound (ifSound n legs r) ≡ ranges
+    → isSound (ifSound n legs (cond (eqb len m) r Unsound)) ≡ leb m len && ranges && leb len m
+of-length len m n legs r ranges h =
+    same-or len m (λ e. rw (e, eq-eqb m m refl, le-leb m m (omega arith)) (h ∙ sym (and-true ranges)))
+    (λ e. rw (ne-eqb len m e)
+    (le-or-lt m len (λ k. rw (lt-leb len m (omega arith)) (sym (and-false (leb m len && ranges)))) (λ k. rw (lt-leb m len k) refl)))
+
+-- ---- by kind
+from-zero : (v : ℕ) → leb 0 v ≡ true
+from-zero v = le-leb 0 v (omega arith)
+
+below : (v most : ℕ) → ltb v (suc most) ≡ leb v most
+below v most = le-or-lt v most (λ k. rw (le-leb v most k, lt-ltb v (suc most) (omega arith)) refl) (λ k. rw (lt-leb v most k, le-ltb v (suc most) (omega arith)) refl)
+
+and-assoc-like : (d o p l : Bool) → (d && o) && (p && l && true) ≡ d && (o && (p && (l && true)))
+and-assoc-like d o p l = rw (and-assoc d o (p && l && true), and-assoc p l true) refl
+
+-- The reader tests side and order kind first.
+submit-order : (t m c d o p l : Bool) → (d && o) && (t && m && c && p && l && true) ≡ t && (m && (c && (d && (o && (p && (l && true))))))
+submit-order true true true d o p l = and-assoc-like d o p l
+submit-order true true false d o p l = and-false (d && o)
+submit-order true false c d o p l = and-false (d && o)
+submit-order false m c d o p l = and-false (d && o)
+
+gated : (g : Bool) (n : ℕ) (legs : List Leg) (e : Event) → isSound (ifSound n legs (cond g (Sound e) Unsound)) ≡ g && eventSound n e legs
+gated true n legs e = sound-event n legs e
+gated false n legs e = refl
+
+order-range : (v : ℕ) → leb v 4294967295 ≡ ltb v 4294967296
+order-range v = sym (below v 4294967295)
+
+-- A low that is at most the high is at most the most that a high may be.
+limits-order : (c : Bool) (low high : ℕ) → c && dayLimitsSound low high && true ≡ c && (priceSound low && (leb low high && leb high mostPrice && true))
+limits-order false low high = refl
+limits-order true low high =
+    le-or-lt low high
+    (λ h. le-or-lt high mostPrice (λ k. rw (le-leb low high h, le-leb high mostPrice k, le-leb low mostPrice (omega arith)) (simp and-assoc))
+    (λ k. rw (lt-leb high mostPrice k, le-leb low high h, and-false (leb 1 low && true)) (sym (and-false (priceSound low)))))
+    (λ h. rw (lt-leb low high h, and-false (leb 1 low)) (sym (and-false (priceSound low))))
+
+leg-order : (o l p rest : Bool) → o && l && p && rest ≡ o && (l && (p && rest))
+leg-order o l p rest = simp and-assoc
+
+legs-ranges : (n : ℕ) (s : List ℕ) (k a place : ℕ) → place ≡ legPlace a → inRanges n s place (legFields k) ≡ every legSound (map (λ j. legAt s (legPlace j)) (from a k))
+unfolding legFields inRanges within numberAt every from
+legs-ranges n s zero a place e = refl
+legs-ranges n s (suc k) a place e =
+    let lots : place + 4 ≡ legPlace a + 4 = omega arith in
+    let price : place + 4 + 2 ≡ legPlace a + 6 = omega arith in
+    rw (price, e, from-zero (u32At s (legPlace a)), order-range (u32At s (legPlace a)), legs-ranges n s k (suc a) (legPlace a + 6 + 4) (omega arith)) (sym (leg-order (numberSound (u32At s (legPlace a))) (lotsSound (u16At s (legPlace a + 4))) (priceSound (u32At s (legPlace a + 6))) (every legSound (map (λ j. legAt s (legPlace j)) (from (suc a) k)))))
+
+leg-sizes : (k : ℕ) → sizes (legFields k) ≡ 10 * k
+unfolding sizes legFields
+leg-sizes zero = refl
+leg-sizes (suc k) = rw (leg-sizes k) (omega arith)
+
+module _ (n : ℕ) (s : List ℕ) (some : 1 ≤ n) where
+  member-range : (m : ℕ) → leb m (n - 1) ≡ ltb m n
+  member-range m = le-or-lt m (n - 1) (λ k. rw (le-leb m (n - 1) k, lt-ltb m n (omega arith)) refl) (λ k. rw (lt-leb m (n - 1) k, le-ltb m n (omega arith)) refl)
+
+  Ranges : ℕ → List Leg → Reading → Type 0
+  Ranges kind legs r = getD s 0 0 ≡ kind → isSound (ifSound n legs r) ≡ inRanges n s 0 (fieldsOf (recordShape s))
+
+  submit-ranges : Ranges 1 [] (submitOf s)
+  unfolding Ranges fieldsOf fieldsOfKind inRanges within numberAt eventSound
+  submit-ranges e =
+      rw e
+      (simp (from-zero, member-range)
+      (gated (sideSound (getD s 7 0) && orderKindSound (getD s 8 0)) n [] (Submit (submissionOf s))
+      ∙ submit-order (timeSound (u32At s 1)) (ltb (getD s 5 0) n) (contractSound (getD s 6 0)) (sideSound (getD s 7 0)) (orderKindSound (getD s 8 0)) (priceSound (u32At s 9)) (lotsSound (u16At s 13))))
+
+  cancel-ranges : Ranges 2 [] (Sound (Cancel (cancellationOf s)))
+  unfolding Ranges fieldsOf fieldsOfKind inRanges within numberAt eventSound
+  cancel-ranges e =
+      rw e
+      (simp (from-zero, member-range, order-range) (sound-event n [] (Cancel (cancellationOf s)) ∙ simp and-assoc))
+
+  limits-ranges : Ranges 3 [] (Sound (DayLimits (newDayLimitsOf s)))
+  unfolding Ranges fieldsOf fieldsOfKind inRanges within numberAt eventSound
+  limits-ranges e = rw e (simp from-zero (sound-event n [] (DayLimits (newDayLimitsOf s)) ∙ limits-order (contractSound (getD s 1 0)) (u32At s 2) (u32At s 6)))
+
+  proposal-ranges : Ranges 4 (map (λ j. legAt s (legPlace j)) (from 0 (getD s 1 0))) (Sound (Proposal (getD s 1 0)))
+  unfolding Ranges fieldsOf fieldsOfKind inRanges within numberAt eventSound
+  proposal-ranges e =
+      let k = getD s 1 0 in
+      let legs = map (λ j. legAt s (legPlace j)) (from 0 k) in
+      rw e
+      (rw (legs-ranges n s k 0 2 refl)
+      (sound-event n legs (Proposal k)
+      ∙ rw (mapped-length (λ j. legAt s (legPlace j)) 0 k, eq-eqb k k refl) (rw (and-true (leb leastLegs k && leb k mostLegs)) refl)))
+
+  default-ranges : Ranges 5 [] (Sound (Default (getD s 1 0)))
+  unfolding Ranges fieldsOf fieldsOfKind inRanges within numberAt eventSound
+  default-ranges e = rw e (simp (from-zero, member-range) (sound-event n [] (Default (getD s 1 0)) ∙ simp and-assoc))
+
+  close-out-ranges : Ranges 6 [] (Sound (CloseOut (closeOutOf s)))
+  unfolding Ranges fieldsOf fieldsOfKind inRanges within numberAt eventSound
+  close-out-ranges e = rw e (simp from-zero (sound-event n [] (CloseOut (closeOutOf s)) ∙ simp and-assoc))
+
+  close-ranges : Ranges 7 [] (Sound (CloseOfDay (u32At s 1)))
+  unfolding Ranges fieldsOf fieldsOfKind inRanges within numberAt eventSound
+  close-ranges e = rw e (simp from-zero (sound-event n [] (CloseOfDay (u32At s 1)) ∙ simp and-assoc))
+
+  -- ---- whichever kind it is
+  Exact : Type 0
+  Exact = isSound (readOf n s) ≡ isNone (faultOf n s) && leb (length s) (frontLength s)
+
+  module _ (members : membersSound n ≡ true) where
+    of-kind : (kind m : ℕ) (legs : List Leg) (r : Reading) → getD s 0 0 ≡ kind → readFields s ≡ cond (eqb (length s) m) r Unsound → legsOf s ≡ legs
+        → sizes (fieldsOf (recordShape s)) ≡ m → frontLength s ≡ m → Ranges kind legs r → Exact
+    unfolding Exact readOf Ranges
+    of-kind kind m legs r e reads has takes front ranges =
+        rw (members, reads, has, none-is n s 0 (fieldsOf (recordShape s)) (omega arith), takes, zero-add m, front) (of-length (length s) m n legs r (inRanges n s 0 (fieldsOf (recordShape s))) (ranges e))
+
+    submit-exact : getD s 0 0 ≡ 1 → Exact
+    unfolding readFields fieldsByKind recordLength legsOf fieldsOf fieldsOfKind sizes
+    submit-exact e = of-kind 1 15 [] (submitOf s) e (rw e refl) (rw e refl) (rw e refl) (rw e refl) submit-ranges
+
+    cancel-exact : getD s 0 0 ≡ 2 → Exact
+    unfolding readFields fieldsByKind recordLength legsOf fieldsOf fieldsOfKind sizes
+    cancel-exact e = of-kind 2 10 [] (Sound (Cancel (cancellationOf s))) e (rw e refl) (rw e refl) (rw e refl) (rw e refl) cancel-ranges
+
+    limits-exact : getD s 0 0 ≡ 3 → Exact
+    unfolding readFields fieldsByKind recordLength legsOf fieldsOf fieldsOfKind sizes
+    limits-exact e = of-kind 3 10 [] (Sound (DayLimits (newDayLimitsOf s))) e (rw e refl) (rw e refl) (rw e refl) (rw e refl) limits-ranges
+
+    proposal-exact : getD s 0 0 ≡ 4 → Exact
+    unfolding readFields fieldsByKind recordLength legsOf fieldsOf fieldsOfKind sizes
+    proposal-exact e =
+        let k = getD s 1 0 in
+        of-kind 4 (legPlace k) (map (λ j. legAt s (legPlace j)) (from 0 k)) (Sound (Proposal k)) e (rw e refl) (rw e refl)
+        (rw (e, leg-sizes k) (omega arith)) (rw e refl) proposal-ranges
+
+    default-exact : getD s 0 0 ≡ 5 → Exact
+    unfolding readFields fieldsByKind recordLength legsOf fieldsOf fieldsOfKind sizes
+    default-exact e = of-kind 5 2 [] (Sound (Default (getD s 1 0))) e (rw e refl) (rw e refl) (rw e refl) (rw e refl) default-ranges
+
+    close-out-exact : getD s 0 0 ≡ 6 → Exact
+    unfolding readFields fieldsByKind recordLength legsOf fieldsOf fieldsOfKind sizes
+    close-out-exact e = of-kind 6 4 [] (Sound (CloseOut (closeOutOf s))) e (rw e refl) (rw e refl) (rw e refl) (rw e refl) close-out-ranges
+
+    close-exact : getD s 0 0 ≡ 7 → Exact
+    unfolding readFields fieldsByKind recordLength legsOf fieldsOf fieldsOfKind sizes
+    close-exact e = of-kind 7 5 [] (Sound (CloseOfDay (u32At s 1))) e (rw e refl) (rw e refl) (rw e refl) (rw e refl) close-ranges
+
+    -- Of no kind: unsound, and the kind is out of its range.
+    unknown-exact : fieldsByKind (getD s 0 0) s ≡ Unsound → within (range 1 7) (getD s 0 0) ≡ false → Exact
+    unfolding Exact readOf readFields fieldsOf inRanges numberAt
+    unknown-exact reads out =
+        rw (members, none-is n s 0 (fieldsOf (recordShape s)) (omega arith), out, reads, and-false (leb (0 + sizes (fieldsOf (recordShape s))) (length s)))
+        (true-or (eqb (length s) (frontLength s)) (λ h. rw h refl) (λ h. rw h refl))
+
+above-four : (k : ℕ) → 1 ≤ k → (k ≡ 1 → ⊥) → (k ≡ 2 → ⊥) → (k ≡ 3 → ⊥) → (k ≡ 4 → ⊥) → 4 < k
+above-four k h a b c d = omega arith
+
+above-seven : (k : ℕ) → 4 < k → (k ≡ 5 → ⊥) → (k ≡ 6 → ⊥) → (k ≡ 7 → ⊥) → 7 < k
+above-seven k h e f g = omega arith
+
+no-kind : (k : ℕ) → (k ≡ 1 → ⊥) → (k ≡ 2 → ⊥) → (k ≡ 3 → ⊥) → (k ≡ 4 → ⊥) → (k ≡ 5 → ⊥) → (k ≡ 6 → ⊥) → (k ≡ 7 → ⊥) → within (range 1 7) k ≡ false
+unfolding within
+no-kind k a b c d e f g = le-or-lt 1 k (λ h. rw (le-leb 1 k h, lt-leb k 7 (above-seven k (above-four k h a b c d) e f g)) refl) (λ h. rw (lt-leb 1 k h) refl)
+
+pub record-exact : RecordExact
+unfolding Exact
+record-exact n s members =
+    let some : 1 ≤ n = leb-true 1 n (and-left (leb 1 n) (leb n mostMembers) members) in
+    let k = getD s 0 0 in
+    same-or k 1 (submit-exact n s some members)
+    (λ a. same-or k 2 (cancel-exact n s some members)
+    (λ b. same-or k 3 (limits-exact n s some members)
+    (λ c. same-or k 4 (proposal-exact n s some members)
+    (λ d. same-or k 5 (default-exact n s some members)
+    (λ e. same-or k 6 (close-out-exact n s some members)
+    (λ f. same-or k 7 (close-exact n s some members)
+    (λ g. unknown-exact n s some members (unknown-kind k a b c d e f g s) (no-kind k a b c d e f g))))))))

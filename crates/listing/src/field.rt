@@ -1,0 +1,67 @@
+// The fields of a header and of a record.
+pub enum Field {
+    // Of a header.
+    LetterV,
+    LetterJ,
+    LetterR,
+    Version,
+    FirstYear,
+    StartDay,
+    Members,
+    HolidayCount,
+    Holiday,
+    Limit,
+    // Of a record.
+    Kind,
+    Time,
+    Member,
+    Contract,
+    Side,
+    OrderKind,
+    Price,
+    Lots,
+    Order,
+    Low,
+    High,
+    Legs,
+    Ratio,
+}
+
+// What a field's number stands for.
+pub enum Quantity {
+    Letter,
+    Number,
+    StartDayNumber,
+    HolidayNumber,
+    KindNumber,
+    SideNumber,
+    OrderKindNumber,
+    Seconds,
+    ContractNumber,
+    Kurus,
+}
+
+// Which fields the bytes have, one after the other.
+pub enum Shape {
+    // With how many holidays and members.
+    Header(u64, u64),
+    // With its kind and, of a proposal, how many legs.
+    Record(u64, u64),
+}
+
+pub struct Range {
+    pub least: u64,
+    pub most: u64,
+}
+
+// What is found of one field.
+pub enum Verdict {
+    Passes,
+    // The bytes end in it or before it.
+    Cut,
+    OutOfRange,
+    // A start day on a Saturday or Sunday.
+    NoBusinessDay,
+    // A holiday on the start day.
+    OnStartDay,
+}

@@ -1,0 +1,274 @@
+// The size, the number and the range of a field, and what is found of it.
+ghost use mathlib.Core.Path.{_≡_};
+ghost use mathlib.Core.Bool.{_||_};
+ghost use Prim.Native.Nat.{_+_, _-_, _≤_, _<_};
+ghost use lib.ListN.{length};
+ghost use Rattle.rules.specs.Days.{saturday, sunday};
+ghost use Rattle.rules.specs.Header.{u16At, u32At};
+ghost use Rattle.listing.specs.Fields.{sizeOf, IsSize, quantityOf, range as rangeFrom, numberAt, spanRange, holidayRange, rangeOf, within, dayVerdict, verdictOf};
+ghost use Rattle.listing.specs.Words.{otherWayRound};
+use crate::field::Field;
+use crate::field::Quantity;
+use crate::field::Range;
+use crate::field::Verdict;
+use big_endian::u8_at;
+use big_endian::u8_or_zero;
+use big_endian::u16_at;
+use big_endian::u32_at;
+use calendar::is_first_year_sound;
+use calendar::span_of;
+use rules::kinds::CLOSE_OF_DAY;
+use rules::kinds::SUBMIT;
+use rules::ranges::LAST_CONTRACT;
+use rules::ranges::LAST_SECOND;
+use rules::ranges::LEAST_FIRST_YEAR;
+use rules::ranges::LEAST_LEGS;
+use rules::ranges::MOST_FIRST_YEAR;
+use rules::ranges::MOST_HOLIDAYS;
+use rules::ranges::MOST_LEGS;
+use rules::ranges::MOST_LIMIT;
+use rules::ranges::MOST_LOTS;
+use rules::ranges::MOST_MEMBERS;
+use rules::ranges::MOST_PRICE;
+use rules::ranges::MOST_RATIO;
+
+const FIRST_YEAR_PLACE: usize = 5;
+
+const START_DAY_PLACE: usize = 7;
+
+const FIRST_HOLIDAY_PLACE: usize = 11;
+
+const LOW_PLACE: usize = 2;
+
+const LAST_ORDER_NUMBER: u64 = 4294967295;
+
+pub fn size_of(field: Field) -> usize
+    ensures { λ r. ⌜ (r ≡ sizeOf field) × IsSize r ⌝ }
+{
+    match field {
+        Field::LetterV => 1,
+        Field::LetterJ => 1,
+        Field::LetterR => 1,
+        Field::Version => 2,
+        Field::FirstYear => 2,
+        Field::StartDay => 2,
+        Field::Members => 1,
+        Field::HolidayCount => 1,
+        Field::Holiday => 2,
+        Field::Limit => 4,
+        Field::Kind => 1,
+        Field::Time => 4,
+        Field::Member => 1,
+        Field::Contract => 1,
+        Field::Side => 1,
+        Field::OrderKind => 1,
+        Field::Price => 4,
+        Field::Lots => 2,
+        Field::Order => 4,
+        Field::Low => 4,
+        Field::High => 4,
+        Field::Legs => 1,
+        Field::Ratio => 2,
+    }
+}
+
+pub fn quantity_of(field: Field) -> Quantity
+    ensures { λ r. ⌜ r ≡ quantityOf field ⌝ }
+{
+    match field {
+        Field::LetterV => Quantity::Letter,
+        Field::LetterJ => Quantity::Letter,
+        Field::LetterR => Quantity::Letter,
+        Field::Version => Quantity::Number,
+        Field::FirstYear => Quantity::Number,
+        Field::StartDay => Quantity::StartDayNumber,
+        Field::Members => Quantity::Number,
+        Field::HolidayCount => Quantity::Number,
+        Field::Holiday => Quantity::HolidayNumber,
+        Field::Limit => Quantity::Number,
+        Field::Kind => Quantity::KindNumber,
+        Field::Time => Quantity::Seconds,
+        Field::Member => Quantity::Number,
+        Field::Contract => Quantity::ContractNumber,
+        Field::Side => Quantity::SideNumber,
+        Field::OrderKind => Quantity::OrderKindNumber,
+        Field::Price => Quantity::Kurus,
+        Field::Lots => Quantity::Number,
+        Field::Order => Quantity::Number,
+        Field::Low => Quantity::Kurus,
+        Field::High => Quantity::Kurus,
+        Field::Legs => Quantity::Number,
+        Field::Ratio => Quantity::Number,
+    }
+}
+
+// The number of the field at a place.
+pub fn number_at(bytes: &[u8], place: usize, size: usize) -> u64
+    requires { ⌜ (place + size ≤ length (now bytes)) × IsSize size ⌝ }
+    ensures { λ r. ⌜ (r ≡ numberAt (now (bytes .entry)) place size) × (r < 4294967296) ⌝ }
+{
+    if size == 1 {
+        return u8_at(bytes, place);
+    }
+    if size == 2 {
+        return u16_at(bytes, place);
+    }
+    u32_at(bytes, place)
+}
+
+fn u16_or_zero(bytes: &[u8], place: usize) -> u64
+    requires { ⌜ place < 65536 ⌝ }
+    ensures { λ r. ⌜ (r ≡ u16At (now (bytes .entry)) place) × (r < 65536) ⌝ }
+{
+    u8_or_zero(bytes, place) * 256 + u8_or_zero(bytes, place + 1)
+}
+
+fn u32_or_zero(bytes: &[u8], place: usize) -> u64
+    requires { ⌜ place < 65000 ⌝ }
+    ensures { λ r. ⌜ (r ≡ u32At (now (bytes .entry)) place) × (r < 4294967296) ⌝ }
+{
+    u16_or_zero(bytes, place) * 65536 + u16_or_zero(bytes, place + 2)
+}
+
+fn range(least: u64, most: u64) -> Range
+    ensures { λ r. ⌜ r ≡ rangeFrom least most ⌝ }
+{
+    Range {
+        least: least,
+        most: most,
+    }
+}
+
+// The days of the span; none where the first year is out of its range.
+fn span_range(first_year: u64) -> Range
+    ensures { λ r. ⌜ r ≡ spanRange «first_year» ⌝ }
+{
+    if !is_first_year_sound(first_year) {
+        return range(1, 0);
+    }
+    let span = span_of(first_year);
+    range(span.start.0, span.end.0 - 1)
+}
+
+// Each holiday is above the one before it.
+fn holiday_range(bytes: &[u8], place: usize) -> Range
+    requires { ⌜ place ≤ 65536 ⌝ }
+    ensures { λ r. ⌜ r ≡ holidayRange (now (bytes .entry)) place ⌝ }
+{
+    let span = span_range(u16_or_zero(bytes, FIRST_YEAR_PLACE));
+    if place <= FIRST_HOLIDAY_PLACE {
+        return span;
+    }
+    range(u16_or_zero(bytes, place - 2) + 1, span.most)
+}
+
+fn last_member(members: u64) -> u64
+    ensures { λ r. ⌜ r ≡ members - 1 ⌝ }
+{
+    if members == 0 {
+        return 0;
+    }
+    members - 1
+}
+
+pub fn range_of(members: u64, bytes: &[u8], place: usize, field: Field) -> Range
+    requires { ⌜ place ≤ 65536 ⌝ }
+    ensures { λ r. ⌜ r ≡ rangeOf members (now (bytes .entry)) place field ⌝ }
+{
+    match field {
+        Field::LetterV => range(86, 86),
+        Field::LetterJ => range(74, 74),
+        Field::LetterR => range(82, 82),
+        Field::Version => range(1, 1),
+        Field::FirstYear => range(LEAST_FIRST_YEAR, MOST_FIRST_YEAR),
+        Field::StartDay => span_range(u16_or_zero(bytes, FIRST_YEAR_PLACE)),
+        Field::Members => range(1, MOST_MEMBERS),
+        Field::HolidayCount => range(0, MOST_HOLIDAYS),
+        Field::Holiday => holiday_range(bytes, place),
+        Field::Limit => range(0, MOST_LIMIT),
+        Field::Kind => range(SUBMIT, CLOSE_OF_DAY),
+        Field::Time => range(0, LAST_SECOND),
+        Field::Member => range(0, last_member(members)),
+        Field::Contract => range(0, LAST_CONTRACT),
+        Field::Side => range(0, 1),
+        Field::OrderKind => range(0, 2),
+        Field::Price => range(1, MOST_PRICE),
+        Field::Lots => range(1, MOST_LOTS),
+        Field::Order => range(0, LAST_ORDER_NUMBER),
+        Field::Low => range(1, MOST_PRICE),
+        Field::High => range(u32_or_zero(bytes, LOW_PLACE), MOST_PRICE),
+        Field::Legs => range(LEAST_LEGS, MOST_LEGS),
+        Field::Ratio => range(1, MOST_RATIO),
+    }
+}
+
+pub fn is_within(range: Range, number: u64) -> bool
+    ensures { λ r. ⌜ r ≡ within range number ⌝ }
+{
+    (range.least <= number) & (number <= range.most)
+}
+
+fn is_weekend(day: u64) -> bool
+    ensures { λ r. ⌜ r ≡ saturday day || sunday day ⌝ }
+{
+    (day % 7 == 3) | (day % 7 == 4)
+}
+
+fn day_verdict(bytes: &[u8], quantity: Quantity, number: u64) -> Verdict
+    ensures { λ r. ⌜ r ≡ dayVerdict (now (bytes .entry)) quantity number ⌝ }
+{
+    match quantity {
+        Quantity::StartDayNumber => {
+            if is_weekend(number) {
+                Verdict::NoBusinessDay
+            } else {
+                Verdict::Passes
+            }
+        }
+        Quantity::HolidayNumber => {
+            if number == u16_or_zero(bytes, START_DAY_PLACE) {
+                Verdict::OnStartDay
+            } else {
+                Verdict::Passes
+            }
+        }
+        Quantity::Letter => Verdict::Passes,
+        Quantity::Number => Verdict::Passes,
+        Quantity::KindNumber => Verdict::Passes,
+        Quantity::SideNumber => Verdict::Passes,
+        Quantity::OrderKindNumber => Verdict::Passes,
+        Quantity::Seconds => Verdict::Passes,
+        Quantity::ContractNumber => Verdict::Passes,
+        Quantity::Kurus => Verdict::Passes,
+    }
+}
+
+// What is found of a field at a place of the bytes, in a ledger of that many members.
+pub fn verdict_of(members: u64, bytes: &[u8], place: usize, field: Field) -> Verdict
+    requires { ⌜ (place ≤ length (now bytes)) × (length (now bytes) ≤ 65536) ⌝ }
+    ensures { λ r. ⌜ r ≡ verdictOf members (now (bytes .entry)) place field ⌝ }
+{
+    let size = size_of(field);
+    if bytes.len() < place + size {
+        return Verdict::Cut;
+    }
+    let number = number_at(bytes, place, size);
+    if is_within(range_of(members, bytes, place, field), number) {
+        return day_verdict(bytes, quantity_of(field), number);
+    }
+    Verdict::OutOfRange
+}
+
+// The number whose bytes are the same the other way round.
+pub fn other_way_round(size: usize, number: u64) -> u64
+    ensures { λ r. ⌜ (r ≡ otherWayRound size number) × ((number < 4294967296) → r < 4294967296) ⌝ }
+{
+    if size == 1 {
+        return number;
+    }
+    if size == 2 {
+        return number % 256 * 256 + number / 256 % 256;
+    }
+    (number % 256 * 256 + number / 256 % 256) * 65536
+        + (number / 65536 % 256 * 256 + number / 16777216 % 256)
+}
