@@ -1,6 +1,5 @@
 // An event as a record, written by the codec, applied to the lent tables.
 use crate::places::read;
-use crate::records::at;
 use crate::show::line_count;
 use crate::show::number;
 use crate::show::show_answer;
@@ -13,6 +12,28 @@ use rules::Submission;
 use rules::layout::MEMBERS;
 
 const RECORD_LENGTH: usize = 122;
+
+const SUBMIT_LENGTH: usize = 15;
+
+const LAST_SECOND: u64 = 86399;
+
+fn byte_of(n: u64) -> u8 {
+    if n < 256 { n as u8 } else { 0 }
+}
+
+fn put_byte(out: &mut [u8], place: usize, byte: u8) {
+    if place < out.len() {
+        out[place] = byte;
+    }
+}
+
+fn put_submit(out: &mut [u8], n: [u64; 16]) {
+    let mut i: usize = 0;
+    while i < SUBMIT_LENGTH {
+        put_byte(&mut *out, i, byte_of(n[i]));
+        i += 1;
+    }
+}
 
 fn apply(
     head: &mut [u64],
@@ -30,30 +51,6 @@ fn apply(
     let end = line_count(written) as usize;
     if end <= RECORD_LENGTH {
         return engine::apply(head, prices, lots, value, book, lines, &out[..end]);
-    }
-    written
-}
-
-fn apply_with_byte(
-    head: &mut [u64],
-    prices: &mut [u64],
-    lots: &mut [i64],
-    value: &mut [i64],
-    book: &mut [u64],
-    lines: &mut [i64],
-    event: Event,
-    place: usize,
-    byte: u8,
-) -> Answer {
-    let mut out = [0u8; 122];
-    let members = read(&*head, MEMBERS);
-    let written = codec::write_record(members, event, codec::read_legs(b""), &mut out);
-    let end = line_count(written) as usize;
-    if end <= RECORD_LENGTH {
-        if place < RECORD_LENGTH {
-            out[place] = byte;
-            return engine::apply(head, prices, lots, value, book, lines, &out[..end]);
-        }
     }
     written
 }
@@ -94,29 +91,19 @@ pub fn ask(
     show_lines(&*lines, line_count(answer));
 }
 
-// The record with one byte put there by hand.
-pub fn ask_with_byte(
+// A submit whose bytes are numbers of the case file.
+pub fn ask_bytes(
     head: &mut [u64],
     prices: &mut [u64],
     lots: &mut [i64],
     value: &mut [i64],
     book: &mut [u64],
     lines: &mut [i64],
-    event: Event,
-    place: usize,
-    byte: u8,
+    n: [u64; 16],
 ) {
-    let answer = apply_with_byte(
-        head,
-        prices,
-        lots,
-        value,
-        book,
-        &mut *lines,
-        event,
-        place,
-        byte,
-    );
+    let mut bytes = [0u8; 15];
+    put_submit(&mut bytes, n);
+    let answer = engine::apply(head, prices, lots, value, book, &mut *lines, &bytes);
     show_answer(answer);
     show_lines(&*lines, line_count(answer));
 }
@@ -137,11 +124,22 @@ pub fn ask_for_count(
     number(line_count(answer));
 }
 
-// Times end at 86399 s.
 fn a_second_later(s: Submission) -> Submission {
     let time = s.time;
-    if time < 86399 {
-        return at(time + 1, s);
+    let side = s.side;
+    let kind = s.kind;
+    let price = s.price;
+    let lots = s.lots;
+    if time < LAST_SECOND {
+        return Submission {
+            time: time + 1,
+            member: s.member,
+            contract: s.contract,
+            side: side,
+            kind: kind,
+            price: price,
+            lots: lots,
+        };
     }
     s
 }

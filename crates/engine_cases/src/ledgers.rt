@@ -1,33 +1,57 @@
-// Headers of the ledgers that cases begin with.
-use crate::steps::Case;
-use crate::steps::Entry;
-use crate::steps::Step;
+// The header of the ledger that a case begins with.
+use crate::show::text;
 use header::JournalHeader;
 use rules::DayNo;
+use rules::ranges::MOST_HOLIDAYS;
 
-// No holidays; every member's limit is the same.
-pub fn ledger(first_year: u64, start_day: u64, members: u64, limit: u64) -> JournalHeader {
-    JournalHeader {
-        first_year: first_year,
-        start_day: DayNo(start_day),
-        members: members,
-        holiday_count: 0,
-        holidays: [0; 120],
-        limits: [limit; 32],
-    }
+// Days, the first of these.
+struct DayList {
+    days: [u64; 120],
+    count: usize,
 }
 
-pub fn case(header: JournalHeader) -> Case {
-    Case {
-        header: header,
-        steps: [Entry {
-            step: Step::Nothing,
-        }; 48],
+// The list with a day that is no Saturday and no Sunday; day 0 is a Wednesday.
+fn with_weekday(list: DayList, day: u64) -> DayList {
+    let n = list.count;
+    let mut days = list.days;
+    let since_wednesday = day % 7;
+    if (since_wednesday == 3) | (since_wednesday == 4) {
+        return list;
+    }
+    if n < MOST_HOLIDAYS as usize {
+        days[n] = day;
+        return DayList {
+            days: days,
+            count: n + 1,
+        };
+    }
+    text(b" a holiday too many");
+    list
+}
+
+fn weekdays(first: u64, end: u64) -> DayList {
+    let mut list = DayList {
+        days: [0; 120],
         count: 0,
+    };
+    let mut day = first;
+    while day < end {
+        list = with_weekday(list, day);
+        day += 1;
     }
+    list
 }
 
-// The paper's ledger: first year 2021, start day 369, a Monday, limits 1000.
-pub fn monday(members: u64) -> Case {
-    case(ledger(2021, 369, members, 1000))
+// First year, start day, members, the limit of each; the weekdays from one day up to another are holidays.
+pub fn header_of(n: [u64; 16]) -> JournalHeader {
+    let list = weekdays(n[4], n[5]);
+    let days = list.days;
+    JournalHeader {
+        first_year: n[0],
+        start_day: DayNo(n[1]),
+        members: n[2],
+        holiday_count: list.count as u64,
+        holidays: days,
+        limits: [n[3]; 32],
+    }
 }

@@ -20,6 +20,7 @@ use rules::layout::ORDER_TIME;
 use rules::layout::ORDER_WIDTH;
 use rules::layout::PRICE_WIDTH;
 use rules::layout::ROW_WIDTH;
+use rules::ranges::MOST_LOTS_RUN;
 
 const MOST_ORDERS: usize = 256;
 
@@ -49,10 +50,12 @@ fn row_place(contract: usize, member: usize) -> usize {
     0
 }
 
-pub fn put_row(lots: &mut [i64], contract: usize, member: usize, n: i64) {
+pub fn put_row(lots: &mut [i64], contract: usize, member: usize, n: u64) {
     let place = row_place(contract, member);
-    if place < lots.len() {
-        lots[place] = n;
+    if n <= MOST_LOTS_RUN {
+        if place < lots.len() {
+            lots[place] = n as i64;
+        }
     }
 }
 

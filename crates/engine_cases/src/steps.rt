@@ -1,34 +1,32 @@
-// A case: a header, and steps that are taken one after the other on the ledger that it makes.
-use crate::show::text;
-use header::JournalHeader;
+// What a line of the case file asks for.
+use crate::words::is_word;
+use rules::Cancellation;
+use rules::CloseOutTerms;
+use rules::DayNo;
 use rules::Event;
 use rules::Kurus;
 use rules::Leg;
 use rules::Lots;
+use rules::NewDayLimits;
 use rules::Order;
+use rules::OrderKind;
+use rules::Side;
 use rules::Submission;
 
-pub const MOST_STEPS: usize = 48;
-
 pub enum Step {
-    Nothing,
+    // No such line.
+    Unknown,
     // A record that is accepted; only a refusal is shown.
     Given(Event),
     // As many submits, each a second after the one before it.
-    GivenSeries {
+    Series {
         first: Submission,
         count: u64,
     },
     // A record whose answer and lines are shown.
     Asked(Event),
-    // The same with one byte of the record put there by hand.
-    AskedWithByte {
-        event: Event,
-        place: usize,
-        byte: u8,
-    },
     // The same where only the number of lines is shown.
-    AskedForCount(Event),
+    Counted(Event),
     // A leg of the next proposal.
     WithLeg(Leg),
     // What a host lends that no record of the case led to.
@@ -43,7 +41,7 @@ pub enum Step {
     LentRow {
         contract: usize,
         member: usize,
-        lots: i64,
+        lots: u64,
     },
     LentOrder {
         place: usize,
@@ -59,108 +57,215 @@ pub enum Step {
     ShowBook,
 }
 
-pub struct Entry {
-    pub step: Step,
+// An event, if the words name one.
+enum Named {
+    Event(Event),
+    Nothing,
 }
 
-pub struct Case {
-    pub header: JournalHeader,
-    pub steps: [Entry; 48],
-    pub count: usize,
+// Time, member, contract, price, lots.
+fn submission(side: Side, kind: OrderKind, n: [u64; 16]) -> Submission {
+    Submission {
+        time: n[0],
+        member: n[1],
+        contract: n[2],
+        side: side,
+        kind: kind,
+        price: Kurus(n[3]),
+        lots: Lots(n[4]),
+    }
 }
 
-pub fn then(case: Case, step: Step) -> Case {
-    let n = case.count;
-    let header = case.header;
-    let mut steps = case.steps;
-    if n < MOST_STEPS {
-        steps[n] = Entry { step: step };
-        return Case {
-            header: header,
-            steps: steps,
-            count: n + 1,
+fn submit_named(line: &[u8], at: usize, n: [u64; 16]) -> Named {
+    if is_word(line, at, b"buy ") {
+        return Named::Event(Event::Submit(submission(Side::Buy, OrderKind::Resting, n)));
+    }
+    if is_word(line, at, b"sell ") {
+        return Named::Event(Event::Submit(submission(Side::Sell, OrderKind::Resting, n)));
+    }
+    if is_word(line, at, b"OEYE buy ") {
+        return Named::Event(Event::Submit(submission(Side::Buy, OrderKind::Oeye, n)));
+    }
+    if is_word(line, at, b"TEYE buy ") {
+        return Named::Event(Event::Submit(submission(Side::Buy, OrderKind::Teye, n)));
+    }
+    Named::Nothing
+}
+
+fn cancel(n: [u64; 16]) -> Event {
+    Event::Cancel(Cancellation {
+        time: n[0],
+        member: n[1],
+        order: n[2],
+    })
+}
+
+fn day_limits(n: [u64; 16]) -> Event {
+    Event::DayLimits(NewDayLimits {
+        contract: n[0],
+        low: Kurus(n[1]),
+        high: Kurus(n[2]),
+    })
+}
+
+fn close_out(n: [u64; 16]) -> Event {
+    Event::CloseOut(CloseOutTerms {
+        contract: n[0],
+        ratio: n[1],
+    })
+}
+
+fn event_named(line: &[u8], at: usize, n: [u64; 16]) -> Named {
+    if is_word(line, at, b"cancel ") {
+        return Named::Event(cancel(n));
+    }
+    if is_word(line, at, b"limits ") {
+        return Named::Event(day_limits(n));
+    }
+    if is_word(line, at, b"proposal ") {
+        return Named::Event(Event::Proposal(n[0]));
+    }
+    if is_word(line, at, b"default ") {
+        return Named::Event(Event::Default(n[0]));
+    }
+    if is_word(line, at, b"close-out ") {
+        return Named::Event(close_out(n));
+    }
+    if is_word(line, at, b"close ") {
+        return Named::Event(Event::CloseOfDay(n[0]));
+    }
+    submit_named(line, at, n)
+}
+
+fn given(line: &[u8], n: [u64; 16]) -> Step {
+    let named = event_named(line, 6, n);
+    match named {
+        Named::Event(event) => Step::Given(event),
+        Named::Nothing => Step::Unknown,
+    }
+}
+
+fn asked(line: &[u8], n: [u64; 16]) -> Step {
+    let named = event_named(line, 6, n);
+    match named {
+        Named::Event(event) => Step::Asked(event),
+        Named::Nothing => Step::Unknown,
+    }
+}
+
+// How many, then the submit.
+fn series(line: &[u8], n: [u64; 16]) -> Step {
+    let side = if is_word(line, 7, b"buy ") {
+        Side::Buy
+    } else {
+        Side::Sell
+    };
+    Step::Series {
+        first: submission(side, OrderKind::Resting, n),
+        count: n[5],
+    }
+}
+
+fn leg(n: [u64; 16]) -> Step {
+    Step::WithLeg(Leg {
+        order: n[0],
+        lots: Lots(n[1]),
+        price: Kurus(n[2]),
+    })
+}
+
+// Place, number, member, contract, 0 for a buy and 1 for a sell, price, lots: entered on Monday, 369, at 36000 s.
+fn lent_order(n: [u64; 16]) -> Step {
+    let side = if n[4] == 0 { Side::Buy } else { Side::Sell };
+    Step::LentOrder {
+        place: n[0] as usize,
+        order: Order {
+            number: n[1],
+            member: n[2],
+            contract: n[3],
+            side: side,
+            price: Kurus(n[5]),
+            lots: Lots(n[6]),
+            day: DayNo(369),
+            time: 36000,
+        },
+    }
+}
+
+fn lent(line: &[u8], n: [u64; 16]) -> Step {
+    if is_word(line, 5, b"head ") {
+        return Step::LentHead {
+            place: n[0] as usize,
+            number: n[1],
         };
     }
-    text(b" a step too many");
-    case
+    if is_word(line, 5, b"GGF ") {
+        return Step::LentGgf {
+            contract: n[0] as usize,
+            price: n[1],
+        };
+    }
+    if is_word(line, 5, b"row ") {
+        return Step::LentRow {
+            contract: n[0] as usize,
+            member: n[1] as usize,
+            lots: n[2],
+        };
+    }
+    if is_word(line, 5, b"order ") {
+        return lent_order(n);
+    }
+    Step::Unknown
 }
 
-pub fn given(case: Case, event: Event) -> Case {
-    then(case, Step::Given(event))
+fn show(line: &[u8], n: [u64; 16]) -> Step {
+    if is_word(line, 5, b"head ") {
+        return Step::ShowHead(n[0] as usize);
+    }
+    if is_word(line, 5, b"GGF ") {
+        return Step::ShowGgf(n[0] as usize);
+    }
+    if is_word(line, 5, b"row ") {
+        return Step::ShowRow {
+            contract: n[0] as usize,
+            member: n[1] as usize,
+        };
+    }
+    if is_word(line, 5, b"book") {
+        return Step::ShowBook;
+    }
+    Step::Unknown
 }
 
-pub fn asked(case: Case, event: Event) -> Case {
-    then(case, Step::Asked(event))
+fn counted(line: &[u8], n: [u64; 16]) -> Step {
+    let named = event_named(line, 8, n);
+    match named {
+        Named::Event(event) => Step::Counted(event),
+        Named::Nothing => Step::Unknown,
+    }
 }
 
-pub fn given_series(case: Case, count: u64, first: Submission) -> Case {
-    then(
-        case,
-        Step::GivenSeries {
-            first: first,
-            count: count,
-        },
-    )
-}
-
-// A leg of the proposal that comes next.
-pub fn with_leg(case: Case, order: u64, lots: u64, price: u64) -> Case {
-    then(
-        case,
-        Step::WithLeg(Leg {
-            order: order,
-            lots: Lots(lots),
-            price: Kurus(price),
-        }),
-    )
-}
-
-// ---- what a host lends
-pub fn lent_head(case: Case, place: usize, number: u64) -> Case {
-    then(
-        case,
-        Step::LentHead {
-            place: place,
-            number: number,
-        },
-    )
-}
-
-pub fn lent_ggf(case: Case, contract: usize, price: u64) -> Case {
-    then(
-        case,
-        Step::LentGgf {
-            contract: contract,
-            price: price,
-        },
-    )
-}
-
-pub fn lent_order(case: Case, place: usize, order: Order) -> Case {
-    then(
-        case,
-        Step::LentOrder {
-            place: place,
-            order: order,
-        },
-    )
-}
-
-// ---- what is shown
-pub fn show_head(case: Case, place: usize) -> Case {
-    then(case, Step::ShowHead(place))
-}
-
-pub fn show_ggf(case: Case, contract: usize) -> Case {
-    then(case, Step::ShowGgf(contract))
-}
-
-pub fn show_row(case: Case, contract: usize, member: usize) -> Case {
-    then(
-        case,
-        Step::ShowRow {
-            contract: contract,
-            member: member,
-        },
-    )
+pub fn step_of(line: &[u8], n: [u64; 16]) -> Step {
+    if is_word(line, 0, b"given ") {
+        return given(line, n);
+    }
+    if is_word(line, 0, b"asked ") {
+        return asked(line, n);
+    }
+    if is_word(line, 0, b"counted ") {
+        return counted(line, n);
+    }
+    if is_word(line, 0, b"series ") {
+        return series(line, n);
+    }
+    if is_word(line, 0, b"leg ") {
+        return leg(n);
+    }
+    if is_word(line, 0, b"lent ") {
+        return lent(line, n);
+    }
+    if is_word(line, 0, b"show ") {
+        return show(line, n);
+    }
+    Step::Unknown
 }

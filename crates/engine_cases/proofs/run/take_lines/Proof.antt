@@ -1,20 +1,17 @@
-use Prim.Native.Nat.{_-_, _≤_}
+use Prim.Native.Nat.{_-_}
 use mathlib.Core.Path.{_≡_}
 use lib.ListN.{length}
 use borrow.Author.Needs.{needs}
-use Rattle.engine_cases.proofs.run.take_steps.Statement.{statement}
-use Rattle.engine_cases.proofs.run.take_steps.Tie as tie
+use Rattle.engine_cases.proofs.run.take_lines.Statement.{statement}
+use Rattle.engine_cases.proofs.run.take_lines.Tie as tie
 
 abbrev Inv-loop : tie.InvT-loop
-Inv-loop head₀ prices₀ lots₀ value₀ book₀ lines₀ steps count g₀ i₀ head prices lots value book lines g i =
-    (i ≤ count) × (length head ≡ length head₀) × (length prices ≡ length prices₀) × (length lots ≡ length lots₀)
+Inv-loop head₀ prices₀ lots₀ value₀ book₀ lines₀ bytes g₀ start₀ head prices lots value book lines g start =
+    (length head ≡ length head₀) × (length prices ≡ length prices₀) × (length lots ≡ length lots₀)
     × (length value ≡ length value₀) × (length book ≡ length book₀) × (length lines ≡ length lines₀)
 
 abbrev μ-loop : tie.MeasureT-loop
-μ-loop head₀ prices₀ lots₀ value₀ book₀ lines₀ steps count g₀ i₀ head prices lots value book lines g i = count - i
-
-at-most-requires : tie.Need-at-most-requires Inv-loop μ-loop
-at-most-requires c κs = search needs
+μ-loop head₀ prices₀ lots₀ value₀ book₀ lines₀ bytes g₀ start₀ head prices lots value book lines g start = length bytes - start
 
 no-legs-requires : tie.Need-no-legs-requires Inv-loop μ-loop
 no-legs-requires c κs = search needs
@@ -22,17 +19,23 @@ no-legs-requires c κs = search needs
 loop-holds : tie.Need-loop-holds Inv-loop μ-loop
 loop-holds c = search needs
 
-mul-entry : tie.Need-mul-entry Inv-loop μ-loop
-mul-entry c = search needs
+line-end-requires : tie.Need-line-end-requires Inv-loop μ-loop
+line-end-requires c κs = search needs
 
-array-copy-out-entry : tie.Need-array-copy-out-entry Inv-loop μ-loop
-array-copy-out-entry c = search needs
+sub-take-line : tie.Need-sub-take-line Inv-loop μ-loop
+sub-take-line c = search needs
 
-take-step-requires : tie.Need-take-step-requires Inv-loop μ-loop
-take-step-requires c κs = search needs
+part-take-line-start : tie.Need-part-take-line-start Inv-loop μ-loop
+part-take-line-start c = search needs
 
-add-i : tie.Need-add-i Inv-loop μ-loop
-add-i c = search needs
+part-take-line-end : tie.Need-part-take-line-end Inv-loop μ-loop
+part-take-line-end c = search needs
+
+take-line-requires : tie.Need-take-line-requires Inv-loop μ-loop
+take-line-requires c κs = search needs
+
+add-start : tie.Need-add-start Inv-loop μ-loop
+add-start c = search needs
 
 loop-less : tie.Need-loop-less Inv-loop μ-loop
 loop-less c = search needs
@@ -61,19 +64,20 @@ same-length-6 c = search needs
 returns : tie.Need-returns Inv-loop μ-loop
 returns c = search needs
 
-pub take-steps-spec : {M : Type 1} → statement M
-take-steps-spec =
+pub take-lines-spec : {M : Type 1} → statement M
+take-lines-spec =
     tie.close
     (tie.spec
     Inv-loop
     μ-loop
-    at-most-requires
     no-legs-requires
     loop-holds
-    mul-entry
-    array-copy-out-entry
-    take-step-requires
-    add-i
+    line-end-requires
+    sub-take-line
+    part-take-line-start
+    part-take-line-end
+    take-line-requires
+    add-start
     loop-less
     loop-again
     same-length
