@@ -1,4 +1,4 @@
--- Sizes of fields, and that a span has a day. Assumes nothing.
+-- A span has a day, and a sound first year is in its bounds. Assumes nothing.
 use Prim.Native.Nat.{ℕ, _+_, _≤_}
 use native.Mathlib.Omega.{arith}
 use mathlib.Core.Bool.{true}
@@ -11,20 +11,14 @@ use Rattle.rules.specs.Header.{firstYearSound}
 use Rattle.rules.specs.Ranges.{leastFirstYear, mostFirstYear}
 use Rattle.rules.specs.Days.{Calendar, firstMonth, dayAfterSpan}
 use Rattle.rules.proofs.CalendarLaws.{month-lt}
-use Rattle.listing.specs.Fields.{IsSize}
-
-pub size-one : IsSize 1
-size-one = record { least = omega arith; most = omega arith; notThree = λ h. omega arith }
-
-pub size-two : IsSize 2
-size-two = record { least = omega arith; most = omega arith; notThree = λ h. omega arith }
-
-pub size-four : IsSize 4
-size-four = record { least = omega arith; most = omega arith; notThree = λ h. omega arith }
 
 pub some-day : (k : Calendar) → 1 ≤ dayAfterSpan k
 unfolding dayAfterSpan
 some-day k = omega (arith, month-lt (firstMonth k) (firstMonth k + 72) (omega arith))
 
 pub first-year-in : {y : ℕ} → firstYearSound y ≡ true → FirstYear y
-first-year-in {y} e = (leb-true leastFirstYear y (and-left (leb leastFirstYear y) (leb y mostFirstYear) e), leb-true y mostFirstYear (and-right (leb leastFirstYear y) (leb y mostFirstYear) e))
+first-year-in {y} e = (
+  leb-true leastFirstYear y (and-left (leb leastFirstYear y) (leb y mostFirstYear) e),
+  leb-true y mostFirstYear
+      (and-right (leb leastFirstYear y) (leb y mostFirstYear) e),
+)
