@@ -1,7 +1,7 @@
 // The program's turns: what the input holds is run, then bytes are read or what was printed is written. No contract can say
 // what a read brought or a write took; what is printed for the bytes that came is the promise of records::advance.
 ghost use mathlib.Core.Path.{_≡_};
-ghost use Prim.Native.Nat.{_+_, _*_, _≤_, _<_};
+ghost use Prim.Native.Nat.{_+_, _≤_, _<_};
 ghost use lib.ListN.{length};
 ghost use Rattle.journal.specs.Places.{Stands, nextStands};
 use crate::input::Filled;
