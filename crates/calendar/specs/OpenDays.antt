@@ -10,7 +10,7 @@ use Rattle.rules.specs.declared.contract.ContractKind.{ContractKind}
 use Rattle.rules.specs.declared.contract.ContractKind.the-variants.{Year, Quarter, Month}
 use Rattle.rules.specs.Ranges.{contractCount, monthsInSpan}
 use Rattle.rules.specs.Days.{Calendar, monthStart, firstMonth, dayAfterSpan, businessDayBefore}
-use Rattle.rules.specs.Contracts.{closingDistance, notBefore, daysOf, openOn}
+use Rattle.rules.specs.Contracts.{notBefore, daysOf, openOn}
 use Rattle.calendar.specs.declared.open_days.OpenFrom.{OpenFrom}
 
 -- The delivery days of each contract that is open on a day, none of the others.

@@ -20,6 +20,7 @@ pub use days::next_business_day;
 pub use days::span_of;
 pub use months::Span;
 pub use open_days::find_open_days;
+pub use sound::are_rising;
 pub use sound::is_calendar_sound;
 pub use sound::is_day_sound;
 pub use sound::is_first_year_sound;

@@ -62,7 +62,8 @@ fn least_first_day(holidays: &[u64], day: DayNo, n: u64, end: DayNo) -> DayNo
 
 fn find_least(holidays: &[u64], day: DayNo, end: DayNo) -> OpenFrom
     requires { ⌜ end .0 ≤ lastMonthStart ⌝ }
-    ensures { λ r. ⌜ ((y : ℕ) (s : ContractKind) (f : ℕ) → f ≤ end .0 → notBefore (businessDayBefore (record { firstYear = y; holidays = now (holidays .entry) }) (closingDistance s) f) (day .0) ≡ leb (leastOf r s) f) ⌝ }
+    ensures { λ r. ⌜ ((y : ℕ) (s : ContractKind) (f : ℕ) → f ≤ end .0
+        → notBefore (businessDayBefore (record { firstYear = y; holidays = now (holidays .entry) }) (closingDistance s) f) (day .0) ≡ leb (leastOf r s) f) ⌝ }
 {
     let year = least_first_day(holidays, day, ContractKind::YEAR_DISTANCE, end);
     let quarter = least_first_day(holidays, day, ContractKind::QUARTER_DISTANCE, end);
@@ -95,7 +96,8 @@ fn is_open_from(starts: &[u64], least: DayNo, t: Term) -> bool
 // The delivery days of a contract, none if it is not open.
 fn days_if_open(starts: &[u64], least: DayNo, t: Term) -> u64
     requires { ⌜ (length (now starts) ≡ monthsInSpan + 1) × InLedger t × NoneEarlier (now starts) ⌝ }
-    ensures { λ r. ⌜ ((k : Calendar) (d : ℕ) → now (starts .entry) ≡ startsOf k → IsLeast k d (closingDistance (t .kind)) (least .0) → r ≡ cond (openByCount k d t) (termDayAfter k t - termFirstDay k t) 0) ⌝ }
+    ensures { λ r. ⌜ ((k : Calendar) (d : ℕ) → now (starts .entry) ≡ startsOf k → IsLeast k d (closingDistance (t .kind)) (least .0) → r
+        ≡ cond (openByCount k d t) (termDayAfter k t - termFirstDay k t) 0) ⌝ }
 {
     if !is_open_from(starts, least, t) {
         return 0;

@@ -1,7 +1,7 @@
 // Columns of a contract's lots, one number for each member.
 ghost use mathlib.Core.Path.{_≡_};
 ghost use mathlib.Core.List.{List};
-ghost use Prim.Native.Nat.{ℕ, _≤_, _<_};
+ghost use Prim.Native.Nat.{_≤_, _<_};
 ghost use lib.IntN.{ℤ, natAbs};
 ghost use lib.ListN.{length, getD};
 ghost use Rattle.arith.specs.Ints.{up, dn};

@@ -84,7 +84,8 @@ fn write_weights(head: &[u64], sums: &[u64], weights: &mut [u64])
 fn weigh(head: &[u64], lots: &[i64], days: &[u64], sums: &mut [u64], weights: &mut [u64])
     requires { ⌜ HeadFit (now head) × RowsFit (membersIn (now head)) mostLotsRun (now lots) × (length (now weights) ≡ membersIn (now head)) × (now sums ≡ replicate (membersIn (now head)) 0) ⌝ }
     requires { ⌜ (length (now days) ≡ contractCount) × ((i : ℕ) → getD (now days) i 0 ≤ mostDays) ⌝ }
-    ensures { λ _. ⌜ now (weights .exit) ≡ map (λ m. cond (eqb (getD (now (head .entry)) (marksFrom + m) 0) 1) 0 (weightBy contractCount (now (days .entry)) (now (lots .entry)) m)) (from 0 (membersIn (now (head .entry)))) ⌝ }
+    ensures { λ _. ⌜ now (weights .exit)
+        ≡ map (λ m. cond (eqb (getD (now (head .entry)) (marksFrom + m) 0) 1) 0 (weightBy contractCount (now (days .entry)) (now (lots .entry)) m)) (from 0 (membersIn (now (head .entry)))) ⌝ }
 {
     add_contracts(lots, days, &mut *sums);
     write_weights(head, &sums[..], weights);
@@ -111,7 +112,8 @@ pub fn weigh_by_days(head: &[u64], lots: &[i64], weights: &mut [u64])
 pub fn find_weights(head: &[u64], lots: &[i64], e: CloseOutTerms, left: u64, column: &mut [u64])
     requires { ⌜ HeadFit (now head) × RowsFit (membersIn (now head)) mostLotsRun (now lots) × (length (now column) ≡ membersIn (now head)) ⌝ }
     requires { ⌜ (e .contract < contractCount) × (e .ratio ≤ mostRatio) × (left ≤ mostMembers * mostLotsRun) ⌝ }
-    ensures { λ _. ⌜ ((t : Tables) (v : List ℤ) → lotsLeft (withHead (now (head .entry)) (withRows (now (lots .entry)) v t)) (e .contract) ≡ left → now (column .exit) ≡ weights (withHead (now (head .entry)) (withRows (now (lots .entry)) v t)) e) ⌝ }
+    ensures { λ _. ⌜ ((t : Tables) (v : List ℤ) → lotsLeft (withHead (now (head .entry)) (withRows (now (lots .entry)) v t)) (e .contract) ≡ left → now (column .exit)
+        ≡ weights (withHead (now (head .entry)) (withRows (now (lots .entry)) v t)) e) ⌝ }
     ensures { λ _. ⌜ Column mostWeight (now (column .exit)) ⌝ }
 {
     let ratio = e.ratio;

@@ -1,12 +1,12 @@
 -- No field is at fault exactly if the bytes hold them all and each is in its range. Assumes nothing.
-use Prim.Native.Nat.{ℕ, _+_, _≤_, _<_}
+use Prim.Native.Nat.{ℕ, _+_, _≤_}
 use mathlib.Core.Bool.{Bool, true, false, cond, _&&_}
-use mathlib.Core.List.{List, [], _∷_, _++_}
+use mathlib.Core.List.{List, [], _∷_}
 use mathlib.Core.Path.{_≡_, refl, sym, _∙_}
 use native.Mathlib.Nat.{add-assoc, add-zero}
 use native.Mathlib.Omega.{arith}
 use borrow.Author.Tests.{le-ltb, lt-ltb, le-leb, lt-leb}
-use lib.Dec.{leb, ltb}
+use lib.Dec.{leb}
 use lib.ListN.{length}
 use Rattle.arith.proofs.Tests.{true-or, le-or-lt, and-false}
 use Rattle.listing.specs.declared.field.Field.{Field}
@@ -44,5 +44,6 @@ none-is n s place (f ∷ fs) h =
     le-or-lt (place + sizeOf f) (length s)
     (λ k. rw (le-ltb (length s) (place + sizeOf f) k)
     (verdict-passes (within (rangeOf n s place f) v) (dayVerdict s (quantityOf f) v) (faultIn n s (place + sizeOf f) fs) _ refl
-    ∙ rw (none-is n s (place + sizeOf f) fs k, add-assoc place (sizeOf f) (sizes fs)) (length-first (within (rangeOf n s place f) v) (passes (dayVerdict s (quantityOf f) v)) (leb (place + (sizeOf f + sizes fs)) (length s)) (inRanges n s (place + sizeOf f) fs))))
+    ∙ rw (none-is n s (place + sizeOf f) fs k, add-assoc place (sizeOf f) (sizes fs))
+    (length-first (within (rangeOf n s place f) v) (passes (dayVerdict s (quantityOf f) v)) (leb (place + (sizeOf f + sizes fs)) (length s)) (inRanges n s (place + sizeOf f) fs))))
     (λ k. rw (lt-ltb (length s) (place + sizeOf f) k, lt-leb (place + (sizeOf f + sizes fs)) (length s) (omega arith)) refl)

@@ -69,7 +69,8 @@ module _ {f : Field} where
   unfolding fieldsOf
   past-fixed holidays members i h e =
       let k : i ≡ 8 + (i - 8) = omega arith in
-      e ∙ (sym (getD-append-add fixedFields (replicate holidays Holiday ++ replicate members Limit) (i - 8) Kind) ∙ ap (λ (x : ℕ). getD (fixedFields ++ (replicate holidays Holiday ++ replicate members Limit)) x Kind) (sym k))
+      e ∙ (sym (getD-append-add fixedFields (replicate holidays Holiday ++ replicate members Limit) (i - 8) Kind) ∙ ap
+      (λ (x : ℕ). getD (fixedFields ++ (replicate holidays Holiday ++ replicate members Limit)) x Kind) (sym k))
 
 pub header-length : (holidays members : ℕ) → length (fieldsOf (Header holidays members)) ≡ 8 + (holidays + members)
 unfolding fieldsOf

@@ -2,4 +2,6 @@ pub mod Faults
 pub mod RecordFaults
 pub mod Spelled
 pub mod FieldPlaces
-pub mod FieldSizes
+pub mod SpanDays
+pub mod Writers
+pub mod Goings

@@ -1,16 +1,16 @@
 -- A record is sound exactly if no field is at fault and no bytes are past its fields. Assumes nothing.
 use Prim.Native.Nat.{ℕ, zero, suc, _+_, _*_, _-_, _≤_, _<_}
 use mathlib.Core.Bool.{Bool, true, false, cond, _&&_, and-assoc}
-use mathlib.Core.List.{List, [], _∷_, map}
+use mathlib.Core.List.{List, [], map}
 use mathlib.Core.Path.{_≡_, refl, sym, _∙_}
 use native.Mathlib.Nat.{zero-add}
 use native.Mathlib.Omega.{arith}
-use borrow.Author.Tests.{eq-eqb, ne-eqb, le-leb, lt-leb, le-ltb, leb-true, ltb-true, lt-ltb}
+use borrow.Author.Tests.{eq-eqb, ne-eqb, le-leb, lt-leb, le-ltb, leb-true, lt-ltb}
 use lib.Dec.{eqb, leb, ltb}
 use lib.ListN.{length, getD}
 use Rattle.arith.specs.Lists.{from, every}
 use Rattle.arith.proofs.Columns.{mapped-length}
-use Rattle.arith.proofs.Tests.{same-or, le-or-lt, true-or, same-test, and-false, and-true, and-left}
+use Rattle.arith.proofs.Tests.{same-or, le-or-lt, true-or, and-false, and-true, and-left}
 use Rattle.codec.proofs.Fields.{unknown-kind}
 use Rattle.rules.specs.declared.event.Event.{Event}
 use Rattle.rules.specs.declared.event.Event.the-variants.{Submit, Cancel, DayLimits, Proposal, Default, CloseOut, CloseOfDay}
@@ -78,7 +78,9 @@ legs-ranges n s zero a place e = refl
 legs-ranges n s (suc k) a place e =
     let lots : place + 4 ≡ legPlace a + 4 = omega arith in
     let price : place + 4 + 2 ≡ legPlace a + 6 = omega arith in
-    rw (price, e, from-zero (u32At s (legPlace a)), order-range (u32At s (legPlace a)), legs-ranges n s k (suc a) (legPlace a + 6 + 4) (omega arith)) (sym (leg-order (numberSound (u32At s (legPlace a))) (lotsSound (u16At s (legPlace a + 4))) (priceSound (u32At s (legPlace a + 6))) (every legSound (map (λ j. legAt s (legPlace j)) (from (suc a) k)))))
+    rw (price, e, from-zero (u32At s (legPlace a)), order-range (u32At s (legPlace a)), legs-ranges n s k (suc a) (legPlace a + 6 + 4) (omega arith))
+    (sym (leg-order (numberSound (u32At s (legPlace a))) (lotsSound (u16At s (legPlace a + 4))) (priceSound (u32At s (legPlace a + 6)))
+    (every legSound (map (λ j. legAt s (legPlace j)) (from (suc a) k)))))
 
 leg-sizes : (k : ℕ) → sizes (legFields k) ≡ 10 * k
 unfolding sizes legFields
@@ -98,7 +100,8 @@ module _ (n : ℕ) (s : List ℕ) (some : 1 ≤ n) where
       rw e
       (simp (from-zero, member-range)
       (gated (sideSound (getD s 7 0) && orderKindSound (getD s 8 0)) n [] (Submit (submissionOf s))
-      ∙ submit-order (timeSound (u32At s 1)) (ltb (getD s 5 0) n) (contractSound (getD s 6 0)) (sideSound (getD s 7 0)) (orderKindSound (getD s 8 0)) (priceSound (u32At s 9)) (lotsSound (u16At s 13))))
+      ∙ submit-order (timeSound (u32At s 1)) (ltb (getD s 5 0) n) (contractSound (getD s 6 0)) (sideSound (getD s 7 0)) (orderKindSound (getD s 8 0)) (priceSound (u32At s 9))
+      (lotsSound (u16At s 13))))
 
   cancel-ranges : Ranges 2 [] (Sound (Cancel (cancellationOf s)))
   unfolding Ranges fieldsOf fieldsOfKind inRanges within numberAt eventSound
@@ -141,7 +144,8 @@ module _ (n : ℕ) (s : List ℕ) (some : 1 ≤ n) where
         → sizes (fieldsOf (recordShape s)) ≡ m → frontLength s ≡ m → Ranges kind legs r → Exact
     unfolding Exact readOf Ranges
     of-kind kind m legs r e reads has takes front ranges =
-        rw (members, reads, has, none-is n s 0 (fieldsOf (recordShape s)) (omega arith), takes, zero-add m, front) (of-length (length s) m n legs r (inRanges n s 0 (fieldsOf (recordShape s))) (ranges e))
+        rw (members, reads, has, none-is n s 0 (fieldsOf (recordShape s)) (omega arith), takes, zero-add m, front)
+        (of-length (length s) m n legs r (inRanges n s 0 (fieldsOf (recordShape s))) (ranges e))
 
     submit-exact : getD s 0 0 ≡ 1 → Exact
     unfolding readFields fieldsByKind recordLength legsOf fieldsOf fieldsOfKind sizes

@@ -1,14 +1,13 @@
 -- Lines computed: a sound record, a side of 2, and lots of 100 written the other way round, as the slip of 256 and 1 was.
 use Prim.Native.Nat.{ℕ}
 use mathlib.Core.Path.{_≡_, refl}
-use mathlib.Core.List.{List, [], _∷_, _++_, map}
-use Rattle.arith.specs.Lists.{total}
+use mathlib.Core.List.{List, [], _∷_, map}
 use Rattle.rules.specs.Contracts.{termOf}
 use Rattle.rules.specs.Header.{u16At, u32At}
 use Rattle.rules.specs.Text.{decimal, digits}
-use Rattle.listing.specs.declared.field.Field.the-variants.{Side, Lots, Version}
-use Rattle.listing.specs.Fields.{legFields, fieldsOfKind, fieldsOf, numberAt, within, verdictOf, none, at, faultIn, faultOf, headerFault}
-use Rattle.listing.specs.Words.{kindWord, sideWord, orderKindWord, quantityWords, twoDigits, timeText, priceText, termName, contractName, contractText, otherWayRound, hint, outOfRange, faultWords, wordsIn, recordLine, headerLine}
+use Rattle.listing.specs.declared.field.Field.the-variants.{Side, Lots}
+use Rattle.listing.specs.Fields.{fieldsOfKind, fieldsOf, numberAt, within, verdictOf, none, at, faultIn, faultOf}
+use Rattle.listing.specs.Words.{kindWord, sideWord, orderKindWord, quantityWords, twoDigits, timeText, priceText, quarterText, termName, contractText, otherWayRound, hint, outOfRange, faultText, faultWords, wordsIn, recordLine, headerLine}
 
 -- A submit of 36010 s, member 1, contract 18, with a side, OEYE, 26005 kuruş and the two bytes of its lots.
 abbrev pub submit : ℕ → ℕ → ℕ → List ℕ
@@ -43,7 +42,7 @@ lotsLine =
 
 -- As record 7, after 100 bytes, in a ledger of two members from 2021 on.
 pub lines : map (recordLine 2 2021 7 100) (submit 0 0 100 ∷ submit 2 0 100 ∷ submit 0 100 0 ∷ []) ≡ soundLine ∷ sideLine ∷ lotsLine ∷ []
-unfolding recordLine wordsIn quantityWords faultWords fieldsOf fieldsOfKind verdictOf within numberAt u16At u32At kindWord sideWord orderKindWord timeText twoDigits priceText contractText termName termOf outOfRange hint otherWayRound decimal digits
+unfolding recordLine wordsIn quantityWords faultWords faultText fieldsOf fieldsOfKind verdictOf within numberAt u16At u32At kindWord sideWord orderKindWord timeText twoDigits priceText contractText quarterText termName termOf outOfRange hint otherWayRound decimal digits
 lines = refl
 
 -- A journal of which every number is written the other way round: version 256.
@@ -55,5 +54,5 @@ turnedLine =
     ∷ 49 ∷ 10 ∷ []
 
 pub turned : headerLine (86 ∷ 74 ∷ 82 ∷ 1 ∷ 0 ∷ 229 ∷ 7 ∷ 113 ∷ 1 ∷ []) ≡ turnedLine
-unfolding headerLine wordsIn quantityWords faultWords fieldsOf verdictOf within numberAt u16At outOfRange hint otherWayRound decimal digits
+unfolding headerLine wordsIn quantityWords faultWords faultText fieldsOf verdictOf within numberAt u16At outOfRange hint otherWayRound decimal digits
 turned = refl

@@ -1,9 +1,8 @@
 -- The fields of a header and of a record, in the order of their bytes: the size and the range of each, and the first that is out of it.
 -- The ranges are document 01's, "Records"; each is told from the bytes before the field.
-use Prim.Native.Nat.{ℕ, zero, suc, _+_, _-_, _≤_}
+use Prim.Native.Nat.{ℕ, zero, suc, _+_, _-_}
 use mathlib.Core.Bool.{Bool, true, false, cond, _&&_, _||_}
 use mathlib.Core.List.{List, [], _∷_, _++_}
-use mathlib.Core.Path.{_≡_}
 use lib.Dec.{eqb, leb, ltb}
 use lib.ListN.{length, getD, replicate}
 use Rattle.rules.specs.Ranges.{contractCount, leastFirstYear, mostFirstYear, mostMembers, lastSecond, mostHolidays, mostLimit, mostPrice, mostLots, leastLegs, mostLegs, mostRatio}
@@ -93,12 +92,6 @@ sizeOf Low = 4
 sizeOf High = 4
 sizeOf Legs = 1
 sizeOf Ratio = 2
-
--- 1, 2 or 4.
-pub record IsSize (size : ℕ) : Type 0 where
-  pub least : 1 ≤ size
-  pub most : size ≤ 4
-  pub notThree : size ≡ 3 → ⊥
 
 -- What its number stands for.
 abbrev pub quantityOf : Field → Quantity

@@ -1,9 +1,8 @@
 -- A journal in words. A letter and a digit are their ASCII numbers; each word begins with a space.
-use Prim.Native.Nat.{ℕ, _+_, _*_, _/_, _%_}
-use mathlib.Core.Bool.{Bool, cond}
+use Prim.Native.Nat.{ℕ, _+_, _/_, _%_}
+use mathlib.Core.Bool.{cond}
 use mathlib.Core.List.{List, [], _∷_, _++_}
 use lib.Dec.{eqb}
-use lib.ListN.{length}
 use Rattle.rules.specs.declared.contract.ContractKind.{ContractKind}
 use Rattle.rules.specs.declared.contract.ContractKind.the-variants.{Year, Quarter, Month}
 use Rattle.rules.specs.Contracts.{termOf}
@@ -66,9 +65,9 @@ unfoldable pub orderKindWord : ℕ → List ℕ
 orderKindWord v = cond (eqb v 0) (32 ∷ 114 ∷ 101 ∷ 115 ∷ 116 ∷ 105 ∷ 110 ∷ 103 ∷ []) (cond (eqb v 1) (32 ∷ 79 ∷ 69 ∷ 89 ∷ 69 ∷ []) (32 ∷ 84 ∷ 69 ∷ 89 ∷ 69 ∷ []))
 
 -- ---- numbers
--- A number below 100 with both its digits.
+-- The last two digits.
 unfoldable pub twoDigits : ℕ → List ℕ
-twoDigits n = digit (n / 10) ∷ digit (n % 10) ∷ []
+twoDigits n = digit (n / 10 % 10) ∷ digit (n % 10) ∷ []
 
 -- Seconds as hh:mm:ss.
 unfoldable pub timeText : ℕ → List ℕ
@@ -78,11 +77,18 @@ timeText s = twoDigits (s / 3600) ++ (58 ∷ twoDigits (s / 60 % 60) ++ (58 ∷ 
 unfoldable pub priceText : ℕ → List ℕ
 priceText k = decimal (k / 100) ++ (46 ∷ twoDigits (k % 100))
 
+-- " Q1" and "-03" of the nth quarter and month.
+unfoldable pub quarterText : ℕ → List ℕ
+quarterText n = space ∷ 81 ∷ digit (1 + n % 4) ∷ []
+
+unfoldable pub monthText : ℕ → List ℕ
+monthText n = 45 ∷ twoDigits (1 + n % 12)
+
 -- The nth year from a first year on, the nth quarter, the nth month: 2022, 2022 Q1, 2022-03.
 unfoldable pub termName : ℕ → ContractKind → ℕ → List ℕ
 termName first Year n = decimal (first + n)
-termName first Quarter n = decimal (first + n / 4) ++ (space ∷ 81 ∷ digit (1 + n % 4) ∷ [])
-termName first Month n = decimal (first + n / 12) ++ (45 ∷ twoDigits (1 + n % 12))
+termName first Quarter n = decimal (first + n / 4) ++ quarterText n
+termName first Month n = decimal (first + n / 12) ++ monthText n
 
 abbrev pub contractName : ℕ → ℕ → List ℕ
 contractName first c = termName first (termOf c .kind) (termOf c .index)
@@ -93,7 +99,7 @@ contractText first c = (space ∷ decimal c) ++ (space ∷ 40 ∷ contractName f
 
 -- ---- a field in words, in a ledger of a first year
 unfoldable pub quantityWords : ℕ → Field → Quantity → ℕ → List ℕ
-quantityWords first f Letter v = v ∷ []
+quantityWords first f Letter v = v % 256 ∷ []
 quantityWords first f Number v = nameOf f ++ (space ∷ decimal v)
 quantityWords first f StartDayNumber v = nameOf f ++ (space ∷ decimal v)
 quantityWords first f HolidayNumber v = nameOf f ++ (space ∷ decimal v)
@@ -135,13 +141,15 @@ reason r size v OutOfRange = outOfRange r size v
 reason r size v NoBusinessDay = (space ∷ decimal v) ++ (32 ∷ 105 ∷ 115 ∷ 32 ∷ 110 ∷ 111 ∷ 32 ∷ 98 ∷ 117 ∷ 115 ∷ 105 ∷ 110 ∷ 101 ∷ 115 ∷ 115 ∷ 32 ∷ 100 ∷ 97 ∷ 121 ∷ [])
 reason r size v OnStartDay = (space ∷ decimal v) ++ (32 ∷ 105 ∷ 115 ∷ 32 ∷ 116 ∷ 104 ∷ 101 ∷ 32 ∷ 115 ∷ 116 ∷ 97 ∷ 114 ∷ 116 ∷ 32 ∷ 100 ∷ 97 ∷ 121 ∷ [])
 
--- "; byte 43: lots 25600 out of 1 to 100", bytes being counted from 0 at the journal's first, of which base come before these.
+-- "; byte 43: lots 25600 out of 1 to 100"
+unfoldable pub faultText : ℕ → Field → List ℕ → List ℕ
+faultText byte f why = (59 ∷ 32 ∷ 98 ∷ 121 ∷ 116 ∷ 101 ∷ []) ++ ((space ∷ decimal byte) ++ (58 ∷ nameOf f ++ why))
+
+-- Bytes are counted from 0 at the journal's first, of which base come before these.
 unfoldable pub faultWords : ℕ → ℕ → List ℕ → ℕ → Field → List ℕ
 faultWords base n s place f =
     let verdict = verdictOf n s place f in
-    (59 ∷ 32 ∷ 98 ∷ 121 ∷ 116 ∷ 101 ∷ [])
-    ++ ((space ∷ decimal (base + faultPlace s place verdict))
-    ++ (58 ∷ nameOf f ++ reason (rangeOf n s place f) (sizeOf f) (numberAt s place (sizeOf f)) verdict))
+    faultText (base + faultPlace s place verdict) f (reason (rangeOf n s place f) (sizeOf f) (numberAt s place (sizeOf f)) verdict)
 
 -- ---- lines
 -- The fields that pass, and what is found of the first that does not.

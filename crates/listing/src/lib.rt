@@ -1,6 +1,8 @@
 // A journal in words: a line for its header and for each record, and the first field that is out of its range.
 mod field;
+mod lines;
 mod names;
+mod numbers;
 mod ranges;
 mod shapes;
 
@@ -9,3 +11,7 @@ pub use field::Quantity;
 pub use field::Range;
 pub use field::Shape;
 pub use field::Verdict;
+pub use lines::Listed;
+pub use lines::ROOM;
+pub use lines::put_header_line;
+pub use lines::put_record_line;

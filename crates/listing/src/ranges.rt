@@ -5,16 +5,13 @@ ghost use Prim.Native.Nat.{_+_, _-_, _≤_, _<_};
 ghost use lib.ListN.{length};
 ghost use Rattle.rules.specs.Days.{saturday, sunday};
 ghost use Rattle.rules.specs.Header.{u16At, u32At};
-ghost use Rattle.listing.specs.Fields.{sizeOf, IsSize, quantityOf, range as rangeFrom, numberAt, spanRange, holidayRange, rangeOf, within, dayVerdict, verdictOf};
+ghost use Rattle.listing.specs.Fields.{sizeOf, quantityOf, range as rangeFrom, numberAt, spanRange, holidayRange, rangeOf, within, dayVerdict, verdictOf, passes};
 ghost use Rattle.listing.specs.Words.{otherWayRound};
 use crate::field::Field;
 use crate::field::Quantity;
 use crate::field::Range;
 use crate::field::Verdict;
-use big_endian::u8_at;
 use big_endian::u8_or_zero;
-use big_endian::u16_at;
-use big_endian::u32_at;
 use calendar::is_first_year_sound;
 use calendar::span_of;
 use rules::kinds::CLOSE_OF_DAY;
@@ -43,7 +40,7 @@ const LOW_PLACE: usize = 2;
 const LAST_ORDER_NUMBER: u64 = 4294967295;
 
 pub fn size_of(field: Field) -> usize
-    ensures { λ r. ⌜ (r ≡ sizeOf field) × IsSize r ⌝ }
+    ensures { λ r. ⌜ (r ≡ sizeOf field) × (r ≤ 4) ⌝ }
 {
     match field {
         Field::LetterV => 1,
@@ -102,29 +99,29 @@ pub fn quantity_of(field: Field) -> Quantity
     }
 }
 
-// The number of the field at a place.
+// The number of so many bytes at a place; bytes past the end are 0.
 pub fn number_at(bytes: &[u8], place: usize, size: usize) -> u64
-    requires { ⌜ (place + size ≤ length (now bytes)) × IsSize size ⌝ }
+    requires { ⌜ place ≤ 65536 ⌝ }
     ensures { λ r. ⌜ (r ≡ numberAt (now (bytes .entry)) place size) × (r < 4294967296) ⌝ }
 {
     if size == 1 {
-        return u8_at(bytes, place);
+        return u8_or_zero(bytes, place);
     }
     if size == 2 {
-        return u16_at(bytes, place);
+        return u16_or_zero(bytes, place);
     }
-    u32_at(bytes, place)
+    u32_or_zero(bytes, place)
 }
 
 fn u16_or_zero(bytes: &[u8], place: usize) -> u64
-    requires { ⌜ place < 65536 ⌝ }
+    requires { ⌜ place ≤ 65540 ⌝ }
     ensures { λ r. ⌜ (r ≡ u16At (now (bytes .entry)) place) × (r < 65536) ⌝ }
 {
     u8_or_zero(bytes, place) * 256 + u8_or_zero(bytes, place + 1)
 }
 
 fn u32_or_zero(bytes: &[u8], place: usize) -> u64
-    requires { ⌜ place < 65000 ⌝ }
+    requires { ⌜ place ≤ 65536 ⌝ }
     ensures { λ r. ⌜ (r ≡ u32At (now (bytes .entry)) place) × (r < 4294967296) ⌝ }
 {
     u16_or_zero(bytes, place) * 65536 + u16_or_zero(bytes, place + 2)
@@ -199,6 +196,18 @@ pub fn range_of(members: u64, bytes: &[u8], place: usize, field: Field) -> Range
         Field::High => range(u32_or_zero(bytes, LOW_PLACE), MOST_PRICE),
         Field::Legs => range(LEAST_LEGS, MOST_LEGS),
         Field::Ratio => range(1, MOST_RATIO),
+    }
+}
+
+pub fn does_pass(verdict: Verdict) -> bool
+    ensures { λ r. ⌜ r ≡ passes verdict ⌝ }
+{
+    match verdict {
+        Verdict::Passes => true,
+        Verdict::Cut => false,
+        Verdict::OutOfRange => false,
+        Verdict::NoBusinessDay => false,
+        Verdict::OnStartDay => false,
     }
 }
 

@@ -148,9 +148,9 @@ pub fn field_at(shape: Shape, i: u64) -> Field
     }
 }
 
-fn count_of_kind(kind: u64, legs: u64) -> u64
+pub fn count_of_kind(kind: u64, legs: u64) -> u64
     requires { ⌜ legs < 256 ⌝ }
-    ensures { λ r. ⌜ r ≡ length (fieldsOfKind kind legs) ⌝ }
+    ensures { λ r. ⌜ (r ≡ length (fieldsOfKind kind legs)) × (r ≤ 766) ⌝ }
 {
     match kind {
         SUBMIT => 7,

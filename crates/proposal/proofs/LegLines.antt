@@ -17,8 +17,9 @@ use Rattle.tables.specs.Lines.{LineFit, lineOf, withLine}
 use Rattle.tables.proofs.Amounts.{abs-signed}
 use Rattle.tables.proofs.Booked.{booked-none, booked-more}
 use Rattle.proposal.specs.Columns.{LegsFit, PlacesFit}
-use Rattle.proposal.specs.Booking.{Bookable, lineAt, linesTo}
-use Rattle.proposal.proofs.Takes.{Sound, takes-line, line-members}
+use Rattle.tables.specs.Room.{Bookable}
+use Rattle.proposal.specs.Booking.{lineAt, linesTo}
+use Rattle.tables.proofs.Takes.{Sound, takes-line, line-members}
 use Rattle.proposal.proofs.Printed.{lines-length, lines-more}
 
 -- Where a leg's line is booked, with the order as the code reads it.

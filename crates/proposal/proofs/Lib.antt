@@ -5,7 +5,6 @@ pub mod SidePlaces
 pub mod Sums
 pub mod LastRanks
 pub mod Checks
-pub mod Takes
 pub mod Taken
 pub mod Printed
 pub mod LegLines

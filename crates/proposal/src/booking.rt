@@ -8,7 +8,8 @@ ghost use Rattle.rules.specs.Ledger.{Tables, withHead, withRows, withBook, with
 ghost use Rattle.tables.specs.Fit.{BookFit, ordersIn, orderCountIn};
 ghost use Rattle.tables.specs.Left.{leftOver};
 ghost use Rattle.proposal.specs.Columns.{LegsFit, PlacesFit};
-ghost use Rattle.proposal.specs.Booking.{Bookable, linesTo, leftAfter, lotsIn};
+ghost use Rattle.tables.specs.Room.{Bookable};
+ghost use Rattle.proposal.specs.Booking.{linesTo, leftAfter, lotsIn};
 use rules::Kurus;
 use rules::Lots;
 use rules::layout::ORDER_COUNT;

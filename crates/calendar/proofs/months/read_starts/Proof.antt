@@ -1,4 +1,4 @@
-use Prim.Native.Nat.{ℕ, _+_, _-_, _≤_, _<_}
+use Prim.Native.Nat.{_+_, _-_, _≤_, _<_}
 use mathlib.Core.Path.{_≡_, refl, _∙_}
 use mathlib.Core.List.{_++_, map}
 use native.Mathlib.Omega.{arith}
@@ -49,12 +49,17 @@ loop-less c = search needs
 loop-again : tie.Need-loop-again Inv-loop μ-loop
 unfolding monthLength monthDays leapYear
 loop-again c =
-    let a = c .before .before .before .before .args in
+    let start = c .before .before .before .before in
+    let a = start .args in
     let l = c .before .before .loop in
     let below : a .first + l .i < 961 = omega arith in
     let t : Unit {0} = tt in
-    let e : c .wide .result ≡ monthStart (a .first + l .i) = c .wide .ensures ∙ rw at in
-    (omega arith, simp length-set (l .inv .1), rw e (written-next (l .out) (l .i) _ _ _ (omega arith) (rw (mapped-next (length (a .out .now)) (l .i) (λ j. monthStart (a .first + j)) (omega arith)) at (l .inv .2))))
+    let e : c .wide .result ≡ monthStart (a .first + l .i) = c .wide .ensures ∙ rw at in (
+      omega arith,
+      simp length-set (l .inv .1),
+      rw e
+          (written-next (l .out) (l .i) _ _ _ (omega arith) (rw (mapped-next (length (a .out .now)) (l .i) (λ j. monthStart (a .first + j)) (omega arith)) at (l .inv .2))),
+    )
 
 same-length : tie.Need-same-length Inv-loop μ-loop
 same-length c = omega arith

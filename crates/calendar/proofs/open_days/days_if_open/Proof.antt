@@ -1,9 +1,7 @@
-use Prim.Native.Nat.{_+_, _*_, _≤_}
-use mathlib.Core.Path.{_≡_, sym, ap, _∙_}
+use mathlib.Core.Path.{sym, _∙_}
 use native.Mathlib.Omega.{arith}
 use borrow.Author.Needs.{needs}
 use borrow.Author.Tests.{not-true, not-false}
-use Rattle.rules.specs.Contracts.{monthsIn}
 use Rattle.calendar.proofs.OpenDays.{first-read, after-read}
 use Rattle.calendar.proofs.open_days.days_if_open.Statement.{statement}
 use Rattle.calendar.proofs.open_days.days_if_open.Tie as tie
@@ -40,10 +38,14 @@ sub-result c = rw (c .before .before .before .months-in .ensures) (c .before .be
 
 returns-2 : tie.Need-returns-2
 returns-2 c =
-    let start = c .before .before .before .before .before .before .before in
+    let before = c .before .before .before .before .before .before .before in
+    let is-open-from = c .before .before .before .before .before .is-open-from in
+    let if1 = c .before .before .before .before .if1 in
+    let months-in = c .before .before .before .months-in in
+    let start = before in
     let t = start .args .t in
     let w = start .pre .1 in
-    λ k d e g. rw (sym (c .before .before .before .before .before .is-open-from .ensures k d e g) ∙ not-false _ (c .before .before .before .before .if1 .left), e, c .before .before .before .months-in .ensures, first-read k t w, after-read k t w)
+    λ k d e g. rw (sym (is-open-from .ensures k d e g) ∙ not-false _ (if1 .left), e, months-in .ensures, first-read k t w, after-read k t w)
 
 pub days-if-open-spec : {M : Type 1} → statement M
 days-if-open-spec =

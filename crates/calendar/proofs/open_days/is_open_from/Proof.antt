@@ -48,8 +48,10 @@ mul-result-2 c =
 
 shared-slice-read-result : tie.Need-shared-slice-read-result
 shared-slice-read-result c =
-    let start = c .before .before .before .before .before .before .before .before in
-    rw (c .before .before .before .before .before .before .months-in .ensures) (omega (arith, earlier (start .args .t) (start .args .t .index - c .before .before .open-count .result) (omega arith) (start .pre .1)))
+    let before = c .before .before .before .before .before .before .before .before in
+    let months-in = c .before .before .before .before .before .before .months-in in
+    let start = before in
+    rw (months-in .ensures) (omega (arith, earlier (start .args .t) (start .args .t .index - c .before .before .open-count .result) (omega arith) (start .pre .1)))
 
 returns-3 : tie.Need-returns-3
 returns-3 c =

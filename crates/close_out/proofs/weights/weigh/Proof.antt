@@ -1,4 +1,4 @@
-use Prim.Native.Nat.{ℕ, _+_}
+use Prim.Native.Nat.{_+_}
 use mathlib.Core.Path.{_≡_, ap, _∙_}
 use native.Mathlib.Omega.{arith}
 use lib.Dec.{eqb}
@@ -36,10 +36,12 @@ same-length-2 c = search needs
 returns : tie.Need-returns
 returns c =
     let start = c .before .before .before .before .before .before .before .before .before .before .before .before .before in
+    let add-contracts = c .before .before .before .before .before .before .before .add-contracts in
+    let write-weights = c .before .before .write-weights in
     let a = start .args in
     let e : length (a .sums .now) ≡ membersIn (a .head .now) = ap length (start .pre .0 .3) ∙ length-replicate _ _ in
-    c .before .before .write-weights .ensures
-    ∙ sums-read (a .days .now) (a .lots .now) (membersIn (a .head .now)) (λ m. eqb (getD (a .head .now) (marksFrom + m) 0) 1) _ (rw e at (c .before .before .before .before .before .before .before .add-contracts .ensures))
+    write-weights .ensures
+    ∙ sums-read (a .days .now) (a .lots .now) (membersIn (a .head .now)) (λ m. eqb (getD (a .head .now) (marksFrom + m) 0) 1) _ (rw e at (add-contracts .ensures))
 
 pub weigh-spec : {M : Type 1} → statement M
 weigh-spec =

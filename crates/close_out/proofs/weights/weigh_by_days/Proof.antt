@@ -48,9 +48,12 @@ slice-aggregate-weigh-2 c = let start = c .before .before .before .before .befor
 weigh-requires : tie.Need-weigh-requires
 weigh-requires c κs =
     let start = c .before .before .before .before .before .before .before .before .before .before .before .before in
+    let find-open-days = c .before .before .before .before .find-open-days in
     let few = start .pre .0 .most-members in
-    let d = c .before .before .before .before .find-open-days .ensures in
-    ((start .pre .0, start .pre .1, start .pre .2, rw (← start .pre .2) (zeros-front (length (start .args .weights .now)) 32 (omega arith))), (ap length d ∙ open-days-length _ _, λ i. rw d (open-days-most _ _ i)))
+    let d = find-open-days .ensures in (
+      (start .pre .0, start .pre .1, start .pre .2, rw (← start .pre .2) (zeros-front (length (start .args .weights .now)) 32 (omega arith))),
+      (ap length d ∙ open-days-length _ _, λ i. rw d (open-days-most _ _ i)),
+    )
 
 same-length : tie.Need-same-length
 same-length c = search needs
@@ -58,9 +61,11 @@ same-length c = search needs
 returns : tie.Need-returns
 returns c =
     let a = c .before .before .before .before .before .before .before .before .before .before .before .before .before .before .before .before .args in
+    let find-open-days = c .before .before .before .before .before .before .before .before .find-open-days in
+    let weigh = c .before .before .before .weigh in
     let h = a .head .now in
     let cut : 8 + getD h 2 0 - 8 ≡ getD h 2 0 = omega arith in
-    λ t v. c .before .before .before .weigh .ensures ∙ weights-by-days (withHead h (withRows (a .lots .now) v t)) _ (rw cut at (c .before .before .before .before .before .before .before .before .find-open-days .ensures))
+    λ t v. weigh .ensures ∙ weights-by-days (withHead h (withRows (a .lots .now) v t)) _ (rw cut at (find-open-days .ensures))
 
 pub weigh-by-days-spec : {M : Type 1} → statement M
 weigh-by-days-spec =

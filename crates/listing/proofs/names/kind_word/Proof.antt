@@ -6,74 +6,65 @@ use borrow.Author.Tests.{ne-eqb}
 use borrow.Author.Needs.{needs}
 use Rattle.listing.proofs.names.kind_word.Statement.{statement}
 use Rattle.listing.proofs.names.kind_word.Tie as tie
-use Rattle.listing.proofs.names.kind_word.Reads as reads
-use Rattle.listing.proofs.names.kind_word.Lts as lts
-use Rattle.listing.proofs.names.spelled.Reads as spelled-reads
 
--- src/names.rt:60:19
 spelled-requires : tie.Need-spelled-requires
 spelled-requires c κs = search needs
 
--- src/names.rt:61:19
 spelled-requires-2 : tie.Need-spelled-requires-2
 spelled-requires-2 c κs = search needs
 
--- src/names.rt:62:23
 spelled-requires-3 : tie.Need-spelled-requires-3
 spelled-requires-3 c κs = search needs
 
--- src/names.rt:63:21
 spelled-requires-4 : tie.Need-spelled-requires-4
 spelled-requires-4 c κs = search needs
 
--- src/names.rt:64:20
 spelled-requires-5 : tie.Need-spelled-requires-5
 spelled-requires-5 c κs = search needs
 
--- src/names.rt:65:22
 spelled-requires-6 : tie.Need-spelled-requires-6
 spelled-requires-6 c κs = search needs
 
--- src/names.rt:66:14
 spelled-requires-7 : tie.Need-spelled-requires-7
 spelled-requires-7 c κs = search needs
 
--- src/names.rt:56:1
 returns : tie.Need-returns
 unfolding kindWord
 returns c = as-word _ (c .spelled .ensures) (rw (c .before .before .before .match .keys1) refl) (omega arith) refl
 
--- src/names.rt:56:1
 returns-2 : tie.Need-returns-2
 unfolding kindWord
 returns-2 c = as-word _ (c .spelled2 .ensures) (rw (c .before .before .before .match .keys2) refl) (omega arith) refl
 
--- src/names.rt:56:1
 returns-3 : tie.Need-returns-3
 unfolding kindWord
 returns-3 c = as-word _ (c .spelled3 .ensures) (rw (c .before .before .before .match .keys3) refl) (omega arith) refl
 
--- src/names.rt:56:1
 returns-4 : tie.Need-returns-4
 unfolding kindWord
 returns-4 c = as-word _ (c .spelled4 .ensures) (rw (c .before .before .before .match .keys4) refl) (omega arith) refl
 
--- src/names.rt:56:1
 returns-5 : tie.Need-returns-5
 unfolding kindWord
 returns-5 c = as-word _ (c .spelled5 .ensures) (rw (c .before .before .before .match .keys5) refl) (omega arith) refl
 
--- src/names.rt:56:1
 returns-6 : tie.Need-returns-6
 unfolding kindWord
 returns-6 c = as-word _ (c .spelled6 .ensures) (rw (c .before .before .before .match .keys6) refl) (omega arith) refl
 
--- src/names.rt:56:1
 returns-7 : tie.Need-returns-7
 unfolding kindWord
 returns-7 c =
     let r = c .before .before .before .match .rest in
-    as-word _ (c .spelled7 .ensures) (rw (ne-eqb _ _ (r .0 .0 .0 .0 .0 .1), ne-eqb _ _ (r .0 .0 .0 .0 .1), ne-eqb _ _ (r .0 .0 .0 .1), ne-eqb _ _ (r .0 .0 .1), ne-eqb _ _ (r .0 .1), ne-eqb _ _ (r .1)) refl) (omega arith) refl
+    as-word _ (c .spelled7 .ensures) (rw (
+      ne-eqb _ _ (r .0 .0 .0 .0 .0 .1),
+      ne-eqb _ _ (r .0 .0 .0 .0 .1),
+      ne-eqb _ _ (r .0 .0 .0 .1),
+      ne-eqb _ _ (r .0 .0 .1),
+      ne-eqb _ _
+          (r .0 .1),
+      ne-eqb _ _ (r .1),
+    ) refl) (omega arith) refl
 
 pub kind-word-spec : {M : Type 1} → statement M
 kind-word-spec =

@@ -6,33 +6,24 @@ use borrow.Author.Tests.{ne-eqb}
 use borrow.Author.Needs.{needs}
 use Rattle.listing.proofs.names.order_kind_word.Statement.{statement}
 use Rattle.listing.proofs.names.order_kind_word.Tie as tie
-use Rattle.listing.proofs.names.order_kind_word.Reads as reads
-use Rattle.listing.proofs.names.order_kind_word.Lts as lts
-use Rattle.listing.proofs.names.spelled.Reads as spelled-reads
 
--- src/names.rt:83:14
 spelled-requires : tie.Need-spelled-requires
 spelled-requires c κs = search needs
 
--- src/names.rt:84:14
 spelled-requires-2 : tie.Need-spelled-requires-2
 spelled-requires-2 c κs = search needs
 
--- src/names.rt:85:14
 spelled-requires-3 : tie.Need-spelled-requires-3
 spelled-requires-3 c κs = search needs
 
--- src/names.rt:79:1
 returns : tie.Need-returns
 unfolding orderKindWord
 returns c = as-word _ (c .spelled .ensures) (rw (c .before .before .before .match .keys1) refl) (omega arith) refl
 
--- src/names.rt:79:1
 returns-2 : tie.Need-returns-2
 unfolding orderKindWord
 returns-2 c = as-word _ (c .spelled2 .ensures) (rw (c .before .before .before .match .keys2) refl) (omega arith) refl
 
--- src/names.rt:79:1
 returns-3 : tie.Need-returns-3
 unfolding orderKindWord
 returns-3 c =

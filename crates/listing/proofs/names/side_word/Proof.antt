@@ -2,28 +2,21 @@ use Rattle.listing.proofs.Spelled.{as-word}
 use Rattle.listing.specs.Words.{sideWord}
 use native.Mathlib.Omega.{arith}
 use mathlib.Core.Path.{refl}
-use borrow.Author.Tests.{eq-eqb, ne-eqb}
+use borrow.Author.Tests.{ne-eqb}
 use borrow.Author.Needs.{needs}
 use Rattle.listing.proofs.names.side_word.Statement.{statement}
 use Rattle.listing.proofs.names.side_word.Tie as tie
-use Rattle.listing.proofs.names.side_word.Reads as reads
-use Rattle.listing.proofs.names.side_word.Lts as lts
-use Rattle.listing.proofs.names.spelled.Reads as spelled-reads
 
--- src/names.rt:74:14
 spelled-requires : tie.Need-spelled-requires
 spelled-requires c κs = search needs
 
--- src/names.rt:75:14
 spelled-requires-2 : tie.Need-spelled-requires-2
 spelled-requires-2 c κs = search needs
 
--- src/names.rt:70:1
 returns : tie.Need-returns
 unfolding sideWord
 returns c = as-word _ (c .spelled .ensures) (rw (c .before .before .before .match .keys1) refl) (omega arith) refl
 
--- src/names.rt:70:1
 returns-2 : tie.Need-returns-2
 unfolding sideWord
 returns-2 c = as-word _ (c .spelled2 .ensures) (rw (ne-eqb _ _ (c .before .before .before .match .rest .1)) refl) (omega arith) refl

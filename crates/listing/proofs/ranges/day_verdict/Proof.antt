@@ -1,106 +1,78 @@
-use mathlib.Core.Path.{refl, _∙_}
+use mathlib.Core.Path.{refl}
 use borrow.Author.Tests.{eq-eqb, ne-eqb}
 use borrow.Author.Needs.{needs}
 use Rattle.listing.proofs.ranges.day_verdict.Statement.{statement}
 use Rattle.listing.proofs.ranges.day_verdict.Tie as tie
-use Rattle.listing.proofs.ranges.day_verdict.Reads as reads
-use Rattle.listing.proofs.ranges.day_verdict.Lts as lts
-use Rattle.listing.proofs.ranges.is_weekend.Reads as is-weekend-reads
-use Rattle.listing.proofs.ranges.u16_or_zero.Reads as u16-or-zero-reads
 
--- src/ranges.rt:223:16
 enum-told : tie.Need-enum-told
 enum-told c = search needs
 
--- src/ranges.rt:223:16
 is-weekend-requires : tie.Need-is-weekend-requires
 is-weekend-requires c κs = search needs
 
--- src/ranges.rt:230:26
 enum-told-2 : tie.Need-enum-told-2
 enum-told-2 c = search needs
 
--- src/ranges.rt:230:26
 u16-or-zero-requires : tie.Need-u16-or-zero-requires
 u16-or-zero-requires c κs = search needs
 
--- src/ranges.rt:236:29
 enum-told-3 : tie.Need-enum-told-3
 enum-told-3 c = search needs
 
--- src/ranges.rt:237:29
 enum-told-4 : tie.Need-enum-told-4
 enum-told-4 c = search needs
 
--- src/ranges.rt:238:33
 enum-told-5 : tie.Need-enum-told-5
 enum-told-5 c = search needs
 
--- src/ranges.rt:239:33
 enum-told-6 : tie.Need-enum-told-6
 enum-told-6 c = search needs
 
--- src/ranges.rt:240:38
 enum-told-7 : tie.Need-enum-told-7
 enum-told-7 c = search needs
 
--- src/ranges.rt:241:30
 enum-told-8 : tie.Need-enum-told-8
 enum-told-8 c = search needs
 
--- src/ranges.rt:242:37
 enum-told-9 : tie.Need-enum-told-9
 enum-told-9 c = search needs
 
--- src/ranges.rt:243:28
 enum-told-10 : tie.Need-enum-told-10
 enum-told-10 c = search needs
 
--- src/ranges.rt:218:1
 returns : tie.Need-returns
 returns c = rw (c .before .before .enum-told .given .1, ← (c .before .is-weekend .ensures), c .if1 .taken) refl
 
--- src/ranges.rt:218:1
 returns-2 : tie.Need-returns-2
 returns-2 c = rw (c .before .before .enum-told .given .1, ← (c .before .is-weekend .ensures), c .if1 .left) refl
 
--- src/ranges.rt:218:1
 returns-3 : tie.Need-returns-3
 returns-3 c = rw (c .before .before .enum-told2 .given .1, ← (c .before .u16-or-zero .ensures .0), eq-eqb _ _ (c .if2 .taken)) refl
 
--- src/ranges.rt:218:1
 returns-4 : tie.Need-returns-4
 returns-4 c = rw (c .before .before .enum-told2 .given .1, ← (c .before .u16-or-zero .ensures .0), ne-eqb _ _ (c .if2 .left)) refl
 
--- src/ranges.rt:218:1
 returns-5 : tie.Need-returns-5
 returns-5 c = rw (c .enum-told3 .given .1) refl
 
--- src/ranges.rt:218:1
 returns-6 : tie.Need-returns-6
 returns-6 c = rw (c .enum-told4 .given .1) refl
 
--- src/ranges.rt:218:1
 returns-7 : tie.Need-returns-7
 returns-7 c = rw (c .enum-told5 .given .1) refl
 
--- src/ranges.rt:218:1
 returns-8 : tie.Need-returns-8
 returns-8 c = rw (c .enum-told6 .given .1) refl
 
--- src/ranges.rt:218:1
 returns-9 : tie.Need-returns-9
 returns-9 c = rw (c .enum-told7 .given .1) refl
 
--- src/ranges.rt:218:1
 returns-10 : tie.Need-returns-10
 returns-10 c = rw (c .enum-told8 .given .1) refl
 
--- src/ranges.rt:218:1
 returns-11 : tie.Need-returns-11
 returns-11 c = rw (c .enum-told9 .given .1) refl
 
--- src/ranges.rt:218:1
 returns-12 : tie.Need-returns-12
 returns-12 c = rw (c .enum-told10 .given .1) refl
 

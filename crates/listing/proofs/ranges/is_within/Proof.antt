@@ -1,12 +1,8 @@
-use borrow.Author.Needs.{needs}
 use mathlib.Core.Path.{refl}
 use Rattle.listing.specs.Fields.{within}
 use Rattle.listing.proofs.ranges.is_within.Statement.{statement}
 use Rattle.listing.proofs.ranges.is_within.Tie as tie
-use Rattle.listing.proofs.ranges.is_within.Reads as reads
-use Rattle.listing.proofs.ranges.is_within.Lts as lts
 
--- src/ranges.rt:206:1
 returns : tie.Need-returns
 unfolding within
 returns c = refl

@@ -1,4 +1,4 @@
-use mathlib.Core.Path.{refl, _∙_}
+use mathlib.Core.Path.{refl}
 use borrow.Author.Tests.{ne-eqb}
 use native.Mathlib.Omega.{arith}
 use Rattle.rules.specs.Header.{u16At, u32At}
@@ -6,52 +6,39 @@ use Rattle.listing.specs.Words.{otherWayRound}
 use borrow.Author.Needs.{needs}
 use Rattle.listing.proofs.ranges.other_way_round.Statement.{statement}
 use Rattle.listing.proofs.ranges.other_way_round.Tie as tie
-use Rattle.listing.proofs.ranges.other_way_round.Reads as reads
-use Rattle.listing.proofs.ranges.other_way_round.Lts as lts
 
--- src/ranges.rt:268:9
 returns : tie.Need-returns
 unfolding otherWayRound
 returns c = (rw (c .if1 .taken) refl, λ h. h)
 
--- src/ranges.rt:271:16
 mul-result : tie.Need-mul-result
 mul-result c = search needs
 
--- src/ranges.rt:271:16
 add-result : tie.Need-add-result
 add-result c = search needs
 
--- src/ranges.rt:271:9
 returns-2 : tie.Need-returns-2
 unfolding otherWayRound u16At
 returns-2 c = (rw (c .if2 .taken) refl, λ h. omega arith)
 
--- src/ranges.rt:273:6
 mul-result-2 : tie.Need-mul-result-2
 mul-result-2 c = search needs
 
--- src/ranges.rt:273:6
 add-result-2 : tie.Need-add-result-2
 add-result-2 c = search needs
 
--- src/ranges.rt:273:5
 mul-result-3 : tie.Need-mul-result-3
 mul-result-3 c = search needs
 
--- src/ranges.rt:273:58
 mul-result-4 : tie.Need-mul-result-4
 mul-result-4 c = search needs
 
--- src/ranges.rt:273:58
 add-result-3 : tie.Need-add-result-3
 add-result-3 c = search needs
 
--- src/ranges.rt:273:5
 add-result-4 : tie.Need-add-result-4
 add-result-4 c = search needs
 
--- src/ranges.rt:264:1
 returns-3 : tie.Need-returns-3
 unfolding otherWayRound u16At u32At
 returns-3 c = (rw (ne-eqb _ _ (c .before .if1 .left), ne-eqb _ _ (c .if2 .left)) refl, λ h. omega arith)

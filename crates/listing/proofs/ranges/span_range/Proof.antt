@@ -3,45 +3,38 @@ use mathlib.Core.List.{[]}
 use native.Mathlib.Omega.{arith}
 use Rattle.arith.proofs.Tests.{asked-true, asked-false}
 use Rattle.listing.specs.Fields.{spanRange, spanOf}
-use Rattle.listing.proofs.FieldSizes.{some-day, first-year-in}
+use Rattle.listing.proofs.SpanDays.{some-day, first-year-in}
 use borrow.Author.Needs.{needs}
 use Rattle.listing.proofs.ranges.span_range.Statement.{statement}
 use Rattle.listing.proofs.ranges.span_range.Tie as tie
-use Rattle.listing.proofs.ranges.span_range.Reads as reads
-use Rattle.listing.proofs.ranges.span_range.Lts as lts
-use Rattle.calendar.proofs.span_of.Reads as span-of-reads
-use Rattle.calendar.proofs.is_first_year_sound.Reads as is-first-year-sound-reads
-use Rattle.listing.proofs.ranges.range.Reads as range-reads
 
--- src/ranges.rt:147:9
 is-first-year-sound-requires : tie.Need-is-first-year-sound-requires
 is-first-year-sound-requires c κs = search needs
 
--- src/ranges.rt:148:9
 range-requires : tie.Need-range-requires
 range-requires c κs = search needs
 
--- src/ranges.rt:148:9
 returns : tie.Need-returns
 unfolding spanRange
 returns c = c .range .ensures ∙ rw (asked-false (c .before .before .is-first-year-sound .ensures) (c .before .if1 .taken)) refl
 
--- src/ranges.rt:150:9
 span-of-requires : tie.Need-span-of-requires
 span-of-requires c κs = let e = asked-true (c .before .is-first-year-sound .ensures) (c .if1 .left) in first-year-in e
 
--- src/ranges.rt:151:25
 sub-range : tie.Need-sub-range
 sub-range c = omega (arith, c .before .span-of .ensures [] .ends, some-day (spanOf (c .before .before .before .before .args .first-year)))
 
--- src/ranges.rt:151:5
 range-requires-2 : tie.Need-range-requires-2
 range-requires-2 c κs = search needs
 
--- src/ranges.rt:144:1
 returns-2 : tie.Need-returns-2
 unfolding spanRange
-returns-2 c = c .range2 .ensures ∙ rw (asked-true (c .before .before .before .before .is-first-year-sound .ensures) (c .before .before .before .if1 .left), c .before .before .span-of .ensures [] .starts, c .before .before .span-of .ensures [] .ends) refl
+returns-2 c = c .range2 .ensures ∙ rw (
+  asked-true (c .before .before .before .before .is-first-year-sound .ensures)
+      (c .before .before .before .if1 .left),
+  c .before .before .span-of .ensures [] .starts,
+  c .before .before .span-of .ensures [] .ends,
+) refl
 
 pub span-range-spec : {M : Type 1} → statement M
 span-range-spec =

@@ -4,31 +4,22 @@ use Rattle.rules.specs.Header.{u32At}
 use borrow.Author.Needs.{needs}
 use Rattle.listing.proofs.ranges.u32_or_zero.Statement.{statement}
 use Rattle.listing.proofs.ranges.u32_or_zero.Tie as tie
-use Rattle.listing.proofs.ranges.u32_or_zero.Reads as reads
-use Rattle.listing.proofs.ranges.u32_or_zero.Lts as lts
-use Rattle.listing.proofs.ranges.u16_or_zero.Reads as u16-or-zero-reads
 
--- src/ranges.rt:131:5
 u16-or-zero-requires : tie.Need-u16-or-zero-requires
 u16-or-zero-requires c κs = search needs
 
--- src/ranges.rt:131:5
 mul-result : tie.Need-mul-result
 mul-result c = search needs
 
--- src/ranges.rt:131:60
 add-u16-or-zero : tie.Need-add-u16-or-zero
 add-u16-or-zero c = search needs
 
--- src/ranges.rt:131:41
 u16-or-zero-requires-2 : tie.Need-u16-or-zero-requires-2
 u16-or-zero-requires-2 c κs = search needs
 
--- src/ranges.rt:131:5
 add-result : tie.Need-add-result
 add-result c = search needs
 
--- src/ranges.rt:127:1
 returns : tie.Need-returns
 unfolding u32At
 returns c = (rw (c .before .u16-or-zero .ensures .0, c .u16-or-zero2 .ensures .0) refl, omega arith)

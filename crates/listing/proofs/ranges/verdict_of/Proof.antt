@@ -4,57 +4,57 @@ use Rattle.listing.specs.Fields.{verdictOf}
 use borrow.Author.Needs.{needs}
 use Rattle.listing.proofs.ranges.verdict_of.Statement.{statement}
 use Rattle.listing.proofs.ranges.verdict_of.Tie as tie
-use Rattle.listing.proofs.ranges.verdict_of.Reads as reads
-use Rattle.listing.proofs.ranges.verdict_of.Lts as lts
-use Rattle.listing.proofs.ranges.day_verdict.Reads as day-verdict-reads
-use Rattle.listing.proofs.ranges.is_within.Reads as is-within-reads
-use Rattle.listing.proofs.ranges.number_at.Reads as number-at-reads
-use Rattle.listing.proofs.ranges.quantity_of.Reads as quantity-of-reads
-use Rattle.listing.proofs.ranges.range_of.Reads as range-of-reads
-use Rattle.listing.proofs.ranges.size_of.Reads as size-of-reads
 
--- src/ranges.rt:252:9
 size-of-requires : tie.Need-size-of-requires
 size-of-requires c κs = search needs
 
--- src/ranges.rt:253:22
 add-if1 : tie.Need-add-if1
 add-if1 c = search needs
 
--- src/ranges.rt:254:9
 returns : tie.Need-returns
 unfolding verdictOf
 returns c = rw (← (c .before .size-of .ensures .0), lt-ltb _ _ (c .if1 .taken)) refl
 
--- src/ranges.rt:256:9
 number-at-requires : tie.Need-number-at-requires
 number-at-requires c κs = search needs
 
--- src/ranges.rt:257:18
 range-of-requires : tie.Need-range-of-requires
 range-of-requires c κs = search needs
 
--- src/ranges.rt:257:8
 is-within-requires : tie.Need-is-within-requires
 is-within-requires c κs = search needs
 
--- src/ranges.rt:258:35
 quantity-of-requires : tie.Need-quantity-of-requires
 quantity-of-requires c κs = search needs
 
--- src/ranges.rt:258:9
 day-verdict-requires : tie.Need-day-verdict-requires
 day-verdict-requires c κs = search needs
 
--- src/ranges.rt:258:9
 returns-2 : tie.Need-returns-2
 unfolding verdictOf
-returns-2 c = rw (← (c .before .before .before .before .before .before .before .size-of .ensures .0), le-ltb _ _ (c .before .before .before .before .before .before .if1 .left), ← (c .before .before .before .before .before .number-at .ensures .0), ← (c .before .before .before .before .range-of .ensures), ← (c .before .before .before .is-within .ensures), c .before .before .if2 .taken, ← (c .before .quantity-of .ensures)) (c .day-verdict .ensures)
+returns-2 c = rw (
+  ← (c .before .before .before .before .before .before .before .size-of .ensures .0),
+  le-ltb _ _ (c .before .before .before .before .before .before .if1 .left),
+  ←
+      (c .before .before .before .before .before .number-at .ensures .0),
+  ← (c .before .before .before .before .range-of .ensures),
+  ←
+      (c .before .before .before .is-within .ensures),
+  c .before .before .if2 .taken,
+  ← (c .before .quantity-of .ensures),
+) (c .day-verdict .ensures)
 
--- src/ranges.rt:248:1
 returns-3 : tie.Need-returns-3
 unfolding verdictOf
-returns-3 c = rw (← (c .before .before .before .before .before .size-of .ensures .0), le-ltb _ _ (c .before .before .before .before .if1 .left), ← (c .before .before .before .number-at .ensures .0), ← (c .before .before .range-of .ensures), ← (c .before .is-within .ensures), c .if2 .left) refl
+returns-3 c = rw (
+  ← (c .before .before .before .before .before .size-of .ensures .0),
+  le-ltb _ _ (c .before .before .before .before .if1 .left),
+  ←
+      (c .before .before .before .number-at .ensures .0),
+  ← (c .before .before .range-of .ensures),
+  ← (c .before .is-within .ensures),
+  c .if2 .left,
+) refl
 
 pub verdict-of-spec : {M : Type 1} → statement M
 verdict-of-spec =

@@ -3,14 +3,10 @@ use mathlib.Core.Path.{_≡_, refl}
 use borrow.Author.Needs.{needs}
 use Rattle.listing.proofs.shapes.close_out_field.Statement.{statement}
 use Rattle.listing.proofs.shapes.close_out_field.Tie as tie
-use Rattle.listing.proofs.shapes.close_out_field.Reads as reads
-use Rattle.listing.proofs.shapes.close_out_field.Lts as lts
 
--- src/shapes.rt:74:1
 returns : tie.Need-returns
 returns c = search needs
 
--- src/shapes.rt:74:1
 returns-2 : tie.Need-returns-2
 returns-2 c =
     let r = c .match .rest in

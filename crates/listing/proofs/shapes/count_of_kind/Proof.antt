@@ -1,61 +1,49 @@
-use mathlib.Core.Path.{refl, sym}
+use mathlib.Core.Path.{refl}
 use Rattle.listing.specs.Fields.{fieldsOfKind}
 use native.Mathlib.Omega.{arith}
 use Rattle.listing.proofs.FieldPlaces.{legs-length, no-fields}
 use borrow.Author.Needs.{needs}
 use Rattle.listing.proofs.shapes.count_of_kind.Statement.{statement}
 use Rattle.listing.proofs.shapes.count_of_kind.Tie as tie
-use Rattle.listing.proofs.shapes.count_of_kind.Reads as reads
-use Rattle.listing.proofs.shapes.count_of_kind.Lts as lts
 
--- src/shapes.rt:155:25
 mul-result : tie.Need-mul-result
 mul-result c = search needs
 
--- src/shapes.rt:155:21
 add-result : tie.Need-add-result
 add-result c = search needs
 
--- src/shapes.rt:147:1
 returns : tie.Need-returns
 unfolding fieldsOfKind
-returns c = rw (c .match .keys1) refl
+returns c = (rw (c .match .keys1) refl, omega arith)
 
--- src/shapes.rt:147:1
 returns-2 : tie.Need-returns-2
 unfolding fieldsOfKind
-returns-2 c = rw (c .match .keys2) refl
+returns-2 c = (rw (c .match .keys2) refl, omega arith)
 
--- src/shapes.rt:147:1
 returns-3 : tie.Need-returns-3
 unfolding fieldsOfKind
-returns-3 c = rw (c .match .keys3) refl
+returns-3 c = (rw (c .match .keys3) refl, omega arith)
 
--- src/shapes.rt:147:1
 returns-4 : tie.Need-returns-4
 unfolding fieldsOfKind
-returns-4 c = rw (c .match .keys4) (omega (arith, legs-length (c .before .args .legs)))
+returns-4 c = (rw (c .match .keys4) (omega (arith, legs-length (c .before .args .legs))), omega arith)
 
--- src/shapes.rt:147:1
 returns-5 : tie.Need-returns-5
 unfolding fieldsOfKind
-returns-5 c = rw (c .match .keys5) refl
+returns-5 c = (rw (c .match .keys5) refl, omega arith)
 
--- src/shapes.rt:147:1
 returns-6 : tie.Need-returns-6
 unfolding fieldsOfKind
-returns-6 c = rw (c .match .keys6) refl
+returns-6 c = (rw (c .match .keys6) refl, omega arith)
 
--- src/shapes.rt:147:1
 returns-7 : tie.Need-returns-7
 unfolding fieldsOfKind
-returns-7 c = rw (c .match .keys7) refl
+returns-7 c = (rw (c .match .keys7) refl, omega arith)
 
--- src/shapes.rt:147:1
 returns-8 : tie.Need-returns-8
 returns-8 c =
     let r = c .match .rest in
-    no-fields _ _ (r .0 .0 .0 .0 .0 .0 .1) (r .0 .0 .0 .0 .0 .1) (r .0 .0 .0 .0 .1) (r .0 .0 .0 .1) (r .0 .0 .1) (r .0 .1) (r .1)
+    (no-fields _ _ (r .0 .0 .0 .0 .0 .0 .1) (r .0 .0 .0 .0 .0 .1) (r .0 .0 .0 .0 .1) (r .0 .0 .0 .1) (r .0 .0 .1) (r .0 .1) (r .1), omega arith)
 
 pub count-of-kind-spec : {M : Type 1} → statement M
 count-of-kind-spec =

@@ -3,18 +3,13 @@ use mathlib.Core.Path.{_≡_, refl}
 use borrow.Author.Needs.{needs}
 use Rattle.listing.proofs.shapes.day_limits_field.Statement.{statement}
 use Rattle.listing.proofs.shapes.day_limits_field.Tie as tie
-use Rattle.listing.proofs.shapes.day_limits_field.Reads as reads
-use Rattle.listing.proofs.shapes.day_limits_field.Lts as lts
 
--- src/shapes.rt:49:1
 returns : tie.Need-returns
 returns c = search needs
 
--- src/shapes.rt:49:1
 returns-2 : tie.Need-returns-2
 returns-2 c = search needs
 
--- src/shapes.rt:49:1
 returns-3 : tie.Need-returns-3
 returns-3 c =
     let r = c .match .rest in

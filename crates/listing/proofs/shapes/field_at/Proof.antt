@@ -1,48 +1,36 @@
 use Rattle.listing.specs.declared.field.Field.the-variants.{Kind}
 use Rattle.listing.specs.Fields.{fieldsOfKind}
 use Rattle.listing.proofs.FieldPlaces.{after-first}
-use mathlib.Core.Path.{refl, _∙_}
+use mathlib.Core.Path.{refl}
 use native.Mathlib.Omega.{arith}
 use Rattle.listing.specs.Fields.{fieldsOf}
 use borrow.Author.Needs.{needs}
 use Rattle.listing.proofs.shapes.field_at.Statement.{statement}
 use Rattle.listing.proofs.shapes.field_at.Tie as tie
-use Rattle.listing.proofs.shapes.field_at.Reads as reads
-use Rattle.listing.proofs.shapes.field_at.Lts as lts
-use Rattle.listing.proofs.shapes.field_of_kind.Reads as field-of-kind-reads
-use Rattle.listing.proofs.shapes.header_field.Reads as header-field-reads
 
--- src/shapes.rt:136:23
 enum-known-shape : tie.Need-enum-known-shape
 enum-known-shape c = search needs
 
--- src/shapes.rt:136:39
 header-field-requires : tie.Need-header-field-requires
 header-field-requires c κs = search needs
 
--- src/shapes.rt:137:23
 enum-known-shape-2 : tie.Need-enum-known-shape-2
 enum-known-shape-2 c = search needs
 
--- src/shapes.rt:141:43
 sub-field-of-kind : tie.Need-sub-field-of-kind
 sub-field-of-kind c = search needs
 
--- src/shapes.rt:141:17
 field-of-kind-requires : tie.Need-field-of-kind-requires
 unfolding fieldsOf
 field-of-kind-requires c κs = omega (arith, rw (c .before .before .shape2 .given .1) at (c .before .before .before .before .pre))
 
--- src/shapes.rt:131:1
 returns : tie.Need-returns
 returns c = rw (c .before .before .shape .given .1) (c .header-field .ensures _ (rw (c .before .before .shape .given .1) at (c .before .before .before .before .pre)))
 
--- src/shapes.rt:131:1
 returns-2 : tie.Need-returns-2
 unfolding fieldsOf
 returns-2 c = rw (c .before .before .shape2 .given .1, c .if1 .taken) refl
 
--- src/shapes.rt:131:1
 returns-3 : tie.Need-returns-3
 unfolding fieldsOf
 returns-3 c = rw (c .before .before .before .shape2 .given .1) (after-first Kind (fieldsOfKind _ _) _ (c .before .if1 .left) (c .field-of-kind .ensures))

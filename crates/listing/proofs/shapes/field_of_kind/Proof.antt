@@ -1,74 +1,54 @@
-use borrow.Author.Needs.{needs}
 use Rattle.listing.specs.declared.field.Field.the-variants.{Member}
 use mathlib.Core.Path.{refl, _∙_}
 use Rattle.listing.specs.Fields.{fieldsOfKind}
 use Rattle.listing.proofs.FieldPlaces.{only, time-at}
 use Rattle.listing.proofs.shapes.field_of_kind.Statement.{statement}
 use Rattle.listing.proofs.shapes.field_of_kind.Tie as tie
-use Rattle.listing.proofs.shapes.field_of_kind.Reads as reads
-use Rattle.listing.proofs.shapes.field_of_kind.Lts as lts
-use Rattle.listing.proofs.shapes.cancel_field.Reads as cancel-field-reads
-use Rattle.listing.proofs.shapes.close_out_field.Reads as close-out-field-reads
-use Rattle.listing.proofs.shapes.day_limits_field.Reads as day-limits-field-reads
-use Rattle.listing.proofs.shapes.proposal_field.Reads as proposal-field-reads
-use Rattle.listing.proofs.shapes.submit_field.Reads as submit-field-reads
 
--- src/shapes.rt:89:19
 submit-field-requires : tie.Need-submit-field-requires
 unfolding fieldsOfKind
 submit-field-requires c κs = rw (c .match .keys1) at (c .before .pre)
 
--- src/shapes.rt:90:19
 cancel-field-requires : tie.Need-cancel-field-requires
 unfolding fieldsOfKind
 cancel-field-requires c κs = rw (c .match .keys2) at (c .before .pre)
 
--- src/shapes.rt:91:23
 day-limits-field-requires : tie.Need-day-limits-field-requires
 unfolding fieldsOfKind
 day-limits-field-requires c κs = rw (c .match .keys3) at (c .before .pre)
 
--- src/shapes.rt:92:21
 proposal-field-requires : tie.Need-proposal-field-requires
 unfolding fieldsOfKind
 proposal-field-requires c κs = rw (c .match .keys4) at (c .before .pre)
 
--- src/shapes.rt:94:22
 close-out-field-requires : tie.Need-close-out-field-requires
 unfolding fieldsOfKind
 close-out-field-requires c κs = rw (c .match .keys6) at (c .before .pre)
 
--- src/shapes.rt:84:1
 returns : tie.Need-returns
 unfolding fieldsOfKind
 returns c = c .submit-field .ensures ∙ rw (c .before .match .keys1) refl
 
--- src/shapes.rt:84:1
 returns-2 : tie.Need-returns-2
 unfolding fieldsOfKind
 returns-2 c = c .cancel-field .ensures ∙ rw (c .before .match .keys2) refl
 
--- src/shapes.rt:84:1
 returns-3 : tie.Need-returns-3
 unfolding fieldsOfKind
 returns-3 c = c .day-limits-field .ensures ∙ rw (c .before .match .keys3) refl
 
--- src/shapes.rt:84:1
 returns-4 : tie.Need-returns-4
 unfolding fieldsOfKind
 returns-4 c = c .proposal-field .ensures ∙ rw (c .before .match .keys4) refl
 
--- src/shapes.rt:84:1
 returns-5 : tie.Need-returns-5
 unfolding fieldsOfKind
 returns-5 c = rw (c .match .keys5) (only Member _ (rw (c .match .keys5) at (c .before .pre)))
 
--- src/shapes.rt:84:1
 returns-6 : tie.Need-returns-6
 unfolding fieldsOfKind
 returns-6 c = c .close-out-field .ensures ∙ rw (c .before .match .keys6) refl
 
--- src/shapes.rt:84:1
 returns-7 : tie.Need-returns-7
 returns-7 c =
     let r = c .match .rest in

@@ -4,41 +4,31 @@ use Rattle.listing.proofs.FieldPlaces.{last-of-five}
 use borrow.Author.Needs.{needs}
 use Rattle.listing.proofs.shapes.fixed_field.Statement.{statement}
 use Rattle.listing.proofs.shapes.fixed_field.Tie as tie
-use Rattle.listing.proofs.shapes.fixed_field.Reads as reads
-use Rattle.listing.proofs.shapes.fixed_field.Lts as lts
 
--- src/shapes.rt:108:9
 returns : tie.Need-returns
 returns c = search needs
 
--- src/shapes.rt:108:9
 returns-2 : tie.Need-returns-2
 returns-2 c = search needs
 
--- src/shapes.rt:108:9
 returns-3 : tie.Need-returns-3
 returns-3 c =
     let r = c .match .rest in
     let e : c .before .before .args .i ≡ 2 = omega (arith, r .0 .1, r .1) in
     rw e refl
 
--- src/shapes.rt:103:1
 returns-4 : tie.Need-returns-4
 returns-4 c = search needs
 
--- src/shapes.rt:103:1
 returns-5 : tie.Need-returns-5
 returns-5 c = search needs
 
--- src/shapes.rt:103:1
 returns-6 : tie.Need-returns-6
 returns-6 c = search needs
 
--- src/shapes.rt:103:1
 returns-7 : tie.Need-returns-7
 returns-7 c = search needs
 
--- src/shapes.rt:103:1
 returns-8 : tie.Need-returns-8
 returns-8 c =
     let r = c .match2 .rest in

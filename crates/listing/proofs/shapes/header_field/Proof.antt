@@ -1,26 +1,18 @@
-use mathlib.Core.Path.{refl}
 use Rattle.listing.proofs.FieldPlaces.{fixed-at, past-fixed, holiday-at, limit-at, header-length}
 use native.Mathlib.Omega.{arith}
 use borrow.Author.Needs.{needs}
 use Rattle.listing.proofs.shapes.header_field.Statement.{statement}
 use Rattle.listing.proofs.shapes.header_field.Tie as tie
-use Rattle.listing.proofs.shapes.header_field.Reads as reads
-use Rattle.listing.proofs.shapes.header_field.Lts as lts
-use Rattle.listing.proofs.shapes.fixed_field.Reads as fixed-field-reads
 
--- src/shapes.rt:123:9
 fixed-field-requires : tie.Need-fixed-field-requires
 fixed-field-requires c κs = search needs
 
--- src/shapes.rt:123:9
 returns : tie.Need-returns
 returns c = λ members h. fixed-at _ members _ (c .before .if1 .taken) (c .fixed-field .ensures)
 
--- src/shapes.rt:126:9
 returns-2 : tie.Need-returns-2
 returns-2 c = λ members h. past-fixed _ members _ (c .before .if1 .left) (holiday-at _ members _ (c .if2 .taken))
 
--- src/shapes.rt:119:1
 returns-3 : tie.Need-returns-3
 returns-3 c = λ members h. past-fixed _ members _ (c .before .if1 .left) (limit-at _ members _ (c .if2 .left) (omega (arith, h, header-length (c .before .before .args .holidays) members)))
 

@@ -4,26 +4,19 @@ use native.Mathlib.Omega.{arith}
 use borrow.Author.Needs.{needs}
 use Rattle.listing.proofs.shapes.proposal_field.Statement.{statement}
 use Rattle.listing.proofs.shapes.proposal_field.Tie as tie
-use Rattle.listing.proofs.shapes.proposal_field.Reads as reads
-use Rattle.listing.proofs.shapes.proposal_field.Lts as lts
 
--- src/shapes.rt:65:9
 returns : tie.Need-returns
 returns c = search needs
 
--- src/shapes.rt:67:12
 sub-match : tie.Need-sub-match
 sub-match c = search needs
 
--- src/shapes.rt:60:1
 returns-2 : tie.Need-returns-2
 returns-2 c = proposal-at _ _ 0 (c .before .if1 .left) (c .before .before .pre) (c .match .keys1) refl
 
--- src/shapes.rt:60:1
 returns-3 : tie.Need-returns-3
 returns-3 c = proposal-at _ _ 1 (c .before .if1 .left) (c .before .before .pre) (c .match .keys2) refl
 
--- src/shapes.rt:60:1
 returns-4 : tie.Need-returns-4
 returns-4 c =
     let r = c .match .rest in

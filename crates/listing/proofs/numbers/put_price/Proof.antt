@@ -1,0 +1,32 @@
+use mathlib.Core.Path.{refl}
+use native.Mathlib.Omega.{arith}
+use Rattle.listing.proofs.Writers.{next, exactly, number, within-room}
+use mathlib.Core.List.{append-assoc}
+use Rattle.listing.specs.Words.{priceText}
+use borrow.Author.Needs.{needs}
+use Rattle.listing.proofs.numbers.put_price.Statement.{statement}
+use Rattle.listing.proofs.numbers.put_price.Tie as tie
+
+put-field-requires : tie.Need-put-field-requires
+put-field-requires c κs = search needs
+
+put-byte-requires : tie.Need-put-byte-requires
+put-byte-requires c κs = search needs
+
+put-two-digits-requires : tie.Need-put-two-digits-requires
+put-two-digits-requires c κs = search needs
+
+same-length : tie.Need-same-length
+same-length c = search needs
+
+returns : tie.Need-returns
+unfolding priceText
+returns c =
+    within-room 24 _ (next (next (number (c .before .before .before .before .before .before .before .before .before .before .put-field .ensures))
+    (exactly 1 _ (c .before .before .before .before .before .before .put-byte .ensures) refl) (omega arith)) (c .before .before .put-two-digits .ensures) (omega arith))
+    (simp append-assoc) (omega arith)
+
+pub put-price-spec : {M : Type 1} → statement M
+put-price-spec =
+    tie.close
+    (tie.spec put-field-requires put-byte-requires put-two-digits-requires same-length returns)
