@@ -5,3 +5,5 @@ pub mod FieldPlaces
 pub mod SpanDays
 pub mod Writers
 pub mod Goings
+pub mod Fronts
+pub mod HeaderSizes

@@ -3,6 +3,7 @@ mod field;
 mod lines;
 mod names;
 mod numbers;
+mod pieces;
 mod ranges;
 mod shapes;
 
@@ -15,3 +16,5 @@ pub use lines::Listed;
 pub use lines::ROOM;
 pub use lines::put_header_line;
 pub use lines::put_record_line;
+pub use pieces::Piece;
+pub use pieces::next_piece;

@@ -31,7 +31,8 @@ returns c = rw (
   ←
       (c .before .before .before .before .before .before .before .before .before .before .is-within .ensures),
   c .before .before .before .before .before .before .before .before .before .if1 .taken,
-) (within-room 45 _ (next (exactly 21 _ (c .before .before .before .before .before .before .put-bytes .ensures) refl) (number (c .before .before .put-field .ensures)) (omega arith)) refl (omega arith))
+) (within-room 45 _ (next (exactly 21 _ (c .before .before .before .before .before .before .put-bytes .ensures) refl) (number (c .before .before .put-field .ensures))
+    (omega arith)) refl (omega arith))
 
 returns-2 : tie.Need-returns-2
 unfolding hint
