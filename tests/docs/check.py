@@ -13,7 +13,7 @@ import sys
 
 ROOT = pathlib.Path(__file__).resolve().parents[2]
 PAGES = [ROOT / "README.md", *sorted((ROOT / "docs").glob("*.md"))]
-PLACES = ("crates", "include", "tests", ".ci", "examples")
+PLACES = ("crates", "include", "programs", "tests", ".ci", "examples")
 COMMANDS = ("rt", "gcc", "rustc", "tar", "make")
 
 LINK = re.compile(r"\[[^\]]*\]\(([^)\s]+)\)")
