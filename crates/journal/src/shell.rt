@@ -20,6 +20,9 @@ use rules::layout::ROWS_LENGTH;
 
 const BUFFER: usize = 65536;
 
+// The rows, and a place before and after them.
+const ROWS: usize = 3266;
+
 // Nothing says that standard input ends, so turns are counted: this many take years.
 const MOST_TURNS: u64 = 70368744177664;
 
@@ -227,16 +230,45 @@ fn run_turns(
     Ending::ReadFailed
 }
 
+// The compiler places arrays 8 bytes past a multiple of 16, where the test of all rows takes a tenth longer. The rows are
+// lent from the second place on.
+fn run_on_rows(
+    input: &mut [u8],
+    output: &mut [u8],
+    head: &mut [u64],
+    prices: &mut [u64],
+    lots: &mut [i64],
+    value: &mut [i64],
+    book: &mut [u64],
+    lines: &mut [i64],
+) -> Ending
+    requires { ⌜ (length (now input) ≡ 65536) × (length (now output) ≡ 65536) × (224 ≤ length (now head)) × (800 ≤ length (now lines)) ⌝ }
+    requires { ⌜ (length (now lots) ≡ 3266) × (length (now value) ≡ 3266) ⌝ }
+{
+    let first: usize = 1;
+    let end = first + ROWS_LENGTH;
+    run_turns(
+        input,
+        output,
+        head,
+        prices,
+        &mut lots[first..end],
+        &mut value[first..end],
+        book,
+        lines,
+    )
+}
+
 pub fn run() -> Ending {
     let mut input = [0u8; BUFFER];
     let mut output = [0u8; BUFFER];
     let mut head = [0u64; HEAD_LENGTH];
     let mut prices = [0u64; PRICES_LENGTH];
-    let mut lots = [0i64; ROWS_LENGTH];
-    let mut value = [0i64; ROWS_LENGTH];
+    let mut lots = [0i64; ROWS];
+    let mut value = [0i64; ROWS];
     let mut book = [0u64; BOOK_LENGTH];
     let mut lines = [0i64; LINES_LENGTH];
-    run_turns(
+    run_on_rows(
         &mut input,
         &mut output,
         &mut head,
