@@ -1,9 +1,11 @@
 #!/usr/bin/env python3
 """Whether what README.md and docs/ cite exists.
 
-A link must lead to a file. A name in backticks that follows a link and a colon must be defined in that file:
-`[Days](../crates/rules/specs/Days.antt): \\`yearStart\\`, \\`sunday\\``. Any other name in backticks must be a crate, a path,
-a command, or be defined somewhere. What is missing is printed, and the exit status is 1.
+A link must lead to a file. A link is `[Days](../crates/rules/specs/Days.antt)`, or `[Days]` where the page ends with
+`[Days]: ../crates/rules/specs/Days.antt`; a label without such a line is missing, and so is a line whose label no text has.
+A name in backticks that follows a link and a colon must be defined in that file: `[Days]: \\`yearStart\\`, \\`sunday\\``. Any
+other name in backticks must be a crate, a path, a command, or be defined somewhere. What is missing is printed, and the
+exit status is 1.
 """
 import pathlib
 import re
@@ -11,10 +13,12 @@ import sys
 
 ROOT = pathlib.Path(__file__).resolve().parents[2]
 PAGES = [ROOT / "README.md", *sorted((ROOT / "docs").glob("*.md"))]
-PLACES = ("crates", "include", "tests", ".ci", "examples")
+PLACES = ("crates", "include", "programs", "tests", ".ci", "examples")
 COMMANDS = ("rt", "gcc", "rustc", "tar", "make")
 
 LINK = re.compile(r"\[[^\]]*\]\(([^)\s]+)\)")
+REFERENCE = re.compile(r"^\[([^\]]+)\]: (\S+)$", re.M)
+LABEL = re.compile(r"(`[^`]*`)|\[([^\]]+)\](?!\()")
 CODE = re.compile(r"`([^`]+)`")
 NAME = re.compile(r"[^\W\d][\w'·-]*$")
 
@@ -45,6 +49,26 @@ def known_names():
     return names
 
 
+def with_links(text):
+    """The text with each label as a link of its own, without the lines of references; and what is wrong with those."""
+    references = dict(REFERENCE.findall(text))
+    used, wrong = set(), []
+
+    def link(found):
+        label = found.group(2)
+        if not label:
+            return found.group(0)
+        if label not in references:
+            wrong.append(f"no reference for [{label}]")
+            return found.group(0)
+        used.add(label)
+        return f"[{label}]({references[label]})"
+
+    linked = LABEL.sub(link, REFERENCE.sub("", text))
+    wrong += [f"no text has [{label}]" for label in references if label not in used]
+    return linked, wrong
+
+
 def segments(line):
     """The line cut at its links: (path that the names before the next link belong to, or None; text)."""
     target, start = None, 0
@@ -60,7 +84,8 @@ def is_path(text, page):
 
 def cited(page, known):
     """What the page cites and is not there."""
-    text = re.sub(r"^(```|    ).*$", "", page.read_text(encoding="utf-8"), flags=re.M)
+    text, wrong = with_links(re.sub(r"^(```|    ).*$", "", page.read_text(encoding="utf-8"), flags=re.M))
+    yield from ((0, what) for what in wrong)
     for number, line in enumerate(text.splitlines(), 1):
         for target, words in segments(line):
             path = None

@@ -21,7 +21,8 @@ use Rattle.rules.specs.declared.order.Side.{Side}
 use Rattle.rules.specs.declared.order.Side.the-variants.{Buy, Sell}
 use Rattle.rules.specs.Days.{inSpan}
 use Rattle.rules.specs.Sides.{sideNumber}
-use Rattle.rules.specs.Ledger.{Tables, Line, withHead, withPrices, members, holidayCount, day, time, acceptedSubmits, submitsThisSecond, calendar, orderCount, sideAt, orderPlaces, orders, withOrders, withoutSubmits, timed, booked}
+use Rattle.rules.specs.Ledger.{Tables, Line, withHead, withPrices, members, holidayCount, day, time, acceptedSubmits, submitsThisSecond, calendar, orderCount, sideAt, orderPlaces}
+use Rattle.rules.specs.Ledger.{orders, withOrders, withoutSubmits, timed, booked}
 use Rattle.rules.specs.Matching.{withLots, Matched, matched, incoming, submitMatched, submitLines, isResting, wouldRest, submitOrders, withDeals, counted, submitBooked}
 use Rattle.rules.specs.Synthetic.{usedByLegs, proposalLines, proposalBooked}
 use Rattle.rules.specs.Default.{closeOutLines, closeOutBooked, defaultBooked}
@@ -34,7 +35,8 @@ use Rattle.accounts.proofs.Runs.{Sound, orders-same, timed-same}
 use Rattle.accounts.proofs.Written.{orders-written}
 use Rattle.accounts.proofs.CloseOutLines.{from-length}
 use Rattle.accounts.proofs.Closes.{day-header}
-use Rattle.accounts.proofs.Remains.{Remain, Distinct, remain-same, remain-length, remain-all, remain-distinct, distinct-more, distinct-orders, orders-distinct, kept-remain, legs-remain, matching-remain, deals-total, HasLots, deals-few}
+use Rattle.accounts.proofs.Remains.{Remain, Distinct, remain-same, remain-length, remain-all, remain-distinct, distinct-more, distinct-orders, orders-distinct, kept-remain}
+use Rattle.accounts.proofs.Remains.{legs-remain, matching-remain, deals-total, HasLots, deals-few}
 
 -- ---- orders
 -- what the soundness of an order reads of the tables: the members and the calendar stand, accepted submits do not fall

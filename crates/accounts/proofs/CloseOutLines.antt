@@ -18,7 +18,8 @@ use Rattle.rules.specs.declared.event.CloseOutTerms.{CloseOutTerms}
 use Rattle.rules.specs.Days.{Calendar}
 use Rattle.rules.specs.Ledger.{Tables, Line, members, defaulted, ggf, lotsAt}
 use Rattle.rules.specs.Accounts.{Column, amount}
-use Rattle.rules.specs.Default.{byMember, sumOf, defaultedLongs, defaultedShorts, givenUp, less, changeLines, smallerTotal, nettedLongs, nettedShorts, nettingChanges, longsLeft, shortsLeft, lotsLeft, othersLots, openWeight, weights, taken, defaultedChanges, takerChanges, closeOutLines}
+use Rattle.rules.specs.Default.{byMember, sumOf, defaultedLongs, defaultedShorts, givenUp, less, changeLines, smallerTotal, nettedLongs, nettedShorts, nettingChanges, longsLeft}
+use Rattle.rules.specs.Default.{shortsLeft, lotsLeft, othersLots, openWeight, weights, taken, defaultedChanges, takerChanges, closeOutLines}
 use Rattle.accounts.proofs.Lines.{Fits, hourTotal}
 use Rattle.accounts.proofs.OnePrice.{netLots, net-append, balanced-at-price}
 use Rattle.accounts.proofs.DealtOut.{dealt-length, dealt-none, all-dealt}

@@ -18,7 +18,8 @@ use Rattle.rules.specs.declared.event.CloseOutTerms.{CloseOutTerms}
 use Rattle.rules.specs.declared.event.Event.the-variants.{CloseOut}
 use Rattle.rules.specs.Ledger.{Tables, Line, members, mark, defaulted, ggf, lotsAt, lineLots, booked}
 use Rattle.rules.specs.Records.{legsOf}
-use Rattle.rules.specs.Default.{sumOf, defaultedLongs, defaultedShorts, givenUp, less, changeLines, smallerTotal, nettedLongs, nettedShorts, nettingChanges, longsLeft, shortsLeft, taken, defaultedChanges, takerChanges, closeOutLines, closeOutBooked}
+use Rattle.rules.specs.Default.{sumOf, defaultedLongs, defaultedShorts, givenUp, less, changeLines, smallerTotal, nettedLongs, nettedShorts, nettingChanges, longsLeft, shortsLeft}
+use Rattle.rules.specs.Default.{taken, defaultedChanges, takerChanges, closeOutLines, closeOutBooked}
 use Rattle.rules.specs.Refusals.{applySpec}
 use Rattle.rules.specs.Accounts.{lots}
 use Rattle.rules.proofs.SoundEvents.{close-out-contract}

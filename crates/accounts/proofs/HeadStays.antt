@@ -22,7 +22,8 @@ use Rattle.rules.specs.declared.units.Day.the-variants.{On, NoDay}
 use Rattle.rules.specs.Days.{businessDay, spanStart, dayAfterSpan, inSpan, nextBusinessDay}
 use Rattle.rules.proofs.CalendarLaws.{next-business}
 use Rattle.rules.specs.Header.{Header, calendarOf, calendarSound, membersSound, daySound}
-use Rattle.rules.specs.Ledger.{Tables, Line, withHead, withPrices, members, holidayCount, day, time, acceptedSubmits, lotsRun, orderCount, limit, mark, submitsThisSecond, calendar, orders, withOrders, lineRun, booked, withoutSubmits, timed, freshHead, fresh}
+use Rattle.rules.specs.Ledger.{Tables, Line, withHead, withPrices, members, holidayCount, day, time, acceptedSubmits, lotsRun, orderCount, limit, mark, submitsThisSecond, calendar}
+use Rattle.rules.specs.Ledger.{orders, withOrders, lineRun, booked, withoutSubmits, timed, freshHead, fresh}
 use Rattle.rules.specs.Matching.{withLots, matched, incoming, submitLines, wouldRest, submitsAt, submitOrders, withDeals, submitMatched, counted, submitBooked}
 use Rattle.rules.specs.Synthetic.{proposalLines, usedByLegs, proposalBooked}
 use Rattle.rules.specs.Default.{defaultBooked, closeOutLines, closeOutBooked}

@@ -25,7 +25,8 @@ use Rattle.rules.specs.declared.order.Side.{Side}
 use Rattle.rules.specs.declared.order.Side.the-variants.{Buy, Sell}
 use Rattle.rules.specs.Contracts.{thresholdOf, kindOf, openContracts}
 use Rattle.rules.specs.Header.{Header}
-use Rattle.rules.specs.Ledger.{Tables, Line, withHead, withPrices, members, day, time, lotsRun, calendar, ggf, dayLots, dayValue, orders, withOrders, lineRun, booked, withoutSubmits, timed, freshPrices, fresh}
+use Rattle.rules.specs.Ledger.{Tables, Line, withHead, withPrices, members, day, time, lotsRun, calendar, ggf, dayLots, dayValue, orders, withOrders, lineRun, booked}
+use Rattle.rules.specs.Ledger.{withoutSubmits, timed, freshPrices, fresh}
 use Rattle.rules.specs.Sides.{signed, otherSide}
 use Rattle.rules.specs.Matching.{Deal, dealLines, incoming, matched, submitMatched, submitLines, withDeals, counted, submitBooked}
 use Rattle.rules.specs.Synthetic.{proposalLines, usedByLegs, proposalBooked}

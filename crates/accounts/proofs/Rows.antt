@@ -1,26 +1,17 @@
 -- A column of rows, contract c and member m at c * 32 + m: what posting lines does to each row.
-use mathlib.Core.Path.{_≡_, refl, sym, ap, ap₂, _∙_}
-use mathlib.Core.Bool.{cond}
-use mathlib.Core.List.{List, [], _∷_, zipWith}
-use Prim.Native.Nat.{ℕ, zero, suc, _+_, _*_, _%_, _≤_, _<_}
+use mathlib.Core.Path.{_≡_, refl, _∙_}
+use mathlib.Core.List.{List, [], _∷_}
+use Prim.Native.Nat.{ℕ, _+_, _*_, _≤_, _<_}
 use native.Mathlib.Omega.{arith}
 use lib.Dec.{eqb}
-use lib.ListN.{length, drop, getD, set, replicate, length-set, length-take, length-drop, length-replicate, getD-replicate}
-use lib.Seq.{getD-set-same, getD-set-other, getD-take, getD-drop}
+use lib.ListN.{length, getD, set, length-set}
+use lib.Seq.{getD-set-same, getD-set-other}
 use lib.IntN.{ℤ, pos, _+ℤ_, +ℤ-assoc}
-use borrow.Author.Tests.{lt-leb, le-leb, eqb-true, ne-eqb}
-use Rattle.arith.specs.Lists.{All, any, from, over}
+use Rattle.arith.specs.Lists.{All}
 use Rattle.arith.specs.Ints.{when}
-use Rattle.arith.proofs.Tests.{by-eqb, le-or-lt, same-or}
-use Rattle.arith.proofs.Among.{not-among}
+use Rattle.arith.proofs.Tests.{by-eqb}
 use Rattle.arith.proofs.Sums.{sorted}
-use Rattle.arith.proofs.Terms.{when-or}
-use Rattle.arith.proofs.Overs.{over-length, over-inside, over-outside, zip-length, zip-at}
-use Rattle.rules.specs.Contracts.{childrenOf}
 use Rattle.rules.specs.Ledger.{Line, posted}
-use Rattle.rules.specs.CloseOfDay.{contractRows, addedTo, zeroRows, cascaded}
-use Rattle.rules.specs.OtherForms.{firstMonthOf}
-use Rattle.rules.proofs.HourLaws.{Cascading, year, quarter, cascading}
 use Rattle.accounts.proofs.Lines.{Fits, rowTotal}
 
 abbrev rowOf : List ℤ → ℕ → ℕ → ℤ

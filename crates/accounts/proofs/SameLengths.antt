@@ -24,7 +24,8 @@ use Rattle.rules.specs.declared.order.Order.{Order}
 use Rattle.rules.specs.Answers.{Outcome, told}
 use Rattle.rules.specs.Contracts.{openContracts}
 use Rattle.rules.specs.Header.{Header, headerOf, beginsWithHeader}
-use Rattle.rules.specs.Ledger.{Tables, Line, withHead, withPrices, withDayLimits, members, day, calendar, time, withTime, withMark, orders, withOrders, orderPlaces, linePlaces, lineLots, lineValue, booked, withoutSubmits, timed, freshPrices, freshRows, fresh, ledgerShort}
+use Rattle.rules.specs.Ledger.{Tables, Line, withHead, withPrices, withDayLimits, members, day, calendar, time, withTime, withMark, orders, withOrders, orderPlaces, linePlaces}
+use Rattle.rules.specs.Ledger.{lineLots, lineValue, booked, withoutSubmits, timed, freshPrices, freshRows, fresh, ledgerShort}
 use Rattle.rules.specs.Records.{eventSound}
 use Rattle.rules.specs.Matching.{Deal, dealLines, incoming, submitMatched, submitLines, submitOrders, withDeals, counted, submitBooked}
 use Rattle.rules.specs.Synthetic.{numbered, namedLegs, legLine, proposalLines, usedByLegs, proposalBooked}
@@ -264,6 +265,7 @@ at-most-200-lines t bytes = apply-fits t bytes .few
 pub making-keeps-lengths : MakingKeepsLengths
 unfolding makeSpec
 making-keeps-lengths t bytes =
-    decide-shows (λ o. SameLengths t (o .after)) t (record { answer = Accepted 0; after = fresh (headerOf bytes) t }) ((ledgerShort t, TableUnsound) ∷ (not (beginsWithHeader bytes), HeaderUnsound) ∷ [])
+    decide-shows (λ o. SameLengths t (o .after)) t (record { answer = Accepted 0; after = fresh (headerOf bytes) t })
+    ((ledgerShort t, TableUnsound) ∷ (not (beginsWithHeader bytes), HeaderUnsound) ∷ [])
     (λ a q. same-lengths t) (refl, (refl, tt))
     (λ none. fresh-lengths (headerOf bytes) t (header-gives (headerOf bytes) (begun bytes (not-false _ (none .1 .0)))) (long-enough t (none .0)))

@@ -56,7 +56,8 @@ module _ {A : Type 0} (w : ℕ) where
   in-each-block f g (suc n) l s c h =
       let long : w ≤ length l = omega (arith, suc-mul n w) in
       same-or c 0
-      (λ z. rw z (first-block (f (take w l) ++ inEachBlock w f n (drop w l)) ∙ take-at (f (take w l)) (inEachBlock w f n (drop w l)) w (g (take w l) (length-take-le w l long)) ∙ ap f (sym (first-block l))))
+      (λ z. rw z (first-block (f (take w l) ++ inEachBlock w f n (drop w l)) ∙ take-at (f (take w l)) (inEachBlock w f n (drop w l)) w (g (take w l) (length-take-le w l long))
+      ∙ ap f (sym (first-block l))))
       (λ z. let e : c ≡ suc (c - 1) = omega arith in
       rw e (next-block (c - 1) (f (take w l) ++ inEachBlock w f n (drop w l))
       ∙ ap (block (c - 1)) (drop-at (f (take w l)) (inEachBlock w f n (drop w l)) w (g (take w l) (length-take-le w l long)))

@@ -1,5 +1,5 @@
 -- Columns filled from the front. Assumes nothing.
-use Prim.Native.Nat.{ℕ, suc, _+_, _-_, _≤_, _<_}
+use Prim.Native.Nat.{ℕ, suc, _+_, _-_, _<_}
 use mathlib.Core.List.{List, [], _∷_, _++_, map, append-assoc, map-map}
 use mathlib.Core.Path.{_≡_, refl, sym, ap, _∙_}
 use native.Mathlib.Nat.{zero-add}
@@ -35,5 +35,6 @@ column-filled g n i {column} {x} h e c =
     rw (more, c) (ap (λ k. set (padded n (map g (from 0 i))) k x) (sym sized) ∙ padded-set n (map g (from 0 i)) x (rw sized h))
 
 -- the same of a field of what is made
-pub column-next : {A : Type 0} (f : A → ℕ) (g : ℕ → A) (n i : ℕ) {column : List ℕ} {x : A} → i < n → x ≡ g i → column ≡ padded n (map f (map g (from 0 i))) → set column i (f x) ≡ padded n (map f (map g (from 0 (i + 1))))
+pub column-next : {A : Type 0} (f : A → ℕ) (g : ℕ → A) (n i : ℕ) {column : List ℕ} {x : A} → i < n → x ≡ g i → column ≡ padded n (map f (map g (from 0 i)))
+    → set column i (f x) ≡ padded n (map f (map g (from 0 (i + 1))))
 column-next f g n i h e c = rw map-map (column-filled (λ j. f (g j)) n i h (ap f e) (c ∙ ap (padded n) (map-map f g (from 0 i))))

@@ -41,7 +41,14 @@ module _ (f : ℕ → ℕ) (p : ℕ → Bool) (c i : ℕ) (only : (j : ℕ) → 
       same-or i a
       (λ z. rw (← z)
       (true-or (p (f i))
-      (λ t. rw (t, picked-from n (suc i) r, lt-leb (suc i) i (omega arith), le-leb i i (omega arith), lt-ltb i (i + suc n) (omega arith), lt-ltb (before i) (before i + suc r) (omega arith)) (or-false (eqb (f i) c)))
+      (λ t. rw (
+        t,
+        picked-from n (suc i) r,
+        lt-leb (suc i) i (omega arith),
+        le-leb i i (omega arith),
+        lt-ltb i (i + suc n) (omega arith),
+        lt-ltb (before i) (before i + suc r) (omega arith),
+      ) (or-false (eqb (f i) c)))
       (λ t. rw (t, picked-from n (suc i) (suc r), lt-leb (suc i) i (omega arith)) (simp and-false))))
       (λ z. true-or (p (f a))
       (λ t. rw (t, picked-from n (suc a) r, ne-eqb (f a) c (λ e. z (sym (only a (eq-eqb (f a) c e)))), among-next a n z, t, add-assoc (before a) 1 r, one-add r))

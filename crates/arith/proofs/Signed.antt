@@ -1,16 +1,12 @@
 -- Signed numbers as the machine has them: `rd z` is z read back from its 64 bits. Assumes nothing.
-use mathlib.Core.Path.{_≡_, refl, sym, _∙_}
-use mathlib.Core.Bool.{_&&_}
-use Prim.Native.Nat.{ℕ, zero, suc, _+_, _<_, _≤_, _^_}
+use mathlib.Core.Path.{_≡_, refl}
+use Prim.Native.Nat.{ℕ, zero, suc, _+_, _<_, _^_}
 use native.Mathlib.Omega.{arith}
-use borrow.Author.Tests.{le-leb, lt-leb}
-use lib.Dec.{leb}
 use lib.IntN.{ℤ, pos, negsuc, natAbs, negℤ, _+ℤ_, _-ℤ_, +ℤ-idl}
-use lib.Signed.{mag, leZ}
+use lib.Signed.{mag}
 use mir.Syntax.{w64}
 use mir.Val.{SFits, toZ, ofZ}
 use mir.Facts.{toZ-ofZ, toZ-pos}
-use Rattle.arith.proofs.Tests.{by-leb, and-true}
 use Rattle.arith.proofs.Sizes.{abs-plus}
 
 abbrev pub rd : ℤ → ℤ
@@ -44,15 +40,6 @@ neg-ok n h = rw (minus n h) (sfits-abs (negℤ (pos n)) (omega (arith, abs-neg (
 
 pub neg-is : (n : ℕ) → n < 2 ^ 63 → rd (pos 0 -ℤ toZ w64 n) ≡ negℤ (pos n)
 neg-is n h = rw (minus n h) (back (negℤ (pos n)) (omega (arith, abs-neg (pos n))))
-
-same-leb : (a b : ℕ) → leb a b ≡ leb (suc a) (suc b)
-same-leb a b = by-leb (λ t. t ≡ leb (suc a) (suc b)) a b (λ h. sym (le-leb (suc a) (suc b) (omega arith))) (λ h. sym (lt-leb (suc a) (suc b) (omega arith)))
-
-pub within-is : (n : ℕ) (x : ℤ) → leZ (negℤ (pos n)) x && leZ x (pos n) ≡ leb (natAbs x) n
-within-is zero (pos a) = rw (le-leb 0 a (omega arith))
-within-is zero (negsuc a) = sym (lt-leb (suc a) 0 (omega arith))
-within-is (suc n) (pos a) = refl
-within-is (suc n) (negsuc a) = and-true (leb a n) ∙ same-leb a n
 
 -- ---- sums
 module _ (x y : ℤ) (h : natAbs x + natAbs y < 2 ^ 63) where

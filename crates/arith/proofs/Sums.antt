@@ -43,7 +43,8 @@ pub *ℤ-distrib : (a b c : ℤ) → (a +ℤ b) *ℤ c ≡ a *ℤ c +ℤ b *ℤ 
 *ℤ-distrib (pos zero) b c = simp (+ℤ-idl, zero-*ℤ)
 *ℤ-distrib (pos (suc n)) b c = ap (λ x. x *ℤ c) (sucℤ-+ℤ (pos n) b) ∙ sucℤ-*ℤ (pos n +ℤ b) c ∙ rw (*ℤ-distrib (pos n) b c) (simp sorted) ∙ ap (λ x. x +ℤ b *ℤ c) (sym (sucℤ-*ℤ (pos n) c))
 *ℤ-distrib (negsuc zero) b c = ap (λ x. x *ℤ c) (predℤ-+ℤ (pos zero) b ∙ ap predℤ (+ℤ-idl b)) ∙ predℤ-*ℤ b c ∙ +ℤ-comm (b *ℤ c) (negℤ c) ∙ ap (λ x. x +ℤ b *ℤ c) (sym (minus-one c))
-*ℤ-distrib (negsuc (suc n)) b c = ap (λ x. x *ℤ c) (predℤ-+ℤ (negsuc n) b) ∙ predℤ-*ℤ (negsuc n +ℤ b) c ∙ rw (*ℤ-distrib (negsuc n) b c) (simp sorted) ∙ ap (λ x. x +ℤ b *ℤ c) (sym (predℤ-*ℤ (negsuc n) c))
+*ℤ-distrib (negsuc (suc n)) b c = ap (λ x. x *ℤ c) (predℤ-+ℤ (negsuc n) b) ∙ predℤ-*ℤ (negsuc n +ℤ b) c ∙ rw (*ℤ-distrib (negsuc n) b c) (simp sorted)
+    ∙ ap (λ x. x +ℤ b *ℤ c) (sym (predℤ-*ℤ (negsuc n) c))
 
 -- ---- what counts only where a test passes
 pub when-zero : (b : Bool) → when b (pos 0) ≡ pos 0

@@ -15,7 +15,8 @@ module _ {A C : Type 0} (f : A → List C) (w : ℕ) (wide : (x : A) → length 
   length-blocks i = flat-length w f wide (map g (from 0 i)) ∙ (ap (λ k. k * w) (length-run g i) ∙ mul-comm i w)
 
   -- from place a on: those before, and one more
-  pub blocks-next : (a i : ℕ) (x : A) (l m k : List C) → x ≡ g i → m ≡ over a (flatMap f (map g (from 0 i))) l → k ≡ over (a + w * i) (f x) m → a + w * i ≤ length l → k ≡ over a (flatMap f (map g (from 0 (i + 1)))) l
+  pub blocks-next : (a i : ℕ) (x : A) (l m k : List C) → x ≡ g i → m ≡ over a (flatMap f (map g (from 0 i))) l → k ≡ over (a + w * i) (f x) m → a + w * i ≤ length l
+      → k ≡ over a (flatMap f (map g (from 0 (i + 1)))) l
   blocks-next a i x l m k e p q h =
       let before = map g (from 0 i) in
       let more : flatMap f (map g (from 0 (i + 1))) ≡ flatMap f before ++ f x =

@@ -2,3 +2,4 @@ pub mod Table
 pub mod Steps
 pub mod FirstYears
 pub mod InLedger
+pub mod OpenDays

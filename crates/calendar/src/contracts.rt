@@ -48,7 +48,7 @@ pub fn kind_of(contract: u64) -> ContractKind
     t.kind
 }
 
-fn months_in(kind: ContractKind) -> u64
+pub fn months_in(kind: ContractKind) -> u64
     ensures { λ r. ⌜ r ≡ monthsIn kind ⌝ }
 {
     match kind {

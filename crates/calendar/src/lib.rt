@@ -4,6 +4,7 @@
 mod contracts;
 mod days;
 mod months;
+mod open_days;
 mod sound;
 
 pub use contracts::closes_on;
@@ -18,6 +19,8 @@ pub use days::is_in;
 pub use days::next_business_day;
 pub use days::span_of;
 pub use months::Span;
+pub use open_days::find_open_days;
+pub use sound::are_rising;
 pub use sound::is_calendar_sound;
 pub use sound::is_day_sound;
 pub use sound::is_first_year_sound;

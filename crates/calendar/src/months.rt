@@ -1,6 +1,9 @@
 // The first day of each month from January 2020 to January 2100.
 ghost use mathlib.Core.Path.{_≡_};
-ghost use Prim.Native.Nat.{_≤_};
+ghost use mathlib.Core.List.{map};
+ghost use Prim.Native.Nat.{_+_, _≤_};
+ghost use lib.ListN.{length};
+ghost use Rattle.arith.specs.Lists.{from};
 ghost use Rattle.rules.specs.Days.{monthStart};
 use rules::DayNo;
 
@@ -990,5 +993,18 @@ pub fn months_span(first: u64, end: u64) -> Span
     Span {
         start: DayNo(wide(starts[first as usize])),
         end: DayNo(wide(starts[end as usize])),
+    }
+}
+
+// The first days of the months from one on, as many as there are places.
+pub fn read_starts(first: u64, out: &mut [u64])
+    requires { ⌜ first + length (now out) ≤ 961 ⌝ }
+    ensures { λ _. ⌜ now (out .exit) ≡ map (λ i. monthStart (first + i)) (from 0 (length (now (out .entry)))) ⌝ }
+{
+    let starts = STARTS;
+    let mut i: usize = 0;
+    while i < out.len() {
+        out[i] = wide(starts[first as usize + i]);
+        i += 1;
     }
 }

@@ -20,14 +20,14 @@ pub fn is_first_year_sound(first_year: u64) -> bool
     (LEAST_FIRST_YEAR <= first_year) & (first_year <= MOST_FIRST_YEAR)
 }
 
-// Each day is compared with the next one only: that is enough.
-fn are_rising(days: &[u64]) -> bool
-    ensures { λ r. ⌜ r ≡ rising (now (days .entry)) ⌝ }
+// Each number is compared with the next one only: that is enough.
+pub fn are_rising(numbers: &[u64]) -> bool
+    ensures { λ r. ⌜ r ≡ rising (now (numbers .entry)) ⌝ }
 {
     let mut ok = true;
     let mut i: usize = 0;
-    while i + 1 < days.len() {
-        ok = ok & (days[i] < days[i + 1]);
+    while i + 1 < numbers.len() {
+        ok = ok & (numbers[i] < numbers[i + 1]);
         i += 1;
     }
     ok

@@ -1,17 +1,17 @@
 -- The best price that quotes, order by order. Assumes nothing.
-use mathlib.Core.Path.{_≡_, refl, sym, ap, _∙_}
+use mathlib.Core.Path.{_≡_, refl, sym, _∙_}
 use mathlib.Core.Bool.{Bool, true, false, cond, _&&_, _||_}
 use mathlib.Core.List.{List, [], _∷_, map}
 use mathlib.Core.Option.{Option, none, some}
 use Prim.Native.Nat.{ℕ, zero, suc, _+_, _≤_, _<_}
 use native.Mathlib.Omega.{arith}
-use lib.Dec.{eqb, leb, ltb}
+use lib.Dec.{eqb, ltb}
 use lib.ListN.{length, getD, set}
 use lib.Seq.{getD-set-same, getD-set-other}
 use borrow.Author.Tests.{lt-ltb, le-ltb, eq-eqb, ne-eqb}
 use Rattle.arith.specs.Lists.{All, from}
 use Rattle.arith.proofs.Alls.{all-map}
-use Rattle.arith.proofs.Tests.{never, by-bool, true-or, by-eqb, le-or-lt, same-or, and-left, and-right}
+use Rattle.arith.proofs.Tests.{never, by-bool, true-or, le-or-lt, same-or, and-left, and-right}
 use Rattle.rules.specs.declared.order.Order.{Order}
 use Rattle.rules.specs.declared.order.Side.{Side}
 use Rattle.rules.specs.declared.order.Side.the-variants.{Buy, Sell}
@@ -77,7 +77,8 @@ module _ (d s : ℕ) (side : Side) where
   unfolding bestPrice best
   price-more o os c a =
       let p : Order → Bool = λ o. eqb (o .contract) c && quotesAt d s side o in
-      let held = best-holds (λ b. (b .side ≡ side) × (1 ≤ b .price .0)) p os (all-map (λ o. 1 ≤ o .price .0) (λ o. p o ≡ true → (o .side ≡ side) × (1 ≤ o .price .0)) os (λ o l e. (quotes-side c o e, l)) a) in
+      let held = best-holds (λ b. (b .side ≡ side) × (1 ≤ b .price .0)) p os
+      (all-map (λ o. 1 ≤ o .price .0) (λ o. p o ≡ true → (o .side ≡ side) × (1 ≤ o .price .0)) os (λ o l e. (quotes-side c o e, l)) a) in
       by-bool (λ t. quoteOf (cond t (better o (best p os)) (best p os)) ≡ cond t (betterQuote side (o .price .0) (quoteOf (best p os))) (quoteOf (best p os))) (p o)
       (λ _. quote-better side o (best p os) held) (λ _. refl)
 

@@ -1,10 +1,10 @@
 -- The same list written inside each block of another. Assumes nothing.
-use mathlib.Core.Path.{_≡_, refl, sym, ap, _∙_}
+use mathlib.Core.Path.{_≡_, sym, ap, _∙_}
 use mathlib.Core.List.{List, _++_, append-assoc}
-use Prim.Native.Nat.{ℕ, zero, suc, _+_, _*_, _≤_, _<_}
+use Prim.Native.Nat.{ℕ, zero, suc, _+_, _*_, _≤_}
 use native.Mathlib.Omega.{arith}
-use native.Mathlib.Nat.{add-assoc, add-comm, zero-add, zero-mul, suc-mul}
-use lib.ListN.{length, take, drop, length-take, length-drop, take-append-drop}
+use native.Mathlib.Nat.{add-assoc, zero-add, zero-mul, suc-mul}
+use lib.ListN.{length, take, drop, length-drop, take-append-drop}
 use lib.Seq.{length-take-le, take-take, take-append-add, drop-append-add, drop-append-le}
 use Rattle.arith.specs.Lists.{over, inEachBlock}
 use Rattle.arith.proofs.Overs.{over-length}

@@ -1,6 +1,6 @@
 -- The loops of the cascade, one turn at a time: no row comes near the end of its place. Assumes nothing.
 use mathlib.Core.Path.{_≡_, refl, sym, ap, subst, _∙_}
-use mathlib.Core.Bool.{Bool, true, false, cond}
+use mathlib.Core.Bool.{Bool, false, cond}
 use mathlib.Core.List.{List, [], _∷_, _++_, map, zipWith}
 use Prim.Native.Nat.{ℕ, zero, suc, _+_, _*_, _-_, _/_, _%_, _^_, _≤_, _<_}
 use native.Mathlib.Omega.{arith}
@@ -132,7 +132,13 @@ module _ (n c x b : ℕ) (l : List ℤ) (few : n ≤ 32) (below : c < 102) (pare
         within = λ d m u k. rw (cascaded-row n c l (fit .long) below few d m (omega arith) k)
             (by-bool (λ t. natAbs (cond t (pos 0) (rowOf l d m +ℤ when (any (λ x. eqb x d) (childrenOf c)) (rowOf l c m))) ≤ x + b) (eqb c d)
             (λ _. omega arith)
-            (λ _. omega (arith, abs-plus (rowOf l d m) (when (any (λ x. eqb x d) (childrenOf c)) (rowOf l c m)), abs-when (any (λ x. eqb x d) (childrenOf c)) (rowOf l c m), fit .within d m u k, h m k)));
+            (λ _. omega (
+              arith,
+              abs-plus (rowOf l d m) (when (any (λ x. eqb x d) (childrenOf c)) (rowOf l c m)),
+              abs-when (any (λ x. eqb x d) (childrenOf c)) (rowOf l c m),
+              fit .within d m u k,
+              h m k,
+            )));
       }
 
   pub cascade-other : (d m : ℕ) → m < n → any (λ x. eqb x d) (childrenOf c) ≡ false → natAbs (rowOf l d m) ≤ b → natAbs (rowOf (cascaded n c l) d m) ≤ b
@@ -212,7 +218,8 @@ months-stay : (n : ℕ) (p : ℕ → Bool) (k i : ℕ) (l : List ℤ) → allCas
 unfolding allCascaded kept from
 months-stay n p zero i l = refl
 months-stay n p (suc k) i l =
-    true-or (p (numberOf Month i)) (λ e. rw e (months-stay n p k (suc i) (cascaded n (numberOf Month i) l) ∙ cascaded-month n (numberOf Month i) l (omega arith))) (λ e. rw e (months-stay n p k (suc i) l))
+    true-or (p (numberOf Month i)) (λ e. rw e (months-stay n p k (suc i) (cascaded n (numberOf Month i) l) ∙ cascaded-month n (numberOf Month i) l (omega arith)))
+    (λ e. rw e (months-stay n p k (suc i) l))
 
 pub all-closed : (n : ℕ) (column : List ℕ) (rows : List ℤ)
     → allCascaded n (closing column) rows ≡ allCascaded n (kept (closes column) (contractsOf Quarter)) (allCascaded n (kept (closes column) (contractsOf Year)) rows)

@@ -1,17 +1,16 @@
 -- What undamaged tables give the parts of a close, and the parts put together. Assumes nothing.
-use mathlib.Core.Path.{_≡_, refl, sym, ap, _∙_}
-use mathlib.Core.Bool.{Bool, true, false, not}
-use mathlib.Core.List.{List, [], _∷_, _++_, map}
-use Prim.Native.Nat.{ℕ, zero, suc, _+_, _*_, _≤_, _<_}
+use mathlib.Core.Path.{_≡_, ap, _∙_}
+use mathlib.Core.Bool.{true, false, not}
+use mathlib.Core.List.{List, [], _∷_, _++_}
+use Prim.Native.Nat.{ℕ, zero, suc, _+_, _≤_, _<_}
 use native.Mathlib.Omega.{arith}
 use lib.ListN.{length, getD, take}
 use borrow.Author.Tests.{le-ltb}
 use lib.IntN.{ℤ}
-use Rattle.arith.specs.Lists.{All, from, kept}
+use Rattle.arith.specs.Lists.{All, kept}
 use Rattle.arith.proofs.Alls.{all-map, all-append, all-kept}
 use Rattle.rules.specs.declared.contract.ContractKind.{ContractKind}
 use Rattle.rules.specs.declared.contract.ContractKind.the-variants.{Year, Quarter, Month}
-use Rattle.rules.specs.declared.order.Order.{Order}
 use Rattle.rules.specs.declared.order.Side.the-variants.{Buy, Sell}
 use Rattle.rules.specs.declared.answer.Answer.the-variants.{Accepted, NoLaterDay}
 use Rattle.rules.specs.declared.units.DayNo.{DayNo}
@@ -65,7 +64,8 @@ open-below column =
     of : (s : ContractKind) → All (λ c. c < 102) (openIn column s)
     of s =
         all-take (λ c. c < 102) (openCount s) (kept (waits column) (contractsOf s))
-        (all-map (λ c. (c < 102) × (waits column c ≡ true)) (λ c. c < 102) (kept (waits column) (contractsOf s)) (λ c h. h .0) (all-kept (λ c. c < 102) (waits column) (contractsOf s) (listed (λ c. c < 102) (λ c h. h) s)))
+        (all-map (λ c. (c < 102) × (waits column c ≡ true)) (λ c. c < 102) (kept (waits column) (contractsOf s)) (λ c h. h .0)
+        (all-kept (λ c. c < 102) (waits column) (contractsOf s) (listed (λ c. c < 102) (λ c h. h) s)))
 
 pub priced-is : (t : Tables) (s : ℕ) (buys sells : List ℕ) → 510 ≤ length (t .prices) → All (λ o. 1 ≤ o .price .0) (orders t)
     → ((c : ℕ) → c < 102 → getD buys c 0 ≡ bestPrice (day t) s Buy (orders t) c) → ((c : ℕ) → c < 102 → getD sells c 0 ≡ bestPrice (day t) s Sell (orders t) c)

@@ -9,10 +9,10 @@ use native.Mathlib.Nat.{mul-le-mul}
 use lib.Dec.{eqb, leb, ltb}
 use lib.ListN.{length, getD, set, take, length-set}
 use lib.Seq.{getD-set-same, getD-set-other}
-use borrow.Author.Tests.{ne-eqb, eq-eqb, lt-ltb, le-ltb, eqb-true}
+use borrow.Author.Tests.{ne-eqb, lt-ltb}
 use Rattle.arith.specs.Lists.{All, kept}
 use Rattle.arith.proofs.Alls.{all-map}
-use Rattle.arith.proofs.Tests.{by-bool, true-or, same-or, by-eqb, never}
+use Rattle.arith.proofs.Tests.{true-or, same-or}
 use Rattle.rules.specs.declared.contract.ContractKind.{ContractKind}
 use Rattle.rules.specs.declared.contract.ContractKind.the-variants.{Year, Quarter, Month}
 use Rattle.rules.specs.declared.order.Order.{Order}
@@ -20,8 +20,7 @@ use Rattle.rules.specs.declared.order.Side.{Side}
 use Rattle.rules.specs.declared.order.Side.the-variants.{Buy, Sell}
 use Rattle.rules.specs.Contracts.{thresholdOf, kindOf}
 use Rattle.rules.specs.Ledger.{Tables, day, orders}
-use Rattle.rules.specs.Matching.{best}
-use Rattle.rules.specs.CloseOfDay.{roundedHalfUp, quotes, bestQuote, quotedPrice, priceOfDay, ggfAtClose, withGgfs}
+use Rattle.rules.specs.CloseOfDay.{roundedHalfUp, quotes, bestQuote, quotedPrice, ggfAtClose, withGgfs}
 use Rattle.close_of_day.specs.Columns.{DealsFit, quotesAt, quoteOf, bestPrice, quotedFrom, priceFrom, ggfFrom, ggfsFrom}
 use Rattle.close_of_day.proofs.BestPrices.{Holds, best-holds, best-same}
 
@@ -51,7 +50,8 @@ module _ (t : Tables) (s : ℕ) (a : All (λ o. 1 ≤ o .price .0) (orders t)) w
   ggf-is buys sells c e f =
       rw (e, f, ← quote-is Buy c, ← quote-is Sell c)
       (ap (cond (leb (thresholdOf (kindOf c)) (getD (t .prices) (c * 5 + 3) 0)) (roundedHalfUp (getD (t .prices) (c * 5 + 4) 0) (getD (t .prices) (c * 5 + 3) 0)))
-      (sym (quoted-is (getD (t .prices) (c * 5 + 3) 0) (getD (t .prices) (c * 5 + 4) 0) (getD (t .prices) (c * 5) 0) (bestQuote t s c Buy) (bestQuote t s c Sell) (quote-holds Buy c) (quote-holds Sell c))))
+      (sym (quoted-is (getD (t .prices) (c * 5 + 3) 0) (getD (t .prices) (c * 5 + 4) 0) (getD (t .prices) (c * 5) 0) (bestQuote t s c Buy) (bestQuote t s c Sell)
+      (quote-holds Buy c) (quote-holds Sell c))))
 
 -- ---- a price that was written is not made anew from itself, nor another from it
 price-again : (threshold m v former b s : ℕ) → priceFrom threshold m v (priceFrom threshold m v former b s) b s ≡ priceFrom threshold m v former b s

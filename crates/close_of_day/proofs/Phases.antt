@@ -1,7 +1,7 @@
 -- What a column of phases says: which contracts close on the day and which are open. Assumes nothing.
 use mathlib.Core.Path.{_≡_, refl, sym, ap, _∙_}
-use mathlib.Core.Bool.{Bool, true, cond, _&&_, _||_}
-use mathlib.Core.List.{List, [], _∷_, _++_, map}
+use mathlib.Core.Bool.{Bool, true, _&&_, _||_}
+use mathlib.Core.List.{List, [], _∷_, _++_}
 use Prim.Native.Nat.{ℕ, zero, suc, _+_, _≤_, _<_}
 use native.Mathlib.Omega.{arith}
 use native.Mathlib.Nat.{zero-add}
@@ -110,5 +110,12 @@ pub closing-order : (column : List ℕ) (x : ℕ) → x < 102 → any (λ c. eqb
 unfolding closing
 closing-order column x h =
     any-kept (closes column) x (contractsOf Year ++ (contractsOf Quarter ++ contractsOf Month))
-    ∙ rw (any-append (λ c. eqb c x) (contractsOf Year) (contractsOf Quarter ++ contractsOf Month), any-append (λ c. eqb c x) (contractsOf Quarter) (contractsOf Month), any-of-kind Year x h, any-of-kind Quarter x h, any-of-kind Month x h, some-kind (kindOf x))
+    ∙ rw (
+      any-append (λ c. eqb c x) (contractsOf Year) (contractsOf Quarter ++ contractsOf Month),
+      any-append (λ c. eqb c x) (contractsOf Quarter) (contractsOf Month),
+      any-of-kind Year x h,
+      any-of-kind Quarter x h,
+      any-of-kind Month x h,
+      some-kind (kindOf x),
+    )
     (and-true (closes column x))

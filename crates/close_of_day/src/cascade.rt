@@ -5,7 +5,7 @@ ghost use mathlib.Core.List.{zipWith};
 ghost use Prim.Native.Nat.{ℕ, _+_, _*_, _-_, _%_, _^_, _≤_, _<_};
 ghost use lib.Dec.{eqb};
 ghost use lib.ListN.{length, getD, take, drop};
-ghost use lib.IntN.{ℤ, pos, natAbs, _+ℤ_};
+ghost use lib.IntN.{pos, natAbs, _+ℤ_};
 ghost use Rattle.arith.specs.Lists.{from, over, kept};
 ghost use Rattle.rules.specs.Ranges.{contractCount, mostMembers};
 ghost use Rattle.rules.specs.OtherForms.{sizeOf};

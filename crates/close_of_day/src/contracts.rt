@@ -1,9 +1,8 @@
 // The contracts of a kind by delivery, and what becomes of each at the close of a day.
 ghost use mathlib.Core.Path.{_≡_};
-ghost use Prim.Native.Nat.{_≤_, _<_};
+ghost use Prim.Native.Nat.{_<_};
 ghost use lib.ListN.{length};
 ghost use Rattle.rules.specs.Ranges.{contractCount};
-ghost use Rattle.rules.specs.Contracts.{closingDay};
 ghost use Rattle.rules.specs.OtherForms.{numberOf, sizeOf};
 ghost use Rattle.calendar.specs.Bounds.{FirstYear};
 ghost use Rattle.close_of_day.specs.Phases.{phaseOf, phases};

@@ -105,7 +105,11 @@ pub fn apply(
 ) -> Answer
     requires { ⌜ HeadFit (now head) × PricesFit (lotsRunIn (now head)) (now prices) × BookFit (now head) (now book) ⌝ }
     requires { ⌜ RowsFit (membersIn (now head)) (lotsRunIn (now head)) (now lots) × RowsFit (membersIn (now head)) (mostPrice * lotsRunIn (now head)) (now value) ⌝ }
-    ensures { λ r. ⌜ ((t : Tables) → record { answer = r; after = withHead (now (head .exit)) (withPrices (now (prices .exit)) (withRows (now (lots .exit)) (now (value .exit)) (withBook (now (book .exit)) t))) }
+    ensures { λ r. ⌜ ((t : Tables) → record {
+      answer = r;
+      after = withHead (now (head .exit))
+          (withPrices (now (prices .exit)) (withRows (now (lots .exit)) (now (value .exit)) (withBook (now (book .exit)) t)));
+    }
         ≡ closeSpec (withHead (now (head .entry)) (withPrices (now (prices .entry)) (withRows (now (lots .entry)) (now (value .entry)) (withBook (now (book .entry)) t)))) time) ⌝ }
 {
     if time < head[TIME] {

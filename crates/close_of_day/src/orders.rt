@@ -41,7 +41,8 @@ fn write_left(book: &[u64], column: &[u64], left: &mut [u64])
 pub fn remove_closing(head: &mut [u64], book: &mut [u64], column: &[u64])
     requires { ⌜ (headLength ≤ length (now head)) × BookReads (orderCountIn (now head)) (now book) × (length (now column) ≡ contractCount) ⌝ }
     ensures { λ _. ⌜ ((t : Tables) → withHead (now (head .exit)) (withBook (now (book .exit)) t)
-        ≡ withOrders (kept (λ o. not (closes (now (column .entry)) (o .contract))) (ordersIn (orderCountIn (now (head .entry))) (now (book .entry)))) (withHead (now (head .entry)) (withBook (now (book .entry)) t))) ⌝ }
+        ≡ withOrders (kept (λ o. not (closes (now (column .entry)) (o .contract))) (ordersIn (orderCountIn (now (head .entry))) (now (book .entry))))
+        (withHead (now (head .entry)) (withBook (now (book .entry)) t))) ⌝ }
 {
     let count = head[ORDER_COUNT] as usize;
     let mut left = [0u64; 256];

@@ -3,7 +3,7 @@ ghost use mathlib.Core.Path.{_≡_};
 ghost use mathlib.Core.Bool.{cond, _&&_};
 ghost use Prim.Native.Nat.{_-_, _*_, _≤_, _<_};
 ghost use lib.Dec.{ltb};
-ghost use lib.ListN.{length, getD, set};
+ghost use lib.ListN.{length, set};
 ghost use Rattle.rules.specs.Ranges.{contractCount, mostPrice, mostLotsRun};
 ghost use Rattle.rules.specs.Ledger.{pricesLength, ggfPlace};
 ghost use Rattle.rules.specs.CloseOfDay.{roundedHalfUp, withoutDeals};

@@ -15,14 +15,15 @@ use Rattle.arith.proofs.Tests.{le-or-lt}
 use Rattle.arith.proofs.Totals.{total-most}
 use Rattle.rules.specs.declared.event.CloseOutTerms.{CloseOutTerms}
 use Rattle.rules.specs.Default.{sumOf, othersLots, lotsLeft, weights, openWeight}
-use Rattle.rules.specs.Ledger.{Tables, members, defaulted, lotsAt, calendar, day}
+use Rattle.rules.specs.Ledger.{Tables, members, defaulted, lotsAt, calendar, day, rowPlace}
 use Rattle.rules.specs.Ranges.{contractCount, mostMembers, mostLotsRun}
 use Rattle.rules.proofs.Netting.{sum-most}
 use Rattle.tables.specs.Fit.{RowsFit}
 use Rattle.dealing.specs.Levels.{mostDays, mostWeight, Column}
 use Rattle.close_out.specs.declared.columns.Part.{Part}
 use Rattle.close_out.specs.declared.columns.Part.the-variants.{DefaultedLongs, DefaultedShorts, Others}
-use Rattle.close_out.specs.Columns.{lotsIn, columnOf, openDays, weightBy, daysWeights}
+use Rattle.close_out.specs.Columns.{lotsIn, columnOf, weightBy, daysWeights}
+use Rattle.calendar.specs.OpenDays.{openDays}
 use Rattle.close_out.proofs.DayWeights.{open-days-most, open-weight}
 
 up-most : (z : ℤ) → up z ≤ natAbs z
@@ -50,6 +51,16 @@ mapped-most f n most h i =
     (λ k. let past : length (map f (from 0 n)) ≤ i = omega (arith, mapped-length f 0 n) in let z : getD (map f (from 0 n)) i 0 ≡ 0 = List·getD-eq-default (map f (from 0 n)) 0 past in omega arith)
     (λ k. rw (mapped-at f 0 0 n i k, zero-add i) (h i k))
 
+-- Sums over the first c contracts.
+module _ (days : List ℕ) (lots : List ℤ) (n c : ℕ) (most : (i : ℕ) → getD days i 0 ≤ mostDays) (fit : RowsFit n mostLotsRun lots) (l : c ≤ contractCount) where
+  weight-most : (m : ℕ) → m < n → weightBy c days lots m ≤ c * (mostDays * mostLotsRun)
+  unfolding weightBy
+  weight-most m k =
+      total-most (λ x. getD days x 0 * natAbs (getD lots (rowPlace x m) (pos 0))) (mostDays * mostLotsRun) 0 c (λ x h g. mul-le-mul (most x) (fit .within x m (omega arith) k))
+
+  pub sums-most : (i : ℕ) → getD (map (weightBy c days lots) (from 0 n)) i 0 ≤ c * (mostDays * mostLotsRun)
+  sums-most = mapped-most (weightBy c days lots) n (c * (mostDays * mostLotsRun)) weight-most
+
 module _ (t : Tables) (few : members t ≤ mostMembers) (fit : RowsFit (members t) mostLotsRun (t .lots)) where
   pub column-length : (part : Part) (c : ℕ) → length (columnOf part t c) ≡ members t
   unfolding columnOf
@@ -67,12 +78,8 @@ module _ (t : Tables) (few : members t ≤ mostMembers) (fit : RowsFit (members 
   column-sum part c h = omega (arith, sum-most (columnOf part t c) mostLotsRun (column-most part c h), column-length part c)
 
   day-weight-most : (m : ℕ) → m < members t → openWeight t m ≤ mostWeight
-  unfolding weightBy
   day-weight-most m k =
-      let days = openDays (calendar t) (day t) in
-      rw (← open-weight t m)
-      (total-most (λ c. getD days c 0 * natAbs (lotsAt t c m)) (mostDays * mostLotsRun) 0 contractCount
-      (λ c h g. mul-le-mul (open-days-most (calendar t) (day t) c) (fit .within c m g k)))
+      rw (← open-weight t m) (weight-most (openDays (calendar t) (day t)) (t .lots) (members t) contractCount (open-days-most (calendar t) (day t)) fit (omega arith) m k)
 
   or-none : (b : Bool) (x most : ℕ) → x ≤ most → cond b 0 x ≤ most
   or-none true x most h = omega arith

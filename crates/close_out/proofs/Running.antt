@@ -9,9 +9,11 @@ use Rattle.rules.specs.Default.{sumOf, changeLines}
 use Rattle.rules.specs.Ledger.{Tables, Line, withHead, withRows, withLines}
 use Rattle.rules.specs.Ranges.{contractCount, mostPrice, leastLines}
 use Rattle.tables.specs.Fit.{membersIn}
-use Rattle.close_out.specs.Booking.{withEach, changes, Bookable}
+use Rattle.tables.specs.Room.{Bookable}
+use Rattle.close_out.specs.Booking.{withEach, changes}
 use Rattle.close_out.proofs.Changes.{minus-size, change-most, each-append, lines-next, sum-next}
-use Rattle.close_out.proofs.Takes.{Takes, less-room, takes-change, each-members}
+use Rattle.tables.proofs.Takes.{Takes, less-room}
+use Rattle.close_out.proofs.Takes.{takes-change, each-members}
 
 -- The lent tables put into others.
 abbrev pub put : List ℕ → List ℤ → List ℤ → List ℤ → Tables → Tables
@@ -49,7 +51,8 @@ module _ (c p i : ℕ) (gains losses : List ℕ) (start : Tables → Tables) whe
       still =
           let t = put head lots value lines blank in
           let left = sumOf (drop (m + 1) gains) + sumOf (drop (m + 1) losses) in
-          let fits : Takes (natAbs change + left) t = less-room _ _ (omega (arith, minus-size (getD gains m 0) (getD losses m 0), sum-next gains m more, sum-next losses m (omega arith))) (now .takes) in
+          let fits : Takes (natAbs change + left) t =
+          less-room _ _ (omega (arith, minus-size (getD gains m 0) (getD losses m 0), sum-next gains m more, sum-next losses m (omega arith))) (now .takes) in
           subst (λ (s : Tables). Takes left s) (sym (after blank))
           (takes-change left at c p m change t (omega (arith, now .few)) (record { contract-below = c<; member-below = omega (arith, now .members); most-price = p≤ }) fits)
 

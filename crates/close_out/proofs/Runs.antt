@@ -20,7 +20,8 @@ use Rattle.rules.proofs.Netting.{sum-cons, sum-none, sum-zeros, given-sum, give
 use Rattle.dealing.proofs.Dealt.{all-dealt}
 use Rattle.close_out.specs.Booking.{withEach, changes, takerLines}
 use Rattle.close_out.proofs.Changes.{minus-size, change-most, change-cons, each-append}
-use Rattle.close_out.proofs.Takes.{Takes, takes-change, each-members}
+use Rattle.tables.proofs.Takes.{Takes}
+use Rattle.close_out.proofs.Takes.{takes-change, each-members}
 
 -- ---- what is left
 less-sum : (xs ys : List ℕ) → length ys ≡ length xs → ((i : ℕ) → getD ys i 0 ≤ getD xs i 0) → sumOf (less xs ys) + sumOf ys ≡ sumOf xs
@@ -113,6 +114,7 @@ takes-lines c p hc hp (z ∷ zs) room i m t a b f =
     let one = changeLines c p m (z ∷ []) in
     let rest = total natAbs zs + room in
     let u = withEach i one t in
-    let now : Takes rest u = takes-change rest i c p m z t (omega arith) (record { contract-below = hc; member-below = omega arith; most-price = hp }) (rw (add-assoc (natAbs z) (total natAbs zs) room) at f) in
+    let now : Takes rest u = takes-change rest i c p m z t (omega arith) (record { contract-below = hc; member-below = omega arith; most-price = hp })
+    (rw (add-assoc (natAbs z) (total natAbs zs) room) at f) in
     rw (change-cons c p m z zs, each-append i one (changeLines c p (suc m) zs) t)
     (takes-lines c p hc hp zs room (i + length one) (suc m) u (rw (each-members i one t) (omega arith)) (omega (arith, change-most c p m z)) now)

@@ -13,9 +13,11 @@ use Rattle.rules.specs.Ranges.{contractCount, mostPrice, leastLines, mostMember
 use Rattle.rules.proofs.Netting.{given-length}
 use Rattle.tables.specs.Fit.{membersIn}
 use Rattle.dealing.specs.Levels.{mostWeight, Column}
-use Rattle.close_out.specs.Booking.{withEach, changes, nettingLines, defaultedLines, takerLines, stepLines, Bookable, Dealable}
+use Rattle.tables.specs.Room.{Bookable}
+use Rattle.close_out.specs.Booking.{withEach, changes, nettingLines, defaultedLines, takerLines, stepLines, Dealable}
 use Rattle.close_out.proofs.Changes.{each-append}
-use Rattle.close_out.proofs.Takes.{Takes, less-room, each-members}
+use Rattle.tables.proofs.Takes.{Takes, less-room}
+use Rattle.close_out.proofs.Takes.{each-members}
 use Rattle.close_out.proofs.Running.{put, blank}
 use Rattle.close_out.proofs.StepColumns.{netting-room}
 use Rattle.close_out.proofs.Runs.{change-length, most-run, no-takers, takes-lines}
@@ -66,7 +68,13 @@ module _ (c p q l : ℕ) (longs shorts ws : List ℕ) (hc : c < contractCount) (
   netting-few =
       let gs = givenUp q shorts in
       let gl = givenUp q longs in
-      omega (arith, change-length c p 0 (changes gs gl), changes-length gs gl (given-length q shorts ∙ d .shorts-length ∙ sym (given-length q longs ∙ d .longs-length)), given-length q shorts, d .shorts-length)
+      omega (
+        arith,
+        change-length c p 0 (changes gs gl),
+        changes-length gs gl (given-length q shorts ∙ d .shorts-length ∙ sym (given-length q longs ∙ d .longs-length)),
+        given-length q shorts,
+        d .shorts-length,
+      )
 
   netted : Takes (l + l) (withEach 0 (nettingLines c p q longs shorts) (put head lots value lines blank))
   unfolding nettingLines
@@ -152,10 +160,13 @@ module _ (c p q l : ℕ) (longs shorts ws : List ℕ) (hc : c < contractCount) (
           let takers = takerLines c p long l ws in
           let all = steps-are long e in (
             er ∙ ap (λ n. n + length takers) counted ∙ sym (length-append (netting ++ defaulted) takers) ∙ ap length all,
-            λ t. same3 t ∙ rw (together t, counted) (sym (rw (zero-add (length (netting ++ defaulted))) at (each-append 0 (netting ++ defaulted) takers (put head lots value lines t))) ∙ ap (λ ls. withEach 0 ls (put head lots value lines t)) all),
+            λ t. same3 t ∙ rw (together t, counted)
+                (sym (rw (zero-add (length (netting ++ defaulted))) at (each-append 0 (netting ++ defaulted) takers (put head lots value lines t)))
+                ∙ ap (λ ls. withEach 0 ls (put head lots value lines t)) all),
           )
 
-      pub done : l ≡ 0 → (second ≡ length (stepLines c p q l longs shorts ws)) × ((t : Tables) → put head2 lots2 value2 lines2 t ≡ withEach 0 (stepLines c p q l longs shorts ws) (put head lots value lines t))
+      pub done : l ≡ 0 → (second ≡ length (stepLines c p q l longs shorts ws))
+          × ((t : Tables) → put head2 lots2 value2 lines2 t ≡ withEach 0 (stepLines c p q l longs shorts ws) (put head lots value lines t))
       done z =
           let none : takerLines c p (sumOf longs1) l ws ≡ [] = rw z (no-takers c p (sumOf longs1) ws) in
           let all : netting ++ defaulted ≡ stepLines c p q l longs shorts ws = sym (append-nil (netting ++ defaulted)) ∙ (rw none at (steps-are (sumOf longs1) refl)) in

@@ -13,7 +13,8 @@ use Rattle.arith.specs.Lists.{from}
 use Rattle.arith.proofs.Tests.{le-or-lt, never}
 use Rattle.rules.specs.declared.answer.Answer.the-variants.{Accepted, ContractNotOpen, NoReferencePrice, NoDefaultedLots, NoTaker, TotalPassed}
 use Rattle.rules.specs.declared.event.CloseOutTerms.{CloseOutTerms}
-use Rattle.rules.specs.Default.{sumOf, givenUp, less, defaultedLongs, defaultedShorts, smallerTotal, nettedLongs, nettedShorts, nettingChanges, longsLeft, shortsLeft, lotsLeft, weights, taken, defaultedChanges, takerChanges, closeOutLines, closeOutBooked}
+use Rattle.rules.specs.Default.{sumOf, givenUp, less, defaultedLongs, defaultedShorts, smallerTotal, nettedLongs, nettedShorts, nettingChanges, longsLeft, shortsLeft, lotsLeft}
+use Rattle.rules.specs.Default.{weights, taken, defaultedChanges, takerChanges, closeOutLines, closeOutBooked}
 use Rattle.rules.specs.Ledger.{Tables, members, lotsRun, defaulted, lotsAt, isOpen, ggf, lineRun, booked, withHead, withRows}
 use Rattle.rules.specs.Ranges.{contractCount, mostMembers, mostLotsRun}
 use Rattle.rules.specs.Refusals.{closeOutSpec}
@@ -23,9 +24,10 @@ use Rattle.dealing.specs.Levels.{mostWeight, Column}
 use Rattle.close_out.specs.declared.columns.Part.{Part}
 use Rattle.close_out.specs.declared.columns.Part.the-variants.{DefaultedLongs, DefaultedShorts}
 use Rattle.close_out.specs.Columns.{columnOf}
-use Rattle.close_out.specs.Booking.{withEach, changes, nettingLines, defaultedLines, takerLines, stepLines, Bookable, Dealable}
+use Rattle.tables.specs.Room.{Bookable}
+use Rattle.close_out.specs.Booking.{withEach, changes, nettingLines, defaultedLines, takerLines, stepLines, Dealable}
 use Rattle.close_out.proofs.Changes.{each-booked}
-use Rattle.close_out.proofs.Takes.{rows-wider}
+use Rattle.tables.proofs.Takes.{rows-wider}
 use Rattle.close_out.proofs.Running.{blank}
 use Rattle.close_out.proofs.Runs.{left-sum, change-run, run-append, Apart, apart-run, takers-run}
 use Rattle.close_out.proofs.StepBooking.{less-length, less-le}
@@ -63,7 +65,8 @@ mapped-apart f g (x ∷ l) h (suc i) = mapped-apart f g l h i
 
 columns-apart : (t : Tables) (c : ℕ) → Apart (columnOf DefaultedShorts t c) (columnOf DefaultedLongs t c)
 unfolding columnOf
-columns-apart t c = mapped-apart (λ m. cond (defaulted t m) (dn (lotsAt t c m)) 0) (λ m. cond (defaulted t m) (up (lotsAt t c m)) 0) (from 0 (members t)) (λ m. marked-apart (defaulted t m) (lotsAt t c m))
+columns-apart t c = mapped-apart (λ m. cond (defaulted t m) (dn (lotsAt t c m)) 0) (λ m. cond (defaulted t m) (up (lotsAt t c m)) 0) (from 0 (members t))
+    (λ m. marked-apart (defaulted t m) (lotsAt t c m))
 
 apart-less : (xs ys xs′ ys′ : List ℕ) → ((i : ℕ) → getD xs′ i 0 ≤ getD xs i 0) → ((i : ℕ) → getD ys′ i 0 ≤ getD ys i 0) → Apart xs ys → Apart xs′ ys′
 apart-less xs ys xs′ ys′ f g a i = omega (arith, f i, g i, a i)
@@ -135,7 +138,8 @@ module _ (t : Tables) (e : CloseOutTerms) (longs shorts : List ℕ) (el : longs 
   takers-there : (ws : List ℕ) → ltb 0 l && eqb (sumOf ws) 0 ≡ false → 0 < l → 0 < sumOf ws
   takers-there ws h k = le-or-lt 1 (sumOf ws) (λ p. p) (λ p. never (rw (lt-ltb 0 l k, eq-eqb (sumOf ws) 0 (omega arith)) at h))
 
-  pub dealable : (ws : List ℕ) → ltb 0 l && eqb (sumOf ws) 0 ≡ false → length longs ≡ members t → length ws ≡ members t → Column mostWeight longs → Column mostWeight ws → Dealable q l (members t) longs shorts ws
+  pub dealable : (ws : List ℕ) → ltb 0 l && eqb (sumOf ws) 0 ≡ false → length longs ≡ members t → length ws ≡ members t → Column mostWeight longs → Column mostWeight ws
+      → Dealable q l (members t) longs shorts ws
   dealable ws h a b f g =
       record { longs-length = a; shorts-length = sym wide ∙ a; weights-length = b; longs-column = f; weights-column = g; left = sym left-of; takers = takers-there ws h }
 

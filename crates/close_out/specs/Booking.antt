@@ -1,5 +1,5 @@
 -- Lines of a close-out, and tables with several lines booked one after the other.
-use Prim.Native.Nat.{ℕ, suc, _+_, _*_, _≤_, _<_}
+use Prim.Native.Nat.{ℕ, suc, _+_, _<_}
 use mathlib.Core.Path.{_≡_}
 use mathlib.Core.Bool.{cond}
 use mathlib.Core.List.{List, [], _∷_, _++_, map, zipWith}
@@ -7,9 +7,7 @@ use lib.Dec.{ltb}
 use lib.IntN.{ℤ, pos, negℤ, _-ℤ_}
 use lib.ListN.{length}
 use Rattle.rules.specs.Default.{sumOf, givenUp, less, changeLines, dealtOut}
-use Rattle.rules.specs.Ledger.{Tables, Line, linesLength}
-use Rattle.rules.specs.Ranges.{mostPrice, mostLotsRun}
-use Rattle.tables.specs.Fit.{HeadFit, RowsFit, membersIn, lotsRunIn}
+use Rattle.rules.specs.Ledger.{Tables, Line}
 use Rattle.tables.specs.Lines.{withLine}
 use Rattle.dealing.specs.Levels.{mostWeight, Column}
 
@@ -31,14 +29,6 @@ defaultedLines c p q longs shorts = changeLines c p 0 (changes (less shorts (giv
 
 unfoldable pub takerLines : ℕ → ℕ → ℕ → ℕ → List ℕ → List Line
 takerLines c p long l weights = changeLines c p 0 (map (λ n. cond (ltb 0 long) (pos n) (negℤ (pos n))) (dealtOut l weights))
-
--- What lent tables give to a caller that books lines of so many lots.
-pub record Bookable (room : ℕ) (head : List ℕ) (lots value lines : List ℤ) : Type 0 where
-  pub head-fit : HeadFit head
-  pub lots-fit : RowsFit (membersIn head) (lotsRunIn head) lots
-  pub value-fit : RowsFit (membersIn head) (mostPrice * lotsRunIn head) value
-  pub lines-long : linesLength ≤ length lines
-  pub most-run : lotsRunIn head + room ≤ mostLotsRun
 
 unfoldable pub stepLines : ℕ → ℕ → ℕ → ℕ → List ℕ → List ℕ → List ℕ → List Line
 stepLines c p q l longs shorts weights =

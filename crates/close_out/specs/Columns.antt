@@ -1,16 +1,13 @@
 -- Columns with one number for each member, read from the lent tables.
 use Prim.Native.Nat.{ℕ, _*_}
 use mathlib.Core.Bool.{Bool, cond}
-use mathlib.Core.List.{List, map}
+use mathlib.Core.List.{List}
 use lib.ListN.{getD}
 use lib.IntN.{ℤ, pos, natAbs}
 use Rattle.arith.specs.Ints.{up, dn}
 use Rattle.arith.specs.Lists.{from, total}
-use Rattle.rules.specs.Contracts.{daysOf, openOn}
-use Rattle.rules.specs.Days.{Calendar}
 use Rattle.rules.specs.Default.{byMember, openWeight}
 use Rattle.rules.specs.Ledger.{Tables, defaulted, lotsAt, rowPlace}
-use Rattle.rules.specs.Ranges.{contractCount}
 use Rattle.close_out.specs.declared.columns.Part.{Part}
 use Rattle.close_out.specs.declared.columns.Part.the-variants.{DefaultedLongs, DefaultedShorts, Others}
 
@@ -23,13 +20,9 @@ lotsIn Others marked net = cond marked 0 (natAbs net)
 unfoldable pub columnOf : Part → Tables → ℕ → List ℕ
 columnOf part t c = byMember t (λ m. lotsIn part (defaulted t m) (lotsAt t c m))
 
--- The delivery days of each contract that is open on a day, none of the others.
-unfoldable pub openDays : Calendar → ℕ → List ℕ
-openDays k d = map (λ c. cond (openOn k d c) (daysOf k c) 0) (from 0 contractCount)
-
--- Days times absolute lots of a member over all contracts.
-unfoldable pub weightBy : List ℕ → List ℤ → ℕ → ℕ
-weightBy days lots m = total (λ c. getD days c 0 * natAbs (getD lots (rowPlace c m) (pos 0))) (from 0 contractCount)
+-- Days times absolute lots of a member over the first n contracts.
+unfoldable pub weightBy : ℕ → List ℕ → List ℤ → ℕ → ℕ
+weightBy n days lots m = total (λ c. getD days c 0 * natAbs (getD lots (rowPlace c m) (pos 0))) (from 0 n)
 
 -- Each other member's sum over open contracts of days times absolute lots.
 unfoldable pub daysWeights : Tables → List ℕ

@@ -1,14 +1,15 @@
 // Lines of a close-out booked: a line for each member whose lots change.
 ghost use mathlib.Core.Path.{_≡_};
-ghost use mathlib.Core.List.{List, [], _∷_};
-ghost use Prim.Native.Nat.{ℕ, _+_, _≤_, _<_};
-ghost use lib.IntN.{ℤ, pos, _-ℤ_};
+ghost use mathlib.Core.List.{[], _∷_};
+ghost use Prim.Native.Nat.{_+_, _≤_, _<_};
+ghost use lib.IntN.{pos, _-ℤ_};
 ghost use lib.ListN.{length};
 ghost use Rattle.rules.specs.Default.{sumOf, changeLines};
 ghost use Rattle.rules.specs.Ledger.{Tables, withHead, withRows, withLines};
 ghost use Rattle.rules.specs.Ranges.{contractCount, mostPrice, leastLines};
 ghost use Rattle.tables.specs.Fit.{membersIn};
-ghost use Rattle.close_out.specs.Booking.{withEach, changes, Bookable};
+ghost use Rattle.tables.specs.Room.{Bookable};
+ghost use Rattle.close_out.specs.Booking.{withEach, changes};
 use rules::Kurus;
 use rules::Lots;
 use rules::Side;
@@ -31,7 +32,8 @@ fn book_change(
     requires { ⌜ (i < leastLines) × (contract < contractCount) × (price .0 ≤ mostPrice) × (member < membersIn (now head)) ⌝ }
     ensures { λ r. ⌜ r ≡ i + length (changeLines contract (price .0) member ((pos gain -ℤ pos loss) ∷ [])) ⌝ }
     ensures { λ _. ⌜ ((t : Tables) → withHead (now (head .exit)) (withRows (now (lots .exit)) (now (value .exit)) (withLines (now (lines .exit)) t))
-        ≡ withEach i (changeLines contract (price .0) member ((pos gain -ℤ pos loss) ∷ [])) (withHead (now (head .entry)) (withRows (now (lots .entry)) (now (value .entry)) (withLines (now (lines .entry)) t)))) ⌝ }
+        ≡ withEach i (changeLines contract (price .0) member ((pos gain -ℤ pos loss) ∷ []))
+        (withHead (now (head .entry)) (withRows (now (lots .entry)) (now (value .entry)) (withLines (now (lines .entry)) t)))) ⌝ }
 {
     if gain == loss {
         return i;
@@ -77,7 +79,8 @@ pub fn book_changes(
     requires { ⌜ (length (now gains) ≡ membersIn (now head)) × (length (now losses) ≡ length (now gains)) ⌝ }
     ensures { λ r. ⌜ r ≡ i + length (changeLines contract (price .0) 0 (changes (now (gains .entry)) (now (losses .entry)))) ⌝ }
     ensures { λ _. ⌜ ((t : Tables) → withHead (now (head .exit)) (withRows (now (lots .exit)) (now (value .exit)) (withLines (now (lines .exit)) t))
-        ≡ withEach i (changeLines contract (price .0) 0 (changes (now (gains .entry)) (now (losses .entry)))) (withHead (now (head .entry)) (withRows (now (lots .entry)) (now (value .entry)) (withLines (now (lines .entry)) t)))) ⌝ }
+        ≡ withEach i (changeLines contract (price .0) 0 (changes (now (gains .entry)) (now (losses .entry))))
+        (withHead (now (head .entry)) (withRows (now (lots .entry)) (now (value .entry)) (withLines (now (lines .entry)) t)))) ⌝ }
 {
     let mut at = i;
     let mut member: usize = 0;

@@ -1,11 +1,11 @@
 // Columns of a contract's lots, one number for each member.
 ghost use mathlib.Core.Path.{_≡_};
 ghost use mathlib.Core.List.{List};
-ghost use Prim.Native.Nat.{ℕ, _≤_, _<_};
+ghost use Prim.Native.Nat.{_≤_, _<_};
 ghost use lib.IntN.{ℤ, natAbs};
 ghost use lib.ListN.{length, getD};
 ghost use Rattle.arith.specs.Ints.{up, dn};
-ghost use Rattle.rules.specs.Ledger.{Tables, membersPlace, withHead, withRows};
+ghost use Rattle.rules.specs.Ledger.{Tables, membersPlace, withHead, withRows, headLength, rowsLength};
 ghost use Rattle.rules.specs.Ranges.{contractCount, mostMembers};
 ghost use Rattle.close_out.specs.Columns.{lotsIn, columnOf};
 use rules::layout::MARKS;
@@ -51,7 +51,7 @@ fn lots_in(part: Part, marked: bool, net: i64) -> u64
 
 // One part of a contract's lots, by member.
 pub fn read_column(part: Part, head: &[u64], lots: &[i64], contract: u64, column: &mut [u64])
-    requires { ⌜ (224 ≤ length (now head)) × (3264 ≤ length (now lots)) × (contract < contractCount) ⌝ }
+    requires { ⌜ (headLength ≤ length (now head)) × (rowsLength ≤ length (now lots)) × (contract < contractCount) ⌝ }
     requires { ⌜ (length (now column) ≡ getD (now head) membersPlace 0) × (length (now column) ≤ mostMembers) ⌝ }
     ensures { λ _. ⌜ ((t : Tables) (v : List ℤ) → now (column .exit) ≡ columnOf part (withHead (now (head .entry)) (withRows (now (lots .entry)) v t)) contract) ⌝ }
 {

@@ -9,13 +9,13 @@ mod weights;
 
 ghost use mathlib.Core.Path.{_≡_};
 ghost use mathlib.Core.Bool.{true};
-ghost use Prim.Native.Nat.{ℕ, _*_, _≤_, _<_};
+ghost use Prim.Native.Nat.{_*_, _≤_, _<_};
 ghost use lib.ListN.{length};
 ghost use Rattle.rules.specs.Ranges.{contractCount, mostPrice, mostRatio};
-ghost use Rattle.rules.specs.Ledger.{Tables, withHead, withPrices, withRows, withLines, isOpen, ggf, linesLength};
+ghost use Rattle.rules.specs.Ledger.{Tables, withHead, withPrices, withRows, withLines, isOpen, ggf};
 ghost use Rattle.rules.specs.Refusals.{closeOutSpec};
-ghost use Rattle.tables.specs.Fit.{HeadFit, PricesFit, RowsFit, membersIn, lotsRunIn};
-ghost use Rattle.close_out.specs.Booking.{Bookable};
+ghost use Rattle.tables.specs.Fit.{PricesFit, membersIn, lotsRunIn};
+ghost use Rattle.tables.specs.Room.{Bookable};
 use columns::Part;
 use columns::read_column;
 use dealing::smaller;
@@ -46,7 +46,8 @@ fn close_out_lots(
 ) -> Answer
     requires { ⌜ Bookable 0 (now head) (now lots) (now value) (now lines) × (e .contract < contractCount) × (e .ratio ≤ mostRatio) × (price .0 ≤ mostPrice) × (0 < price .0) ⌝ }
     requires { ⌜ (length (now longs) ≡ membersIn (now head)) × (length (now shorts) ≡ membersIn (now head)) × (length (now weights) ≡ membersIn (now head)) ⌝ }
-    ensures { λ r. ⌜ ((t : Tables) → isOpen (withHead (now (head .entry)) (withRows (now (lots .entry)) (now (value .entry)) (withLines (now (lines .entry)) t))) (e .contract) ≡ true → ggf t (e .contract) ≡ price .0
+    ensures { λ r. ⌜ ((t : Tables) → isOpen (withHead (now (head .entry)) (withRows (now (lots .entry)) (now (value .entry)) (withLines (now (lines .entry)) t))) (e .contract) ≡ true
+        → ggf t (e .contract) ≡ price .0
         → record { answer = r; after = withHead (now (head .exit)) (withRows (now (lots .exit)) (now (value .exit)) (withLines (now (lines .exit)) t)) }
         ≡ closeOutSpec (withHead (now (head .entry)) (withRows (now (lots .entry)) (now (value .entry)) (withLines (now (lines .entry)) t))) e) ⌝ }
 {
@@ -105,7 +106,11 @@ pub fn apply(
 ) -> Answer
     requires { ⌜ Bookable 0 (now head) (now lots) (now value) (now lines) × PricesFit (lotsRunIn (now head)) (now prices) ⌝ }
     requires { ⌜ (e .contract < contractCount) × (e .ratio ≤ mostRatio) ⌝ }
-    ensures { λ r. ⌜ ((t : Tables) → record { answer = r; after = withPrices (now (prices .entry)) (withHead (now (head .exit)) (withRows (now (lots .exit)) (now (value .exit)) (withLines (now (lines .exit)) t))) }
+    ensures { λ r. ⌜ ((t : Tables) → record {
+      answer = r;
+      after = withPrices (now (prices .entry))
+          (withHead (now (head .exit)) (withRows (now (lots .exit)) (now (value .exit)) (withLines (now (lines .exit)) t)));
+    }
         ≡ closeOutSpec (withPrices (now (prices .entry)) (withHead (now (head .entry)) (withRows (now (lots .entry)) (now (value .entry)) (withLines (now (lines .entry)) t)))) e) ⌝ }
 {
     let contract = e.contract;

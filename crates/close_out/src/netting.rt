@@ -6,7 +6,8 @@ ghost use Rattle.rules.specs.Default.{givenUp, less};
 ghost use Rattle.rules.specs.Ledger.{Tables, withHead, withRows, withLines};
 ghost use Rattle.rules.specs.Ranges.{contractCount, mostPrice};
 ghost use Rattle.tables.specs.Fit.{membersIn};
-ghost use Rattle.close_out.specs.Booking.{withEach, nettingLines, Bookable};
+ghost use Rattle.tables.specs.Room.{Bookable};
+ghost use Rattle.close_out.specs.Booking.{withEach, nettingLines};
 use crate::booking::book_changes;
 use dealing::give_up;
 use rules::Kurus;
@@ -45,7 +46,8 @@ fn net_columns(
     ensures { λ _. ⌜ now (longs .exit) ≡ less (now (longs .entry)) (givenUp netted (now (longs .entry))) ⌝ }
     ensures { λ _. ⌜ now (shorts .exit) ≡ less (now (shorts .entry)) (givenUp netted (now (shorts .entry))) ⌝ }
     ensures { λ _. ⌜ ((t : Tables) → withHead (now (head .exit)) (withRows (now (lots .exit)) (now (value .exit)) (withLines (now (lines .exit)) t))
-        ≡ withEach 0 (nettingLines contract (price .0) netted (now (longs .entry)) (now (shorts .entry))) (withHead (now (head .entry)) (withRows (now (lots .entry)) (now (value .entry)) (withLines (now (lines .entry)) t)))) ⌝ }
+        ≡ withEach 0 (nettingLines contract (price .0) netted (now (longs .entry)) (now (shorts .entry)))
+        (withHead (now (head .entry)) (withRows (now (lots .entry)) (now (value .entry)) (withLines (now (lines .entry)) t)))) ⌝ }
 {
     give_up(netted, &longs[..], &mut *given_longs);
     give_up(netted, &shorts[..], &mut *given_shorts);
@@ -83,7 +85,8 @@ pub fn book_netting(
     ensures { λ _. ⌜ now (longs .exit) ≡ less (now (longs .entry)) (givenUp netted (now (longs .entry))) ⌝ }
     ensures { λ _. ⌜ now (shorts .exit) ≡ less (now (shorts .entry)) (givenUp netted (now (shorts .entry))) ⌝ }
     ensures { λ _. ⌜ ((t : Tables) → withHead (now (head .exit)) (withRows (now (lots .exit)) (now (value .exit)) (withLines (now (lines .exit)) t))
-        ≡ withEach 0 (nettingLines contract (price .0) netted (now (longs .entry)) (now (shorts .entry))) (withHead (now (head .entry)) (withRows (now (lots .entry)) (now (value .entry)) (withLines (now (lines .entry)) t)))) ⌝ }
+        ≡ withEach 0 (nettingLines contract (price .0) netted (now (longs .entry)) (now (shorts .entry)))
+        (withHead (now (head .entry)) (withRows (now (lots .entry)) (now (value .entry)) (withLines (now (lines .entry)) t)))) ⌝ }
 {
     let members = longs.len();
     let mut given_longs = [0u64; ROW_WIDTH];

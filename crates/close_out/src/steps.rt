@@ -1,13 +1,13 @@
 // The lines of a close-out, step after step.
 ghost use mathlib.Core.Path.{_≡_};
-ghost use Prim.Native.Nat.{ℕ, _+_, _≤_, _<_};
+ghost use Prim.Native.Nat.{_+_, _≤_, _<_};
 ghost use lib.ListN.{length};
-ghost use Rattle.rules.specs.Default.{sumOf, givenUp, less};
+ghost use Rattle.rules.specs.Default.{givenUp, less};
 ghost use Rattle.rules.specs.Ledger.{Tables, withHead, withRows, withLines};
 ghost use Rattle.rules.specs.Ranges.{contractCount, mostPrice};
 ghost use Rattle.tables.specs.Fit.{membersIn};
-ghost use Rattle.dealing.specs.Levels.{mostWeight, Column};
-ghost use Rattle.close_out.specs.Booking.{withEach, stepLines, Bookable, Dealable};
+ghost use Rattle.tables.specs.Room.{Bookable};
+ghost use Rattle.close_out.specs.Booking.{withEach, stepLines, Dealable};
 use crate::booking::book_changes;
 use crate::netting::book_netting;
 use crate::takers::book_takers;
@@ -34,7 +34,8 @@ pub fn book_steps(
     ensures { λ _. ⌜ now (longs .exit) ≡ less (now (longs .entry)) (givenUp netted (now (longs .entry))) ⌝ }
     ensures { λ _. ⌜ now (shorts .exit) ≡ less (now (shorts .entry)) (givenUp netted (now (shorts .entry))) ⌝ }
     ensures { λ _. ⌜ ((t : Tables) → withHead (now (head .exit)) (withRows (now (lots .exit)) (now (value .exit)) (withLines (now (lines .exit)) t))
-        ≡ withEach 0 (stepLines contract (price .0) netted left (now (longs .entry)) (now (shorts .entry)) (now (weights .entry))) (withHead (now (head .entry)) (withRows (now (lots .entry)) (now (value .entry)) (withLines (now (lines .entry)) t)))) ⌝ }
+        ≡ withEach 0 (stepLines contract (price .0) netted left (now (longs .entry)) (now (shorts .entry)) (now (weights .entry)))
+        (withHead (now (head .entry)) (withRows (now (lots .entry)) (now (value .entry)) (withLines (now (lines .entry)) t)))) ⌝ }
 {
     let first = book_netting(
         &mut *head,

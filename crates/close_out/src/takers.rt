@@ -1,13 +1,14 @@
 // Step 2, the takers: the lots left are dealt out to the members that are not defaulted.
 ghost use mathlib.Core.Path.{_≡_};
-ghost use Prim.Native.Nat.{ℕ, _+_, _≤_, _<_};
+ghost use Prim.Native.Nat.{_+_, _≤_, _<_};
 ghost use lib.ListN.{length, replicate};
 ghost use Rattle.rules.specs.Default.{sumOf};
 ghost use Rattle.rules.specs.Ledger.{Tables, withHead, withRows, withLines};
 ghost use Rattle.rules.specs.Ranges.{contractCount, mostPrice, leastLines};
 ghost use Rattle.tables.specs.Fit.{membersIn};
 ghost use Rattle.dealing.specs.Levels.{mostWeight, Column};
-ghost use Rattle.close_out.specs.Booking.{withEach, takerLines, Bookable};
+ghost use Rattle.tables.specs.Room.{Bookable};
+ghost use Rattle.close_out.specs.Booking.{withEach, takerLines};
 use crate::booking::book_changes;
 use dealing::deal_out;
 use rules::Kurus;
@@ -32,7 +33,8 @@ fn deal_columns(
     requires { ⌜ (length (now taken) ≡ membersIn (now head)) × (now nothing ≡ replicate (membersIn (now head)) 0) ⌝ }
     ensures { λ r. ⌜ r ≡ i + length (takerLines contract (price .0) long left (now (weights .entry))) ⌝ }
     ensures { λ _. ⌜ ((t : Tables) → withHead (now (head .exit)) (withRows (now (lots .exit)) (now (value .exit)) (withLines (now (lines .exit)) t))
-        ≡ withEach i (takerLines contract (price .0) long left (now (weights .entry))) (withHead (now (head .entry)) (withRows (now (lots .entry)) (now (value .entry)) (withLines (now (lines .entry)) t)))) ⌝ }
+        ≡ withEach i (takerLines contract (price .0) long left (now (weights .entry)))
+        (withHead (now (head .entry)) (withRows (now (lots .entry)) (now (value .entry)) (withLines (now (lines .entry)) t)))) ⌝ }
 {
     deal_out(left, weights, &mut *taken);
     if 0 < long {
@@ -78,7 +80,8 @@ pub fn book_takers(
     requires { ⌜ (contract < contractCount) × (price .0 ≤ mostPrice) × (i + length (now weights) ≤ leastLines) × (length (now weights) ≡ membersIn (now head)) ⌝ }
     ensures { λ r. ⌜ r ≡ i + length (takerLines contract (price .0) long left (now (weights .entry))) ⌝ }
     ensures { λ _. ⌜ ((t : Tables) → withHead (now (head .exit)) (withRows (now (lots .exit)) (now (value .exit)) (withLines (now (lines .exit)) t))
-        ≡ withEach i (takerLines contract (price .0) long left (now (weights .entry))) (withHead (now (head .entry)) (withRows (now (lots .entry)) (now (value .entry)) (withLines (now (lines .entry)) t)))) ⌝ }
+        ≡ withEach i (takerLines contract (price .0) long left (now (weights .entry)))
+        (withHead (now (head .entry)) (withRows (now (lots .entry)) (now (value .entry)) (withLines (now (lines .entry)) t)))) ⌝ }
 {
     let members = weights.len();
     let mut taken = [0u64; ROW_WIDTH];

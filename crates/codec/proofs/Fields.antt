@@ -5,7 +5,7 @@ use mathlib.Core.List.{List}
 use mathlib.Core.Path.{_≡_, refl, sym, _∙_}
 use native.Mathlib.Omega.{arith}
 use borrow.Author.Tests.{eq-eqb, ne-eqb, lt-leb, leb-true}
-use lib.Dec.{eqb, leb}
+use lib.Dec.{leb}
 use lib.ListN.{length, getD}
 use Rattle.arith.proofs.Tests.{by-eqb, same-or, and-left, and-right, and-false}
 use Rattle.rules.specs.declared.event.Event.the-variants.{Submit, Cancel, DayLimits, Proposal, Default, CloseOut, CloseOfDay}
@@ -13,7 +13,8 @@ use Rattle.rules.specs.declared.event.Event.{Event}
 use Rattle.rules.specs.declared.event.Reading.the-variants.{Sound, Unsound}
 use Rattle.rules.specs.declared.event.Reading.{Reading}
 use Rattle.rules.specs.Header.{u32At, membersSound}
-use Rattle.rules.specs.Records.{submitLength, cancelLength, dayLimitsLength, defaultLength, closeOutLength, closeOfDayLength, legPlace, recordLength, frontLength, sideSound, orderKindSound, submissionOf, cancellationOf, newDayLimitsOf, closeOutOf, submitOf, fieldsByKind, fieldsOf, legsOf, eventSound, ifSound, readOf}
+use Rattle.rules.specs.Records.{submitLength, cancelLength, dayLimitsLength, defaultLength, closeOutLength, closeOfDayLength, legPlace, recordLength, frontLength, submissionOf}
+use Rattle.rules.specs.Records.{cancellationOf, newDayLimitsOf, closeOutOf, submitOf, fieldsByKind, fieldsOf, legsOf, eventSound, ifSound, readOf}
 
 -- ---- by the kind and the length, as they were read
 module _ (s : List ℕ) {k second n : ℕ} (kind : k ≡ getD s 0 0) (next : second ≡ getD s 1 0) (sized : n ≡ recordLength k second) where
@@ -118,7 +119,8 @@ module _ (n : ℕ) (s : List ℕ) where
       let members = if-true (membersSound n) (ifSound n (legsOf s) (fieldsOf s)) e h in
       go (fieldsOf s) (λ f. f) (members .0) (members .1)
     where
-      go : (r : Reading) → (r ≡ Sound e → fieldsOf s ≡ Sound e) → membersSound n ≡ true → ifSound n (legsOf s) r ≡ Sound e → (membersSound n ≡ true) × (fieldsOf s ≡ Sound e) × (eventSound n e (legsOf s) ≡ true)
+      go : (r : Reading) → (r ≡ Sound e → fieldsOf s ≡ Sound e) → membersSound n ≡ true → ifSound n (legsOf s) r ≡ Sound e → (membersSound n ≡ true) × (fieldsOf s ≡ Sound e)
+          × (eventSound n e (legsOf s) ≡ true)
       go (Sound x) f m g =
           let ranges = if-true (eventSound n x (legsOf s)) (Sound x) e g in
           let same : x ≡ e = let w = ranges .1 in cc in

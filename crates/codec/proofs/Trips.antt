@@ -1,6 +1,6 @@
 -- Records written and read back, and read and written again. Assumes nothing.
 use Prim.Native.Nat.{ℕ, _+_, _*_, _≤_, _<_}
-use mathlib.Core.Bool.{Bool, true, false, not, _&&_}
+use mathlib.Core.Bool.{true, false, _&&_}
 use mathlib.Core.List.{List, [], _∷_, _++_, flatMap, append-assoc, append-nil}
 use mathlib.Core.Path.{_≡_, refl, sym, ap, _∙_}
 use native.Mathlib.Omega.{arith}
@@ -12,7 +12,7 @@ use Rattle.arith.proofs.Alls.{every-all}
 use Rattle.arith.proofs.Appends.{flat-length}
 use Rattle.arith.proofs.Beside.{take-over}
 use Rattle.arith.proofs.Tests.{never, same-or, and-left, and-right, and-false}
-use Rattle.rules.specs.declared.answer.Answer.the-variants.{Accepted, RecordUnsound}
+use Rattle.rules.specs.declared.answer.Answer.the-variants.{RecordUnsound}
 use Rattle.rules.specs.declared.event.Event.the-variants.{Submit, Cancel, DayLimits, Proposal, Default, CloseOut, CloseOfDay}
 use Rattle.rules.specs.declared.event.Event.{Event}
 use Rattle.rules.specs.declared.event.Leg.{Leg}
@@ -24,7 +24,8 @@ use Rattle.rules.specs.declared.order.Side.{Side}
 use Rattle.rules.specs.Ranges.{lastSecond, mostPrice, mostLots, leastLegs, mostLegs, mostRatio}
 use Rattle.rules.specs.Header.{u16At, u32At, u16Bytes, u32Bytes, membersSound}
 use Rattle.rules.specs.Sides.{sideNumber, sideOf}
-use Rattle.rules.specs.Records.{legPlace, recordLength, frontLength, sideSound, orderKindNumber, orderKindOf, orderKindSound, legSound, eventSound, legBytes, fieldBytes, bytesOf, writeSpec, fieldsByKind, fieldsOf, legAt, legsOf, readOf, frontOf}
+use Rattle.rules.specs.Records.{legPlace, recordLength, frontLength, sideSound, orderKindNumber, orderKindOf, orderKindSound, legSound, eventSound, legBytes, fieldBytes, bytesOf}
+use Rattle.rules.specs.Records.{writeSpec, fieldsByKind, fieldsOf, legAt, legsOf, readOf, frontOf}
 use Rattle.rules.proofs.Writing.{written, not-refused}
 use Rattle.big_endian.proofs.Numbers.{bytes-small, u16-wide, u32-wide, u16-back, u32-back, all-back, u8-again, u16-again, u32-again, u8-last, u16-last, u32-last, u8-first, none-past, all-again}
 use Rattle.codec.specs.Columns.{legRows, legCount}

@@ -1,8 +1,8 @@
 -- What the writer of records needs: lengths, fields that fit a byte, and the outcome by the tests that lead to it. Assumes nothing.
-use Prim.Native.Nat.{ℕ, _+_, _*_, _≤_, _<_}
+use Prim.Native.Nat.{ℕ, _*_, _≤_, _<_}
 use mathlib.Core.Bool.{true, false, _&&_}
 use mathlib.Core.List.{List, [], _∷_, flatMap}
-use mathlib.Core.Path.{_≡_, refl, sym, ap, _∙_}
+use mathlib.Core.Path.{_≡_, refl, sym}
 use native.Mathlib.Omega.{arith}
 use borrow.Author.Tests.{lt-ltb, le-ltb, lt-leb, leb-true}
 use lib.Dec.{leb, ltb}
@@ -83,7 +83,8 @@ some-bytes (CloseOut e) = omega arith
 some-bytes (CloseOfDay s) = omega arith
 
 -- its kind, then its fields
-pub record-put : (e : Event) (legs : List Leg) (out m k : List ℕ) {kind : ℕ} → kind ≡ kindNumber e → m ≡ over 0 (kind ∷ []) out → k ≡ over 1 (fieldBytes e legs) m → 1 ≤ length out → k ≡ over 0 (bytesOf e legs) out
+pub record-put : (e : Event) (legs : List Leg) (out m k : List ℕ) {kind : ℕ} → kind ≡ kindNumber e → m ≡ over 0 (kind ∷ []) out → k ≡ over 1 (fieldBytes e legs) m → 1 ≤ length out
+    → k ≡ over 0 (bytesOf e legs) out
 unfolding bytesOf
 record-put e legs out m k {kind} q a b h = rw (← q) (over-then 1 (kind ∷ []) (fieldBytes e legs) out m k a b refl h)
 
@@ -103,6 +104,7 @@ module _ (n : ℕ) (e : Event) (legs : List Leg) (out : List ℕ) where
       unfolding writeSpec
       write-short h = rw (m, t, lt-ltb (length out) (length (bytesOf e legs)) h) refl
 
-      pub write-whole : (k : ℕ) (after : List ℕ) → k ≡ length (bytesOf e legs) → length (bytesOf e legs) ≤ length out → after ≡ over 0 (bytesOf e legs) out → record { answer = Accepted k; after = after } ≡ writeSpec n e legs out
+      pub write-whole : (k : ℕ) (after : List ℕ) → k ≡ length (bytesOf e legs) → length (bytesOf e legs) ≤ length out → after ≡ over 0 (bytesOf e legs) out
+          → record { answer = Accepted k; after = after } ≡ writeSpec n e legs out
       unfolding writeSpec
       write-whole k after a h w = rw (m, t, le-ltb (length out) (length (bytesOf e legs)) h, a, w) refl

@@ -1,12 +1,11 @@
 // Writing a record.
 ghost use mathlib.Core.Path.{_≡_};
 ghost use mathlib.Core.List.{[], flatMap};
-ghost use Prim.Native.Nat.{_+_, _*_, _<_, _≤_};
+ghost use Prim.Native.Nat.{_+_, _<_, _≤_};
 ghost use lib.ListN.{length};
 ghost use Rattle.arith.specs.Lists.{over};
 ghost use Rattle.rules.specs.declared.event.Event.the-variants.{Submit, Cancel, DayLimits, Proposal, Default, CloseOut, CloseOfDay};
 ghost use Rattle.rules.specs.Ranges.{mostLegs};
-ghost use Rattle.rules.specs.Sides.{sideNumber};
 ghost use Rattle.rules.specs.Records.{submitLength, cancelLength, dayLimitsLength, defaultLength, closeOutLength, closeOfDayLength, legPlace, recordLength, orderKindNumber, legBytes, kindNumber, fieldBytes, writeSpec};
 ghost use Rattle.codec.specs.Columns.{legRows, legCount, OneByteFields};
 use crate::legs::Legs;

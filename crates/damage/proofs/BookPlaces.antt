@@ -1,12 +1,12 @@
 -- The book's test place by place, as the code makes it, is the rules' test of its orders. Assumes nothing.
-use mathlib.Core.Path.{_≡_, refl}
-use mathlib.Core.Bool.{Bool, true, false, _&&_, and-assoc, and-comm}
-use mathlib.Core.List.{List, [], _∷_, map, map-map}
+use mathlib.Core.Path.{_≡_}
+use mathlib.Core.Bool.{Bool, _&&_, and-assoc, and-comm}
+use mathlib.Core.List.{map, map-map}
 use Prim.Native.Nat.{ℕ, _≤_}
 use native.Mathlib.Omega.{arith}
-use lib.Dec.{leb, ltb}
+use lib.Dec.{leb}
 use Rattle.arith.specs.Lists.{every, allOf, from}
-use Rattle.arith.proofs.Tests.{and-true, and-false}
+use Rattle.arith.proofs.Tests.{and-true}
 use Rattle.arith.proofs.Scans.{every-same, every-both, every-map}
 use Rattle.rules.specs.Days.{Calendar, spanStart, dayAfterSpan, inSpan}
 use Rattle.rules.proofs.CalendarLaws.{month-le}

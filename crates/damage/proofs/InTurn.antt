@@ -1,13 +1,13 @@
 -- A contract's numbers in the order in which the code tests them. Assumes nothing.
-use mathlib.Core.Path.{_≡_, refl, sym, _∙_}
-use mathlib.Core.Bool.{Bool, true, false, _&&_, and-assoc}
+use mathlib.Core.Path.{_≡_, refl, _∙_}
+use mathlib.Core.Bool.{Bool, true, false, _&&_}
 use mathlib.Core.List.{List, [], _∷_}
-use Prim.Native.Nat.{ℕ, suc, _+_, _*_}
+use Prim.Native.Nat.{ℕ, _+_, _*_}
 use native.Mathlib.Numerals.{add-one}
 use lib.Dec.{leb, ltb, leb·suc-suc}
 use lib.ListN.{getD}
 use Rattle.arith.specs.Lists.{allOf}
-use Rattle.arith.proofs.Tests.{and-true, and-false}
+use Rattle.arith.proofs.Tests.{and-true}
 use Rattle.rules.specs.Refusals.{contractPricesSound}
 use Rattle.damage.specs.Orders.{between}
 
@@ -24,7 +24,8 @@ in-turn true false false m d v = refl
 in-turn false l h m d v = refl
 
 pub contract-in-turn : (run : ℕ) (l : List ℕ)
-    → allOf (leb (getD l 0 0) 1000000 ∷ leb (getD l 2 0) 1000000 ∷ between 1 (getD l 2 0 + 1) (getD l 1 0) ∷ leb (getD l 3 0) run ∷ between (getD l 3 0) (1000000 * getD l 3 0 + 1) (getD l 4 0) ∷ []) ≡ contractPricesSound run l
+    → allOf (leb (getD l 0 0) 1000000 ∷ leb (getD l 2 0) 1000000 ∷ between 1 (getD l 2 0 + 1) (getD l 1 0) ∷ leb (getD l 3 0) run ∷ between (getD l 3 0) (1000000 * getD l 3 0 + 1)
+    (getD l 4 0) ∷ []) ≡ contractPricesSound run l
 unfolding contractPricesSound
 contract-in-turn run l =
     let low = getD l 1 0 in

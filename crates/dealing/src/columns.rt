@@ -1,6 +1,6 @@
 // Columns with one number for each member.
 ghost use mathlib.Core.Path.{_≡_};
-ghost use Prim.Native.Nat.{ℕ, _*_, _≤_, min};
+ghost use Prim.Native.Nat.{min};
 ghost use lib.ListN.{length};
 ghost use Rattle.rules.specs.Default.{sumOf, givenUp};
 ghost use Rattle.dealing.specs.Levels.{mostWeight, Column};

@@ -1,6 +1,6 @@
 // The level up to which whole rounds deal.
 ghost use mathlib.Core.Path.{_≡_};
-ghost use Prim.Native.Nat.{ℕ, _≤_};
+ghost use Prim.Native.Nat.{_≤_};
 ghost use lib.ListN.{length};
 ghost use Rattle.rules.specs.Default.{sumOf};
 ghost use Rattle.rules.specs.Ranges.{mostMembers, mostLotsRun};

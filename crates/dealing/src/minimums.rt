@@ -1,6 +1,6 @@
 // Minimums: each member's part of the lots by weight, rounded up.
 ghost use mathlib.Core.Path.{_≡_};
-ghost use Prim.Native.Nat.{ℕ, _≤_, _<_};
+ghost use Prim.Native.Nat.{_≤_, _<_};
 ghost use lib.ListN.{length};
 ghost use Rattle.rules.specs.Default.{sumOf, minimums};
 ghost use Rattle.rules.specs.Ranges.{mostLotsRun};

@@ -2,7 +2,7 @@
 ghost use mathlib.Core.Path.{_≡_};
 ghost use Prim.Native.Nat.{ℕ, _≤_, _<_};
 ghost use lib.ListN.{length, getD};
-ghost use Rattle.rules.specs.Default.{Dealing, sumOf, minimums, comesFirst, inOrder, round, dealtOut};
+ghost use Rattle.rules.specs.Default.{sumOf, minimums, round, dealtOut};
 ghost use Rattle.rules.specs.Ranges.{mostLotsRun};
 ghost use Rattle.dealing.specs.Levels.{mostWeight, Column};
 use crate::level::fill_to_level;

@@ -5,14 +5,12 @@ use mathlib.Core.Path.{_≡_, refl, sym, ap, _∙_}
 use mathlib.Core.Bool.{true, false, not, cond}
 use mathlib.Core.List.{List, [], _∷_, _++_, map}
 use Rattle.arith.proofs.Tests.{true-or, passes}
-use Rattle.rules.specs.declared.answer.Answer.{Answer}
-use Rattle.rules.specs.declared.answer.Answer.the-variants.{Accepted}
 use Rattle.rules.specs.Answers.{Outcome, told}
 use Rattle.rules.specs.Header.{Header, headerOf, calendarOf, beginsWithHeader}
-use Rattle.rules.specs.Ledger.{Tables, Line, withLines, ledgerShort}
+use Rattle.rules.specs.Ledger.{Tables, ledgerShort}
 use Rattle.rules.specs.Records.{readOf}
-use Rattle.rules.specs.Refusals.{makeSpec, applySpec}
-use Rattle.rules.specs.Accounts.{Call, callSpec, after, log, listsDay, isAccepted, linesOf, dayAfterEvent, Agrees}
+use Rattle.rules.specs.Refusals.{makeSpec}
+use Rattle.rules.specs.Accounts.{Call, after, log, listsDay, isAccepted, linesOf, dayAfterEvent}
 use Rattle.accounts.proofs.TwoBookkeepers.{two-bookkeepers}
 use Rattle.engine.specs.Runs.{Applied, Kept, standing, printed, dayOf, Demand3Runs}
 

@@ -15,7 +15,8 @@ use Rattle.rules.specs.declared.event.Reading.the-variants.{Sound}
 use Rattle.rules.specs.Ranges.{mostLegs}
 use Rattle.codec.specs.Columns.{legCount}
 use Rattle.codec.proofs.Fields.{nothing, if-true}
-use Rattle.fields.specs.RecordFields.{kindField, submitSide, submitOrderKind, proposalLegs, defaultMember, closeOfDayTime, submissionIn, cancellationIn, newDayLimitsIn, closeOutIn, submitIn, proposalIn, eventByKind, eventIn, firstLegs, legsIn}
+use Rattle.fields.specs.RecordFields.{kindField, submitSide, submitOrderKind, proposalLegs, defaultMember, closeOfDayTime, submissionIn, cancellationIn, newDayLimitsIn}
+use Rattle.fields.specs.RecordFields.{closeOutIn, submitIn, proposalIn, eventByKind, eventIn, firstLegs, legsIn}
 use Rattle.fields.proofs.Rows.{no-kind}
 
 pub data Gives (f : List ℕ) : Event → Type 0 where

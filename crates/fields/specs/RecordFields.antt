@@ -18,7 +18,8 @@ use Rattle.rules.specs.declared.event.Submission.{Submission}
 use Rattle.rules.specs.Answers.{Outcome, decide}
 use Rattle.rules.specs.Ranges.{mostLegs}
 use Rattle.rules.specs.Sides.{sideNumber, sideOf}
-use Rattle.rules.specs.Records.{submitKind, cancelKind, dayLimitsKind, proposalKind, defaultKind, closeOutKind, closeOfDayKind, sideSound, orderKindNumber, orderKindOf, orderKindSound, writeSpec, legsOf, readOf}
+use Rattle.rules.specs.Records.{submitKind, cancelKind, dayLimitsKind, proposalKind, defaultKind, closeOutKind, closeOfDayKind, sideSound, orderKindNumber, orderKindOf}
+use Rattle.rules.specs.Records.{orderKindSound, writeSpec, legsOf, readOf}
 
 -- ---- places
 -- How many numbers a row for a record has: as many as a proposal of 12 legs. Numbers past a record's own are surplus.

@@ -1,19 +1,18 @@
 -- What the reader and the writer of headers need. Assumes nothing.
-use Prim.Native.Nat.{ℕ, zero, suc, _+_, _*_, _-_, _≤_, _<_}
+use Prim.Native.Nat.{ℕ, _+_, _*_, _-_, _≤_, _<_}
 use mathlib.Core.Bool.{Bool, true, false, _&&_}
-use mathlib.Core.List.{List, [], _∷_, _++_, map, flatMap}
+use mathlib.Core.List.{List, [], _∷_, flatMap}
 use mathlib.Core.Path.{_≡_, refl, sym, ap, _∙_}
-use native.Mathlib.Numerals.{add-one}
 use native.Mathlib.Omega.{arith}
-use borrow.Author.Tests.{lt-ltb, le-ltb, le-leb, lt-leb, eq-eqb, ltb-true, eqb-true}
-use lib.Dec.{eqb, leb, ltb}
-use lib.ListN.{length, getD, take, replicate, length-map, length-append, List·getD-append}
+use borrow.Author.Tests.{lt-ltb, le-ltb, le-leb, lt-leb, eq-eqb, eqb-true}
+use lib.Dec.{eqb, leb}
+use lib.ListN.{length, getD, take, length-append}
 use lib.Seq.{length-take-le, getD-take}
-use Rattle.arith.specs.Lists.{from, every, over}
-use Rattle.arith.proofs.Tests.{never, le-or-lt, by-bool, same-test, and-left, and-right, and-false, and-true}
+use Rattle.arith.specs.Lists.{every, over}
+use Rattle.arith.proofs.Tests.{never, le-or-lt, same-test, and-left, and-right, and-false, and-true}
 use Rattle.rules.specs.declared.answer.Answer.the-variants.{Accepted, TableUnsound, HeaderUnsound}
-use Rattle.rules.specs.Days.{businessDay, inSpan}
-use Rattle.rules.specs.Header.{Header, u16At, u32At, u16Bytes, u32Bytes, u16sAt, u32sAt, lettersAndVersion, sameBytes, headerOf, headerLength, beginsWithHeader, rising, calendarOf, calendarSound, membersSound, limitSound, daySound, headerSound, headerBytes, writeHeaderSpec}
+use Rattle.rules.specs.Header.{Header, u16At, u32At, u16Bytes, u32Bytes, u16sAt, u32sAt, lettersAndVersion, sameBytes, headerOf, headerLength, beginsWithHeader, calendarOf}
+use Rattle.rules.specs.Header.{calendarSound, membersSound, limitSound, daySound, headerSound, headerBytes, writeHeaderSpec}
 use Rattle.arith.specs.Columns.{padded}
 use Rattle.arith.proofs.Padded.{padded-at}
 use Rattle.header.specs.Journal.{firsts, daysSound, headerFrom, headerColumns, blankHeader, headerReading}
@@ -122,7 +121,8 @@ module _ (s : List ℕ) where
   columns-read = columns-back (headerOf s) (length-u32s s (11 + 2 * getD s 10 0) (getD s 9 0))
 
   -- by a test of the fields in columns
-  pub begins-by : {h : JournalHeader} {b v : Bool} → 11 ≤ length s → sameBytes (take 5 s) lettersAndVersion ≡ true → headerLength s ≤ length s → h ≡ headerColumns (headerOf s) → b ≡ headerSound (headerFrom h) → b ≡ v → beginsWithHeader s ≡ v
+  pub begins-by : {h : JournalHeader} {b v : Bool} → 11 ≤ length s → sameBytes (take 5 s) lettersAndVersion ≡ true → headerLength s ≤ length s → h ≡ headerColumns (headerOf s)
+      → b ≡ headerSound (headerFrom h) → b ≡ v → beginsWithHeader s ≡ v
   begins-by {h} x y z f t e =
       let columns : headerFrom h ≡ headerOf s = ap headerFrom f ∙ columns-read in
       sym (begins-judged x y z) ∙ (ap headerSound (sym columns) ∙ (sym t ∙ e))
@@ -166,6 +166,7 @@ module _ (h : Header) (out : List ℕ) where
   unfolding writeHeaderSpec
   write-header-short t l = rw (t, lt-ltb (length out) (length (headerBytes h)) l) refl
 
-  pub write-header-whole : headerSound h ≡ true → (k : ℕ) (after : List ℕ) → k ≡ length (headerBytes h) → length (headerBytes h) ≤ length out → after ≡ over 0 (headerBytes h) out → record { answer = Accepted k; after = after } ≡ writeHeaderSpec h out
+  pub write-header-whole : headerSound h ≡ true → (k : ℕ) (after : List ℕ) → k ≡ length (headerBytes h) → length (headerBytes h) ≤ length out → after ≡ over 0 (headerBytes h) out
+      → record { answer = Accepted k; after = after } ≡ writeHeaderSpec h out
   unfolding writeHeaderSpec
   write-header-whole t k after a l w = rw (t, le-ltb (length out) (length (headerBytes h)) l, a, w) refl

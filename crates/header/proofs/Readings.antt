@@ -11,7 +11,7 @@ use Rattle.arith.specs.Lists.{every, from}
 use Rattle.arith.proofs.Tests.{true-or, and-left, and-right}
 use Rattle.rules.specs.declared.answer.Answer.the-variants.{Accepted}
 use Rattle.rules.specs.Days.{inSpan}
-use Rattle.rules.specs.Header.{Header, u16At, u32At, u16sAt, u32sAt, headerLength, headerOf, rising, calendarOf, calendarSound, membersSound, limitSound, daySound, headerSound, beginsWithHeader}
+use Rattle.rules.specs.Header.{Header, u32At, u32sAt, headerLength, headerOf, rising, calendarOf, calendarSound, membersSound, limitSound, daySound, headerSound, beginsWithHeader}
 use Rattle.header.specs.declared.reader.HeaderReading.{HeaderReading}
 use Rattle.header.specs.Journal.{headerColumns, headerReading}
 use Rattle.arith.proofs.Appends.{from-length}
@@ -19,10 +19,6 @@ use Rattle.header.proofs.Columns.{column, room}
 use Rattle.header.proofs.Trips.{begun}
 
 -- ---- the lists of a header
-holidays-length : (s : List ℕ) → length (headerOf s .holidays) ≡ getD s 10 0
-unfolding headerOf u16sAt
-holidays-length s = length-map (from 0 (getD s 10 0)) (λ j. u16At s (11 + 2 * j)) ∙ from-length 0 (getD s 10 0)
-
 pub limits-length : (s : List ℕ) → length (headerOf s .limits) ≡ headerOf s .members
 unfolding headerOf u32sAt
 limits-length s = length-map (from 0 (getD s 9 0)) (λ j. u32At s (11 + 2 * getD s 10 0 + 4 * j)) ∙ from-length 0 (getD s 9 0)

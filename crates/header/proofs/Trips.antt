@@ -1,6 +1,6 @@
 -- Headers written and read back, and read and written again. Assumes nothing.
 use Prim.Native.Nat.{ℕ, zero, suc, _+_, _*_, _-_, _/_, _%_, _≤_, _<_}
-use mathlib.Core.Bool.{Bool, true, false, cond, _&&_}
+use mathlib.Core.Bool.{Bool, true, false, cond}
 use mathlib.Core.List.{List, [], _∷_, _++_, flatMap, append-assoc}
 use mathlib.Core.Path.{_≡_, refl, sym, ap, _∙_}
 use native.Mathlib.Omega.{arith}
@@ -14,7 +14,8 @@ use Rattle.arith.proofs.Writes.{over-front}
 use Rattle.arith.proofs.Tests.{by-bool, and-right, and-false}
 use Rattle.rules.specs.Ranges.{mostFirstYear, mostLimit}
 use Rattle.rules.specs.Days.{Calendar, leapYear, yearStart, monthStart, spanStart, dayAfterSpan, inSpan}
-use Rattle.rules.specs.Header.{Header, u16At, u32At, u16Bytes, u32Bytes, u16sAt, u32sAt, lettersAndVersion, sameBytes, headerLength, headerOf, headerBytes, calendarOf, calendarSound, limitSound, daySound, headerSound, beginsWithHeader, writeHeaderSpec}
+use Rattle.rules.specs.Header.{Header, u16At, u32At, u16Bytes, u32Bytes, u16sAt, u32sAt, lettersAndVersion, sameBytes, headerLength, headerOf, headerBytes, calendarOf}
+use Rattle.rules.specs.Header.{calendarSound, limitSound, daySound, headerSound, beginsWithHeader, writeHeaderSpec}
 use Rattle.rules.proofs.Writing.{written, not-header-refused}
 use Rattle.rules.specs.declared.answer.Answer.the-variants.{Accepted, HeaderUnsound}
 use Rattle.header.proofs.Headers.{same-true, length-u16s, columns-read, reading-sound, write-header-whole}
@@ -56,7 +57,8 @@ record Holds (h : Header) : Type 0 where
   days : All (λ d. d < 65536) (h .holidays)
   limits : All (λ l. l < 4294967296) (h .limits)
 
-fits : (h : Header) → h .firstYear ≤ mostFirstYear → inSpan (calendarOf h) (h .startDay) ≡ true → length (h .limits) ≡ h .members → every (inSpan (calendarOf h)) (h .holidays) ≡ true → every limitSound (h .limits) ≡ true → Holds h
+fits : (h : Header) → h .firstYear ≤ mostFirstYear → inSpan (calendarOf h) (h .startDay) ≡ true → length (h .limits) ≡ h .members
+    → every (inSpan (calendarOf h)) (h .holidays) ≡ true → every limitSound (h .limits) ≡ true → Holds h
 fits h year start sized days limits =
     record {
       year = year;
@@ -112,7 +114,8 @@ module _ (h : Header) (x : Holds h) (rest : List ℕ) where
       let tail = h .members ∷ length (h .holidays) ∷ (flatMap u16Bytes (h .holidays) ++ flatMap u32Bytes (h .limits)) ++ rest in
       let year : u16At (headerBytes h ++ rest) 5 ≡ h .firstYear = u16-back lettersAndVersion (u16Bytes (h .startDay) ++ tail) 5 refl (h .firstYear) (omega arith) in
       let start : u16At (headerBytes h ++ rest) 7 ≡ h .startDay = u16-back (lettersAndVersion ++ u16Bytes (h .firstYear)) tail 7 refl (h .startDay) s in
-      let limits : u32sAt (headerBytes h ++ rest) (11 + 2 * length (h .holidays)) (h .members) ≡ h .limits = ap (u32sAt (headerBytes h ++ rest) (11 + 2 * length (h .holidays))) (sym (x .sized)) ∙ limits-back in
+      let limits : u32sAt (headerBytes h ++ rest) (11 + 2 * length (h .holidays)) (h .members) ≡ h .limits =
+      ap (u32sAt (headerBytes h ++ rest) (11 + 2 * length (h .holidays))) (sym (x .sized)) ∙ limits-back in
       λ i. record { firstYear = year i; startDay = start i; members = h .members; holidays = days-back i; limits = limits i }
 
   length-back : length (headerBytes h) ≡ 11 + 2 * length (h .holidays) + 4 * h .members
@@ -133,7 +136,12 @@ module _ (h : Header) (x : Holds h) (rest : List ℕ) where
   begins-back t =
       let long : length (headerBytes h ++ rest) ≡ length (headerBytes h) + length rest = length-append (headerBytes h) rest in
       let least = length-back in
-      rw (le-leb 11 (length (headerBytes h ++ rest)) (omega arith), letters-back, le-leb (headerLength (headerBytes h ++ rest)) (length (headerBytes h ++ rest)) (rw length-read (omega arith)), fields-back) t
+      rw (
+        le-leb 11 (length (headerBytes h ++ rest)) (omega arith),
+        letters-back,
+        le-leb (headerLength (headerBytes h ++ rest)) (length (headerBytes h ++ rest)) (rw length-read (omega arith)),
+        fields-back,
+      ) t
 
 -- ---- read, then written
 module _ (s : List ℕ) (small : (i : ℕ) → getD s i 0 < 256) (begins : sameBytes (take 5 s) lettersAndVersion ≡ true) (long : headerLength s ≤ length s) where
@@ -146,7 +154,9 @@ module _ (s : List ℕ) (small : (i : ℕ) → getD s i 0 < 256) (begins : sameB
     lists-again =
         rw (append-assoc, all-again u32Bytes 4 u32At s (u32-again s small) m (11 + 2 * n) fit) (all-again u16Bytes 2 u16At s (u16-again s small) n 11 (omega arith))
 
-    rest-again : u16Bytes (u16At s 5) ++ (u16Bytes (u16At s 7) ++ (getD s 9 0 ∷ getD s 10 0 ∷ flatMap u16Bytes (u16sAt s 11 n) ++ flatMap u32Bytes (u32sAt s (11 + 2 * n) m))) ++ drop (11 + 2 * n + 4 * m) s ≡ drop 5 s
+    rest-again : u16Bytes (u16At s 5) ++
+        (u16Bytes (u16At s 7) ++ (getD s 9 0 ∷ getD s 10 0 ∷ flatMap u16Bytes (u16sAt s 11 n) ++ flatMap u32Bytes (u32sAt s (11 + 2 * n) m))) ++ drop
+        (11 + 2 * n + 4 * m) s ≡ drop 5 s
     rest-again =
         rw (append-assoc, append-assoc, lists-again, u8-again s small 10 (omega arith), u8-again s small 9 (omega arith), u16-again s small 7 (omega arith), u16-again s small 5 (omega arith)) refl
 
@@ -185,7 +195,8 @@ abbrev soundReading : List ℕ → HeaderReading
 soundReading s = record { answer = Accepted (headerLength s); header = headerColumns (headerOf s) }
 
 -- what a reading says that gives a header
-pub given : (s : List ℕ) (k : ℕ) (h : JournalHeader) → headerReading s ≡ record { answer = Accepted k; header = h } → (beginsWithHeader s ≡ true) × (k ≡ headerLength s) × (h ≡ headerColumns (headerOf s))
+pub given : (s : List ℕ) (k : ℕ) (h : JournalHeader) → headerReading s ≡ record { answer = Accepted k; header = h } → (beginsWithHeader s ≡ true) × (k ≡ headerLength s)
+    × (h ≡ headerColumns (headerOf s))
 unfolding headerReading
 given s k h r = go (beginsWithHeader s) r
   where

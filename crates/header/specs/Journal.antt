@@ -27,7 +27,15 @@ headerFrom h =
 -- A header in columns, with 0 in the places past its lists.
 abbrev pub headerColumns : Header → JournalHeader
 headerColumns h =
-    record { «first_year» = h .firstYear; «start_day» = record { 0 = h .startDay }; members = h .members; «holiday_count» = length (h .holidays); holidays = padded 120 (h .holidays); limits = padded 32 (h .limits) }
+    record {
+      «first_year» = h .firstYear;
+      «start_day» = record { 0 = h .startDay };
+      members = h .members;
+      «holiday_count» = length (h .holidays);
+      holidays =
+          padded 120 (h .holidays);
+      limits = padded 32 (h .limits);
+    }
 
 abbrev pub blankHeader : JournalHeader
 blankHeader = record { «first_year» = 0; «start_day» = record { 0 = 0 }; members = 0; «holiday_count» = 0; holidays = replicate 120 0; limits = replicate 32 0 }

@@ -6,7 +6,7 @@ use lib.Dec.{T, ltb}
 use lib.ListN.{length, take}
 use Rattle.arith.specs.Lists.{every, over}
 use Rattle.rules.specs.declared.answer.Answer.the-variants.{Accepted}
-use Rattle.rules.specs.Header.{Header, headerLength, writeHeaderSpec}
+use Rattle.rules.specs.Header.{writeHeaderSpec}
 use Rattle.header.specs.Journal.{headerFrom, headerColumns, headerReading}
 use Rattle.header.specs.declared.journal.JournalHeader.{JournalHeader}
 

@@ -4,9 +4,9 @@ ghost use Rattle.rules.specs.Records.{frontOf, toldFront};
 ghost use Rattle.fields.specs.HeaderFields.{readHeaderFields, writeHeaderFields};
 ghost use Rattle.fields.specs.RecordFields.{readFields, writeFields};
 ghost use Rattle.host.specs.Sent.{sent};
-use crate::Told;
-use crate::numbered;
-use crate::told_of;
+use engine::Told;
+use engine::numbered;
+use engine::told_of;
 use rules::Front;
 
 // Reads a record of a ledger of that many members to the fields: 0 with how many numbers were written, or 1 (fewer

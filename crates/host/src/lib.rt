@@ -2,7 +2,6 @@
 ghost use mathlib.Core.Path.{_≡_};
 ghost use mathlib.Core.List.{List};
 ghost use lib.IntN.{ℤ};
-ghost use Rattle.rules.specs.Answers.{told};
 ghost use Rattle.rules.specs.Refusals.{makeSpec, applySpec};
 ghost use Rattle.rules.specs.Ledger.{lent};
 ghost use Rattle.host.specs.Sent.{sent, damageNumber};
@@ -14,49 +13,7 @@ pub use bytes::ledger_read_header;
 pub use bytes::ledger_read_record;
 pub use bytes::ledger_write_header;
 pub use bytes::ledger_write_record;
-use rules::Answer;
-
-// An answer as a host gets it: the paper's number, and what goes with it.
-struct Told {
-    number: u64,
-    // What an accepted call counts, with 5 the member, with 6 the contract, else 0.
-    detail: u64,
-}
-
-fn numbered(number: u64, detail: u64) -> Told
-    ensures { λ r. ⌜ (r .number ≡ number) × (r .detail ≡ detail) ⌝ }
-{
-    Told {
-        number: number,
-        detail: detail,
-    }
-}
-
-fn told_of(answer: Answer) -> Told
-    ensures { λ r. ⌜ (r .number ≡ told answer .number) × (r .detail ≡ told answer .value) ⌝ }
-{
-    match answer {
-        Answer::Accepted(lines) => numbered(0, lines),
-        Answer::TableUnsound => numbered(1, 0),
-        Answer::HeaderUnsound => numbered(2, 0),
-        Answer::RecordUnsound => numbered(3, 0),
-        Answer::TimeBelowLedger => numbered(4, 0),
-        Answer::MemberDefaulted(member) => numbered(5, member),
-        Answer::ContractNotOpen(contract) => numbered(6, contract),
-        Answer::PriceOutsideLimits => numbered(7, 0),
-        Answer::SixthSubmit => numbered(8, 0),
-        Answer::AboveLimit => numbered(9, 0),
-        Answer::CannotMatchInFull => numbered(10, 0),
-        Answer::BookFull => numbered(11, 0),
-        Answer::NoSuchOrder => numbered(12, 0),
-        Answer::NotAcceptable => numbered(13, 0),
-        Answer::NoReferencePrice => numbered(14, 0),
-        Answer::NoDefaultedLots => numbered(15, 0),
-        Answer::NoTaker => numbered(16, 0),
-        Answer::TotalPassed => numbered(17, 0),
-        Answer::NoLaterDay => numbered(18, 0),
-    }
-}
+use engine::told_of;
 
 // Makes a ledger in the lent tables: 0, or the number of the cause, 1 or 2, and then every table is as it was.
 #[no_mangle]

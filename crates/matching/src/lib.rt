@@ -12,3 +12,4 @@ pub use deals::Counterparty;
 pub use deals::deal_at;
 pub use levels::Matched;
 pub use levels::match_orders;
+pub use priority::rank_of;

@@ -12,7 +12,6 @@ use Rattle.arith.specs.Lists.{All, every, total, from}
 use Rattle.arith.proofs.Tests.{never, true-or}
 use Rattle.rules.specs.declared.answer.Answer.the-variants.{Accepted}
 use Rattle.rules.specs.declared.order.Order.{Order}
-use Rattle.rules.specs.Answers.{Outcome}
 use Rattle.rules.specs.Ranges.{mostLotsRun}
 use Rattle.rules.specs.Ledger.{Tables, Line, lotsRun, orders, withOrders, lineRun, booked}
 use Rattle.rules.specs.Refusals.{distinct, runWouldPass}

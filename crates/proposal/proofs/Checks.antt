@@ -10,22 +10,22 @@ use borrow.Author.Tests.{eq-eqb}
 use Rattle.arith.specs.Lists.{every, any, total, from, allOf}
 use Rattle.arith.proofs.Overs.{zip-at}
 use Rattle.arith.proofs.Tests.{and-false, and-true}
-use Rattle.arith.proofs.Scans.{every-both}
-use Rattle.rules.specs.declared.event.Leg.{Leg}
+use Rattle.arith.proofs.Scans.{every-both, every-same}
+use Rattle.arith.proofs.Totals.{total-same}
 use Rattle.rules.specs.declared.order.Order.{Order}
 use Rattle.rules.specs.declared.order.Side.{Side}
 use Rattle.rules.specs.declared.order.Side.the-variants.{Buy, Sell}
-use Rattle.rules.specs.Ranges.{monthsInSpan}
+use Rattle.rules.specs.Ranges.{monthsInSpan, mostOrders}
 use Rattle.rules.specs.Days.{Calendar, firstMonth, monthStart}
 use Rattle.rules.specs.Header.{rising}
 use Rattle.rules.specs.OtherForms.{holdsMonth}
 use Rattle.rules.specs.Ledger.{Tables, orderAt, orders, calendar}
 use Rattle.rules.specs.Sides.{sameSide}
 use Rattle.rules.specs.Synthetic.{Named, namedLegs, hasLots, priceAllowed, twoOccur, inHour, legLots, legValue, balancedInHour, balanced, inFull, priorityKept, acceptable}
-use Rattle.tables.specs.Fit.{ordersIn}
-use Rattle.proposal.specs.Columns.{LegsFit, columnLeg, columnLegs, placeOf, placesOf, namedAt, namedTo, countsAt, inMonth, balancedMonths, isBefore, isAhead, isFullLeg}
-use Rattle.proposal.proofs.Lists.{map-places, any-map, every-same, total-map, total-same}
-use Rattle.proposal.proofs.Named.{columns-orders, named-columns, not-named}
+use Rattle.tables.specs.Fit.{HeadFit, BookFit, orderCountIn, ordersIn}
+use Rattle.proposal.specs.Columns.{LegsFit, PlacesFit, ContractsFit, columnLeg, columnLegs, placeOf, placesOf, namedAt, namedTo, countsAt, inMonth, balancedMonths, isBefore, isAhead, isFullLeg}
+use Rattle.proposal.proofs.Lists.{map-places, any-map, total-map}
+use Rattle.proposal.proofs.Named.{columns-orders, named-columns, not-named, found-fit, places-wider, contracts-fit}
 use Rattle.proposal.proofs.Together.{two-first, hour-month, before, priority-orders}
 
 two-mapped : (f : Named → ℕ) (h : ℕ → Named) (n : ℕ) → 1 ≤ n → twoOccur f (map h (from 0 n)) ≡ any (λ x. not (eqb (f x) (f (h 0)))) (map h (from 0 n))
@@ -65,7 +65,9 @@ module _ (book places numbers lots prices : List ℕ) (fit : LegsFit (length num
     pub months-balanced : every (λ m. eqb (inHour k f Buy (24 * monthStart (firstMonth k + m)) ns) (inHour k f Sell (24 * monthStart (firstMonth k + m)) ns)) (from 0 monthsInSpan)
         ≡ balancedMonths book places amounts
     unfolding balancedMonths
-    months-balanced = every-same _ _ (from 0 monthsInSpan) (λ m. rw (month-columns Buy m, month-columns Sell m))
+    months-balanced =
+        every-same (λ m. eqb (inHour k f Buy (24 * monthStart (firstMonth k + m)) ns) (inHour k f Sell (24 * monthStart (firstMonth k + m)) ns))
+        (λ m. eqb (inMonth book places amounts Buy m) (inMonth book places amounts Sell m)) (λ m. rw (month-columns Buy m, month-columns Sell m)) (from 0 monthsInSpan)
 
   pub balanced-columns : (k : Calendar) → balancedMonths book places lots && balancedMonths book places (zipWith (λ q p. q * p) lots prices) ≡ balanced k ns
   unfolding balanced balancedInHour
@@ -86,7 +88,9 @@ module _ (book places numbers lots prices : List ℕ) (fit : LegsFit (length num
   full o = sym (any-map (λ n. eqb (n .leg .order) (o .number) && eqb (n .leg .lots .0) (o .lots .0)) named (from 0 (length numbers)))
 
   pub priority-columns : (os : List Order) → every (λ o. not (isAhead book places o) || isFullLeg numbers lots o) os ≡ every (priorityKept os ns) ns
-  priority-columns os = every-same _ _ os (λ o. rw (ahead o, full o)) ∙ sym (priority-orders os ns)
+  priority-columns os =
+      every-same (λ o. not (isAhead book places o) || isFullLeg numbers lots o) (λ o. not (any (before o) ns) || inFull ns o) (λ o. rw (ahead o, full o)) os
+      ∙ sym (priority-orders os ns)
 
 -- ---- all of them
 all-eight : (a m c h p b k : Bool) → (((((a && m) && c) && (h && p)) && b) && k) ≡ allOf (a ∷ true ∷ h ∷ m ∷ c ∷ p ∷ b ∷ k ∷ [])
@@ -103,7 +107,8 @@ second-fails : (a h m c p b k : Bool) → allOf (a ∷ false ∷ h ∷ m ∷ c �
 unfolding allOf
 second-fails a h m c p b k = and-false a
 
-module _ (t : Tables) (count : ℕ) (book places numbers lots prices : List ℕ) (fit : LegsFit (length numbers) lots prices) (same : orders t ≡ ordersIn count book) (at : places ≡ placesOf count book numbers) where
+module _ (t : Tables) (count : ℕ) (book places numbers lots prices : List ℕ) (fit : LegsFit (length numbers) lots prices) (same : orders t ≡ ordersIn count book)
+    (at : places ≡ placesOf count book numbers) where
   -- Where a leg names no resting order the proposal is not acceptable.
   pub acceptable-not : every (λ p. ltb p count) places ≡ false → acceptable t (columnLegs numbers lots prices) ≡ false
   unfolding acceptable
@@ -135,3 +140,24 @@ module _ (t : Tables) (count : ℕ) (book places numbers lots prices : List ℕ)
         let ns = namedTo book places numbers lots prices in
         rw (same, places-named, columns-orders numbers lots prices, eq-eqb _ _ all-named, m, c, w, b, k, every-both hasLots (priceAllowed t) ns)
         (all-eight (rising numbers) _ _ (every hasLots ns) (every (priceAllowed t) ns) _ _)
+
+-- What the tests may count on once each leg names a resting order.
+pub record Found (count : ℕ) (book places numbers lots prices : List ℕ) : Type 0 where
+  pub there : PlacesFit count places
+  pub in-book : PlacesFit mostOrders places
+  pub contracts : ContractsFit book places
+  pub as-many : length places ≡ length numbers
+  pub legs-fit : LegsFit (length places) lots prices
+
+pub legs-found : (head book places numbers lots prices : List ℕ) → HeadFit head → BookFit head book → LegsFit (length numbers) lots prices
+    → places ≡ placesOf (orderCountIn head) book numbers → every (λ p. ltb p (orderCountIn head)) places ≡ true → Found (orderCountIn head) book places numbers lots prices
+legs-found head book places numbers lots prices h b legs at found =
+    let there = found-fit (orderCountIn head) places found in
+    let many = ap length at ∙ length-map numbers (λ n. placeOf n (ordersIn (orderCountIn head) book)) in
+    record {
+      there = there;
+      in-book = places-wider (orderCountIn head) mostOrders places (h .most-orders) there;
+      contracts = contracts-fit head book places b there;
+      as-many = many;
+      legs-fit = subst (λ k. LegsFit k lots prices) (sym many) legs;
+    }

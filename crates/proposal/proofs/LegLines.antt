@@ -1,7 +1,7 @@
 -- The lines of the legs booked one after the other. Assumes nothing.
 use mathlib.Core.Path.{_≡_, refl, sym, ap, subst, _∙_}
-use mathlib.Core.List.{List, [], _∷_, _++_}
-use Prim.Native.Nat.{ℕ, _+_, _*_, _-_, _<_, _≤_}
+use mathlib.Core.List.{List, []}
+use Prim.Native.Nat.{ℕ, _+_, _-_, _<_}
 use native.Mathlib.Omega.{arith}
 use native.Mathlib.Nat.{sub-zero}
 use lib.IntN.{ℤ, natAbs}
@@ -9,7 +9,7 @@ use lib.ListN.{length, getD}
 use Rattle.arith.specs.Lists.{total, from}
 use Rattle.arith.proofs.Scans.{from-next}
 use Rattle.rules.specs.declared.order.Order.{Order}
-use Rattle.rules.specs.Ledger.{Tables, Line, withHead, withRows, withLines, lent, orderAt, booked}
+use Rattle.rules.specs.Ledger.{Tables, withHead, withRows, withLines, lent, orderAt, booked}
 use Rattle.rules.specs.Sides.{signed}
 use Rattle.tables.specs.declared.lines.DealLine.{DealLine}
 use Rattle.tables.specs.Fit.{BookFit, OrderFit, membersIn, orderCountIn}
@@ -17,8 +17,9 @@ use Rattle.tables.specs.Lines.{LineFit, lineOf, withLine}
 use Rattle.tables.proofs.Amounts.{abs-signed}
 use Rattle.tables.proofs.Booked.{booked-none, booked-more}
 use Rattle.proposal.specs.Columns.{LegsFit, PlacesFit}
-use Rattle.proposal.specs.Booking.{Bookable, lineAt, linesTo}
-use Rattle.proposal.proofs.Takes.{Sound, takes-line, line-members}
+use Rattle.tables.specs.Room.{Bookable}
+use Rattle.proposal.specs.Booking.{lineAt, linesTo}
+use Rattle.tables.proofs.Takes.{Sound, takes-line, line-members}
 use Rattle.proposal.proofs.Printed.{lines-length, lines-more}
 
 -- Where a leg's line is booked, with the order as the code reads it.
@@ -70,7 +71,8 @@ module _ (book places lots prices : List ℕ) where
       same-line = ap (λ x. lineOf (dealLine x (getD lots i 0) (getD prices i 0))) at
 
       pub legs-next : (head′ : List ℕ) (rows′ value′ lines′ : List ℤ)
-          → ((t : Tables) → withHead head′ (withRows rows′ value′ (withLines lines′ t)) ≡ withLine i (lineOf (dealLine o (getD lots i 0) (getD prices i 0))) (withHead head (withRows rows value (withLines lines t))))
+          → ((t : Tables) → withHead head′ (withRows rows′ value′ (withLines lines′ t)) ≡ withLine i (lineOf (dealLine o (getD lots i 0) (getD prices i 0)))
+          (withHead head (withRows rows value (withLines lines t))))
           → LegsBooked head₀ rows₀ value₀ lines₀ (i + 1) head′ rows′ value′ lines′
       legs-next head′ rows′ value′ lines′ says =
           let l = lineAt book places lots prices i in
@@ -78,7 +80,8 @@ module _ (book places lots prices : List ℕ) where
           let says-line : (t : Tables) → withHead head′ (withRows rows′ value′ (withLines lines′ t)) ≡ withLine i l (withHead head (withRows rows value (withLines lines t)))
           = λ t. says t ∙ ap (λ x. withLine i x (withHead head (withRows rows value (withLines lines t)))) same-line in
           record {
-            able = subst (λ x. Bookable (lotsFrom (i + 1)) (x .head) (x .lots) (x .value) (x .lines)) (sym (says-line u)) (takes-line (lotsFrom (i + 1)) i l u (omega (arith, fit .most-legs)) sound room);
+            able = subst (λ x. Bookable (lotsFrom (i + 1)) (x .head) (x .lots) (x .value) (x .lines)) (sym (says-line u))
+                (takes-line (lotsFrom (i + 1)) i l u (omega (arith, fit .most-legs)) sound room);
             same-members = ap (λ x. membersIn (x .head)) (says-line u) ∙ line-members i l u ∙ done .same-members;
             tables = λ t. says-line t ∙ ap (withLine i l) (done .tables t)
                 ∙ booked-more (linesTo book places lots prices i) l i (withHead head₀ (withRows rows₀ value₀ (withLines lines₀ t))) (sym (lines-length book places lots prices i)) long

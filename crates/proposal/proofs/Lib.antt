@@ -1,10 +1,10 @@
 pub mod Lists
 pub mod Named
 pub mod Together
-pub mod Rising
-pub mod Months
+pub mod SidePlaces
+pub mod Sums
+pub mod LastRanks
 pub mod Checks
-pub mod Takes
 pub mod Taken
 pub mod Printed
 pub mod LegLines

@@ -57,22 +57,17 @@ module _ {A : Type 0} (f : ℕ → A) (p : A → Bool) (n i : ℕ) (ok all : Boo
   unfolding every
   all-end h = sym (and-true ok) ∙ rw (from-end i n h) at known
 
--- ---- two tests, or two numbers, that are the same of each
-module _ {A : Type 0} where
-  pub every-same : (p q : A → Bool) (l : List A) → ((a : A) → p a ≡ q a) → every p l ≡ every q l
-  unfolding every
-  every-same p q [] e = refl
-  every-same p q (x ∷ l) e = rw (e x, every-same p q l e)
+-- ---- two tests that are the same of each
+pub each-same : (p q : ℕ → Bool) (a n : ℕ) → ((i : ℕ) → a ≤ i → i < a + n → p i ≡ q i) → every p (from a n) ≡ every q (from a n)
+unfolding every from
+each-same p q a zero e = refl
+each-same p q a (suc n) e = rw (e a (omega arith) (omega arith), each-same p q (suc a) n (λ i l u. e i (omega arith) (omega arith)))
 
+-- ---- sums
 pub total-map : {A B : Type 0} (f : B → ℕ) (g : A → B) (l : List A) → total f (map g l) ≡ total (λ a. f (g a)) l
 unfolding total
 total-map f g [] = refl
 total-map f g (x ∷ l) = rw (total-map f g l)
-
-pub total-same : (f g : ℕ → ℕ) (a n : ℕ) → ((i : ℕ) → a ≤ i → i < a + n → f i ≡ g i) → total f (from a n) ≡ total g (from a n)
-unfolding total from
-total-same f g a zero e = refl
-total-same f g a (suc n) e = rw (e a (omega arith) (omega arith), total-same f g (suc a) n (λ i l u. e i (omega arith) (omega arith)))
 
 -- ---- a sum of what stands at the first i places
 pub sum-next : (f : ℕ → ℕ) (i sum : ℕ) → sum ≡ total f (from 0 i) → sum + f i ≡ total f (from 0 (i + 1))

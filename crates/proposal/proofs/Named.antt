@@ -2,8 +2,8 @@
 use mathlib.Core.Path.{_≡_, refl, sym, ap, _∙_}
 use mathlib.Core.Bool.{Bool, true, false, cond, _&&_}
 use mathlib.Core.List.{List, [], _∷_, _++_, map}
-use mathlib.Core.Option.{Option, none, some}
-use Prim.Native.Nat.{ℕ, zero, suc, _+_, _*_, _-_, _<_, _≤_}
+use mathlib.Core.Option.{none, some}
+use Prim.Native.Nat.{ℕ, suc, _+_, _-_, _<_, _≤_}
 use native.Mathlib.Omega.{arith}
 use native.Mathlib.Nat.{zero-add, add-zero}
 use lib.Dec.{eqb, leb, ltb}
@@ -19,10 +19,10 @@ use Rattle.arith.proofs.Scans.{from-next, from-end, every-map, map-map}
 use Rattle.rules.specs.declared.event.Leg.{Leg}
 use Rattle.rules.specs.declared.order.Order.{Order}
 use Rattle.rules.specs.Ledger.{Tables, orderAt}
-use Rattle.rules.specs.Synthetic.{Named, numbered, namedLegs, hasLots, priceAllowed}
+use Rattle.rules.specs.Synthetic.{numbered, namedLegs, hasLots, priceAllowed}
 use Rattle.tables.specs.Fit.{BookFit, orderCountIn, ordersIn}
 use Rattle.tables.proofs.Left.{orders-length}
-use Rattle.proposal.specs.Columns.{PlacesFit, ContractsFit, columnLeg, columnLegs, placeOf, placesOf, namedAt, namedTo}
+use Rattle.proposal.specs.Columns.{PlacesFit, ContractsFit, columnLeg, columnLegs, placeOf, placesOf, namedTo}
 use Rattle.proposal.proofs.Lists.{map-from, map-places}
 
 -- ---- one leg

@@ -1,7 +1,7 @@
 -- The lines of a proposal, leg by leg. Assumes nothing.
-use mathlib.Core.Path.{_≡_, refl, sym, ap, _∙_}
+use mathlib.Core.Path.{_≡_, sym, ap, _∙_}
 use mathlib.Core.List.{List, [], _∷_, _++_, map}
-use Prim.Native.Nat.{ℕ, suc, _+_, _≤_}
+use Prim.Native.Nat.{ℕ, _+_}
 use native.Mathlib.Nat.{zero-add}
 use native.Mathlib.Numerals.{add-one}
 use lib.IntN.{natAbs}
@@ -10,14 +10,13 @@ use Rattle.arith.specs.Lists.{total, from}
 use Rattle.arith.proofs.Appends.{from-more, from-length, map-append}
 use Rattle.arith.proofs.Scans.{map-map}
 use Rattle.rules.specs.declared.order.Order.{Order}
-use Rattle.rules.specs.declared.order.Side.{Side}
-use Rattle.rules.specs.Ledger.{Tables, Line, orders, lineRun, orderAt}
-use Rattle.rules.specs.Sides.{signed}
-use Rattle.rules.specs.Synthetic.{namedLegs, legLine, proposalLines}
+use Rattle.rules.specs.Ledger.{lineRun, orderAt}
+use Rattle.rules.specs.Synthetic.{namedLegs, legLine}
 use Rattle.tables.proofs.Amounts.{abs-signed}
 use Rattle.proposal.specs.Columns.{columnLegs, namedAt, namedTo}
 use Rattle.proposal.specs.Booking.{lineAt, linesTo}
-use Rattle.proposal.proofs.Lists.{total-map, total-same}
+use Rattle.arith.proofs.Totals.{total-same}
+use Rattle.proposal.proofs.Lists.{total-map}
 
 module _ (book places lots prices : List ℕ) where
   pub lines-length : (n : ℕ) → length (linesTo book places lots prices n) ≡ n

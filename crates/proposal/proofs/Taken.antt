@@ -1,6 +1,6 @@
 -- The orders after the legs have taken their lots. Assumes nothing.
 use mathlib.Core.Path.{_≡_, refl, sym, ap, _∙_}
-use mathlib.Core.Bool.{Bool, true, false, not, cond, _&&_, _||_}
+use mathlib.Core.Bool.{true, false, not, cond}
 use mathlib.Core.List.{List, [], _∷_, _++_, map}
 use Prim.Native.Nat.{ℕ, zero, suc, _+_, _-_, _<_, _≤_}
 use native.Mathlib.Omega.{arith}
@@ -93,7 +93,8 @@ legs-more numbers lots prices n = rw (from-more 0 n, map-append (columnLeg numbe
 
 module _ (count : ℕ) (book numbers lots prices : List ℕ) (each : All (λ o. 1 ≤ o .lots .0) (ordersIn count book)) (apart : distinct (map (λ o. o .number) (ordersIn count book)) ≡ true)
     (places : List ℕ) (at : places ≡ placesOf count book numbers) (fit : PlacesFit count places) where
-  taken-to : (n : ℕ) → n ≤ length numbers → leftOver (leftAfter places lots n (lotsIn count book)) (ordersIn count book) ≡ usedByLegs (map (columnLeg numbers lots prices) (from 0 n)) (ordersIn count book)
+  taken-to : (n : ℕ) → n ≤ length numbers
+      → leftOver (leftAfter places lots n (lotsIn count book)) (ordersIn count book) ≡ usedByLegs (map (columnLeg numbers lots prices) (from 0 n)) (ordersIn count book)
   unfolding leftAfter usedByLegs from
   taken-to zero h = left-all (ordersIn count book) each
   taken-to (suc n) h =

@@ -1,26 +1,22 @@
 -- What is asked of a proposal's legs together, as the code tries it. Assumes nothing.
-use mathlib.Core.Path.{_≡_, refl, sym, ap, _∙_}
+use mathlib.Core.Path.{_≡_, refl, sym, _∙_}
 use mathlib.Core.Bool.{Bool, true, false, not, cond, _&&_, _||_}
-use mathlib.Core.List.{List, [], _∷_, map}
-use Prim.Native.Nat.{ℕ, zero, suc, _+_, _*_, _<_, _≤_}
-use native.Mathlib.Omega.{arith}
+use mathlib.Core.List.{List, [], _∷_}
+use Prim.Native.Nat.{ℕ, _+_, _*_}
 use native.Mathlib.Nat.{zero-add}
 use lib.Dec.{eqb}
-use lib.ListN.{length, getD}
 use borrow.Author.Tests.{eq-eqb, eqb-true, not-false}
 use Rattle.arith.specs.Lists.{every, any, kept, total, from}
-use Rattle.arith.proofs.Tests.{true-or, or-left, or-right, and-true}
+use Rattle.arith.proofs.Tests.{true-or, or-left, or-right}
 use Rattle.arith.proofs.Scans.{every-both}
 use Rattle.rules.specs.declared.order.Order.{Order}
 use Rattle.rules.specs.declared.order.Side.{Side}
-use Rattle.rules.specs.declared.order.Side.the-variants.{Buy, Sell}
 use Rattle.rules.specs.Days.{Calendar, firstMonth, monthStart}
-use Rattle.rules.specs.Contracts.{holdsHour}
 use Rattle.rules.specs.OtherForms.{holdsMonth}
 use Rattle.rules.proofs.HourLaws.{holds-hour, first-hour}
 use Rattle.rules.specs.Sides.{sameSide}
 use Rattle.rules.specs.Matching.{precedes}
-use Rattle.rules.specs.Synthetic.{Named, twoOccur, inHour, legLots, legValue, balancedInHour, balanced, inFull, priorityKept}
+use Rattle.rules.specs.Synthetic.{Named, twoOccur, inHour, inFull, priorityKept}
 
 -- ---- two different ones occur exactly if one differs from the first
 all-same : (f : Named → ℕ) (v : ℕ) (ns : List Named) → any (λ x. not (eqb (f x) v)) ns ≡ false → twoOccur f ns ≡ false

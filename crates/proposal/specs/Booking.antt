@@ -1,22 +1,12 @@
 -- What is booked of a proposal, leg by leg.
-use Prim.Native.Nat.{ℕ, zero, suc, _+_, _*_, _-_, _≤_}
+use Prim.Native.Nat.{ℕ, zero, suc, _-_}
 use mathlib.Core.List.{List, [], map}
-use lib.IntN.{ℤ}
-use lib.ListN.{length, getD, set}
+use lib.ListN.{getD, set}
 use Rattle.arith.specs.Lists.{from}
-use Rattle.rules.specs.Ledger.{Line, linesLength}
-use Rattle.rules.specs.Ranges.{mostPrice, mostLotsRun}
+use Rattle.rules.specs.Ledger.{Line}
 use Rattle.rules.specs.Synthetic.{legLine}
-use Rattle.tables.specs.Fit.{HeadFit, RowsFit, membersIn, lotsRunIn, ordersIn}
+use Rattle.tables.specs.Fit.{ordersIn}
 use Rattle.proposal.specs.Columns.{namedAt}
-
--- What lent tables give to a caller that books lines of so many lots.
-pub record Bookable (room : ℕ) (head : List ℕ) (lots value lines : List ℤ) : Type 0 where
-  pub head-fit : HeadFit head
-  pub lots-fit : RowsFit (membersIn head) (lotsRunIn head) lots
-  pub value-fit : RowsFit (membersIn head) (mostPrice * lotsRunIn head) value
-  pub lines-long : linesLength ≤ length lines
-  pub most-run : lotsRunIn head + room ≤ mostLotsRun
 
 -- The line of leg i; the order's number is not printed.
 abbrev pub lineAt : List ℕ → List ℕ → List ℕ → List ℕ → ℕ → Line

@@ -1,5 +1,5 @@
 -- A proposal's legs as columns, and the resting orders that they name as places of the book.
-use Prim.Native.Nat.{ℕ, suc, _*_, _≤_, _<_}
+use Prim.Native.Nat.{ℕ, suc, _≤_, _<_}
 use mathlib.Core.Path.{_≡_}
 use mathlib.Core.Bool.{Bool, cond, _&&_}
 use mathlib.Core.List.{List, [], _∷_, map}
@@ -62,17 +62,11 @@ abbrev pub namedTo : List ℕ → List ℕ → List ℕ → List ℕ → List �
 namedTo book places orders lots prices = map (namedAt book places orders lots prices) (from 0 (length orders))
 
 -- ---- balance
--- An amount for each leg, its lots or its lots times price.
-pub record AmountsFit (places amounts : List ℕ) : Type 0 where
-  pub same-length : length amounts ≡ length places
-  pub most-legs : length places ≤ mostLegs
-  pub most-amount : (i : ℕ) → i < length places → getD amounts i 0 ≤ mostLots * mostPrice
-
 -- The order at a place is of a side and of a contract that holds a month.
 abbrev pub countsAt : List ℕ → Side → ℕ → ℕ → Bool
 countsAt book s m p = sameSide (orderAt book p .side) s && holdsMonth (orderAt book p .contract) m
 
--- What the legs of one side bring together in a month.
+-- What the legs of one side bring together in a month; an amount for each leg, its lots or its lots times price.
 unfoldable pub inMonth : List ℕ → List ℕ → List ℕ → Side → ℕ → ℕ
 inMonth book places amounts s m = total (λ i. cond (countsAt book s m (getD places i 0)) (getD amounts i 0) 0) (from 0 (length places))
 

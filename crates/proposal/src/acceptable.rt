@@ -7,7 +7,6 @@ ghost use Rattle.rules.specs.Synthetic.{acceptable};
 ghost use Rattle.tables.specs.Fit.{HeadFit, BookFit, orderCountIn};
 ghost use Rattle.proposal.specs.Columns.{LegsFit, columnLegs, placesOf};
 use crate::balance::are_both_balanced;
-use crate::conditions::are_rising;
 use crate::conditions::are_within;
 use crate::conditions::do_two_occur;
 use crate::places::are_found;
@@ -34,7 +33,7 @@ pub fn is_acceptable(
     if !are_found(places, count) {
         return false;
     }
-    are_rising(orders)
+    calendar::are_rising(orders)
         & do_two_occur(book, places, ORDER_MEMBER)
         & do_two_occur(book, places, ORDER_CONTRACT)
         & are_within(prices, book, places, orders, leg_lots, leg_prices)

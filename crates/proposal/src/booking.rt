@@ -8,7 +8,8 @@ ghost use Rattle.rules.specs.Ledger.{Tables, withHead, withRows, withBook, with
 ghost use Rattle.tables.specs.Fit.{BookFit, ordersIn, orderCountIn};
 ghost use Rattle.tables.specs.Left.{leftOver};
 ghost use Rattle.proposal.specs.Columns.{LegsFit, PlacesFit};
-ghost use Rattle.proposal.specs.Booking.{Bookable, linesTo, leftAfter, lotsIn};
+ghost use Rattle.tables.specs.Room.{Bookable};
+ghost use Rattle.proposal.specs.Booking.{linesTo, leftAfter, lotsIn};
 use rules::Kurus;
 use rules::Lots;
 use rules::layout::ORDER_COUNT;
@@ -110,9 +111,11 @@ fn write_left(book: &[u64], left: &mut [u64], places: &[usize], lots: &[u64])
 
 // Orders used up leave the book, the others keep what is left of them.
 pub fn use_orders(head: &mut [u64], book: &mut [u64], places: &[usize], lots: &[u64])
-    requires { ⌜ (headLength ≤ length (now head)) × (orderCountIn (now head) ≤ mostOrders) × (bookLength ≤ length (now book)) × PlacesFit (orderCountIn (now head)) (now places) × (length (now lots) ≡ length (now places)) × ((i : ℕ) → i < orderCountIn (now head) → sideAt (now book) i ≤ 1) ⌝ }
+    requires { ⌜ (headLength ≤ length (now head)) × (orderCountIn (now head) ≤ mostOrders) × (bookLength ≤ length (now book))
+        × PlacesFit (orderCountIn (now head)) (now places) × (length (now lots) ≡ length (now places)) × ((i : ℕ) → i < orderCountIn (now head) → sideAt (now book) i ≤ 1) ⌝ }
     ensures { λ _. ⌜ ((t : Tables) → withHead (now (head .exit)) (withBook (now (book .exit)) t)
-        ≡ withOrders (leftOver (leftAfter (now (places .entry)) (now (lots .entry)) (length (now (places .entry))) (lotsIn (orderCountIn (now (head .entry))) (now (book .entry)))) (ordersIn (orderCountIn (now (head .entry))) (now (book .entry))))
+        ≡ withOrders (leftOver (leftAfter (now (places .entry)) (now (lots .entry)) (length (now (places .entry))) (lotsIn (orderCountIn (now (head .entry))) (now (book .entry))))
+        (ordersIn (orderCountIn (now (head .entry))) (now (book .entry))))
         (withHead (now (head .entry)) (withBook (now (book .entry)) t))) ⌝ }
 {
     let count = head[ORDER_COUNT] as usize;

@@ -5,7 +5,6 @@ ghost use Prim.Native.Nat.{_*_, _+_, _≤_, _<_};
 ghost use lib.Dec.{eqb};
 ghost use lib.ListN.{length, getD};
 ghost use Rattle.arith.specs.Lists.{every, any};
-ghost use Rattle.rules.specs.Header.{rising};
 ghost use Rattle.rules.specs.Ranges.{contractCount, mostOrders};
 ghost use Rattle.rules.specs.Ledger.{Tables, withPrices, pricesLength, bookLength, orderWidth};
 ghost use Rattle.rules.specs.Synthetic.{hasLots, priceAllowed};
@@ -21,23 +20,11 @@ use rules::layout::ORDER_WIDTH;
 use rules::layout::PRICE_WIDTH;
 use tables::order_at;
 
-// Each number is compared with the next one only: that is enough.
-pub fn are_rising(numbers: &[u64]) -> bool
-    ensures { λ r. ⌜ r ≡ rising (now (numbers .entry)) ⌝ }
-{
-    let mut ok = true;
-    let mut i: usize = 0;
-    while i + 1 < numbers.len() {
-        ok = ok & (numbers[i] < numbers[i + 1]);
-        i += 1;
-    }
-    ok
-}
-
 // Whether a field of the legs' orders, their member or contract, is not the same in all of them.
 pub fn do_two_occur(book: &[u64], places: &[usize], field: usize) -> bool
     requires { ⌜ (bookLength ≤ length (now book)) × (field < orderWidth) × (1 ≤ length (now places)) × PlacesFit mostOrders (now places) ⌝ }
-    ensures { λ r. ⌜ r ≡ any (λ p. not (eqb (getD (now (book .entry)) (p * orderWidth + field) 0) (getD (now (book .entry)) (getD (now (places .entry)) 0 0 * orderWidth + field) 0))) (now (places .entry)) ⌝ }
+    ensures { λ r. ⌜ r ≡ any (λ p. not (eqb (getD (now (book .entry)) (p * orderWidth + field) 0)
+        (getD (now (book .entry)) (getD (now (places .entry)) 0 0 * orderWidth + field) 0))) (now (places .entry)) ⌝ }
 {
     let first = book[places[0] * ORDER_WIDTH + field];
     let mut found = false;

@@ -6,6 +6,7 @@ mod columns;
 mod conditions;
 mod places;
 mod priority;
+mod side_places;
 
 ghost use mathlib.Core.Path.{_≡_};
 ghost use Prim.Native.Nat.{_*_, _≤_};
@@ -42,8 +43,12 @@ fn apply_at(
     requires { ⌜ HeadFit (now head) × PricesFit (lotsRunIn (now head)) (now prices) × BookFit (now head) (now book) × (linesLength ≤ length (now lines)) ⌝ }
     requires { ⌜ RowsFit (membersIn (now head)) (lotsRunIn (now head)) (now lots) × RowsFit (membersIn (now head)) (mostPrice * lotsRunIn (now head)) (now value) ⌝ }
     requires { ⌜ LegsFit (length (now orders)) (now «leg_lots») (now «leg_prices») × (now places ≡ placesOf (orderCountIn (now head)) (now book) (now orders)) ⌝ }
-    ensures { λ r. ⌜ ((t : Tables) → record { answer = r; after = withHead (now (head .exit)) (withPrices (now (prices .entry)) (withRows (now (lots .exit)) (now (value .exit)) (withBook (now (book .exit)) (withLines (now (lines .exit)) t)))) }
-        ≡ proposalSpec (withHead (now (head .entry)) (withPrices (now (prices .entry)) (withRows (now (lots .entry)) (now (value .entry)) (withBook (now (book .entry)) (withLines (now (lines .entry)) t)))))
+    ensures { λ r. ⌜ ((t : Tables) → record {
+      answer = r;
+      after = withHead (now (head .exit)) (withPrices (now (prices .entry)) (withRows (now (lots .exit)) (now (value .exit)) (withBook (now (book .exit)) (withLines (now (lines .exit)) t))));
+    }
+        ≡ proposalSpec (withHead (now (head .entry)) (withPrices (now (prices .entry))
+        (withRows (now (lots .entry)) (now (value .entry)) (withBook (now (book .entry)) (withLines (now (lines .entry)) t)))))
         (columnLegs (now (orders .entry)) (now («leg_lots» .entry)) (now («leg_prices» .entry)))) ⌝ }
 {
     if !is_acceptable(&*head, prices, &*book, places, orders, leg_lots, leg_prices) {
@@ -82,8 +87,12 @@ pub fn apply(
     requires { ⌜ HeadFit (now head) × PricesFit (lotsRunIn (now head)) (now prices) × BookFit (now head) (now book) × (linesLength ≤ length (now lines)) ⌝ }
     requires { ⌜ RowsFit (membersIn (now head)) (lotsRunIn (now head)) (now lots) × RowsFit (membersIn (now head)) (mostPrice * lotsRunIn (now head)) (now value) ⌝ }
     requires { ⌜ LegsFit (length (now orders)) (now «leg_lots») (now «leg_prices») ⌝ }
-    ensures { λ r. ⌜ ((t : Tables) → record { answer = r; after = withHead (now (head .exit)) (withPrices (now (prices .entry)) (withRows (now (lots .exit)) (now (value .exit)) (withBook (now (book .exit)) (withLines (now (lines .exit)) t)))) }
-        ≡ proposalSpec (withHead (now (head .entry)) (withPrices (now (prices .entry)) (withRows (now (lots .entry)) (now (value .entry)) (withBook (now (book .entry)) (withLines (now (lines .entry)) t)))))
+    ensures { λ r. ⌜ ((t : Tables) → record {
+      answer = r;
+      after = withHead (now (head .exit)) (withPrices (now (prices .entry)) (withRows (now (lots .exit)) (now (value .exit)) (withBook (now (book .exit)) (withLines (now (lines .exit)) t))));
+    }
+        ≡ proposalSpec (withHead (now (head .entry)) (withPrices (now (prices .entry))
+        (withRows (now (lots .entry)) (now (value .entry)) (withBook (now (book .entry)) (withLines (now (lines .entry)) t)))))
         (columnLegs (now (orders .entry)) (now («leg_lots» .entry)) (now («leg_prices» .entry)))) ⌝ }
 {
     let n = orders.len();

@@ -1,60 +1,42 @@
 // Every resting order of a leg's contract and side with better priority is a leg in full.
 ghost use mathlib.Core.Path.{_≡_};
 ghost use mathlib.Core.Bool.{not, _||_};
-ghost use Prim.Native.Nat.{_≤_};
-ghost use lib.ListN.{length};
+ghost use Prim.Native.Nat.{_<_, max};
+ghost use lib.ListN.{length, replicate};
 ghost use Rattle.arith.specs.Lists.{every};
-ghost use Rattle.rules.specs.Ranges.{mostOrders};
-ghost use Rattle.rules.specs.Ledger.{bookLength};
-ghost use Rattle.rules.specs.Matching.{betterPrice, precedes};
+ghost use Rattle.rules.specs.Ranges.{contractCount};
 ghost use Rattle.tables.specs.Fit.{ordersIn};
-ghost use Rattle.proposal.specs.Columns.{PlacesFit, isBefore, isAhead, isFullLeg};
+ghost use Rattle.matching.specs.Ranks.{Ranked};
+ghost use Rattle.proposal.specs.Columns.{PlacesFit, isAhead, isFullLeg};
+ghost use Rattle.proposal.specs.SidePlaces.{sidePlaces};
+ghost use Rattle.proposal.specs.LastRanks.{OrdersRanked, LegsRanked, LastRanks, keptBy};
+use crate::side_places::side_place;
+use matching::rank_of;
 use rules::Order;
-use rules::Side;
-use sides::is_same_side;
 use tables::order_at;
 
-fn is_better_price(side: Side, p: u64, q: u64) -> bool
-    ensures { λ r. ⌜ r ≡ betterPrice side p q ⌝ }
+fn greatest(a: u64, b: u64) -> u64
+    ensures { λ r. ⌜ r ≡ max a b ⌝ }
 {
-    match side {
-        Side::Buy => q < p,
-        Side::Sell => p < q,
+    if a <= b {
+        return b;
     }
+    a
 }
 
-// Of orders of one side: best price first, then lower number.
-fn does_precede(a: Order, b: Order) -> bool
-    ensures { λ r. ⌜ r ≡ precedes a b ⌝ }
+// The last rank among the legs of each contract and side; a place with no leg has 0, and no rank is below that.
+fn write_last_ranks(book: &[u64], places: &[usize], lasts: &mut [u64])
+    requires { ⌜ LegsRanked (now book) (now places) × (now lasts ≡ replicate sidePlaces 0) ⌝ }
+    ensures { λ _. ⌜ LastRanks (now (book .entry)) (now (places .entry)) (now (lasts .exit)) ⌝ }
 {
-    let side = a.side;
-    let p = a.price.0;
-    let q = b.price.0;
-    is_better_price(side, p, q) | ((p == q) & (a.number < b.number))
-}
-
-// Of the same contract and side, with better priority.
-fn is_before(a: Order, b: Order) -> bool
-    ensures { λ r. ⌜ r ≡ isBefore a b ⌝ }
-{
-    let of = a.side;
-    let other = b.side;
-    (a.contract == b.contract) & (is_same_side(of, other) & does_precede(a, b))
-}
-
-// Whether the order has the contract and side of a leg's order and better priority.
-fn is_ahead(book: &[u64], places: &[usize], o: Order) -> bool
-    requires { ⌜ (bookLength ≤ length (now book)) × PlacesFit mostOrders (now places) ⌝ }
-    ensures { λ r. ⌜ r ≡ isAhead (now (book .entry)) (now (places .entry)) o ⌝ }
-{
-    let mut found = false;
     let mut i: usize = 0;
     while i < places.len() {
-        let named = order_at(book, places[i]);
-        found = found | is_before(o, named);
+        let order = order_at(book, places[i]);
+        let at = side_place(order);
+        let last = greatest(lasts[at], rank_of(order));
+        lasts[at] = last;
         i += 1;
     }
-    found
 }
 
 // Whether the order is a leg in full.
@@ -71,15 +53,31 @@ fn is_full_leg(orders: &[u64], lots: &[u64], o: Order) -> bool
     found
 }
 
-// Whether an order that is ahead of a leg is a leg in full.
-fn is_kept(book: &[u64], places: &[usize], orders: &[u64], lots: &[u64], o: Order) -> bool
-    requires { ⌜ (bookLength ≤ length (now book)) × PlacesFit mostOrders (now places) × (length (now lots) ≡ length (now orders)) ⌝ }
-    ensures { λ r. ⌜ r ≡ not (isAhead (now (book .entry)) (now (places .entry)) o) || isFullLeg (now (orders .entry)) (now (lots .entry)) o ⌝ }
+// Whether the order is not ahead of the last leg of its contract and side, or a leg in full.
+fn is_kept(lasts: &[u64], orders: &[u64], lots: &[u64], o: Order) -> bool
+    requires { ⌜ (length (now lasts) ≡ sidePlaces) × (length (now lots) ≡ length (now orders)) × (o .contract < contractCount) × Ranked o ⌝ }
+    ensures { λ r. ⌜ r ≡ keptBy (now (lasts .entry)) (now (orders .entry)) (now (lots .entry)) o ⌝ }
 {
-    if !is_ahead(book, places, o) {
+    let at = side_place(o);
+    if lasts[at] <= rank_of(o) {
         return true;
     }
     is_full_leg(orders, lots, o)
+}
+
+// Whether it is so of each order of the book.
+fn are_kept(book: &[u64], count: usize, lasts: &[u64], orders: &[u64], lots: &[u64]) -> bool
+    requires { ⌜ OrdersRanked count (now book) × (length (now lasts) ≡ sidePlaces) × (length (now lots) ≡ length (now orders)) ⌝ }
+    ensures { λ r. ⌜ r ≡ every (keptBy (now (lasts .entry)) (now (orders .entry)) (now (lots .entry))) (ordersIn count (now (book .entry))) ⌝ }
+{
+    let mut ok = true;
+    let mut i: usize = 0;
+    while i < count {
+        let o = order_at(book, i);
+        ok = ok & is_kept(lasts, orders, lots, o);
+        i += 1;
+    }
+    ok
 }
 
 // Whether each order of the book that is ahead of a leg is a leg in full.
@@ -90,15 +88,10 @@ pub fn is_priority_kept(
     orders: &[u64],
     lots: &[u64],
 ) -> bool
-    requires { ⌜ (bookLength ≤ length (now book)) × (count ≤ mostOrders) × PlacesFit mostOrders (now places) × (length (now lots) ≡ length (now orders)) ⌝ }
+    requires { ⌜ OrdersRanked count (now book) × PlacesFit count (now places) × (length (now lots) ≡ length (now orders)) ⌝ }
     ensures { λ r. ⌜ r ≡ every (λ o. not (isAhead (now (book .entry)) (now (places .entry)) o) || isFullLeg (now (orders .entry)) (now (lots .entry)) o) (ordersIn count (now (book .entry))) ⌝ }
 {
-    let mut ok = true;
-    let mut i: usize = 0;
-    while i < count {
-        let o = order_at(book, i);
-        ok = ok & is_kept(book, places, orders, lots, o);
-        i += 1;
-    }
-    ok
+    let mut lasts = [0u64; 204];
+    write_last_ranks(book, places, &mut lasts);
+    are_kept(book, count, &lasts, orders, lots)
 }

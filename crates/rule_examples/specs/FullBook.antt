@@ -1,6 +1,6 @@
 -- Document 01, cause 11, computed: it stands apart from the other examples because 256 orders take seconds to read.
-use mathlib.Core.Path.{_≡_, refl}
-use mathlib.Core.List.{List, [], _∷_, _++_, map}
+use mathlib.Core.Path.{refl}
+use mathlib.Core.List.{[], _∷_, map}
 use Rattle.arith.specs.Lists.{from}
 use Rattle.rules.specs.declared.order.Side.the-variants.{Sell}
 use Rattle.rules.specs.Ledger.{Tables, withAcceptedSubmits, withOrders}

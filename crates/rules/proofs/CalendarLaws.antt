@@ -18,7 +18,8 @@ use Rattle.rules.specs.declared.units.Day.{Day}
 use Rattle.rules.specs.declared.units.Day.the-variants.{On, NoDay}
 use Rattle.rules.specs.declared.units.DayNo.{DayNo}
 use Rattle.rules.specs.Days.{Calendar, leapYear, monthDays, yearStart, monthLength, monthStart, businessDay, dayAfterSpan, firstBusinessDay, nextBusinessDay, businessDayBefore}
-use Rattle.rules.specs.Contracts.{openCount, closingDistance, monthsIn, sameKind, termOf, kindOf, contractsOf, childrenOf, termFirstDay, termDayAfter, holdsDay, holdsHour, termClosingDay, notBefore, isOn, isBefore, stillToClose, openOfKind, openContracts, openOn}
+use Rattle.rules.specs.Contracts.{openCount, closingDistance, monthsIn, sameKind, termOf, kindOf, contractsOf, childrenOf, termFirstDay, termDayAfter, holdsDay, holdsHour}
+use Rattle.rules.specs.Contracts.{termClosingDay, notBefore, isOn, isBefore, stillToClose, openOfKind, openContracts, openOn}
 use Rattle.rules.specs.OtherForms.{nth, firstMonthOf, numberOf, sizeOf, ahead, openByCount}
 
 -- ---- months
@@ -332,7 +333,8 @@ module _ (k : Calendar) where
   to-close-up d s i j l c = closes-no-earlier d (nth s i) (nth s j) (omega arith) (first-le s i j l) c
 
   -- Which of a kind are open, by counting,
-  any-open : (d : ℕ) (s : ContractKind) (c : ℕ) → any (λ x. eqb x c) (openOfKind k d s) ≡ ltb (termOf c .index) (sizeOf s) && (openByCount k d (nth s (termOf c .index)) && eqb (numberOf s (termOf c .index)) c)
+  any-open : (d : ℕ) (s : ContractKind) (c : ℕ)
+      → any (λ x. eqb x c) (openOfKind k d s) ≡ ltb (termOf c .index) (sizeOf s) && (openByCount k d (nth s (termOf c .index)) && eqb (numberOf s (termOf c .index)) c)
   unfolding openOfKind openByCount ahead
   any-open d s c =
       let only : (j : ℕ) → eqb (numberOf s j) c ≡ true → j ≡ termOf c .index = λ j e. ap (λ (t : Term). t .index) (sym (term-number s j) ∙ ap termOf (eqb-true (numberOf s j) c e)) in
@@ -364,7 +366,8 @@ module _ (k : Calendar) where
   unfolding openByCount ahead
   open-stays d e c l o h =
       let t = termOf c in
-      let below = ltb-true (ahead k d (t .kind) (t .index)) (openCount (t .kind)) (and-right (stillToClose k d t) (ltb (ahead k d (t .kind) (t .index)) (openCount (t .kind))) (sym (open-by-count d c (open-in-ledger d c o)) ∙ o)) in
+      let below = ltb-true (ahead k d (t .kind) (t .index)) (openCount (t .kind))
+      (and-right (stillToClose k d t) (ltb (ahead k d (t .kind) (t .index)) (openCount (t .kind))) (sym (open-by-count d c (open-in-ledger d c o)) ∙ o)) in
       let fewer = count-imp (λ j. stillToClose k e (nth (t .kind) j)) (λ j. stillToClose k d (nth (t .kind) j)) (t .index) (λ j. to-close-down d e (nth (t .kind) j) l) in
       open-by-count e c (open-in-ledger d c o) ∙ rw h (lt-ltb (ahead k e (t .kind) (t .index)) (openCount (t .kind)) (omega (arith, below, fewer)))
 

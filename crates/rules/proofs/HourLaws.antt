@@ -1,11 +1,11 @@
 -- Delivery hours and months, the contracts that hold them, and the children of a contract. Assumes nothing.
 use Prim.Native.Nat.{ℕ, zero, suc, _+_, _*_, _-_, _/_, _%_, _≤_, _<_}
 use mathlib.Core.Path.{_≡_, sym, _∙_}
-use mathlib.Core.Bool.{Bool, true, false, _&&_, _||_}
+use mathlib.Core.Bool.{Bool, true, false, _&&_}
 use mathlib.Core.List.{List}
 use native.Mathlib.Omega.{arith}
 use native.Mathlib.Nat.{add-zero}
-use lib.Dec.{T, eqb, leb, ltb}
+use lib.Dec.{T, leb, ltb}
 use borrow.Author.Tests.{le-leb, eq-eqb, ne-eqb}
 use Rattle.arith.specs.Lists.{from}
 use Rattle.arith.proofs.Tests.{le-or-lt, same-or}

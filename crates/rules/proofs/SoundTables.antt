@@ -15,7 +15,8 @@ use Rattle.rules.specs.declared.order.Order.{Order}
 use Rattle.rules.specs.Ranges.{contractCount, lastSecond, mostHolidays, mostMembers, mostLimit, mostOrders, mostPrice, mostLots, mostSubmitsInSecond, mostLotsRun, mostAcceptedSubmits}
 use Rattle.rules.specs.Days.{inSpan}
 use Rattle.rules.specs.Header.{calendarSound, daySound}
-use Rattle.rules.specs.Ledger.{Tables, members, holidayCount, day, time, acceptedSubmits, lotsRun, orderCount, limit, mark, submitsThisSecond, calendar, headLength, pricesLength, rowsLength, bookLength, linesLength, orders, ledgerShort, linesShort}
+use Rattle.rules.specs.Ledger.{Tables, members, holidayCount, day, time, acceptedSubmits, lotsRun, orderCount, limit, mark, submitsThisSecond, calendar, headLength}
+use Rattle.rules.specs.Ledger.{pricesLength, rowsLength, bookLength, linesLength, orders, ledgerShort, linesShort}
 use Rattle.rules.specs.Refusals.{memberSound, headSound, pricesSound, rowsSound, orderSound, sidesSound, distinct, bookSound, damaged, unsound}
 use Rattle.rules.proofs.SoundEvents.{InRange, in-range, price-in-range, lots-in-range, contract-below}
 

@@ -17,7 +17,8 @@ use Rattle.rules.specs.Answers.{Outcome}
 use Rattle.rules.specs.Ranges.{contractCount, secondsToQuote}
 use Rattle.rules.specs.Days.{nextBusinessDay}
 use Rattle.rules.specs.Contracts.{thresholdOf, kindOf, contractsOf, childrenOf, closesOn, openContracts}
-use Rattle.rules.specs.Ledger.{Tables, withHead, withPrices, withRows, members, day, calendar, withDay, withTime, priceWidth, dayLotsPlace, ggf, dayLots, dayValue, withGgf, rowsFrom, orders, withOrders, withoutSubmits}
+use Rattle.rules.specs.Ledger.{Tables, withHead, withPrices, withRows, members, day, calendar, withDay, withTime, priceWidth, dayLotsPlace, ggf, dayLots, dayValue, withGgf}
+use Rattle.rules.specs.Ledger.{rowsFrom, orders, withOrders, withoutSubmits}
 use Rattle.rules.specs.Sides.{sameSide}
 use Rattle.rules.specs.Matching.{best}
 

@@ -9,7 +9,8 @@ use Rattle.rules.specs.declared.order.Side.{Side}
 use Rattle.rules.specs.declared.order.Side.the-variants.{Buy, Sell}
 use Rattle.rules.specs.declared.units.Day.the-variants.{On}
 use Rattle.rules.specs.Contracts.{termOf, termClosingDay}
-use Rattle.rules.specs.Ledger.{Tables, calendar, withAcceptedSubmits, withLotsRun, withGgf, withDealt, withOrders, day, time, submitsThisSecond, orderCount, ggf, dayLots, dayValue, lotsAt, valueAt, orderAt}
+use Rattle.rules.specs.Ledger.{Tables, calendar, withAcceptedSubmits, withLotsRun, withGgf, withDealt, withOrders, day, time, submitsThisSecond, orderCount, ggf, dayLots}
+use Rattle.rules.specs.Ledger.{dayValue, lotsAt, valueAt, orderAt}
 use Rattle.rules.specs.Refusals.{applySpec}
 use Rattle.rules.specs.Computed.{tablesAfter, computed}
 use Rattle.rules.specs.ExampleRecords.{buy, sell, close, made, monday, inHead, inPrices, held, order, bought, accepted, refused, Each, Prints}

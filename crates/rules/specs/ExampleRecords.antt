@@ -11,10 +11,10 @@ use Rattle.rules.specs.declared.order.Order.{Order}
 use Rattle.rules.specs.declared.order.Side.{Side}
 use Rattle.rules.specs.declared.order.Side.the-variants.{Buy, Sell}
 use Rattle.rules.specs.Header.{headerBytes}
-use Rattle.rules.specs.Ledger.{Tables, Line, withHead, withPrices, withRows, withMark, rowPlace}
+use Rattle.rules.specs.Ledger.{Tables, Line, withHead, withPrices, withRows, withMark, rowPlace, zeroTables}
 use Rattle.rules.specs.Records.{bytesOf}
 use Rattle.rules.specs.Refusals.{applySpec, makeSpec}
-use Rattle.rules.specs.Computed.{Printed, zeroTables, printed, allPrinted}
+use Rattle.rules.specs.Computed.{Printed, printed, allPrinted}
 
 -- ---- records
 -- time, order kind, side, member, contract, price, lots

@@ -1,10 +1,14 @@
--- The journal of document 01, computed from its bytes: what its calls print, and the lots run.
+-- The journal of document 01, computed from its bytes: what its calls answer, the lots run, and its whole output.
 use Prim.Native.Nat.{ℕ}
 use mathlib.Core.Path.{_≡_, refl}
-use mathlib.Core.List.{List, [], _∷_}
-use Rattle.rules.specs.Ledger.{lotsRun}
+use mathlib.Core.List.{List, [], _∷_, _++_, flatMap}
+use lib.ListN.{take}
+use Rattle.rules.specs.Ledger.{lotsRun, zeroTables}
+use Rattle.rules.specs.Records.{frontOf}
 use Rattle.rules.specs.Refusals.{makeSpec}
-use Rattle.rules.specs.Computed.{zeroTables, allPrinted, tablesAfter, computed}
+use Rattle.rules.specs.Text.{digits, decimal, signedDecimal, lineText}
+use Rattle.rules.specs.Journal.{headText, dealText, refusalText, endText, lengthByFront, answerText, recordsWithin, recordsText, journalTextOn, journalText}
+use Rattle.rules.specs.Computed.{allPrinted, tablesAfter, computed}
 use Rattle.rules.specs.ExampleRecords.{bought, accepted, refused}
 
 -- First year 2021, start 369, two members, no holidays, limits 1000.
@@ -27,3 +31,51 @@ journal-printed = refl
 journal-run : lotsRun (tablesAfter (makeSpec zeroTables journalHeader .after) journal) ≡ 6
 unfolding computed
 journal-run = refl
+
+-- ---- the program's output
+-- "H 2021 369 2"
+abbrev printedHead : List ℕ
+printedHead = 72 ∷ 32 ∷ 50 ∷ 48 ∷ 50 ∷ 49 ∷ 32 ∷ 51 ∷ 54 ∷ 57 ∷ 32 ∷ 50 ∷ 10 ∷ []
+
+-- "D 1 17 3 26000", "D 0 17 -3 26000"
+abbrev printedDeals : List ℕ
+printedDeals =
+    (68 ∷ 32 ∷ 49 ∷ 32 ∷ 49 ∷ 55 ∷ 32 ∷ 51 ∷ 32 ∷ 50 ∷ 54 ∷ 48 ∷ 48 ∷ 48 ∷ 10 ∷ [])
+    ++ (68 ∷ 32 ∷ 48 ∷ 32 ∷ 49 ∷ 55 ∷ 32 ∷ 45 ∷ 51 ∷ 32 ∷ 50 ∷ 54 ∷ 48 ∷ 48 ∷ 48 ∷ 10 ∷ [])
+
+-- R and E with these digits after their spaces.
+abbrev printedR : ℕ → ℕ → List ℕ
+printedR n cause = 82 ∷ 32 ∷ n ∷ 32 ∷ cause ∷ 10 ∷ []
+
+abbrev printedE : ℕ → ℕ → ℕ → List ℕ
+printedE taken turnedBack run = 69 ∷ 32 ∷ taken ∷ 32 ∷ turnedBack ∷ 32 ∷ run ∷ 10 ∷ []
+
+whole : List ℕ
+whole = journalHeader ++ flatMap (λ r. r) journal
+
+unfoldable computedText : {A : Type 0} → A → A
+unfolding computed frontOf digits decimal signedDecimal lineText headText dealText refusalText endText lengthByFront answerText recordsWithin recordsText journalTextOn whole
+computedText x = x
+
+-- Whole output.
+whole-output : journalText whole ≡ printedHead ++ (printedDeals ++ (printedR 51 52 ++ printedE 50 49 54))
+unfolding computedText
+whole-output = refl
+
+-- After 2 only R 0 2; a header alone is a whole journal.
+header-cut : journalText (take 18 whole) ≡ printedR 48 50
+unfolding computedText
+header-cut = refl
+
+header-alone : journalText journalHeader ≡ printedHead ++ printedE 48 48 48
+unfolding computedText
+header-alone = refl
+
+-- After 3 it stops: a cut record, and an unknown kind with a sound record behind it.
+record-cut : journalText (take 35 whole) ≡ printedHead ++ (printedR 50 51 ++ printedE 49 49 48)
+unfolding computedText
+record-cut = refl
+
+unknown-kind : journalText (journalHeader ++ (8 ∷ 5 ∷ 1 ∷ [])) ≡ printedHead ++ (printedR 49 51 ++ printedE 48 49 48)
+unfolding computedText
+unknown-kind = refl

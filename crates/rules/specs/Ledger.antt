@@ -9,8 +9,6 @@ use lib.IntN.{ℤ, pos, natAbs, _+ℤ_, _*ℤ_}
 use Rattle.arith.specs.Lists.{from, over, total, inEachBlock}
 use Rattle.rules.specs.declared.answer.Answer.the-variants.{Accepted}
 use Rattle.rules.specs.declared.order.Order.{Order}
-use Rattle.rules.specs.declared.order.Side.{Side}
-use Rattle.rules.specs.declared.order.Side.the-variants.{Buy, Sell}
 use Rattle.rules.specs.Answers.{Outcome}
 use Rattle.rules.specs.Ranges.{contractCount, mostMembers, mostOrders, mostPrice, leastLines}
 use Rattle.rules.specs.Sides.{sideOf, sideNumber}
@@ -346,6 +344,18 @@ bookLength = mostOrders * orderWidth
 
 abbrev pub linesLength : ℕ
 linesLength = leastLines * lineWidth
+
+-- Tables of the least length, all zero.
+abbrev pub zeroTables : Tables
+zeroTables =
+    record {
+      head = replicate headLength 0;
+      prices = replicate pricesLength 0;
+      lots = replicate rowsLength (pos 0);
+      value = replicate rowsLength (pos 0);
+      book = replicate bookLength 0;
+      lines = replicate linesLength (pos 0);
+    }
 
 unfoldable pub ledgerShort : Tables → Bool
 ledgerShort t =

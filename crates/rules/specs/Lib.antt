@@ -14,6 +14,7 @@ pub mod Refusals
 pub mod Accounts
 pub mod OtherForms
 pub mod Text
+pub mod Journal
 pub mod Bytes
 pub mod Computed
 pub mod ExampleRecords

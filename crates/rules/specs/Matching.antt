@@ -4,7 +4,7 @@ use mathlib.Core.Bool.{Bool, true, false, cond, _&&_, _||_}
 use mathlib.Core.List.{List, [], _∷_, _++_, flatMap}
 use mathlib.Core.Option.{Option, none, some}
 use lib.Dec.{eqb, leb, ltb}
-use lib.ListN.{length, set}
+use lib.ListN.{length}
 use lib.IntN.{ℤ, pos, negℤ, _+ℤ_}
 use lib.Signed.{ltZ}
 use Rattle.arith.specs.Lists.{kept, total}
@@ -16,7 +16,8 @@ use Rattle.rules.specs.declared.order.Side.{Side}
 use Rattle.rules.specs.declared.order.Side.the-variants.{Buy, Sell}
 use Rattle.rules.specs.Sides.{sameSide, otherSide, signed}
 use Rattle.rules.specs.Answers.{Outcome}
-use Rattle.rules.specs.Ledger.{Tables, Line, withHead, withPrices, withDealt, withAcceptedSubmits, withSubmitsThisSecond, day, time, acceptedSubmits, limit, submitsThisSecond, dayLots, dayValue, lotsAt, orders, withOrders, booked, timed}
+use Rattle.rules.specs.Ledger.{Tables, Line, withHead, withPrices, withDealt, withAcceptedSubmits, withSubmitsThisSecond, day, time, acceptedSubmits, limit}
+use Rattle.rules.specs.Ledger.{submitsThisSecond, dayLots, dayValue, lotsAt, orders, withOrders, booked, timed}
 
 -- ---- priority
 -- For who deals with a side: of buys the higher price is better, of sells the lower.

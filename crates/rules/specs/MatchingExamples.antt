@@ -1,6 +1,6 @@
 -- Document 01, "Matching" and the causes of a submit: what is accepted beside what is refused, computed.
 use mathlib.Core.Path.{_≡_, refl}
-use mathlib.Core.List.{List, [], _∷_, _++_, map}
+use mathlib.Core.List.{[], _∷_, _++_, map}
 use lib.ListN.{getD, replicate}
 use lib.IntN.{pos}
 use Rattle.arith.specs.Lists.{from}

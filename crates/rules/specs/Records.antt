@@ -19,8 +19,7 @@ use Rattle.rules.specs.declared.event.OrderKind.the-variants.{Resting, O
 use Rattle.rules.specs.declared.event.Reading.{Reading}
 use Rattle.rules.specs.declared.event.Reading.the-variants.{Sound, Unsound}
 use Rattle.rules.specs.declared.event.Submission.{Submission}
-use Rattle.rules.specs.declared.order.Side.{Side}
-use Rattle.rules.specs.declared.order.Side.the-variants.{Buy, Sell}
+use Rattle.rules.specs.declared.order.Side.the-variants.{Sell}
 use Rattle.rules.specs.Ranges.{contractCount, lastSecond, mostPrice, mostLots, leastLegs, mostLegs, mostRatio}
 use Rattle.rules.specs.Sides.{sideNumber, sideOf}
 use Rattle.rules.specs.Answers.{Outcome, decide, Told, told}

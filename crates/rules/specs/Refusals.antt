@@ -7,7 +7,9 @@ use lib.ListN.{length, take, getD}
 use lib.IntN.{ℤ, natAbs}
 use Rattle.arith.specs.Lists.{every, any, kept, from, everyBlock, allOf}
 use Rattle.rules.specs.declared.answer.Answer.{Answer}
-use Rattle.rules.specs.declared.answer.Answer.the-variants.{Accepted, TableUnsound, HeaderUnsound, RecordUnsound, TimeBelowLedger, MemberDefaulted, ContractNotOpen, PriceOutsideLimits, SixthSubmit, AboveLimit, CannotMatchInFull, BookFull, NoSuchOrder, NotAcceptable, NoReferencePrice, NoDefaultedLots, NoTaker, TotalPassed, NoLaterDay}
+use Rattle.rules.specs.declared.answer.Answer.the-variants.{Accepted, TableUnsound, HeaderUnsound, RecordUnsound, TimeBelowLedger, MemberDefaulted, ContractNotOpen}
+use Rattle.rules.specs.declared.answer.Answer.the-variants.{PriceOutsideLimits, SixthSubmit, AboveLimit, CannotMatchInFull, BookFull, NoSuchOrder, NotAcceptable}
+use Rattle.rules.specs.declared.answer.Answer.the-variants.{NoReferencePrice, NoDefaultedLots, NoTaker, TotalPassed, NoLaterDay}
 use Rattle.rules.specs.declared.event.Cancellation.{Cancellation}
 use Rattle.rules.specs.declared.event.CloseOutTerms.{CloseOutTerms}
 use Rattle.rules.specs.declared.event.Event.{Event}
@@ -22,7 +24,9 @@ use Rattle.rules.specs.Answers.{Outcome, decide}
 use Rattle.rules.specs.Ranges.{contractCount, mostHolidays, mostPrice, mostOrders, mostSubmitsInSecond, mostLotsRun, mostAcceptedSubmits}
 use Rattle.rules.specs.Days.{inSpan}
 use Rattle.rules.specs.Header.{calendarSound, membersSound, limitSound, daySound, headerOf, beginsWithHeader}
-use Rattle.rules.specs.Ledger.{Tables, Line, withPrices, members, holidayCount, day, time, acceptedSubmits, lotsRun, orderCount, limit, mark, submitsThisSecond, calendar, defaulted, isOpen, priceWidth, ggfPlace, lowPlace, highPlace, dayLotsPlace, dayValuePlace, ggf, low, high, withDayLimits, rowWidth, sideAt, orders, withOrders, lineRun, booked, timed, ledgerShort, linesShort, fresh}
+use Rattle.rules.specs.Ledger.{Tables, Line, withPrices, members, holidayCount, day, time, acceptedSubmits, lotsRun, orderCount, limit, mark, submitsThisSecond, calendar}
+use Rattle.rules.specs.Ledger.{defaulted, isOpen, priceWidth, ggfPlace, lowPlace, highPlace, dayLotsPlace, dayValuePlace, ggf, low, high, withDayLimits, rowWidth, sideAt}
+use Rattle.rules.specs.Ledger.{orders, withOrders, lineRun, booked, timed, ledgerShort, linesShort, fresh}
 use Rattle.rules.specs.Records.{timeSound, contractSound, priceSound, lotsSound, dayLimitsSound, legsOf, readOf}
 use Rattle.rules.specs.Matching.{submitMatched, submitLines, isTeye, wouldRest, submitsAt, aboveLimit, submitBooked}
 use Rattle.rules.specs.Synthetic.{acceptable, proposalLines, proposalBooked}

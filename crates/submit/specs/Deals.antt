@@ -8,7 +8,8 @@ use lib.ListN.{length, getD}
 use Rattle.arith.specs.Lists.{over, total}
 use Rattle.rules.specs.declared.order.Order.{Order}
 use Rattle.rules.specs.Ranges.{contractCount, mostMembers, mostOrders, mostLots, mostPrice, mostLotsRun}
-use Rattle.rules.specs.Ledger.{Tables, withHead, withRows, withLines, headLength, pricesLength, bookLength, linesLength, dayLotsPlace, dayValuePlace, withOrderCount, withDealt, sideAt, orderAt, orderPlaces}
+use Rattle.rules.specs.Ledger.{Tables, withHead, withRows, withLines, headLength, pricesLength, bookLength, linesLength, dayLotsPlace, dayValuePlace, withOrderCount, withDealt}
+use Rattle.rules.specs.Ledger.{sideAt, orderAt, orderPlaces}
 use Rattle.rules.specs.Matching.{matched}
 use Rattle.rules.specs.Refusals.{distinct}
 use Rattle.tables.specs.Fit.{RowsFit, membersIn, lotsRunIn, orderCountIn, ordersIn}

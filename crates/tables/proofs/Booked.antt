@@ -1,5 +1,5 @@
 -- What is booked, line by line. Assumes nothing.
-use mathlib.Core.Path.{_≡_, refl, sym, ap, _∙_}
+use mathlib.Core.Path.{_≡_, refl, sym, _∙_}
 use mathlib.Core.List.{List, [], _∷_, _++_, flatMap}
 use Prim.Native.Nat.{ℕ, _+_, _*_, _≤_, _<_}
 use native.Mathlib.Omega.{arith}
@@ -14,7 +14,7 @@ use Rattle.arith.proofs.Appends.{flat-append, flat-one, flat-length}
 use Rattle.arith.proofs.Writes.{over-more}
 use Rattle.rules.specs.declared.answer.Answer.the-variants.{Accepted}
 use Rattle.rules.specs.Ranges.{contractCount, mostMembers}
-use Rattle.rules.specs.Ledger.{Tables, Line, withHead, withRows, withLines, withLotsRun, lotsRun, rowPlace, rowsLength, linePlaces, lineLots, lineValue, posted, lineRun, booked}
+use Rattle.rules.specs.Ledger.{Tables, Line, lotsRun, rowPlace, linePlaces, lineLots, lineValue, posted, lineRun, booked}
 use Rattle.tables.specs.Fit.{RowsFit}
 use Rattle.tables.specs.Lines.{withLine}
 

@@ -7,7 +7,6 @@ use native.Mathlib.Omega.{arith}
 use lib.Dec.{ltb}
 use lib.ListN.{length, getD, set, replicate, length-set, length-replicate}
 use lib.Seq.{getD-set-other}
-use Rattle.arith.specs.Lists.{over}
 use Rattle.arith.proofs.Overs.{over-length, over-outside}
 use Rattle.arith.proofs.Tests.{by-bool}
 use Rattle.rules.specs.Ranges.{mostMembers}

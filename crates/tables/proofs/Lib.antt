@@ -5,3 +5,4 @@ pub mod Amounts
 pub mod Booked
 pub mod Fits
 pub mod Heads
+pub mod Takes

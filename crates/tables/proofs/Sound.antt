@@ -22,7 +22,8 @@ first-two false b c d e h = never (sym h)
 
 pub years : (k : Calendar) → calendarSound k ≡ true → FirstYear (k .firstYear)
 unfolding calendarSound
-years k h = let two = first-two (leb 2020 (k .firstYear)) (leb (k .firstYear) 2094) (leb (length (k .holidays)) 120) (rising (k .holidays)) (every (inSpan k) (k .holidays)) h in (leb-true 2020 (k .firstYear) (two .0), leb-true (k .firstYear) 2094 (two .1))
+years k h = let two = first-two (leb 2020 (k .firstYear)) (leb (k .firstYear) 2094) (leb (length (k .holidays)) 120) (rising (k .holidays)) (every (inSpan k) (k .holidays)) h in
+    (leb-true 2020 (k .firstYear) (two .0), leb-true (k .firstYear) 2094 (two .1))
 
 -- The numbers of a sound head that places and counts go by.
 pub record HeadHolds (t : Tables) : Type 0 where

@@ -1,6 +1,6 @@
 -- Tests, as the code makes them and as the rules say them. Assumes nothing.
-use mathlib.Core.Path.{_≡_, refl}
-use mathlib.Core.Bool.{Bool, true, false, _&&_, and-assoc}
+use mathlib.Core.Path.{_≡_}
+use mathlib.Core.Bool.{Bool, true, _&&_, and-assoc}
 use mathlib.Core.List.{[], _∷_}
 use borrow.Author.Tests.{lt-ltb, le-ltb, le-leb, lt-leb, eq-eqb, ne-eqb}
 use Rattle.arith.specs.Lists.{allOf}
@@ -13,18 +13,6 @@ pub ruleset tests = (lt-ltb, le-ltb, le-leb, lt-leb, eq-eqb, ne-eqb)
 pub all-three : (a b c : Bool) → a && b && c ≡ allOf (a ∷ b ∷ c ∷ [])
 unfolding allOf
 all-three a b c = simp (and-assoc, and-true)
-
--- Of five the last may be another test where the third does not pass.
-pub all-five : (a b c d e x : Bool) → (c ≡ true → x ≡ e) → a && b && c && d && x ≡ allOf (a ∷ b ∷ c ∷ d ∷ e ∷ [])
-unfolding allOf
-all-five true true true d e x same = rw (same refl, and-true e)
-all-five true true false d e x same = refl
-all-five true false c d e x same = refl
-all-five false b c d e x same = refl
-
-pub all-seven : (a b c d e f g : Bool) → a && b && c && d && e && f && g ≡ allOf (a ∷ b ∷ c ∷ d ∷ e ∷ f ∷ g ∷ [])
-unfolding allOf
-all-seven a b c d e f g = simp (and-assoc, and-true)
 
 -- The head's nine tests, of which the first three are known to pass.
 pub all-nine : (a b c d e f g h i : Bool) → a ≡ true → b ≡ true → c ≡ true → d && (e && f && g && h) && i ≡ allOf (a ∷ b ∷ c ∷ d ∷ e ∷ f ∷ g ∷ h ∷ i ∷ [])

@@ -10,7 +10,9 @@ use Rattle.rules.specs.declared.order.Order.{Order}
 use Rattle.rules.specs.Ranges.{contractCount, mostMembers, mostOrders, mostHolidays, mostPrice, mostLots, mostLimit, mostLotsRun, mostAcceptedSubmits, mostSubmitsInSecond, lastSecond}
 use Rattle.rules.specs.Days.{Calendar, inSpan}
 use Rattle.rules.specs.Header.{daySound}
-use Rattle.rules.specs.Ledger.{Tables, firstYearPlace, membersPlace, holidayCountPlace, dayPlace, timePlace, acceptedSubmitsPlace, lotsRunPlace, orderCountPlace, holidaysFrom, limitsFrom, marksFrom, submitsFrom, headLength, pricesLength, rowsLength, bookLength, linesLength, ggfPlace, lowPlace, highPlace, dayLotsPlace, dayValuePlace, rowPlace, sideAt, orderAt}
+use Rattle.rules.specs.Ledger.{Tables, firstYearPlace, membersPlace, holidayCountPlace, dayPlace, timePlace, acceptedSubmitsPlace, lotsRunPlace, orderCountPlace, holidaysFrom}
+use Rattle.rules.specs.Ledger.{limitsFrom, marksFrom, submitsFrom, headLength, pricesLength, rowsLength, bookLength, linesLength, ggfPlace, lowPlace, highPlace, dayLotsPlace}
+use Rattle.rules.specs.Ledger.{dayValuePlace, rowPlace, sideAt, orderAt}
 use Rattle.rules.specs.Refusals.{distinct}
 use Rattle.calendar.specs.Bounds.{FirstYear}
 

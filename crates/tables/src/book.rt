@@ -4,7 +4,6 @@ ghost use Prim.Native.Nat.{_*_, _≤_, _<_};
 ghost use lib.ListN.{length};
 ghost use Rattle.arith.specs.Lists.{over};
 ghost use Rattle.rules.specs.Ranges.{mostOrders};
-ghost use Rattle.rules.specs.Sides.{sideOf, sideNumber};
 ghost use Rattle.rules.specs.Ledger.{bookLength, orderWidth, orderAt, orderPlaces};
 use rules::DayNo;
 use rules::Kurus;

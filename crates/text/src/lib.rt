@@ -41,7 +41,7 @@ pub fn put_decimal(out: &mut [u8], place: usize, n: u64) -> usize
 }
 
 // The least i64 has a size too, which -x would not have.
-fn size(x: i64) -> u64
+pub fn size(x: i64) -> u64
     ensures { λ r. ⌜ r ≡ natAbs x ⌝ }
 {
     if x < 0 {

@@ -1,17 +1,14 @@
 use mathlib.Core.List.{[]}
 use Rattle.rules.specs.Ledger.{lent}
 use Rattle.tables.specs.Fit.{OrdersFit}
-use Rattle.rules.specs.Ledger.{timed}
-use mathlib.Core.Path.{_≡_, sym, ap, subst, _∙_}
-use mathlib.Core.Bool.{true, false}
+use mathlib.Core.Path.{sym, ap, subst, _∙_}
 use native.Mathlib.Omega.{arith}
-use lib.ListN.{getD, length-set, set}
+use lib.ListN.{getD}
 use borrow.Author.Tests.{lt-ltb, le-ltb, not-true, not-false}
-use Rattle.arith.specs.Lists.{any}
 use Rattle.rules.specs.Ledger.{orders, withHead, withBook}
-use Rattle.rules.specs.Refusals.{isCancelled, cancelSpec}
+use Rattle.rules.specs.Refusals.{cancelSpec}
 use Rattle.tables.proofs.Booked.{booked-none}
-use Rattle.tables.proofs.Heads.{orders-fit, timed-length, timed-place}
+use Rattle.tables.proofs.Heads.{orders-fit, timed-place}
 use borrow.Author.Needs.{needs}
 use Rattle.cancel.proofs.apply.Statement.{statement}
 use Rattle.cancel.proofs.apply.Tie as tie
@@ -45,19 +42,26 @@ same-length c = search needs
 -- src/lib.rt:25:9
 returns-2 : tie.Need-returns-2
 unfolding cancelSpec orders
-returns-2 c = λ t. rw (le-ltb (c .before .before .before .before .before .before .before .before .args .e .time) (getD (c .before .before .before .before .before .before .before .before .args .head .now) 4 0) (c .before .before .before .before .if1 .left), sym (c .before .would-any-leave .ensures) ∙ not-true _ (c .if2 .taken))
+returns-2 c =
+    let args = c .before .before .before .before .before .before .before .before .args in
+    let if1 = c .before .before .before .before .if1 in
+    λ t. rw (le-ltb (args .e .time) (getD (args .head .now) 4 0) (if1 .left), sym (c .before .would-any-leave .ensures) ∙ not-true _ (c .if2 .taken))
 
 -- src/lib.rt:27:5
 set-time-requires : tie.Need-set-time-requires
-set-time-requires c κs = (c .before .before .before .before .before .before .before .before .before .pre .0 .long, c .before .before .before .before .before .before .before .before .before .pre .0 .most-members)
+set-time-requires c κs =
+    let pre = c .before .before .before .before .before .before .before .before .before .pre in
+    (pre .0 .long, pre .0 .most-members)
 
 -- src/lib.rt:28:5
 remove-orders-requires : tie.Need-remove-orders-requires
 remove-orders-requires c κs =
+    let pre = c .before .before .before .before .before .before .before .before .before .before .before .before .before .before .pre in
     let a = c .before .before .before .before .before .before .before .before .before .before .before .before .before .before .args in
+    let set-time = c .before .before .before .before .set-time in
     let u = lent (a .head .now) [] [] [] (a .book .now) [] in
-    let count = ap (λ t. getD (t .head) 7 0) (c .before .before .before .before .set-time .ensures u) ∙ timed-place (a .e .time) u (c .before .before .before .before .before .before .before .before .before .before .before .before .before .before .pre .0 .long) (c .before .before .before .before .before .before .before .before .before .before .before .before .before .before .pre .0 .most-members) 7 (omega arith) (λ e. omega arith) in
-    (omega (arith, c .before .before .before .before .set-time .kept .0, c .before .before .before .before .before .before .before .before .before .before .before .before .before .before .pre .0 .long), subst (λ n. OrdersFit n (a .book .now)) (sym count) (orders-fit (a .head .now) (a .book .now) (c .before .before .before .before .before .before .before .before .before .before .before .before .before .before .pre .0) (c .before .before .before .before .before .before .before .before .before .before .before .before .before .before .pre .1)))
+    let count = ap (λ t. getD (t .head) 7 0) (set-time .ensures u) ∙ timed-place (a .e .time) u (pre .0 .long) (pre .0 .most-members) 7 (omega arith) (λ e. omega arith) in
+    (omega (arith, set-time .kept .0, pre .0 .long), subst (λ n. OrdersFit n (a .book .now)) (sym count) (orders-fit (a .head .now) (a .book .now) (pre .0) (pre .1)))
 
 -- src/lib.rt:13:1
 same-length-2 : tie.Need-same-length-2
@@ -71,11 +75,24 @@ same-length-3 c = search needs
 returns-3 : tie.Need-returns-3
 unfolding cancelSpec orders
 returns-3 c =
+    let pre = c .before .before .before .before .before .before .before .before .before .before .before .before .before .before .before .before .before .before .before .pre in
     let a = c .before .before .before .before .before .before .before .before .before .before .before .before .before .before .before .before .before .before .before .args in
+    let if1 = c .before .before .before .before .before .before .before .before .before .before .before .before .before .before .before .if1 in
+    let would-any-leave = c .before .before .before .before .before .before .before .before .before .before .before .before .would-any-leave in
+    let if2 = c .before .before .before .before .before .before .before .before .before .before .before .if2 in
+    let set-time = c .before .before .before .before .before .before .before .before .before .set-time in
+    let remove-orders = c .before .before .before .before .remove-orders in
     λ t.
     let u = withHead (a .head .now) (withBook (a .book .now) t) in
-    let count = ap (λ t. getD (t .head) 7 0) (c .before .before .before .before .before .before .before .before .before .set-time .ensures u) ∙ timed-place (a .e .time) u (c .before .before .before .before .before .before .before .before .before .before .before .before .before .before .before .before .before .before .before .pre .0 .long) (c .before .before .before .before .before .before .before .before .before .before .before .before .before .before .before .before .before .before .before .pre .0 .most-members) 7 (omega arith) (λ e. omega arith) in
-    rw (le-ltb (a .e .time) (getD (a .head .now) 4 0) (c .before .before .before .before .before .before .before .before .before .before .before .before .before .before .before .if1 .left), sym (c .before .before .before .before .before .before .before .before .before .before .before .before .would-any-leave .ensures) ∙ not-false _ (c .before .before .before .before .before .before .before .before .before .before .before .if2 .left), ← c .before .before .before .before .before .before .before .before .before .set-time .ensures (withBook (a .book .now) t), booked-none _, ← count, ← c .before .before .before .before .remove-orders .ensures t)
+    let count = ap (λ t. getD (t .head) 7 0) (set-time .ensures u) ∙ timed-place (a .e .time) u (pre .0 .long) (pre .0 .most-members) 7 (omega arith) (λ e. omega arith) in
+    rw (
+      le-ltb (a .e .time) (getD (a .head .now) 4 0) (if1 .left),
+      sym (would-any-leave .ensures) ∙ not-false _ (if2 .left),
+      ← set-time .ensures (withBook (a .book .now) t),
+      booked-none _,
+      ← count,
+      ← remove-orders .ensures t,
+    )
 
 pub apply-spec : {M : Type 1} → statement M
 apply-spec =

@@ -1,10 +1,10 @@
-use Rattle.rules.specs.Ledger.{Tables, withHead, withPrices, withRows, withBook}
+use Rattle.rules.specs.Ledger.{withHead, withPrices, withRows, withBook}
 use Rattle.close_of_day.proofs.Closes.{close-last, close-next}
-use mathlib.Core.Path.{_≡_, refl, sym, ap, _∙_}
+use mathlib.Core.Path.{_≡_, sym, _∙_}
 use Prim.Native.Nat.{_+_, _-_}
 use native.Mathlib.Omega.{arith}
 use lib.ListN.{getD}
-use borrow.Author.Tests.{lt-ltb, le-ltb}
+use borrow.Author.Tests.{lt-ltb}
 use Rattle.rules.specs.Refusals.{closeSpec}
 use borrow.Author.Needs.{needs}
 use Rattle.close_of_day.proofs.apply.Statement.{statement}
@@ -91,12 +91,16 @@ same-length-5 c = search needs
 returns-2 : tie.Need-returns-2
 returns-2 c =
     let a = c .before .before .before .before .before .before .before .before .before .before .before .before .before .before .before .before .before .before .before .before .before .before .before .before .before .before .before .args in
+    let if1 = c .before .before .before .before .before .before .before .before .before .before .before .before .before .before .before .before .before .before .before .before .before .before .if1 in
+    let next-business-day = c .before .before .before .before .before .before .before .before .before .before .before .before .before .before .before .before .before .next-business-day in
+    let next = c .before .before .before .before .before .before .before .before .before .before .before .before .before .before .before .next in
+    let close = c .before .before .before .before .before .before .before .before .close in
     let h = a .head .now in
     let cut : 8 + getD h 2 0 - 8 ≡ getD h 2 0 = omega arith in
-    let found = rw cut at (sym (c .before .before .before .before .before .before .before .before .before .before .before .before .before .before .before .before .before .next-business-day .ensures) ∙ c .before .before .before .before .before .before .before .before .before .before .before .before .before .before .before .next .given .1) in
+    let found = rw cut at (sym (next-business-day .ensures) ∙ next .given .1) in
     λ t.
     let u = withHead h (withPrices (a .prices .now) (withRows (a .lots .now) (a .value .now) (withBook (a .book .now) t))) in
-    rw (c .before .before .before .before .before .before .before .before .close .ensures t) (sym (close-next u (a .time) _ (c .before .before .before .before .before .before .before .before .before .before .before .before .before .before .before .before .before .before .before .before .before .before .if1 .left) found))
+    rw (close .ensures t) (sym (close-next u (a .time) _ (if1 .left) found))
 
 -- src/lib.rt:98:1
 same-length-6 : tie.Need-same-length-6

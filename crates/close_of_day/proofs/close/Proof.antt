@@ -1,6 +1,6 @@
 use mathlib.Core.Bool.{not}
 use mathlib.Core.List.{[]}
-use mathlib.Core.Path.{_≡_, sym, ap, _∙_}
+use mathlib.Core.Path.{ap, _∙_}
 use native.Mathlib.Omega.{arith}
 use lib.ListN.{getD, length}
 use lib.Seq.{getD-set-other}
@@ -49,9 +49,15 @@ slice-aggregate-cascade-all c = search needs
 -- src/lib.rt:91:5
 cascade-all-requires : tie.Need-cascade-all-requires
 cascade-all-requires c κs =
-    let fit = c .before .before .before .before .before .before .before .before .before .before .before .before .before .before .before .before .before .pre .1 .0 in
-    let head-fit = c .before .before .before .before .before .before .before .before .before .before .before .before .before .before .before .before .before .pre .0 .0 in
-    (record { long = fit .long; within = λ x m u k. omega (arith, fit .within x m u k, head-fit .most-run) }, head-fit .most-members, ap length (c .before .before .before .before .before .before .before .before .before .before .write-phases .ensures) ∙ phases-length _ _)
+    let pre = c .before .before .before .before .before .before .before .before .before .before .before .before .before .before .before .before .before .pre in
+    let write-phases = c .before .before .before .before .before .before .before .before .before .before .write-phases in
+    let fit = pre .1 .0 in
+    let head-fit = pre .0 .0 in (
+      record { long = fit .long; within = λ x m u k. omega (arith, fit .within x m u k, head-fit .most-run) },
+      head-fit .most-members,
+      ap length (write-phases .ensures)
+          ∙ phases-length _ _,
+    )
 
 -- src/lib.rt:92:39
 slice-aggregate-cascade-all-2 : tie.Need-slice-aggregate-cascade-all-2
@@ -60,9 +66,15 @@ slice-aggregate-cascade-all-2 c = search needs
 -- src/lib.rt:92:5
 cascade-all-requires-2 : tie.Need-cascade-all-requires-2
 cascade-all-requires-2 c κs =
-    let fit = c .before .before .before .before .before .before .before .before .before .before .before .before .before .before .before .before .before .before .before .before .before .pre .1 .1 in
-    let head-fit = c .before .before .before .before .before .before .before .before .before .before .before .before .before .before .before .before .before .before .before .before .before .pre .0 .0 in
-    (record { long = fit .long; within = λ x m u k. omega (arith, fit .within x m u k, head-fit .most-run) }, head-fit .most-members, ap length (c .before .before .before .before .before .before .before .before .before .before .before .before .before .before .write-phases .ensures) ∙ phases-length _ _)
+    let pre = c .before .before .before .before .before .before .before .before .before .before .before .before .before .before .before .before .before .before .before .before .before .pre in
+    let write-phases = c .before .before .before .before .before .before .before .before .before .before .before .before .before .before .write-phases in
+    let fit = pre .1 .1 in
+    let head-fit = pre .0 .0 in (
+      record { long = fit .long; within = λ x m u k. omega (arith, fit .within x m u k, head-fit .most-run) },
+      head-fit .most-members,
+      ap length (write-phases .ensures)
+          ∙ phases-length _ _,
+    )
 
 -- src/lib.rt:93:52
 slice-aggregate-remove-closing : tie.Need-slice-aggregate-remove-closing
@@ -71,17 +83,21 @@ slice-aggregate-remove-closing c = search needs
 -- src/lib.rt:93:5
 remove-closing-requires : tie.Need-remove-closing-requires
 remove-closing-requires c κs =
+    let pre = c .before .before .before .before .before .before .before .before .before .before .before .before .before .before .before .before .before .before .before .before .before .before .before .before .before .before .pre in
     let a = c .before .before .before .before .before .before .before .before .before .before .before .before .before .before .before .before .before .before .before .before .before .before .before .before .before .before .args in
-    (c .before .before .before .before .before .before .before .before .before .before .before .before .before .before .before .before .before .before .before .before .before .before .before .before .before .before .pre .0 .0 .long, book-reads (a .head .now) (a .book .now) (c .before .before .before .before .before .before .before .before .before .before .before .before .before .before .before .before .before .before .before .before .before .before .before .before .before .before .pre .0 .0) (c .before .before .before .before .before .before .before .before .before .before .before .before .before .before .before .before .before .before .before .before .before .before .before .before .before .before .pre .0 .2), ap length (c .before .before .before .before .before .before .before .before .before .before .before .before .before .before .before .before .before .before .before .write-phases .ensures) ∙ phases-length _ _)
+    let write-phases = c .before .before .before .before .before .before .before .before .before .before .before .before .before .before .before .before .before .before .before .write-phases in
+    (pre .0 .0 .long, book-reads (a .head .now) (a .book .now) (pre .0 .0) (pre .0 .2), ap length (write-phases .ensures) ∙ phases-length _ _)
 
 -- src/lib.rt:94:5
 begin-day-requires : tie.Need-begin-day-requires
 unfolding withOrders
 begin-day-requires c κs =
+    let pre = c .before .before .before .before .before .before .before .before .before .before .before .before .before .before .before .before .before .before .before .before .before .before .before .before .before .before .before .before .before .before .before .before .pre in
     let a = c .before .before .before .before .before .before .before .before .before .before .before .before .before .before .before .before .before .before .before .before .before .before .before .before .before .before .before .before .before .before .before .before .args in
+    let remove-closing = c .before .before .before .before .before .remove-closing in
     let u = lent (a .head .now) [] [] [] (a .book .now) [] in
-    let same = ap (λ t. getD (t .head) 1 0) (c .before .before .before .before .before .remove-closing .ensures u) ∙ getD-set-other (a .head .now) 7 1 _ 0 (λ e. omega arith) in
-    (omega (arith, c .before .before .before .before .before .remove-closing .kept .0, c .before .before .before .before .before .before .before .before .before .before .before .before .before .before .before .before .before .before .before .before .before .before .before .before .before .before .before .before .before .before .before .before .pre .0 .0 .long), omega (arith, same, c .before .before .before .before .before .before .before .before .before .before .before .before .before .before .before .before .before .before .before .before .before .before .before .before .before .before .before .before .before .before .before .before .pre .0 .0 .most-members))
+    let same = ap (λ t. getD (t .head) 1 0) (remove-closing .ensures u) ∙ getD-set-other (a .head .now) 7 1 _ 0 (λ e. omega arith) in
+    (omega (arith, remove-closing .kept .0, pre .0 .0 .long), omega (arith, same, pre .0 .0 .most-members))
 
 -- src/lib.rt:73:1
 same-length : tie.Need-same-length
@@ -107,22 +123,29 @@ same-length-5 c = search needs
 returns : tie.Need-returns
 unfolding orders
 returns c =
+    let pre = c .before .before .before .before .before .before .before .before .before .before .before .before .before .before .before .before .before .before .before .before .before .before .before .before .before .before .before .before .before .before .before .before .before .before .before .pre in
     let a = c .before .before .before .before .before .before .before .before .before .before .before .before .before .before .before .before .before .before .before .before .before .before .before .before .before .before .before .before .before .before .before .before .before .before .before .args in
-    let prices = c .before .before .before .before .before .before .before .before .before .before .before .before .before .before .before .before .before .before .before .before .before .before .write-prices .last .1 .0 in
-    let lots = c .before .before .before .before .before .before .before .before .before .before .before .before .before .before .before .before .before .cascade-all .last .0 in
-    let value = c .before .before .before .before .before .before .before .before .before .before .before .before .before .cascade-all2 .last .0 in
-    let book = c .before .before .before .before .before .before .before .before .remove-closing .last .1 .0 in
+    let write-phases = c .before .before .before .before .before .before .before .before .before .before .before .before .before .before .before .before .before .before .before .before .before .before .before .before .before .before .before .before .write-phases in
+    let write-prices = c .before .before .before .before .before .before .before .before .before .before .before .before .before .before .before .before .before .before .before .before .before .before .write-prices in
+    let cascade-all = c .before .before .before .before .before .before .before .before .before .before .before .before .before .before .before .before .before .cascade-all in
+    let cascade-all2 = c .before .before .before .before .before .before .before .before .before .before .before .before .before .cascade-all2 in
+    let remove-closing = c .before .before .before .before .before .before .before .before .remove-closing in
+    let begin-day = c .before .before .begin-day in
+    let prices = write-prices .last .1 .0 in
+    let lots = cascade-all .last .0 in
+    let value = cascade-all2 .last .0 in
+    let book = remove-closing .last .1 .0 in
     let n = getD (a .head .now) 1 0 in
     λ t.
     let u = withHead (a .head .now) (withPrices (a .prices .now) (withRows (a .lots .now) (a .value .now) (withBook (a .book .now) t))) in
-    let column = c .before .before .before .before .before .before .before .before .before .before .before .before .before .before .before .before .before .before .before .before .before .before .before .before .before .before .before .before .write-phases .ensures in
-    c .before .before .begin-day .ensures (withPrices prices (withRows lots value (withBook book t)))
-    ∙ ap (onDay (a .next .0)) (c .before .before .before .before .before .before .before .before .remove-closing .ensures (withPrices prices (withRows lots value t))
+    let column = write-phases .ensures in
+    begin-day .ensures (withPrices prices (withRows lots value (withBook book t)))
+    ∙ ap (onDay (a .next .0)) (remove-closing .ensures (withPrices prices (withRows lots value t))
     ∙ ap (λ k. withOrders (kept (λ o. not (closes k (o .contract))) (ordersIn (getD (a .head .now) 7 0) (a .book .now))) (withPrices prices (withRows lots value u))) column)
-    ∙ closed-is u (a .time) (a .next .0) prices lots value (book-reads (a .head .now) (a .book .now) (c .before .before .before .before .before .before .before .before .before .before .before .before .before .before .before .before .before .before .before .before .before .before .before .before .before .before .before .before .before .before .before .before .before .before .before .pre .0 .0) (c .before .before .before .before .before .before .before .before .before .before .before .before .before .before .before .before .before .before .before .before .before .before .before .before .before .before .before .before .before .before .before .before .before .before .before .pre .0 .2))
-    (ap (λ x. x .prices) (c .before .before .before .before .before .before .before .before .before .before .before .before .before .before .before .before .before .before .before .before .before .before .write-prices .ensures (withRows (a .lots .now) (a .value .now) t)))
-    (c .before .before .before .before .before .before .before .before .before .before .before .before .before .before .before .before .before .cascade-all .ensures ∙ ap (λ k. allCascaded n (closing k) (a .lots .now)) column)
-    (c .before .before .before .before .before .before .before .before .before .before .before .before .before .cascade-all2 .ensures ∙ ap (λ k. allCascaded n (closing k) (a .value .now)) column)
+    ∙ closed-is u (a .time) (a .next .0) prices lots value (book-reads (a .head .now) (a .book .now) (pre .0 .0) (pre .0 .2))
+    (ap (λ x. x .prices) (write-prices .ensures (withRows (a .lots .now) (a .value .now) t)))
+    (cascade-all .ensures ∙ ap (λ k. allCascaded n (closing k) (a .lots .now)) column)
+    (cascade-all2 .ensures ∙ ap (λ k. allCascaded n (closing k) (a .value .now)) column)
 
 pub close-spec : {M : Type 1} → statement M
 close-spec =

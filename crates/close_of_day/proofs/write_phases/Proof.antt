@@ -47,7 +47,10 @@ same-length c = search needs
 
 -- src/lib.rt:32:1
 returns : tie.Need-returns
-returns c = let h = c .before .before .before .before .before .before .before .before .before .before .args .head .now in let cut : 8 + getD h 2 0 - 8 ≡ getD h 2 0 = omega arith in rw cut at (c .before .before .write-phases .ensures)
+returns c =
+    let args = c .before .before .before .before .before .before .before .before .before .before .args in
+    let write-phases = c .before .before .write-phases in
+    let h = args .head .now in let cut : 8 + getD h 2 0 - 8 ≡ getD h 2 0 = omega arith in rw cut at (write-phases .ensures)
 
 pub write-phases-spec : {M : Type 1} → statement M
 write-phases-spec =

@@ -1,6 +1,5 @@
-use mathlib.Core.Path.{_≡_, refl, sym, ap, _∙_}
+use mathlib.Core.Path.{refl, ap, _∙_}
 use Prim.Native.Nat.{_≤_}
-use native.Mathlib.Omega.{arith}
 use lib.ListN.{getD, length}
 use Rattle.rules.specs.Ledger.{withHead, withPrices, withBook, orders}
 use Rattle.rules.specs.CloseOfDay.{priced, withoutDeals}
@@ -32,7 +31,10 @@ slice-aggregate-write-quotes c = search needs
 
 -- src/lib.rt:56:5
 write-quotes-requires : tie.Need-write-quotes-requires
-write-quotes-requires c κs = let a = c .before .before .before .before .before .before .before .args in (book-reads (a .head .now) (a .book .now) (c .before .before .before .before .before .before .before .pre .0 .0) (c .before .before .before .before .before .before .before .pre .0 .2), refl)
+write-quotes-requires c κs =
+    let pre = c .before .before .before .before .before .before .before .pre in
+    let a = c .before .before .before .before .before .before .before .args in
+    (book-reads (a .head .now) (a .book .now) (pre .0 .0) (pre .0 .2), refl)
 
 -- src/lib.rt:57:62
 slice-aggregate-write-quotes-2 : tie.Need-slice-aggregate-write-quotes-2
@@ -40,7 +42,10 @@ slice-aggregate-write-quotes-2 c = search needs
 
 -- src/lib.rt:57:5
 write-quotes-requires-2 : tie.Need-write-quotes-requires-2
-write-quotes-requires-2 c κs = let a = c .before .before .before .before .before .before .before .before .before .before .args in (book-reads (a .head .now) (a .book .now) (c .before .before .before .before .before .before .before .before .before .before .pre .0 .0) (c .before .before .before .before .before .before .before .before .before .before .pre .0 .2), refl)
+write-quotes-requires-2 c κs =
+    let pre = c .before .before .before .before .before .before .before .before .before .before .pre in
+    let a = c .before .before .before .before .before .before .before .before .before .before .args in
+    (book-reads (a .head .now) (a .book .now) (pre .0 .0) (pre .0 .2), refl)
 
 -- src/lib.rt:58:46
 slice-aggregate-write-ggfs : tie.Need-slice-aggregate-write-ggfs
@@ -53,13 +58,16 @@ slice-aggregate-write-ggfs-2 c = search needs
 -- src/lib.rt:58:5
 write-ggfs-requires : tie.Need-write-ggfs-requires
 write-ggfs-requires c κs =
+    let pre = c .before .before .before .before .before .before .before .before .before .before .before .before .before .before .before .pre in
     let a = c .before .before .before .before .before .before .before .before .before .before .before .before .before .before .before .args in
+    let write-quotes = c .before .before .before .before .before .before .before .write-quotes in
+    let write-quotes2 = c .before .before .before .before .write-quotes2 in
     let n = getD (a .head .now) 7 0 in
-    let most = all-orders (λ o. o .price .0 ≤ 1000000) (a .book .now) n (λ i h. c .before .before .before .before .before .before .before .before .before .before .before .before .before .before .before .pre .0 .2 .order-fit i h .most-price) in (
-      deals-fit (a .head .now) (a .prices .now) (c .before .before .before .before .before .before .before .before .before .before .before .before .before .before .before .pre .0 .0) (c .before .before .before .before .before .before .before .before .before .before .before .before .before .before .before .pre .0 .1),
-      record { all = search needs; most = λ x h. rw (c .before .before .before .before .before .before .before .write-quotes .ensures x h) (price-most _ _ _ _ x most) },
-      record { all = search needs; most = λ x h. rw (c .before .before .before .before .write-quotes2 .ensures x h) (price-most _ _ _ _ x most) },
-      ap length (c .before .before .before .before .before .before .before .before .before .before .before .before .before .before .before .pre .1) ∙ phases-length _ _,
+    let most = all-orders (λ o. o .price .0 ≤ 1000000) (a .book .now) n (λ i h. pre .0 .2 .order-fit i h .most-price) in (
+      deals-fit (a .head .now) (a .prices .now) (pre .0 .0) (pre .0 .1),
+      record { all = search needs; most = λ x h. rw (write-quotes .ensures x h) (price-most _ _ _ _ x most) },
+      record { all = search needs; most = λ x h. rw (write-quotes2 .ensures x h) (price-most _ _ _ _ x most) },
+      ap length (pre .1) ∙ phases-length _ _,
     )
 
 -- src/lib.rt:59:5
@@ -74,15 +82,20 @@ same-length c = search needs
 returns : tie.Need-returns
 unfolding priced orders
 returns c =
+    let pre = c .before .before .before .before .before .before .before .before .before .before .before .before .before .before .before .before .before .before .before .before .before .before .pre in
     let a = c .before .before .before .before .before .before .before .before .before .before .before .before .before .before .before .before .before .before .before .before .before .before .args in
-    let buys = c .before .before .before .before .before .before .before .before .before .before .before .before .before .before .write-quotes .last .1 .1 .1 .1 .1 .0 in
-    let sells = c .before .before .before .before .before .before .before .before .before .before .before .write-quotes2 .last .1 .1 .1 .1 .1 .0 in
+    let write-quotes = c .before .before .before .before .before .before .before .before .before .before .before .before .before .before .write-quotes in
+    let write-quotes2 = c .before .before .before .before .before .before .before .before .before .before .before .write-quotes2 in
+    let write-ggfs = c .before .before .before .before .before .before .write-ggfs in
+    let clear-deals = c .before .before .clear-deals in
+    let buys = write-quotes .last .1 .1 .1 .1 .1 .0 in
+    let sells = write-quotes2 .last .1 .1 .1 .1 .1 .0 in
     λ t.
     let u = withHead (a .head .now) (withPrices (a .prices .now) (withBook (a .book .now) t)) in
-    let least = all-orders (λ o. 1 ≤ o .price .0) (a .book .now) (getD (a .head .now) 7 0) (λ i h. c .before .before .before .before .before .before .before .before .before .before .before .before .before .before .before .before .before .before .before .before .before .before .pre .0 .2 .order-fit i h .least-price) in
+    let least = all-orders (λ o. 1 ≤ o .price .0) (a .book .now) (getD (a .head .now) 7 0) (λ i h. pre .0 .2 .order-fit i h .least-price) in
     ap (λ p. withPrices p u)
-    (c .before .before .clear-deals .ensures ∙ ap withoutDeals (c .before .before .before .before .before .before .write-ggfs .ensures ∙ ap (λ k. ggfsFrom buys sells (allOpenIn k) (a .prices .now)) (c .before .before .before .before .before .before .before .before .before .before .before .before .before .before .before .before .before .before .before .before .before .before .pre .1))
-    ∙ priced-is u (a .time) buys sells (c .before .before .before .before .before .before .before .before .before .before .before .before .before .before .before .before .before .before .before .before .before .before .pre .0 .1 .long) least (c .before .before .before .before .before .before .before .before .before .before .before .before .before .before .write-quotes .ensures) (c .before .before .before .before .before .before .before .before .before .before .before .write-quotes2 .ensures))
+    (clear-deals .ensures ∙ ap withoutDeals (write-ggfs .ensures ∙ ap (λ k. ggfsFrom buys sells (allOpenIn k) (a .prices .now)) (pre .1))
+    ∙ priced-is u (a .time) buys sells (pre .0 .1 .long) least (write-quotes .ensures) (write-quotes2 .ensures))
 
 pub write-prices-spec : {M : Type 1} → statement M
 write-prices-spec =

@@ -38,10 +38,15 @@ same-length-2 : tie.Need-same-length-2
 same-length-2 c = search needs
 
 returns-2 : tie.Need-returns-2
-returns-2 c = let a = c .before .before .before .before .before .before .before .args in
-    let same : getD (a .prices .now) (a .e .contract * 5 + 0) 0 ≡ getD (a .prices .now) (a .e .contract * 5) 0 = ap (λ i. getD (a .prices .now) i 0) (add-zero (a .e .contract * 5)) in
+returns-2 c =
+    let a = c .before .before .before .before .before .before .before .args in
+    let is-contract-open = c .before .before .before .is-contract-open in
+    let if1 = c .before .before .if1 in
+    let same : getD (a .prices .now) (a .e .contract * 5 + 0) 0 ≡ getD (a .prices .now) (a .e .contract * 5) 0 =
+    ap (λ i. getD (a .prices .now) i 0) (add-zero (a .e .contract * 5)) in
     λ t. no-reference (withPrices (a .prices .now) (put (a .head .now) (a .lots .now) (a .value .now) (a .lines .now) t)) (a .e)
-    (sym (c .before .before .before .is-contract-open .ensures (withPrices (a .prices .now) (withRows (a .lots .now) (a .value .now) (withLines (a .lines .now) t)))) ∙ not-false _ (c .before .before .if1 .left)) (sym same ∙ c .if2 .taken)
+    (sym (is-contract-open .ensures (withPrices (a .prices .now) (withRows (a .lots .now) (a .value .now) (withLines (a .lines .now) t)))) ∙ not-false _ (if1 .left))
+    (sym same ∙ c .if2 .taken)
 
 slice-read-members : tie.Need-slice-read-members
 slice-read-members c = search needs
@@ -50,25 +55,35 @@ array-borrow-prefix-longs : tie.Need-array-borrow-prefix-longs
 array-borrow-prefix-longs c = search needs
 
 slice-aggregate-close-out-lots : tie.Need-slice-aggregate-close-out-lots
-slice-aggregate-close-out-lots c = simp length-take (omega (arith, c .before .before .before .before .before .before .before .before .before .before .before .before .before .pre .0 .0 .head-fit .most-members))
+slice-aggregate-close-out-lots c =
+    let pre = c .before .before .before .before .before .before .before .before .before .before .before .before .before .pre in
+    simp length-take (omega (arith, pre .0 .0 .head-fit .most-members))
 
 array-borrow-prefix-shorts : tie.Need-array-borrow-prefix-shorts
 array-borrow-prefix-shorts c = search needs
 
 slice-aggregate-close-out-lots-2 : tie.Need-slice-aggregate-close-out-lots-2
-slice-aggregate-close-out-lots-2 c = simp length-take (omega (arith, c .before .before .before .before .before .before .before .before .before .before .before .before .before .before .pre .0 .0 .head-fit .most-members))
+slice-aggregate-close-out-lots-2 c =
+    let pre = c .before .before .before .before .before .before .before .before .before .before .before .before .before .before .pre in
+    simp length-take (omega (arith, pre .0 .0 .head-fit .most-members))
 
 array-borrow-prefix-weights : tie.Need-array-borrow-prefix-weights
 array-borrow-prefix-weights c = search needs
 
 slice-aggregate-close-out-lots-3 : tie.Need-slice-aggregate-close-out-lots-3
-slice-aggregate-close-out-lots-3 c = simp length-take (omega (arith, c .before .before .before .before .before .before .before .before .before .before .before .before .before .before .before .pre .0 .0 .head-fit .most-members))
+slice-aggregate-close-out-lots-3 c =
+    let pre = c .before .before .before .before .before .before .before .before .before .before .before .before .before .before .before .pre in
+    simp length-take (omega (arith, pre .0 .0 .head-fit .most-members))
 
 close-out-lots-requires : tie.Need-close-out-lots-requires
-close-out-lots-requires c κs = let a = c .before .before .before .before .before .before .before .before .before .before .before .before .before .before .before .args in
-    let same : getD (a .prices .now) (a .e .contract * 5 + 0) 0 ≡ getD (a .prices .now) (a .e .contract * 5) 0 = ap (λ i. getD (a .prices .now) i 0) (add-zero (a .e .contract * 5)) in
-    let few = c .before .before .before .before .before .before .before .before .before .before .before .before .before .before .before .pre .0 .0 .head-fit .most-members in (
-      (c .before .before .before .before .before .before .before .before .before .before .before .before .before .before .before .pre .0 .0, c .before .before .before .before .before .before .before .before .before .before .before .before .before .before .before .pre .1 .0, c .before .before .before .before .before .before .before .before .before .before .before .before .before .before .before .pre .1 .1, omega (arith, same, c .before .before .before .before .before .before .before .before .before .before .before .before .before .before .before .pre .0 .1 .contract-fit (a .e .contract) (c .before .before .before .before .before .before .before .before .before .before .before .before .before .before .before .pre .1 .0) .most-ggf), omega (arith, c .before .before .before .before .before .before .before .before .if2 .left)),
+close-out-lots-requires c κs =
+    let pre = c .before .before .before .before .before .before .before .before .before .before .before .before .before .before .before .pre in
+    let a = c .before .before .before .before .before .before .before .before .before .before .before .before .before .before .before .args in
+    let if2 = c .before .before .before .before .before .before .before .before .if2 in
+    let same : getD (a .prices .now) (a .e .contract * 5 + 0) 0 ≡ getD (a .prices .now) (a .e .contract * 5) 0 =
+    ap (λ i. getD (a .prices .now) i 0) (add-zero (a .e .contract * 5)) in
+    let few = pre .0 .0 .head-fit .most-members in (
+      (pre .0 .0, pre .1 .0, pre .1 .1, omega (arith, same, pre .0 .1 .contract-fit (a .e .contract) (pre .1 .0) .most-ggf), omega (arith, if2 .left)),
       (simp length-take (omega (arith, few)), simp length-take (omega (arith, few)), simp length-take (omega (arith, few))),
     )
 
@@ -85,10 +100,15 @@ same-length-6 : tie.Need-same-length-6
 same-length-6 c = search needs
 
 returns-3 : tie.Need-returns-3
-returns-3 c = let a = c .before .before .before .before .before .before .before .before .before .before .before .before .before .before .before .before .before .before .before .before .before .before .before .before .args in
-    let same : getD (a .prices .now) (a .e .contract * 5 + 0) 0 ≡ getD (a .prices .now) (a .e .contract * 5) 0 = ap (λ i. getD (a .prices .now) i 0) (add-zero (a .e .contract * 5)) in
-    λ t. c .before .before .before .before .before .before .before .before .close-out-lots .ensures (withPrices (a .prices .now) t)
-    (sym (c .before .before .before .before .before .before .before .before .before .before .before .before .before .before .before .before .before .before .before .before .is-contract-open .ensures (withPrices (a .prices .now) (withRows (a .lots .now) (a .value .now) (withLines (a .lines .now) t)))) ∙ not-false _ (c .before .before .before .before .before .before .before .before .before .before .before .before .before .before .before .before .before .before .before .if1 .left)) (sym same)
+returns-3 c =
+    let a = c .before .before .before .before .before .before .before .before .before .before .before .before .before .before .before .before .before .before .before .before .before .before .before .before .args in
+    let is-contract-open = c .before .before .before .before .before .before .before .before .before .before .before .before .before .before .before .before .before .before .before .before .is-contract-open in
+    let if1 = c .before .before .before .before .before .before .before .before .before .before .before .before .before .before .before .before .before .before .before .if1 in
+    let close-out-lots = c .before .before .before .before .before .before .before .before .close-out-lots in
+    let same : getD (a .prices .now) (a .e .contract * 5 + 0) 0 ≡ getD (a .prices .now) (a .e .contract * 5) 0 =
+    ap (λ i. getD (a .prices .now) i 0) (add-zero (a .e .contract * 5)) in
+    λ t. close-out-lots .ensures (withPrices (a .prices .now) t)
+    (sym (is-contract-open .ensures (withPrices (a .prices .now) (withRows (a .lots .now) (a .value .now) (withLines (a .lines .now) t)))) ∙ not-false _ (if1 .left)) (sym same)
 
 pub apply-spec : {M : Type 1} → statement M
 apply-spec =

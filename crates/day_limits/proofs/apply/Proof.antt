@@ -1,9 +1,8 @@
-use mathlib.Core.Path.{_≡_, sym, _∙_}
-use mathlib.Core.Bool.{true, false}
+use mathlib.Core.Path.{sym, _∙_}
 use borrow.Author.Tests.{not-true, not-false}
 use lib.ListN.{length-set}
 use native.Mathlib.Omega.{arith}
-use Rattle.rules.specs.Ledger.{withPrices, withHead, isOpen}
+use Rattle.rules.specs.Ledger.{withPrices}
 use Rattle.rules.specs.Refusals.{dayLimitsSpec}
 use Rattle.tables.proofs.Booked.{booked-none}
 use borrow.Author.Needs.{needs}

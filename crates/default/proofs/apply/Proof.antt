@@ -1,8 +1,7 @@
 use Rattle.tables.specs.Fit.{OrdersFit}
-use Rattle.rules.specs.Ledger.{withOrders}
-use mathlib.Core.Path.{_≡_, sym, ap, subst, _∙_}
+use mathlib.Core.Path.{sym, subst}
 use native.Mathlib.Omega.{arith}
-use lib.ListN.{getD, length-set, set}
+use lib.ListN.{length-set}
 use lib.Seq.{getD-set-other}
 use borrow.Author.Tests.{eq-eqb, ne-eqb}
 use Prim.Native.Nat.{_+_}
@@ -46,13 +45,17 @@ slice-write-head c = search needs
 -- src/lib.rt:22:5
 remove-orders-requires : tie.Need-remove-orders-requires
 remove-orders-requires c κs =
+    let pre = c .before .before .before .before .before .before .pre in
     let a = c .before .before .before .before .before .before .args in
     let count = getD-set-other (a .head .now) (160 + a .member) 7 1 0 (λ e. omega arith) in
-    (simp length-set (omega arith), subst (λ n. OrdersFit n (a .book .now)) (sym count) (orders-fit (a .head .now) (a .book .now) (c .before .before .before .before .before .before .pre .0) (c .before .before .before .before .before .before .pre .1)))
+    (simp length-set (omega arith), subst (λ n. OrdersFit n (a .book .now)) (sym count) (orders-fit (a .head .now) (a .book .now) (pre .0) (pre .1)))
 
 -- src/lib.rt:12:1
 same-length : tie.Need-same-length
-same-length c = omega (arith, length-set (c .before .before .before .before .before .before .before .before .before .before .before .args .head .now) (160 + c .before .before .before .before .before .before .before .before .before .before .before .args .member) 1, c .before .before .before .before .remove-orders .kept .0)
+same-length c =
+    let args = c .before .before .before .before .before .before .before .before .before .before .before .args in
+    let remove-orders = c .before .before .before .before .remove-orders in
+    omega (arith, length-set (args .head .now) (160 + args .member) 1, remove-orders .kept .0)
 
 -- src/lib.rt:12:1
 same-length-2 : tie.Need-same-length-2

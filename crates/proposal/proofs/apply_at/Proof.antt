@@ -1,13 +1,12 @@
 use native.Mathlib.Omega.{arith}
-use mathlib.Core.Path.{_≡_, refl, sym, ap, subst, _∙_}
+use mathlib.Core.Path.{refl, sym, ap, subst, _∙_}
 use Prim.Native.Nat.{_≤_}
 use lib.ListN.{getD, length}
 use borrow.Author.Tests.{not-true, not-false}
 use Rattle.arith.specs.Lists.{total, from}
-use Rattle.rules.specs.Ledger.{Tables, lent, withHead, withPrices, withRows, withBook, withLines, withOrders, orders, booked}
+use Rattle.rules.specs.Ledger.{lent, withHead, withPrices, withRows, withBook, withLines, withOrders, orders, booked}
 use Rattle.rules.specs.Synthetic.{proposalLines, usedByLegs, proposalBooked}
 use Rattle.rules.specs.Refusals.{proposalSpec}
-use Rattle.tables.specs.Fit.{ordersIn}
 use Rattle.tables.proofs.Left.{all-orders}
 use Rattle.proposal.specs.Columns.{LegsFit, PlacesFit, columnLegs}
 use Rattle.proposal.specs.Booking.{linesTo}
@@ -16,100 +15,96 @@ use Rattle.proposal.proofs.Accepted.{count-after-lines, all-booked, pla
 use borrow.Author.Needs.{needs}
 use Rattle.proposal.proofs.apply_at.Statement.{statement}
 use Rattle.proposal.proofs.apply_at.Tie as tie
-use Rattle.proposal.proofs.apply_at.Reads as reads
-use Rattle.proposal.proofs.apply_at.Lts as lts
-use Rattle.proposal.proofs.acceptable.is_acceptable.Reads as is-acceptable-reads
-use Rattle.proposal.proofs.booking.book_legs.Reads as book-legs-reads
-use Rattle.proposal.proofs.booking.total_lots.Reads as total-lots-reads
-use Rattle.proposal.proofs.booking.use_orders.Reads as use-orders-reads
 
--- src/lib.rt:48:9
 is-acceptable-requires : tie.Need-is-acceptable-requires
 is-acceptable-requires c κs = search needs
 
--- src/lib.rt:49:9
 same-length : tie.Need-same-length
 same-length c = search needs
 
--- src/lib.rt:49:9
 same-length-2 : tie.Need-same-length-2
 same-length-2 c = search needs
 
--- src/lib.rt:49:9
 returns : tie.Need-returns
 unfolding proposalSpec
 returns c = let a = c .before .before .before .before .before .before .before .before .before .before .before .args in
     λ t. rw (sym (c .before .is-acceptable .ensures (withRows (a .lots .now) (a .value .now) (withLines (a .lines .now) t))) ∙ not-true _ (c .if1 .taken))
 
--- src/lib.rt:51:15
 slice-read-run : tie.Need-slice-read-run
 slice-read-run c = search needs
 
--- src/lib.rt:51:32
 total-lots-requires : tie.Need-total-lots-requires
-total-lots-requires c κs = let a = c .before .before .before .before .before .before .before .before .before .before .before .before .args in let fit = c .before .before .before .before .before .before .before .before .before .before .before .before .pre .1 .1 .0 in subst (λ k. LegsFit k (a .leg-lots .now) (a .leg-prices .now)) (sym (fit .lots-length)) fit
+total-lots-requires c κs =
+    let start = c .before .before .before .before .before .before .before .before .before .before .before .before in
+    let a = start .args in let fit = start .pre .1 .1 .0 in subst (λ k. LegsFit k (a .leg-lots .now) (a .leg-prices .now)) (sym (fit .lots-length)) fit
 
--- src/lib.rt:51:15
 add-run : tie.Need-add-run
 add-run c = search needs
 
--- src/lib.rt:53:9
 same-length-3 : tie.Need-same-length-3
 same-length-3 c = search needs
 
--- src/lib.rt:53:9
 same-length-4 : tie.Need-same-length-4
 same-length-4 c = search needs
 
--- src/lib.rt:53:9
 returns-2 : tie.Need-returns-2
 unfolding proposalSpec orders
-returns-2 c = let a = c .before .before .before .before .before .before .before .before .before .before .before .before .before .before .args in
+returns-2 c =
+    let start = c .before .before .before .before .before .before .before .before .before .before .before .before .before .before in
+    let a = start .args in
     let n = getD (a .head .now) 7 0 in
     let book = a .book .now in
     let places = a .places .now in
     let numbers = a .orders .now in
     let q = a .leg-lots .now in
     let p = a .leg-prices .now in
-    let fit = c .before .before .before .before .before .before .before .before .before .before .before .before .before .before .pre .1 .1 .0 in
-    let at = c .before .before .before .before .before .before .before .before .before .before .before .before .before .before .pre .1 .1 .1 in
+    let fit = start .pre .1 .1 .0 in
+    let at = start .pre .1 .1 .1 in
     λ t.
     let u = (withHead (a .head .now) (withPrices (a .prices .now) (withRows (a .lots .now) (a .value .now) (withBook (a .book .now) (withLines (a .lines .now) t))))) in
     let ok = sym (c .before .before .before .before .is-acceptable .ensures u) ∙ not-false _ (c .before .before .before .if1 .left) in
     rw (ok, run-passes u n book places numbers q p fit refl at ok (c .before .total-lots .result) (c .before .total-lots .ensures .0) (c .if2 .taken))
 
--- src/lib.rt:55:5
 book-legs-requires : tie.Need-book-legs-requires
 unfolding orders
-book-legs-requires c κs = let a = c .before .before .before .before .before .before .before .before .before .before .before .before .before .before .before .before .before .before .before .args in
+book-legs-requires c κs =
+    let at-if2 = c .before .before .before .before .before in
+    let at-total-lots = at-if2 .before in
+    let at-if1 = at-total-lots .before .before in
+    let at-is-acceptable = at-if1 .before in
+    let start = at-is-acceptable .before .before .before .before .before .before .before .before .before .before in
+    let a = start .args in
     let n = getD (a .head .now) 7 0 in
     let book = a .book .now in
     let places = a .places .now in
     let numbers = a .orders .now in
     let q = a .leg-lots .now in
     let p = a .leg-prices .now in
-    let fit = c .before .before .before .before .before .before .before .before .before .before .before .before .before .before .before .before .before .before .before .pre .1 .1 .0 in
-    let at = c .before .before .before .before .before .before .before .before .before .before .before .before .before .before .before .before .before .before .before .pre .1 .1 .1 in
+    let fit = start .pre .1 .1 .0 in
+    let at = start .pre .1 .1 .1 in
     let u = lent (a .head .now) (a .prices .now) (a .lots .now) (a .value .now) book (a .lines .now) in
-    let ok = sym (c .before .before .before .before .before .before .before .before .before .is-acceptable .ensures u) ∙ not-false _ (c .before .before .before .before .before .before .before .before .if1 .left) in
+    let ok = sym (at-is-acceptable .is-acceptable .ensures u) ∙ not-false _ (at-if1 .if1 .left) in
     let there = places-there u n book places numbers q p fit refl at ok in
     let many = places-many u n book places numbers q p fit refl at in
-    let sum = c .before .before .before .before .before .before .total-lots .ensures .0 ∙ ap (λ k. total (λ i. getD q i 0) (from 0 k)) (fit .lots-length ∙ sym many) in (
-      (c .before .before .before .before .before .before .before .before .before .before .before .before .before .before .before .before .before .before .before .pre .0 .2, there, subst (λ k. LegsFit k q p) (sym many) fit),
+    let sum = at-total-lots .total-lots .ensures .0 ∙ ap (λ k. total (λ i. getD q i 0) (from 0 k)) (fit .lots-length ∙ sym many) in (
+      (start .pre .0 .2, there, subst (λ k. LegsFit k q p) (sym many) fit),
       record {
-        head-fit = c .before .before .before .before .before .before .before .before .before .before .before .before .before .before .before .before .before .before .before .pre .0 .0;
-        lots-fit = c .before .before .before .before .before .before .before .before .before .before .before .before .before .before .before .before .before .before .before .pre .1 .0 .0;
-        value-fit = c .before .before .before .before .before .before .before .before .before .before .before .before .before .before .before .before .before .before .before .pre .1 .0 .1;
-        lines-long = c .before .before .before .before .before .before .before .before .before .before .before .before .before .before .before .before .before .before .before .pre .0 .3;
-        most-run = rw (← sum) (omega (arith, c .before .before .before .before .before .if2 .left));
+        head-fit = start .pre .0 .0;
+        lots-fit = start .pre .1 .0 .0;
+        value-fit = start .pre .1 .0 .1;
+        lines-long = start .pre .0 .3;
+        most-run = rw (← sum) (omega (arith, at-if2 .if2 .left));
       },
     )
 
--- src/lib.rt:56:5
 use-orders-requires : tie.Need-use-orders-requires
 unfolding orders
 use-orders-requires c κs =
-    let start = c .before .before .before .before .before .before .before .before .before .before .before .before .before .before .before .before .before .before .before .before .before .before .before .before .before .before .before in
+    let at-if1 = c .before .before .before .before .before .before .before .before .before .before .before .before .before .before .before .before in
+    let at-is-acceptable = at-if1 .before in
+    let at-before = at-is-acceptable .before .before .before .before .before .before .before .before .before in
+    let call = c .before .before .before .before .before .before .before .before .before .before .before .before .before in
+    let start = call .before .before .before .before .before .before .before .before .before .before .before .before .before .before in
     let at-book-legs = c .before .before .before .before .before .before .before in
     let a = start .args in
     let n = getD (a .head .now) 7 0 in
@@ -121,7 +116,7 @@ use-orders-requires c κs =
     let fit = start .pre .1 .1 .0 in
     let at = start .pre .1 .1 .1 in
     let u = lent (a .head .now) (a .prices .now) (a .lots .now) (a .value .now) book (a .lines .now) in
-    let ok = sym (c .before .before .before .before .before .before .before .before .before .before .before .before .before .before .before .before .before .is-acceptable .ensures u) ∙ not-false _ (c .before .before .before .before .before .before .before .before .before .before .before .before .before .before .before .before .if1 .left) in
+    let ok = sym (at-is-acceptable .is-acceptable .ensures u) ∙ not-false _ (at-if1 .if1 .left) in
     let there = places-there u n book places numbers q p fit refl at ok in
     let many = places-many u n book places numbers q p fit refl at in
     let count = ap (λ x. getD (x .head) 7 0) (at-book-legs .book-legs .ensures u) ∙ count-after-lines (linesTo book places q p (length places)) u in (
@@ -133,51 +128,53 @@ use-orders-requires c κs =
       λ i k. start .pre .0 .2 .order-fit i (omega (arith, count)) .most-side,
     )
 
--- src/lib.rt:29:1
 same-length-5 : tie.Need-same-length-5
 same-length-5 c = search needs
 
--- src/lib.rt:29:1
 same-length-6 : tie.Need-same-length-6
 same-length-6 c = search needs
 
--- src/lib.rt:29:1
 same-length-7 : tie.Need-same-length-7
 same-length-7 c = search needs
 
--- src/lib.rt:29:1
 same-length-8 : tie.Need-same-length-8
 same-length-8 c = search needs
 
--- src/lib.rt:29:1
 same-length-9 : tie.Need-same-length-9
 same-length-9 c = search needs
 
--- src/lib.rt:29:1
 returns-3 : tie.Need-returns-3
 unfolding proposalSpec proposalBooked orders
-returns-3 c = let a = c .before .before .before .before .before .before .before .before .before .before .before .before .before .before .before .before .before .before .before .before .before .before .before .before .before .before .before .before .before .before .before .before .args in
+returns-3 c =
+    let at-book-legs = c .before .before .before .before .before .before .before .before .before .before .before .before in
+    let at-if2 = at-book-legs .before .before .before .before .before .before in
+    let at-total-lots = at-if2 .before in
+    let at-if1 = at-total-lots .before .before in
+    let at-is-acceptable = at-if1 .before in
+    let start = at-is-acceptable .before .before .before .before .before .before .before .before .before .before in
+    let a = start .args in
     let n = getD (a .head .now) 7 0 in
     let book = a .book .now in
     let places = a .places .now in
     let numbers = a .orders .now in
     let q = a .leg-lots .now in
     let p = a .leg-prices .now in
-    let fit = c .before .before .before .before .before .before .before .before .before .before .before .before .before .before .before .before .before .before .before .before .before .before .before .before .before .before .before .before .before .before .before .before .pre .1 .1 .0 in
-    let at = c .before .before .before .before .before .before .before .before .before .before .before .before .before .before .before .before .before .before .before .before .before .before .before .before .before .before .before .before .before .before .before .before .pre .1 .1 .1 in
+    let fit = start .pre .1 .1 .0 in
+    let at = start .pre .1 .1 .1 in
     λ t.
     let u = (withHead (a .head .now) (withPrices (a .prices .now) (withRows (a .lots .now) (a .value .now) (withBook (a .book .now) (withLines (a .lines .now) t))))) in
-    let ok = sym (c .before .before .before .before .before .before .before .before .before .before .before .before .before .before .before .before .before .before .before .before .before .before .is-acceptable .ensures u) ∙ not-false _ (c .before .before .before .before .before .before .before .before .before .before .before .before .before .before .before .before .before .before .before .before .before .if1 .left) in
+    let ok = sym (at-is-acceptable .is-acceptable .ensures u) ∙ not-false _ (at-if1 .if1 .left) in
     let legs = columnLegs numbers q p in
-    let l = c .before .before .before .before .before .before .before .before .before .before .before .before .book-legs .last in
+    let l = at-book-legs .book-legs .last in
     let booked-lines = withHead (l .0) (withRows (l .1 .0) (l .1 .1 .0) (withLines (l .1 .1 .1 .0) (withPrices (a .prices .now) (withBook book t)))) in
-    let count = ap (λ x. getD (x .head) 7 0) (c .before .before .before .before .before .before .before .before .before .before .before .before .book-legs .ensures u) ∙ count-after-lines (linesTo book places q p (length places)) u in
-    let each = all-orders (λ o. 1 ≤ o .lots .0) book n (λ i h. c .before .before .before .before .before .before .before .before .before .before .before .before .before .before .before .before .before .before .before .before .before .before .before .before .before .before .before .before .before .before .before .before .pre .0 .2 .order-fit i h .least-lots) in
-    let used = orders-used u n book places numbers q p fit refl at ok each (c .before .before .before .before .before .before .before .before .before .before .before .before .before .before .before .before .before .before .before .before .before .before .before .before .before .before .before .before .before .before .before .before .pre .0 .2 .numbers-distinct) _ count in
-    rw (ok, run-fits u n book places numbers q p fit refl at ok (c .before .before .before .before .before .before .before .before .before .before .before .before .before .before .before .before .before .before .before .total-lots .result) (c .before .before .before .before .before .before .before .before .before .before .before .before .before .before .before .before .before .before .before .total-lots .ensures .0) (c .before .before .before .before .before .before .before .before .before .before .before .before .before .before .before .before .before .before .if2 .left))
+    let count = ap (λ x. getD (x .head) 7 0) (at-book-legs .book-legs .ensures u) ∙ count-after-lines (linesTo book places q p (length places)) u in
+    let each = all-orders (λ o. 1 ≤ o .lots .0) book n (λ i h. start .pre .0 .2 .order-fit i h .least-lots) in
+    let used = orders-used u n book places numbers q p fit refl at ok each (start .pre .0 .2 .numbers-distinct) _ count in
+    rw (ok, run-fits u n book places numbers q p fit refl at ok (at-total-lots .total-lots .result) (at-total-lots .total-lots .ensures .0) (at-if2 .if2 .left))
     (all-booked (proposalLines u legs) (usedByLegs legs (orders u)) (length numbers) u booked-lines _ (line-count u n book places numbers q p fit refl at ok)
-    (c .before .before .before .before .before .before .before .before .before .before .before .before .book-legs .ensures (withPrices (a .prices .now) (withBook book t)) ∙ ap (λ ls. booked ls u .after) (sym (lines-are u n book places numbers q p fit refl at ok)))
-    (c .before .before .before .before .use-orders .ensures (withPrices (a .prices .now) (withRows (l .1 .0) (l .1 .1 .0) (withLines (l .1 .1 .1 .0) t))) ∙ ap (λ os. withOrders os booked-lines) used))
+    (at-book-legs .book-legs .ensures (withPrices (a .prices .now) (withBook book t)) ∙ ap (λ ls. booked ls u .after) (sym (lines-are u n book places numbers q p fit refl at ok)))
+    (c .before .before .before .before .use-orders .ensures (withPrices (a .prices .now) (withRows (l .1 .0) (l .1 .1 .0) (withLines (l .1 .1 .1 .0) t)))
+    ∙ ap (λ os. withOrders os booked-lines) used))
 
 pub apply-at-spec : {M : Type 1} → statement M
 apply-at-spec =

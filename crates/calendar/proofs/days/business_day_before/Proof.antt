@@ -8,7 +8,8 @@ use Rattle.calendar.proofs.days.business_day_before.Statement.{statemen
 use Rattle.calendar.proofs.days.business_day_before.Tie as tie
 
 abbrev Inv-loop : tie.InvT-loop
-Inv-loop holidays n x₀ left₀ x left = (x ≤ x₀) × (left ≤ n) × ((y : ℕ) → businessDayBefore (record { firstYear = y; holidays = holidays }) left x ≡ businessDayBefore (record { firstYear = y; holidays = holidays }) n x₀)
+Inv-loop holidays n x₀ left₀ x left = (x ≤ x₀) × (left ≤ n)
+    × ((y : ℕ) → businessDayBefore (record { firstYear = y; holidays = holidays }) left x ≡ businessDayBefore (record { firstYear = y; holidays = holidays }) n x₀)
 
 abbrev μ-loop : tie.MeasureT-loop
 μ-loop holidays n x₀ left₀ x left = x

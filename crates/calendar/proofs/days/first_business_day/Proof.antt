@@ -7,7 +7,8 @@ use Rattle.calendar.proofs.days.first_business_day.Statement.{statement
 use Rattle.calendar.proofs.days.first_business_day.Tie as tie
 
 abbrev Inv-loop : tie.InvT-loop
-Inv-loop holidays end x₀ x = (y : ℕ) → firstBusinessDay (record { firstYear = y; holidays = holidays }) (end .0 - x) x ≡ firstBusinessDay (record { firstYear = y; holidays = holidays }) (end .0 - x₀) x₀
+Inv-loop holidays end x₀ x = (y : ℕ) → firstBusinessDay (record { firstYear = y; holidays = holidays }) (end .0 - x) x
+    ≡ firstBusinessDay (record { firstYear = y; holidays = holidays }) (end .0 - x₀) x₀
 
 abbrev μ-loop : tie.MeasureT-loop
 μ-loop holidays end x₀ x = end .0 - x

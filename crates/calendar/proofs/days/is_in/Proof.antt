@@ -1,4 +1,3 @@
-use borrow.Author.Needs.{needs}
 use Rattle.rules.specs.Days.{inSpan}
 use Rattle.calendar.proofs.days.is_in.Statement.{statement}
 use Rattle.calendar.proofs.days.is_in.Tie as tie

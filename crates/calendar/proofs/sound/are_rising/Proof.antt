@@ -10,10 +10,10 @@ use Rattle.calendar.proofs.sound.are_rising.Statement.{statement}
 use Rattle.calendar.proofs.sound.are_rising.Tie as tie
 
 abbrev Inv-loop : tie.InvT-loop
-Inv-loop days ok₀ i₀ ok i = (i ≤ length days) × (ok && rising (drop i days) ≡ rising days)
+Inv-loop numbers ok₀ i₀ ok i = (i ≤ length numbers) × (ok && rising (drop i numbers) ≡ rising numbers)
 
 abbrev μ-loop : tie.MeasureT-loop
-μ-loop days ok₀ i₀ ok i = length days - i
+μ-loop numbers ok₀ i₀ ok i = length numbers - i
 
 loop-holds : tie.Need-loop-holds Inv-loop μ-loop
 loop-holds c = (omega arith, refl)
@@ -47,10 +47,10 @@ loop-again c =
     let test = c .before .before .loop-test in
     let loop = c .before .before .before .loop in
     let start = c .before .before .before .before in
-    let l = loop in (omega arith, rising-next (start .args .days .now) (l .i) (l .ok) (l .inv .1) (test .taken))
+    let l = loop in (omega arith, rising-next (start .args .numbers .now) (l .i) (l .ok) (l .inv .1) (test .taken))
 
 returns : tie.Need-returns Inv-loop μ-loop
-returns c = let l = c .before .loop in rising-end (c .before .before .args .days .now) (l .i) (l .ok) (l .inv .1) (c .loop-test .left)
+returns c = let l = c .before .loop in rising-end (c .before .before .args .numbers .now) (l .i) (l .ok) (l .inv .1) (c .loop-test .left)
 
 pub are-rising-spec : {M : Type 1} → statement M
 are-rising-spec =

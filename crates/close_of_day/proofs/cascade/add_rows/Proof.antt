@@ -69,6 +69,7 @@ loop-less c = search needs
 -- src/cascade.rt:44:5
 loop-again : tie.Need-loop-again Inv-loop μ-loop
 loop-again c =
+    let pre = c .before .before .before .before .pre in
     let a = c .before .before .before .before .args in
     let l = c .before .before .before .loop in
     let x = getD (l .child) (l .i) (pos 0) in
@@ -76,7 +77,7 @@ loop-again c =
     let sums = zipWith _+ℤ_ (a .child .now) (a .t2) in
     let many = zip-short _+ℤ_ (a .child .now) (a .t2) (omega arith) in
     let e : x ≡ getD (a .child .now) (l .i) (pos 0) = rw (l .inv .2) (front-rest (l .i) sums (a .child .now) (pos 0) (omega arith)) in
-    let here = add-is x y (rw e (c .before .before .before .before .pre .1 (l .i) (omega arith))) ∙ ap (λ v. v +ℤ y) e ∙ sym (zip-at _+ℤ_ (a .child .now) (a .t2) (l .i) (pos 0) (omega arith) (omega arith)) in (
+    let here = add-is x y (rw e (pre .1 (l .i) (omega arith))) ∙ ap (λ v. v +ℤ y) e ∙ sym (zip-at _+ℤ_ (a .child .now) (a .t2) (l .i) (pos 0) (omega arith) (omega arith)) in (
       omega arith,
       simp length-set (omega arith),
       ap (set (l .child) (l .i)) here ∙ ap (λ r. set r (l .i) (getD sums (l .i) (pos 0))) (l .inv .2) ∙ front-next (l .i) sums (a .child .now) (pos 0) (omega arith) (omega arith),

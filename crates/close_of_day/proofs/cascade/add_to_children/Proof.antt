@@ -1,8 +1,8 @@
 use borrow.Author.Needs.{needs}
-use mathlib.Core.Path.{_≡_, refl, sym, ap, _∙_}
-use Prim.Native.Nat.{_+_, _-_, _≤_, _^_}
+use mathlib.Core.Path.{refl, sym, ap, _∙_}
+use Prim.Native.Nat.{_-_}
 use native.Mathlib.Omega.{arith}
-use lib.IntN.{pos, natAbs}
+use lib.IntN.{pos}
 use lib.ListN.{length, getD}
 use lib.Seq.{getD-take}
 use Rattle.arith.specs.Lists.{from}
@@ -34,16 +34,18 @@ rows-from-requires c κs = (omega arith, omega (arith, c .before .pre .0 .0 .lon
 -- src/cascade.rt:72:5
 loop-holds : tie.Need-loop-holds Inv-loop μ-loop
 loop-holds c =
+    let pre = c .before .before .pre in
     let a = c .before .before .args in
     let t = a .rows .now in
-    let fit = c .before .before .pre .0 .0 in
+    let fit = pre .0 .0 in
     let parent = c .rows-from .result in
     record {
       after = omega arith;
       most = omega arith;
       same = refl;
       lent = c .rows-from .ensures .0;
-      parent-fit = λ m k. rw (sym (getD-take (a .members) parent m (pos 0) k) ∙ ap (λ l. getD l m (pos 0)) (c .rows-from .ensures .0) ∙ rows-at (a .members) (a .contract) t (fit .long) (omega arith) (omega arith) m k)
+      parent-fit = λ m k. rw (sym (getD-take (a .members) parent m (pos 0) k) ∙ ap (λ l. getD l m (pos 0)) (c .rows-from .ensures .0)
+          ∙ rows-at (a .members) (a .contract) t (fit .long) (omega arith) (omega arith) m k)
           (fit .within (a .contract) m (omega arith) k);
       rest-fit = λ c m l u k. fit .within c m u k;
       known = refl;
@@ -52,8 +54,11 @@ loop-holds c =
 -- src/cascade.rt:73:9
 add-to-child-requires : tie.Need-add-to-child-requires Inv-loop μ-loop
 add-to-child-requires c κs =
-    let l = c .before .before .loop in
-    ((omega (arith, l .inv .same, c .before .before .before .before .before .pre .0 .0 .long), omega arith, omega arith), λ m k. omega (arith, l .inv .parent-fit m k, l .inv .rest-fit (l .child) m (omega arith) (omega arith) k))
+    let pre = c .before .before .before .before .before .pre in
+    let l = c .before .before .loop in (
+      (omega (arith, l .inv .same, pre .0 .0 .long), omega arith, omega arith),
+      λ m k. omega (arith, l .inv .parent-fit m k, l .inv .rest-fit (l .child) m (omega arith) (omega arith) k),
+    )
 
 -- src/cascade.rt:74:9
 add-child : tie.Need-add-child Inv-loop μ-loop
@@ -66,9 +71,13 @@ loop-less c = search needs
 -- src/cascade.rt:72:5
 loop-again : tie.Need-loop-again Inv-loop μ-loop
 loop-again c =
+    let pre = c .before .before .before .before .before .before .before .pre in
     let a = c .before .before .before .before .before .before .before .args in
+    let rows-from = c .before .before .before .before .before .rows-from in
     let l = c .before .before .before .before .loop in
-    rw (c .before .add-to-child .ensures) (adding-next (a .members) (a .contract) (a .end) (length (a .rows .now)) _ (c .before .before .before .before .before .rows-from .result) (omega arith) (omega arith) (c .before .before .before .before .before .before .before .pre .0 .0 .long) (l .child) (l .rows) (omega arith) (l .inv))
+    rw (c .before .add-to-child .ensures)
+    (adding-next (a .members) (a .contract) (a .end) (length (a .rows .now)) _ (rows-from .result) (omega arith) (omega arith) (pre .0 .0 .long) (l .child) (l .rows)
+    (omega arith) (l .inv))
 
 -- src/cascade.rt:64:1
 same-length : tie.Need-same-length Inv-loop μ-loop

@@ -1,6 +1,6 @@
-use mathlib.Core.Path.{_≡_, sym, ap, _∙_}
+use mathlib.Core.Path.{sym}
 use native.Mathlib.Omega.{arith}
-use Rattle.rules.specs.declared.contract.ContractKind.the-variants.{Year, Quarter}
+use Rattle.rules.specs.declared.contract.ContractKind.the-variants.{Year}
 use Rattle.close_of_day.specs.Phases.{mostRow}
 use Rattle.close_of_day.proofs.Cascades.{kind-fit-after, all-closed}
 use borrow.Author.Needs.{needs}
@@ -19,8 +19,12 @@ cascade-kind-requires c κs =
 -- src/cascade.rt:135:5
 cascade-kind-requires-2 : tie.Need-cascade-kind-requires-2
 cascade-kind-requires-2 c κs =
+    let pre = c .before .before .before .before .before .pre in
     let a = c .before .before .before .before .before .args in
-    ((rw (c .before .before .cascade-kind .ensures) (kind-fit-after (a .members) mostRow Year (a .column .now) (a .rows .now) (omega arith) (omega arith) (c .before .before .before .before .before .pre .0)), omega arith), (omega arith, c .before .before .before .before .before .pre .2))
+    let cascade-kind = c .before .before .cascade-kind in (
+      (rw (cascade-kind .ensures) (kind-fit-after (a .members) mostRow Year (a .column .now) (a .rows .now) (omega arith) (omega arith) (pre .0)), omega arith),
+      (omega arith, pre .2),
+    )
 
 -- src/cascade.rt:130:1
 same-length : tie.Need-same-length

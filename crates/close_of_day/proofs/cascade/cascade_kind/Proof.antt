@@ -1,14 +1,11 @@
 use Rattle.close_of_day.proofs.Cascades.{kind-start, kind-end}
 use borrow.Author.Needs.{needs}
-use mathlib.Core.Path.{_≡_, refl}
-use Prim.Native.Nat.{_+_, _*_, _-_, _<_}
+use mathlib.Core.Path.{refl}
+use Prim.Native.Nat.{_*_, _-_, _<_}
 use native.Mathlib.Omega.{arith}
-use native.Mathlib.Nat.{sub-zero}
 use lib.ListN.{length}
 use Rattle.arith.specs.Lists.{kept}
-use Rattle.arith.proofs.Scans.{from-end}
-use Rattle.rules.specs.OtherForms.{numberOf, sizeOf}
-use Rattle.rules.proofs.CalendarLaws.{contracts-of}
+use Rattle.rules.specs.OtherForms.{sizeOf}
 use Rattle.rules.specs.Contracts.{contractsOf}
 use Rattle.rules.specs.CloseOfDay.{allCascaded}
 use Rattle.close_of_day.specs.Phases.{closes, mostRow}
@@ -43,11 +40,20 @@ contract-of-requires c κs = omega (arith, c .before .before .contracts-in .ensu
 
 -- src/cascade.rt:124:56
 mul-cascade-closing : tie.Need-mul-cascade-closing Inv-loop μ-loop
-mul-cascade-closing c = let b = number-below (c .before .before .before .before .before .before .args .kind) (c .before .before .before .loop .i) (omega (arith, c .before .before .before .before .contracts-in .ensures)) in omega (arith, c .before .contract-of .ensures)
+mul-cascade-closing c =
+    let args = c .before .before .before .before .before .before .args in
+    let contracts-in = c .before .before .before .before .contracts-in in
+    let loop = c .before .before .before .loop in
+    let b = number-below (args .kind) (loop .i) (omega (arith, contracts-in .ensures)) in omega (arith, c .before .contract-of .ensures)
 
 -- src/cascade.rt:124:56
 shared-slice-read-cascade-closing : tie.Need-shared-slice-read-cascade-closing Inv-loop μ-loop
-shared-slice-read-cascade-closing c = let b = number-below (c .before .before .before .before .before .before .before .args .kind) (c .before .before .before .before .loop .i) (omega (arith, c .before .before .before .before .before .contracts-in .ensures)) in omega (arith, c .before .before .contract-of .ensures)
+shared-slice-read-cascade-closing c =
+    let args = c .before .before .before .before .before .before .before .args in
+    let contracts-in = c .before .before .before .before .before .contracts-in in
+    let loop = c .before .before .before .before .loop in
+    let contract-of = c .before .before .contract-of in
+    let b = number-below (args .kind) (loop .i) (omega (arith, contracts-in .ensures)) in omega (arith, contract-of .ensures)
 
 -- src/cascade.rt:124:9
 cascade-closing-requires : tie.Need-cascade-closing-requires Inv-loop μ-loop
@@ -70,9 +76,12 @@ loop-less c = search needs
 loop-again : tie.Need-loop-again Inv-loop μ-loop
 loop-again c =
     let a = c .before .before .before .before .before .before .before .before .before .args in
+    let contracts-in = c .before .before .before .before .before .before .before .contracts-in in
     let l = c .before .before .before .before .before .before .loop in
-    rw (c .before .cascade-closing .ensures, c .before .before .before .before .contract-of .ensures)
-    (kind-next (a .members) (length (a .rows .now)) (7 * mostRow) (a .kind) (a .column .now) _ (omega arith) (omega arith) (l .i) (l .rows) (omega (arith, c .before .before .before .before .before .before .before .contracts-in .ensures)) (l .inv))
+    let contract-of = c .before .before .before .before .contract-of in
+    rw (c .before .cascade-closing .ensures, contract-of .ensures)
+    (kind-next (a .members) (length (a .rows .now)) (7 * mostRow) (a .kind) (a .column .now) _ (omega arith) (omega arith) (l .i) (l .rows) (omega (arith, contracts-in .ensures))
+    (l .inv))
 
 -- src/cascade.rt:115:1
 same-length : tie.Need-same-length Inv-loop μ-loop
@@ -82,8 +91,10 @@ same-length c = c .before .loop .inv .same
 returns : tie.Need-returns Inv-loop μ-loop
 returns c =
     let a = c .before .before .before .before .args in
+    let contracts-in = c .before .before .contracts-in in
     let l = c .before .loop in
-    kind-end (a .members) (length (a .rows .now)) (7 * mostRow) (a .kind) (a .column .now) _ (omega arith) (omega arith) (l .i) (l .rows) (omega (arith, c .before .before .contracts-in .ensures)) (l .inv)
+    kind-end (a .members) (length (a .rows .now)) (7 * mostRow) (a .kind) (a .column .now) _ (omega arith) (omega arith) (l .i) (l .rows) (omega (arith, contracts-in .ensures))
+    (l .inv)
 
 pub cascade-kind-spec : {M : Type 1} → statement M
 cascade-kind-spec =

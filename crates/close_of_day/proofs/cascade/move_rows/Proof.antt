@@ -1,5 +1,4 @@
-use Prim.Native.Nat.{_+_, _*_, _-_}
-use mathlib.Core.Path.{_≡_}
+use Prim.Native.Nat.{_*_, _-_}
 use native.Mathlib.Omega.{arith}
 use lib.IntN.{pos}
 use Rattle.arith.specs.Lists.{from}
@@ -54,11 +53,14 @@ same-length c = search needs
 returns : tie.Need-returns
 unfolding zeroRows
 returns c =
+    let pre = c .before .before .before .before .before .before .pre in
     let a = c .before .before .before .before .before .before .args in
+    let add-to-children = c .before .before .before .before .add-to-children in
     let t = a .rows .now in
-    let long = c .before .before .before .before .before .before .pre .0 .0 .long in
+    let long = pre .0 .0 .long in
     let same = added-length (a .members) (a .contract) (omega arith) (omega arith) (a .end - a .first) (a .first) t long (omega arith) (omega arith) in
-    rw (c .before .clear-rows .ensures, c .before .before .before .before .add-to-children .ensures) (filled (a .contract * 32) (a .members) (addedTo (a .members) (a .contract) (from (a .first) (a .end - a .first)) t) (pos 0) (omega arith))
+    rw (c .before .clear-rows .ensures, add-to-children .ensures)
+    (filled (a .contract * 32) (a .members) (addedTo (a .members) (a .contract) (from (a .first) (a .end - a .first)) t) (pos 0) (omega arith))
 
 pub move-rows-spec : {M : Type 1} → statement M
 move-rows-spec =

@@ -16,7 +16,8 @@ use Rattle.calendar.proofs.closing_day.Reads as closing-day-reads
 use Rattle.close_of_day.proofs.contracts.phase_of.Reads as phase-of-reads
 
 abbrev Inv-loop : tie.InvT-loop
-Inv-loop first-year holidays day column₀ contract₀ column contract = (contract ≤ 102) × (length column ≡ 102) × (column ≡ take contract (phases (record { firstYear = first-year; holidays = holidays }) (day .0)) ++ drop contract column₀)
+Inv-loop first-year holidays day column₀ contract₀ column contract = (contract ≤ 102) × (length column ≡ 102)
+    × (column ≡ take contract (phases (record { firstYear = first-year; holidays = holidays }) (day .0)) ++ drop contract column₀)
 
 abbrev μ-loop : tie.MeasureT-loop
 μ-loop first-year holidays day column₀ contract₀ column contract = 102 - contract
@@ -52,14 +53,16 @@ loop-less c = search needs
 -- src/contracts.rt:68:5
 loop-again : tie.Need-loop-again Inv-loop μ-loop
 loop-again c =
+    let pre = c .before .before .before .before .before .before .pre in
     let a = c .before .before .before .before .before .before .args in
     let l = c .before .before .before .loop in
     let k : Calendar = record { firstYear = a .first-year; holidays = a .holidays .now } in
     let d = a .day .0 in
-    let here : c .phase-of .result ≡ getD (phases k d) (l .contract) 0 = c .phase-of .ensures ∙ ap (λ z. phaseOf z d) (c .before .closing-day .ensures) ∙ sym (phases-at k d (l .contract) (omega arith)) in (
+    let here : c .phase-of .result ≡ getD (phases k d) (l .contract) 0 = c .phase-of .ensures ∙ ap (λ z. phaseOf z d) (c .before .closing-day .ensures)
+    ∙ sym (phases-at k d (l .contract) (omega arith)) in (
       omega arith,
       simp length-set (omega arith),
-      rw (here, l .inv .2) (front-next (l .contract) (phases k d) (a .column .now) 0 (omega (arith, phases-length k d)) (omega (arith, c .before .before .before .before .before .before .pre .1))),
+      rw (here, l .inv .2) (front-next (l .contract) (phases k d) (a .column .now) 0 (omega (arith, phases-length k d)) (omega (arith, pre .1))),
     )
 
 -- src/contracts.rt:63:1

@@ -1,4 +1,3 @@
-use borrow.Author.Needs.{needs}
 use borrow.Author.Tests.{eq-eqb, ne-eqb}
 use Rattle.close_of_day.proofs.orders.left_of.Statement.{statement}
 use Rattle.close_of_day.proofs.orders.left_of.Tie as tie

@@ -1,14 +1,13 @@
 use mathlib.Core.Bool.{Bool}
-use mathlib.Core.Path.{_≡_, sym, ap, _∙_}
+use mathlib.Core.Path.{sym, ap, _∙_}
 use Prim.Native.Nat.{ℕ, _≤_}
 use native.Mathlib.Omega.{arith}
-use lib.ListN.{getD, length, replicate}
+use lib.ListN.{getD, replicate}
 use lib.Seq.{length-take-le}
 use Rattle.rules.specs.declared.order.Order.{Order}
 use Rattle.rules.specs.Ledger.{withHead, withBook, withOrders}
 use Rattle.tables.proofs.Left.{all-orders, column-long, column-many, column-kept}
 use Rattle.close_of_day.specs.Phases.{closes}
-use Rattle.close_of_day.specs.Columns.{BookReads}
 use borrow.Author.Needs.{needs}
 use Rattle.close_of_day.proofs.orders.remove_closing.Statement.{statement}
 use Rattle.close_of_day.proofs.orders.remove_closing.Tie as tie
@@ -31,21 +30,28 @@ slice-aggregate-write-left c = sym (length-take-le _ _ (c .before .before .befor
 
 -- src/orders.rt:48:5
 write-left-requires : tie.Need-write-left-requires
-write-left-requires c κs = let a = c .before .before .before .before .before .before .args in (rw (length-take-le {A = ℕ} (getD (a .head .now) 7 0) (replicate 256 0) (c .before .before .before .before .before .before .pre .1 .most-orders)) (c .before .before .before .before .before .before .pre .1), c .before .before .before .before .before .before .pre .2)
+write-left-requires c κs =
+    let pre = c .before .before .before .before .before .before .pre in
+    let a = c .before .before .before .before .before .before .args in
+    (rw (length-take-le {A = ℕ} (getD (a .head .now) 7 0) (replicate 256 0) (pre .1 .most-orders)) (pre .1), pre .2)
 
 -- src/orders.rt:49:49
 array-share-prefix-left : tie.Need-array-share-prefix-left
 array-share-prefix-left c =
+    let pre = c .before .before .before .before .before .before .before .before .before .before .pre in
     let a = c .before .before .before .before .before .before .before .before .before .before .args in
+    let write-left = c .before .before .before .write-left in
     let p : Order → Bool = λ o. closes (a .column .now) (o .contract) in
-    column-long p (getD (a .head .now) 7 0) _ (replicate 256 0) (a .book .now) (c .before .before .before .before .before .before .before .before .before .before .pre .1 .most-orders) (c .before .before .before .write-left .ensures)
+    column-long p (getD (a .head .now) 7 0) _ (replicate 256 0) (a .book .now) (pre .1 .most-orders) (write-left .ensures)
 
 -- src/orders.rt:49:49
 slice-aggregate-keep-orders : tie.Need-slice-aggregate-keep-orders
 slice-aggregate-keep-orders c =
+    let pre = c .before .before .before .before .before .before .before .before .before .before .before .pre in
     let a = c .before .before .before .before .before .before .before .before .before .before .before .args in
+    let write-left = c .before .before .before .before .write-left in
     let p : Order → Bool = λ o. closes (a .column .now) (o .contract) in
-    column-many p (getD (a .head .now) 7 0) _ (replicate 256 0) (a .book .now) (c .before .before .before .before .before .before .before .before .before .before .before .pre .1 .most-orders) (c .before .before .before .before .write-left .ensures)
+    column-many p (getD (a .head .now) 7 0) _ (replicate 256 0) (a .book .now) (pre .1 .most-orders) (write-left .ensures)
 
 -- src/orders.rt:49:5
 keep-orders-requires : tie.Need-keep-orders-requires
@@ -70,12 +76,15 @@ same-length-2 c = search needs
 -- src/orders.rt:41:1
 returns : tie.Need-returns
 returns c =
+    let pre = c .before .before .before .before .before .before .before .before .before .before .before .before .before .before .before .before .pre in
     let a = c .before .before .before .before .before .before .before .before .before .before .before .before .before .before .before .before .args in
+    let write-left = c .before .before .before .before .before .before .before .before .before .write-left in
+    let keep-orders = c .before .before .before .before .keep-orders in
     let n = getD (a .head .now) 7 0 in
     let p : Order → Bool = λ o. closes (a .column .now) (o .contract) in
-    λ t. c .before .before .before .before .keep-orders .ensures t
+    λ t. keep-orders .ensures t
     ∙ ap (λ os. withOrders os (withHead (a .head .now) (withBook (a .book .now) t)))
-    (column-kept p n _ (replicate 256 0) (a .book .now) (c .before .before .before .before .before .before .before .before .before .before .before .before .before .before .before .before .pre .1 .most-orders) (c .before .before .before .before .before .before .before .before .before .write-left .ensures) (all-orders (λ o. 1 ≤ o .lots .0) (a .book .now) n (c .before .before .before .before .before .before .before .before .before .before .before .before .before .before .before .before .pre .1 .least-lots)))
+    (column-kept p n _ (replicate 256 0) (a .book .now) (pre .1 .most-orders) (write-left .ensures) (all-orders (λ o. 1 ≤ o .lots .0) (a .book .now) n (pre .1 .least-lots)))
 
 pub remove-closing-spec : {M : Type 1} → statement M
 remove-closing-spec =

@@ -38,7 +38,10 @@ mul-left-of c = omega (arith, ap (λ o. o .contract) (c .order-at .ensures), c .
 
 -- src/orders.rt:36:30
 shared-slice-read-left-of : tie.Need-shared-slice-read-left-of Inv-loop μ-loop
-shared-slice-read-left-of c = omega (arith, ap (λ o. o .contract) (c .before .order-at .ensures), c .before .before .before .before .before .before .before .pre .0 .contract-below (c .before .before .before .loop .i) (omega arith))
+shared-slice-read-left-of c =
+    let pre = c .before .before .before .before .before .before .before .pre in
+    let loop = c .before .before .before .loop in
+    omega (arith, ap (λ o. o .contract) (c .before .order-at .ensures), pre .0 .contract-below (loop .i) (omega arith))
 
 -- src/orders.rt:36:19
 left-of-requires : tie.Need-left-of-requires Inv-loop μ-loop

@@ -1,6 +1,6 @@
 use Rattle.close_of_day.proofs.Ggfs.{quoted-most}
 use native.Mathlib.Omega.{arith}
-use borrow.Author.Tests.{lt-ltb, le-ltb, eq-eqb, ne-eqb}
+use borrow.Author.Tests.{lt-ltb, le-ltb}
 use Rattle.close_of_day.specs.Columns.{quotedFrom}
 use borrow.Author.Needs.{needs}
 use Rattle.close_of_day.proofs.prices.quoted_price.Statement.{statement}

@@ -1,9 +1,6 @@
-use mathlib.Core.Path.{_≡_, sym, ap, _∙_}
-use Prim.Native.Nat.{_*_, _≤_}
+use Prim.Native.Nat.{_*_}
 use native.Mathlib.Nat.{add-zero}
-use native.Mathlib.Omega.{arith}
 use Rattle.rules.specs.declared.contract.ContractKind.{ContractKind}
-use Rattle.rules.specs.Contracts.{thresholdOf, kindOf}
 use Rattle.close_of_day.specs.Columns.{ggfFrom}
 use Rattle.close_of_day.proofs.Ggfs.{least-threshold}
 use borrow.Author.Needs.{needs}
@@ -82,9 +79,17 @@ shared-slice-read-reference-price-2 c = search needs
 -- src/prices.rt:63:9
 reference-price-requires : tie.Need-reference-price-requires
 reference-price-requires c κs =
+    let pre = c .before .before .before .before .before .before .before .before .before .before .pre in
     let a = c .before .before .before .before .before .before .before .before .before .before .args in
-    let h = c .before .before .before .before .before .before .before .before .before .before .pre .3 in
-    (rw (c .before .before .before .before .before .threshold .ensures) (least-threshold (c .before .before .before .before .before .before .kind-of .result)), c .before .before .before .before .before .before .before .before .before .before .pre .0 .most-lots (a .contract) h, c .before .before .before .before .before .before .before .before .before .before .pre .0 .most-value (a .contract) h, c .before .before .before .before .before .before .before .before .before .before .pre .1 .most (a .contract) h, c .before .before .before .before .before .before .before .before .before .before .pre .2 .most (a .contract) h)
+    let kind-of = c .before .before .before .before .before .before .kind-of in
+    let threshold = c .before .before .before .before .before .threshold in
+    let h = pre .3 in (
+      rw (threshold .ensures) (least-threshold (kind-of .result)),
+      pre .0 .most-lots (a .contract) h,
+      pre .0 .most-value (a .contract) h,
+      pre .1 .most (a .contract) h,
+      pre .2 .most (a .contract) h,
+    )
 
 -- src/prices.rt:71:12
 add-prices : tie.Need-add-prices
@@ -105,7 +110,11 @@ same-length c = search needs
 -- src/prices.rt:56:1
 returns : tie.Need-returns
 unfolding ggfFrom
-returns c = rw (c .reference-price .ensures, c .before .before .before .before .before .before .threshold .ensures, c .before .before .before .before .before .before .before .kind-of .ensures, add-zero (c .before .before .before .before .before .before .before .before .before .before .before .args .contract * 5))
+returns c =
+    let args = c .before .before .before .before .before .before .before .before .before .before .before .args in
+    let kind-of = c .before .before .before .before .before .before .before .kind-of in
+    let threshold = c .before .before .before .before .before .before .threshold in
+    rw (c .reference-price .ensures, threshold .ensures, kind-of .ensures, add-zero (args .contract * 5))
 
 pub write-ggf-spec : {M : Type 1} → statement M
 write-ggf-spec =

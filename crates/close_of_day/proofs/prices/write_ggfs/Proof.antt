@@ -1,4 +1,3 @@
-use mathlib.Core.Path.{_≡_, sym, ap, _∙_}
 use Rattle.rules.specs.declared.contract.ContractKind.the-variants.{Year, Quarter, Month}
 use Rattle.close_of_day.specs.Phases.{openIn}
 use Rattle.close_of_day.specs.Columns.{ggfsFrom, allOpenIn}
@@ -17,11 +16,18 @@ write-kind-ggfs-requires c κs = search needs
 
 -- src/prices.rt:110:5
 write-kind-ggfs-requires-2 : tie.Need-write-kind-ggfs-requires-2
-write-kind-ggfs-requires-2 c κs = (rw (c .before .before .before .write-kind-ggfs .ensures) (deals-ggfs _ _ _ _ (c .before .before .before .before .before .before .before .before .before .pre .0)), c .before .before .before .before .before .before .before .before .before .pre .1, c .before .before .before .before .before .before .before .before .before .pre .2, c .before .before .before .before .before .before .before .before .before .pre .3)
+write-kind-ggfs-requires-2 c κs =
+    let pre = c .before .before .before .before .before .before .before .before .before .pre in
+    let write-kind-ggfs = c .before .before .before .write-kind-ggfs in
+    (rw (write-kind-ggfs .ensures) (deals-ggfs _ _ _ _ (pre .0)), pre .1, pre .2, pre .3)
 
 -- src/prices.rt:111:5
 write-kind-ggfs-requires-3 : tie.Need-write-kind-ggfs-requires-3
-write-kind-ggfs-requires-3 c κs = (rw (c .before .before .before .write-kind-ggfs2 .ensures, c .before .before .before .before .before .before .before .write-kind-ggfs .ensures) (deals-ggfs _ _ _ _ (deals-ggfs _ _ _ _ (c .before .before .before .before .before .before .before .before .before .before .before .before .before .pre .0))), c .before .before .before .before .before .before .before .before .before .before .before .before .before .pre .1, c .before .before .before .before .before .before .before .before .before .before .before .before .before .pre .2, c .before .before .before .before .before .before .before .before .before .before .before .before .before .pre .3)
+write-kind-ggfs-requires-3 c κs =
+    let pre = c .before .before .before .before .before .before .before .before .before .before .before .before .before .pre in
+    let write-kind-ggfs = c .before .before .before .before .before .before .before .write-kind-ggfs in
+    let write-kind-ggfs2 = c .before .before .before .write-kind-ggfs2 in
+    (rw (write-kind-ggfs2 .ensures, write-kind-ggfs .ensures) (deals-ggfs _ _ _ _ (deals-ggfs _ _ _ _ (pre .0))), pre .1, pre .2, pre .3)
 
 -- src/prices.rt:105:1
 same-length : tie.Need-same-length
@@ -32,10 +38,19 @@ returns : tie.Need-returns
 unfolding allOpenIn
 returns c =
     let a = c .before .before .before .before .before .before .before .before .before .before .before .before .before .before .before .before .args in
+    let write-kind-ggfs = c .before .before .before .before .before .before .before .before .before .before .write-kind-ggfs in
+    let write-kind-ggfs2 = c .before .before .before .before .before .before .write-kind-ggfs2 in
+    let write-kind-ggfs3 = c .before .before .write-kind-ggfs3 in
     let b = a .buys .now in
     let s = a .sells .now in
     let listed = openIn (a .column .now) in
-    rw (c .before .before .write-kind-ggfs3 .ensures, c .before .before .before .before .before .before .write-kind-ggfs2 .ensures, c .before .before .before .before .before .before .before .before .before .before .write-kind-ggfs .ensures, ggfs-append b s (listed Year) (listed Quarter ++ listed Month) (a .prices .now), ggfs-append b s (listed Quarter) (listed Month) (ggfsFrom b s (listed Year) (a .prices .now)))
+    rw (
+      write-kind-ggfs3 .ensures,
+      write-kind-ggfs2 .ensures,
+      write-kind-ggfs .ensures,
+      ggfs-append b s (listed Year) (listed Quarter ++ listed Month) (a .prices .now),
+      ggfs-append b s (listed Quarter) (listed Month) (ggfsFrom b s (listed Year) (a .prices .now)),
+    )
 
 pub write-ggfs-spec : {M : Type 1} → statement M
 write-ggfs-spec =

@@ -1,4 +1,4 @@
-use mathlib.Core.Path.{_≡_, refl}
+use mathlib.Core.Path.{refl}
 use native.Mathlib.Omega.{arith}
 use borrow.Author.Tests.{lt-ltb, le-ltb}
 use borrow.Author.Needs.{needs}
@@ -30,7 +30,10 @@ same-length c = search needs
 
 -- src/prices.rt:75:1
 returns-3 : tie.Need-returns-3
-returns-3 c = rw (lt-ltb 0 (c .before .before .before .before .before .before .before .before .before .args .phase) (omega arith), lt-ltb 0 (c .before .before .before .before .before .before .before .before .before .args .more) (omega arith)) (refl, c .before .before .write-ggf .ensures)
+returns-3 c =
+    let args = c .before .before .before .before .before .before .before .before .before .args in
+    let write-ggf = c .before .before .write-ggf in
+    rw (lt-ltb 0 (args .phase) (omega arith), lt-ltb 0 (args .more) (omega arith)) (refl, write-ggf .ensures)
 
 pub write-if-open-spec : {M : Type 1} → statement M
 write-if-open-spec =

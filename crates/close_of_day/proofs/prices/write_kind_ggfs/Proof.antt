@@ -1,12 +1,12 @@
 use borrow.Author.Needs.{needs}
-use mathlib.Core.Path.{_≡_, refl, sym, ap, _∙_}
-use mathlib.Core.List.{_∷_, map}
-use mathlib.Core.Bool.{cond, _&&_}
+use mathlib.Core.Path.{_≡_, refl}
+use mathlib.Core.List.{map}
+use mathlib.Core.Bool.{_&&_}
 use Prim.Native.Nat.{_+_, _-_, _≤_}
 use native.Mathlib.Omega.{arith}
 use native.Mathlib.Nat.{sub-zero}
 use lib.Dec.{ltb}
-use lib.ListN.{length, getD, take}
+use lib.ListN.{length, take}
 use lib.Seq.{take-nil}
 use Prim.Native.Nat.{_<_}
 use Rattle.arith.specs.Lists.{from, kept}
@@ -27,7 +27,8 @@ use Rattle.close_of_day.proofs.prices.write_if_open.Reads as write-if-o
 use Rattle.rules.proofs.contract.ContractKind.open_count.Reads as open-count-reads
 
 abbrev Inv-loop : tie.InvT-loop
-Inv-loop prices₀ column buys sells kind count more₀ i₀ prices more i = DealsFit prices × (length prices ≡ length prices₀) × (i ≤ sizeOf kind) × (ggfsFrom buys sells (take more (kept (waits column) (map (numberOf kind) (from i (sizeOf kind - i))))) prices ≡ ggfsFrom buys sells (openIn column kind) prices₀)
+Inv-loop prices₀ column buys sells kind count more₀ i₀ prices more i = DealsFit prices × (length prices ≡ length prices₀) × (i ≤ sizeOf kind)
+    × (ggfsFrom buys sells (take more (kept (waits column) (map (numberOf kind) (from i (sizeOf kind - i))))) prices ≡ ggfsFrom buys sells (openIn column kind) prices₀)
 
 abbrev μ-loop : tie.MeasureT-loop
 μ-loop prices₀ column buys sells kind count more₀ i₀ prices more i = count - i
@@ -53,17 +54,31 @@ contract-of-requires c κs = omega (arith, c .before .before .before .contracts-
 
 -- src/prices.rt:100:67
 mul-write-if-open : tie.Need-mul-write-if-open Inv-loop μ-loop
-mul-write-if-open c = let b = number-below (c .before .before .before .before .before .before .before .before .before .before .args .kind) (c .before .before .before .loop .i) (omega (arith, c .before .before .before .before .before .contracts-in .ensures)) in omega (arith, c .before .contract-of .ensures)
+mul-write-if-open c =
+    let args = c .before .before .before .before .before .before .before .before .before .before .args in
+    let contracts-in = c .before .before .before .before .before .contracts-in in
+    let loop = c .before .before .before .loop in
+    let b = number-below (args .kind) (loop .i) (omega (arith, contracts-in .ensures)) in omega (arith, c .before .contract-of .ensures)
 
 -- src/prices.rt:100:67
 shared-slice-read-write-if-open : tie.Need-shared-slice-read-write-if-open Inv-loop μ-loop
-shared-slice-read-write-if-open c = let b = number-below (c .before .before .before .before .before .before .before .before .before .before .before .args .kind) (c .before .before .before .before .loop .i) (omega (arith, c .before .before .before .before .before .before .contracts-in .ensures)) in omega (arith, c .before .before .contract-of .ensures)
+shared-slice-read-write-if-open c =
+    let args = c .before .before .before .before .before .before .before .before .before .before .before .args in
+    let contracts-in = c .before .before .before .before .before .before .contracts-in in
+    let loop = c .before .before .before .before .loop in
+    let contract-of = c .before .before .contract-of in
+    let b = number-below (args .kind) (loop .i) (omega (arith, contracts-in .ensures)) in omega (arith, contract-of .ensures)
 
 -- src/prices.rt:100:9
 write-if-open-requires : tie.Need-write-if-open-requires Inv-loop μ-loop
 write-if-open-requires c κs =
-    let b = number-below (c .before .before .before .before .before .before .before .before .before .before .before .args .kind) (c .before .before .before .before .loop .i) (omega (arith, c .before .before .before .before .before .before .contracts-in .ensures)) in
-    (c .before .before .before .before .loop .inv .0, c .before .before .before .before .before .before .before .before .before .before .before .pre .1, c .before .before .before .before .before .before .before .before .before .before .before .pre .2, omega (arith, c .before .before .contract-of .ensures))
+    let pre = c .before .before .before .before .before .before .before .before .before .before .before .pre in
+    let args = c .before .before .before .before .before .before .before .before .before .before .before .args in
+    let contracts-in = c .before .before .before .before .before .before .contracts-in in
+    let loop = c .before .before .before .before .loop in
+    let contract-of = c .before .before .contract-of in
+    let b = number-below (args .kind) (loop .i) (omega (arith, contracts-in .ensures)) in
+    (loop .inv .0, pre .1, pre .2, omega (arith, contract-of .ensures))
 
 -- src/prices.rt:101:9
 add-i : tie.Need-add-i Inv-loop μ-loop
@@ -77,17 +92,21 @@ loop-less c = search needs
 loop-again : tie.Need-loop-again Inv-loop μ-loop
 loop-again c =
     let a = c .before .before .before .before .before .before .before .before .before .before .before .before .before .before .args in
+    let contracts-in = c .before .before .before .before .before .before .before .before .before .contracts-in in
     let l = c .before .before .before .before .before .before .before .loop in
+    let contract-of = c .before .before .before .before .before .contract-of in
+    let write-if-open = c .before .before .write-if-open in
     let size = sizeOf (a .kind) in
-    let h : l .i < size = omega (arith, c .before .before .before .before .before .before .before .before .before .contracts-in .ensures) in
+    let h : l .i < size = omega (arith, contracts-in .ensures) in
     let x = numberOf (a .kind) (l .i) in
     let rest = map (numberOf (a .kind)) (from (l .i + 1) (size - (l .i + 1))) in
     let known = rw (from-next (l .i) size h) at (l .inv .3) in
     let v = ggfFrom (a .buys .now) (a .sells .now) (l .prices) x in (
-      rw (c .before .before .write-if-open .ensures .1, c .before .before .before .before .before .contract-of .ensures) (deals-if (waits (a .column .now) x && ltb 0 (l .more)) (l .prices) x v (l .inv .0)),
-      omega (arith, c .before .before .write-if-open .kept .0),
+      rw (write-if-open .ensures .1, contract-of .ensures) (deals-if (waits (a .column .now) x && ltb 0 (l .more)) (l .prices) x v (l .inv .0)),
+      omega (arith, write-if-open .kept .0),
       omega arith,
-      rw (c .before .before .write-if-open .ensures .0, c .before .before .write-if-open .ensures .1, c .before .before .before .before .before .contract-of .ensures) (open-next (a .buys .now) (a .sells .now) (l .prices) _ (waits (a .column .now)) (l .more) x rest known),
+      rw (write-if-open .ensures .0, write-if-open .ensures .1, contract-of .ensures)
+          (open-next (a .buys .now) (a .sells .now) (l .prices) _ (waits (a .column .now)) (l .more) x rest known),
     )
 
 -- src/prices.rt:91:1

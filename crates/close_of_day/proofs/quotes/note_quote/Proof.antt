@@ -1,5 +1,4 @@
-use mathlib.Core.Path.{_≡_, sym, _∙_}
-use Rattle.close_of_day.specs.Columns.{quotesAt, betterQuote}
+use mathlib.Core.Path.{sym, _∙_}
 use borrow.Author.Needs.{needs}
 use Rattle.close_of_day.proofs.quotes.note_quote.Statement.{statement}
 use Rattle.close_of_day.proofs.quotes.note_quote.Tie as tie

@@ -15,8 +15,16 @@ sub-t16 : tie.Need-sub-t16
 sub-t16 c = search needs
 
 book-line-requires : tie.Need-book-line-requires
-book-line-requires c κs = let f = c .before .before .before .before .before .before .before .pre .0 in
-    ((f .head-fit .long, f .head-fit .most-members, record { member-below = c .before .before .before .before .before .before .before .pre .1 .3; contract-below = c .before .before .before .before .before .before .before .pre .1 .1; most-price = c .before .before .before .before .before .before .before .pre .1 .2; most-lots = omega (arith, f .most-run) }), ((f .lots-fit, f .value-fit), (c .before .before .before .before .before .before .before .pre .1 .0, f .lines-long)))
+book-line-requires c κs =
+    let pre = c .before .before .before .before .before .before .before .pre in
+    let f = pre .0 in (
+      (
+        f .head-fit .long,
+        f .head-fit .most-members,
+        record { member-below = pre .1 .3; contract-below = pre .1 .1; most-price = pre .1 .2; most-lots = omega (arith, f .most-run) },
+      ),
+      ((f .lots-fit, f .value-fit), (pre .1 .0, f .lines-long)),
+    )
 
 add-result : tie.Need-add-result
 add-result c = search needs
@@ -39,8 +47,16 @@ returns-2 c = let a = c .before .before .before .before .before .before .before 
     (rw one (omega arith), λ t. rw one (c .before .before .before .before .before .book-line .ensures t ∙ sym (each-one (a .i) _ _)))
 
 book-line-requires-2 : tie.Need-book-line-requires-2
-book-line-requires-2 c κs = let f = c .before .before .before .before .before .before .before .pre .0 in
-    ((f .head-fit .long, f .head-fit .most-members, record { member-below = c .before .before .before .before .before .before .before .pre .1 .3; contract-below = c .before .before .before .before .before .before .before .pre .1 .1; most-price = c .before .before .before .before .before .before .before .pre .1 .2; most-lots = omega (arith, f .most-run) }), ((f .lots-fit, f .value-fit), (c .before .before .before .before .before .before .before .pre .1 .0, f .lines-long)))
+book-line-requires-2 c κs =
+    let pre = c .before .before .before .before .before .before .before .pre in
+    let f = pre .0 in (
+      (
+        f .head-fit .long,
+        f .head-fit .most-members,
+        record { member-below = pre .1 .3; contract-below = pre .1 .1; most-price = pre .1 .2; most-lots = omega (arith, f .most-run) },
+      ),
+      ((f .lots-fit, f .value-fit), (pre .1 .0, f .lines-long)),
+    )
 
 add-result-2 : tie.Need-add-result-2
 add-result-2 c = search needs
@@ -58,10 +74,14 @@ same-length-8 : tie.Need-same-length-8
 same-length-8 c = search needs
 
 returns-3 : tie.Need-returns-3
-returns-3 c = let a = c .before .before .before .before .before .before .before .before .before .before .before .before .before .args in
-    let less : a .gain < a .loss = omega (arith, c .before .before .before .before .before .before .before .before .before .before .before .if1 .left, c .before .before .before .before .before .before .before .before .before .before .if2 .left) in
+returns-3 c =
+    let a = c .before .before .before .before .before .before .before .before .before .before .before .before .before .args in
+    let if1 = c .before .before .before .before .before .before .before .before .before .before .before .if1 in
+    let if2 = c .before .before .before .before .before .before .before .before .before .before .if2 in
+    let book-line2 = c .before .before .before .before .before .book-line2 in
+    let less : a .gain < a .loss = omega (arith, if1 .left, if2 .left) in
     let one = more-sold (a .contract) (a .price .0) (a .member) (a .gain) (a .loss) less in
-    (rw one (omega arith), λ t. rw one (c .before .before .before .before .before .book-line2 .ensures t ∙ sym (each-one (a .i) _ _)))
+    (rw one (omega arith), λ t. rw one (book-line2 .ensures t ∙ sym (each-one (a .i) _ _)))
 
 pub book-change-spec : {M : Type 1} → statement M
 book-change-spec =

@@ -63,18 +63,26 @@ loop-less : tie.Need-loop-less Inv-loop μ-loop
 loop-less c = search needs
 
 loop-again : tie.Need-loop-again Inv-loop μ-loop
-loop-again c = let a = c .before .before .before .before .before .before .before .args in
+loop-again c =
+    let a = c .before .before .before .before .before .before .before .args in
     let l = c .before .before .before .before .loop in
     let f : ℕ → ℕ = λ m. lotsIn (a .part) (eqb (getD (a .head .now) (marksFrom + m) 0) 1) (getD (a .lots .now) (rowPlace (a .contract) m) (pos 0)) in
-    let e = c .lots-in .ensures ∙ ap (lotsIn (a .part) (eqb (getD (a .head .now) (marksFrom + l .i) 0) 1)) (back-mag (getD (a .lots .now) (rowPlace (a .contract) (l .i)) (pos 0)) (c .before .lots-in-arg .given)) in
-    (omega arith, simp length-set (l .inv .1), rw e (written-next (l .column) (l .i) _ _ _ (omega arith) (rw (mapped-next (length (a .column .now)) (l .i) f (omega arith)) at (l .inv .2))))
+    let e = c .lots-in .ensures ∙ ap (lotsIn (a .part) (eqb (getD (a .head .now) (marksFrom + l .i) 0) 1))
+    (back-mag (getD (a .lots .now) (rowPlace (a .contract) (l .i)) (pos 0)) (c .before .lots-in-arg .given)) in (
+      omega arith,
+      simp length-set (l .inv .1),
+      rw e (written-next (l .column) (l .i) _ _ _ (omega arith) (rw (mapped-next (length (a .column .now)) (l .i) f (omega arith)) at (l .inv .2))),
+    )
 
 same-length : tie.Need-same-length Inv-loop μ-loop
 same-length c = omega arith
 
 returns : tie.Need-returns Inv-loop μ-loop
 unfolding columnOf
-returns c = λ t v. rw (← c .before .before .before .before .pre .1 .0) (written-end (c .before .loop .column) (c .before .loop .i) _ _ (omega arith) (mapped-end _ (c .before .loop .i) _ (omega arith)) (c .before .loop .inv .2))
+returns c =
+    let pre = c .before .before .before .before .pre in
+    λ t v. rw (← pre .1 .0) (written-end (c .before .loop .column) (c .before .loop .i) _ _ (omega arith) (mapped-end _ (c .before .loop .i) _ (omega arith))
+    (c .before .loop .inv .2))
 
 pub read-column-spec : {M : Type 1} → statement M
 read-column-spec =

@@ -14,10 +14,16 @@ short-lots-requires : tie.Need-short-lots-requires
 short-lots-requires c κs = search needs
 
 add-result : tie.Need-add-result
-add-result c = let f = c .before .before .fits .net in omega (arith, size-most (c .before .before .args .net) f, c .before .long-lots .ensures ∙ ap up (toZ-ofZ f), c .short-lots .ensures ∙ ap dn (toZ-ofZ f))
+add-result c =
+    let fits = c .before .before .fits in
+    let args = c .before .before .args in
+    let f = fits .net in omega (arith, size-most (args .net) f, c .before .long-lots .ensures ∙ ap up (toZ-ofZ f), c .short-lots .ensures ∙ ap dn (toZ-ofZ f))
 
 returns : tie.Need-returns
-returns c = let f = c .before .before .fits .net in omega (arith, size-parts (c .before .before .args .net), c .before .long-lots .ensures ∙ ap up (toZ-ofZ f), c .short-lots .ensures ∙ ap dn (toZ-ofZ f))
+returns c =
+    let fits = c .before .before .fits in
+    let args = c .before .before .args in
+    let f = fits .net in omega (arith, size-parts (args .net), c .before .long-lots .ensures ∙ ap up (toZ-ofZ f), c .short-lots .ensures ∙ ap dn (toZ-ofZ f))
 
 pub size-spec : {M : Type 1} → statement M
 size-spec = tie.close (tie.spec long-lots-requires short-lots-requires add-result returns)

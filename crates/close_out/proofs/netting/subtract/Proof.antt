@@ -32,7 +32,11 @@ shared-slice-read-left : tie.Need-shared-slice-read-left Inv-loop μ-loop
 shared-slice-read-left c = search needs
 
 sub-left : tie.Need-sub-left Inv-loop μ-loop
-sub-left c = let l = c .before .before .before .loop in omega (arith, still-at (l .held) (c .before .before .before .before .args .held .now) (l .i) (l .inv .2), c .before .before .before .before .pre .1 (l .i))
+sub-left c =
+    let pre = c .before .before .before .before .pre in
+    let args = c .before .before .before .before .args in
+    let l = c .before .before .before .loop in
+    omega (arith, still-at (l .held) (args .held .now) (l .i) (l .inv .2), pre .1 (l .i))
 
 mul-held : tie.Need-mul-held Inv-loop μ-loop
 mul-held c = search needs
@@ -47,12 +51,15 @@ loop-less : tie.Need-loop-less Inv-loop μ-loop
 loop-less c = search needs
 
 loop-again : tie.Need-loop-again Inv-loop μ-loop
-loop-again c = let a = c .before .before .before .before .args in
+loop-again c =
+    let pre = c .before .before .before .before .pre in
+    let a = c .before .before .before .before .args in
     let l = c .before .before .before .loop in (
       omega arith,
       simp length-set (l .inv .1),
       still-after (l .held) (a .held .now) (l .i) (l .inv .2) _,
-      written-next (l .held) (l .i) _ _ _ (omega arith) (rw (left-next (l .held) (a .held .now) (l .i) (l .inv .2) (a .given .now) (omega arith) (omega (arith, c .before .before .before .before .pre .0))) at (l .inv .3)),
+      written-next (l .held) (l .i) _ _ _ (omega arith)
+          (rw (left-next (l .held) (a .held .now) (l .i) (l .inv .2) (a .given .now) (omega arith) (omega (arith, pre .0))) at (l .inv .3)),
     )
 
 same-length : tie.Need-same-length Inv-loop μ-loop

@@ -1,18 +1,23 @@
 use native.Mathlib.Omega.{arith}
 use borrow.Author.Needs.{needs}
-use Rattle.close_out.proofs.Takes.{less-room}
+use Rattle.tables.proofs.Takes.{less-room}
 use Rattle.close_out.proofs.StepBooking.{left-column, second-requires, takers-requires, finish, done}
 use Rattle.close_out.proofs.steps.book_steps.Statement.{statement}
 use Rattle.close_out.proofs.steps.book_steps.Tie as tie
 
 book-netting-requires : tie.Need-book-netting-requires
-book-netting-requires c κs = let d = c .before .before .before .before .before .before .before .before .before .before .pre .1 in
-    (less-room _ _ (omega arith) (c .before .before .before .before .before .before .before .before .before .before .pre .0 .0), (c .before .before .before .before .before .before .before .before .before .before .pre .0 .1, c .before .before .before .before .before .before .before .before .before .before .pre .0 .2, d .longs-length, d .shorts-length))
+book-netting-requires c κs =
+    let pre = c .before .before .before .before .before .before .before .before .before .before .pre in
+    let d = pre .1 in
+    (less-room _ _ (omega arith) (pre .0 .0), (pre .0 .1, pre .0 .2, d .longs-length, d .shorts-length))
 
 book-changes-requires : tie.Need-book-changes-requires
-book-changes-requires c κs = let a = c .before .before .before .before .before .before .before .before .before .before .before .before .before .before .before .before .before .before .before .before .before .before .before .before .before .before .args in
-    let n = c .before .before .before .before .before .before .before .before .before .before .before .before .before .before .before .book-netting .ensures in
-    second-requires (a .contract) (a .price .0) (a .netted) (a .left) (a .longs .now) (a .shorts .now) (a .weights .now) (c .before .before .before .before .before .before .before .before .before .before .before .before .before .before .before .before .before .before .before .before .before .before .before .before .before .before .pre .0 .1) (c .before .before .before .before .before .before .before .before .before .before .before .before .before .before .before .before .before .before .before .before .before .before .before .before .before .before .pre .0 .2) _ _ _ _ (c .before .before .before .before .before .before .before .before .before .before .before .before .before .before .before .before .before .before .before .before .before .before .before .before .before .before .pre .0 .0) (c .before .before .before .before .before .before .before .before .before .before .before .before .before .before .before .before .before .before .before .before .before .before .before .before .before .before .pre .1)
+book-changes-requires c κs =
+    let pre = c .before .before .before .before .before .before .before .before .before .before .before .before .before .before .before .before .before .before .before .before .before .before .before .before .before .before .pre in
+    let a = c .before .before .before .before .before .before .before .before .before .before .before .before .before .before .before .before .before .before .before .before .before .before .before .before .before .before .args in
+    let book-netting = c .before .before .before .before .before .before .before .before .before .before .before .before .before .before .before .book-netting in
+    let n = book-netting .ensures in
+    second-requires (a .contract) (a .price .0) (a .netted) (a .left) (a .longs .now) (a .shorts .now) (a .weights .now) (pre .0 .1) (pre .0 .2) _ _ _ _ (pre .0 .0) (pre .1)
     _ _ _ _ _ _ _ (n .0) (n .1 .0) (n .1 .1 .0) (n .1 .1 .1)
 
 same-length : tie.Need-same-length
@@ -34,23 +39,35 @@ same-length-6 : tie.Need-same-length-6
 same-length-6 c = search needs
 
 returns : tie.Need-returns
-returns c = let a = c .before .before .before .before .before .before .before .before .before .before .before .before .before .before .before .before .before .before .before .before .before .before .before .before .before .before .before .before .before .before .before .before .before .args in
-    let n = c .before .before .before .before .before .before .before .before .before .before .before .before .before .before .before .before .before .before .before .before .before .before .book-netting .ensures in
-    let b = c .before .before .before .before .before .before .book-changes .ensures in
+returns c =
+    let pre = c .before .before .before .before .before .before .before .before .before .before .before .before .before .before .before .before .before .before .before .before .before .before .before .before .before .before .before .before .before .before .before .before .before .pre in
+    let a = c .before .before .before .before .before .before .before .before .before .before .before .before .before .before .before .before .before .before .before .before .before .before .before .before .before .before .before .before .before .before .before .before .before .args in
+    let book-netting = c .before .before .before .before .before .before .before .before .before .before .before .before .before .before .before .before .before .before .before .before .before .before .book-netting in
+    let book-changes = c .before .before .before .before .before .before .book-changes in
+    let n = book-netting .ensures in
+    let b = book-changes .ensures in
     let all =
-    done (a .contract) (a .price .0) (a .netted) (a .left) (a .longs .now) (a .shorts .now) (a .weights .now) (c .before .before .before .before .before .before .before .before .before .before .before .before .before .before .before .before .before .before .before .before .before .before .before .before .before .before .before .before .before .before .before .before .before .pre .0 .1) (c .before .before .before .before .before .before .before .before .before .before .before .before .before .before .before .before .before .before .before .before .before .before .before .before .before .before .before .before .before .before .before .before .before .pre .0 .2) _ _ _ _ (c .before .before .before .before .before .before .before .before .before .before .before .before .before .before .before .before .before .before .before .before .before .before .before .before .before .before .before .before .before .before .before .before .before .pre .0 .0) (c .before .before .before .before .before .before .before .before .before .before .before .before .before .before .before .before .before .before .before .before .before .before .before .before .before .before .before .before .before .before .before .before .before .pre .1)
+    done (a .contract) (a .price .0) (a .netted) (a .left) (a .longs .now) (a .shorts .now) (a .weights .now) (pre .0 .1) (pre .0 .2) _ _ _ _ (pre .0 .0) (pre .1)
     _ _ _ _ _ _ _ (n .0) (n .1 .0) (n .1 .1 .0) (n .1 .1 .1) _ _ _ _ _ (b .0) (b .1) (c .if1 .taken) in
     (all .0, (n .1 .0, (n .1 .1 .0, all .1)))
 
 sum-of-requires : tie.Need-sum-of-requires
-sum-of-requires c κs = left-column _ _ _ (c .before .before .before .before .before .before .before .before .before .before .before .before .before .before .before .before .before .before .before .before .before .before .before .book-netting .ensures .1 .0) (c .before .before .before .before .before .before .before .before .before .before .before .before .before .before .before .before .before .before .before .before .before .before .before .before .before .before .before .before .before .before .before .before .before .before .pre .1 .longs-column)
+sum-of-requires c κs =
+    let pre = c .before .before .before .before .before .before .before .before .before .before .before .before .before .before .before .before .before .before .before .before .before .before .before .before .before .before .before .before .before .before .before .before .before .before .pre in
+    let book-netting = c .before .before .before .before .before .before .before .before .before .before .before .before .before .before .before .before .before .before .before .before .before .before .before .book-netting in
+    left-column _ _ _ (book-netting .ensures .1 .0) (pre .1 .longs-column)
 
 book-takers-requires : tie.Need-book-takers-requires
-book-takers-requires c κs = let a = c .before .before .before .before .before .before .before .before .before .before .before .before .before .before .before .before .before .before .before .before .before .before .before .before .before .before .before .before .before .before .before .before .before .before .before .before .before .before .before .args in
-    let n = c .before .before .before .before .before .before .before .before .before .before .before .before .before .before .before .before .before .before .before .before .before .before .before .before .before .before .before .before .book-netting .ensures in
-    let b = c .before .before .before .before .before .before .before .before .before .before .before .before .book-changes .ensures in
-    takers-requires (a .contract) (a .price .0) (a .netted) (a .left) (a .longs .now) (a .shorts .now) (a .weights .now) (c .before .before .before .before .before .before .before .before .before .before .before .before .before .before .before .before .before .before .before .before .before .before .before .before .before .before .before .before .before .before .before .before .before .before .before .before .before .before .before .pre .0 .1) (c .before .before .before .before .before .before .before .before .before .before .before .before .before .before .before .before .before .before .before .before .before .before .before .before .before .before .before .before .before .before .before .before .before .before .before .before .before .before .before .pre .0 .2) _ _ _ _ (c .before .before .before .before .before .before .before .before .before .before .before .before .before .before .before .before .before .before .before .before .before .before .before .before .before .before .before .before .before .before .before .before .before .before .before .before .before .before .before .pre .0 .0) (c .before .before .before .before .before .before .before .before .before .before .before .before .before .before .before .before .before .before .before .before .before .before .before .before .before .before .before .before .before .before .before .before .before .before .before .before .before .before .before .pre .1)
-    _ _ _ _ _ _ _ (n .0) (n .1 .0) (n .1 .1 .0) (n .1 .1 .1) _ _ _ _ _ (b .0) (b .1) (omega (arith, c .before .before .before .before .before .before .if1 .left))
+book-takers-requires c κs =
+    let pre = c .before .before .before .before .before .before .before .before .before .before .before .before .before .before .before .before .before .before .before .before .before .before .before .before .before .before .before .before .before .before .before .before .before .before .before .before .before .before .before .pre in
+    let a = c .before .before .before .before .before .before .before .before .before .before .before .before .before .before .before .before .before .before .before .before .before .before .before .before .before .before .before .before .before .before .before .before .before .before .before .before .before .before .before .args in
+    let book-netting = c .before .before .before .before .before .before .before .before .before .before .before .before .before .before .before .before .before .before .before .before .before .before .before .before .before .before .before .before .book-netting in
+    let book-changes = c .before .before .before .before .before .before .before .before .before .before .before .before .book-changes in
+    let if1 = c .before .before .before .before .before .before .if1 in
+    let n = book-netting .ensures in
+    let b = book-changes .ensures in
+    takers-requires (a .contract) (a .price .0) (a .netted) (a .left) (a .longs .now) (a .shorts .now) (a .weights .now) (pre .0 .1) (pre .0 .2) _ _ _ _ (pre .0 .0) (pre .1)
+    _ _ _ _ _ _ _ (n .0) (n .1 .0) (n .1 .1 .0) (n .1 .1 .1) _ _ _ _ _ (b .0) (b .1) (omega (arith, if1 .left))
 
 same-length-7 : tie.Need-same-length-7
 same-length-7 c = search needs
@@ -71,13 +88,19 @@ same-length-12 : tie.Need-same-length-12
 same-length-12 c = search needs
 
 returns-2 : tie.Need-returns-2
-returns-2 c = let a = c .before .before .before .before .before .before .before .before .before .before .before .before .before .before .before .before .before .before .before .before .before .before .before .before .before .before .before .before .before .before .before .before .before .before .before .before .before .before .before .before .before .before .before .before .before .args in
-    let n = c .before .before .before .before .before .before .before .before .before .before .before .before .before .before .before .before .before .before .before .before .before .before .before .before .before .before .before .before .before .before .before .before .before .before .book-netting .ensures in
-    let b = c .before .before .before .before .before .before .before .before .before .before .before .before .before .before .before .before .before .before .book-changes .ensures in
-    let k = c .before .before .before .before .before .book-takers .ensures in
+returns-2 c =
+    let pre = c .before .before .before .before .before .before .before .before .before .before .before .before .before .before .before .before .before .before .before .before .before .before .before .before .before .before .before .before .before .before .before .before .before .before .before .before .before .before .before .before .before .before .before .before .before .pre in
+    let a = c .before .before .before .before .before .before .before .before .before .before .before .before .before .before .before .before .before .before .before .before .before .before .before .before .before .before .before .before .before .before .before .before .before .before .before .before .before .before .before .before .before .before .before .before .before .args in
+    let book-netting = c .before .before .before .before .before .before .before .before .before .before .before .before .before .before .before .before .before .before .before .before .before .before .before .before .before .before .before .before .before .before .before .before .before .before .book-netting in
+    let book-changes = c .before .before .before .before .before .before .before .before .before .before .before .before .before .before .before .before .before .before .book-changes in
+    let sum-of = c .before .before .before .before .before .before .before .before .before .before .sum-of in
+    let book-takers = c .before .before .before .before .before .book-takers in
+    let n = book-netting .ensures in
+    let b = book-changes .ensures in
+    let k = book-takers .ensures in
     let all =
-    finish (a .contract) (a .price .0) (a .netted) (a .left) (a .longs .now) (a .shorts .now) (a .weights .now) (c .before .before .before .before .before .before .before .before .before .before .before .before .before .before .before .before .before .before .before .before .before .before .before .before .before .before .before .before .before .before .before .before .before .before .before .before .before .before .before .before .before .before .before .before .before .pre .0 .1) (c .before .before .before .before .before .before .before .before .before .before .before .before .before .before .before .before .before .before .before .before .before .before .before .before .before .before .before .before .before .before .before .before .before .before .before .before .before .before .before .before .before .before .before .before .before .pre .0 .2) _ _ _ _ (c .before .before .before .before .before .before .before .before .before .before .before .before .before .before .before .before .before .before .before .before .before .before .before .before .before .before .before .before .before .before .before .before .before .before .before .before .before .before .before .before .before .before .before .before .before .pre .0 .0) (c .before .before .before .before .before .before .before .before .before .before .before .before .before .before .before .before .before .before .before .before .before .before .before .before .before .before .before .before .before .before .before .before .before .before .before .before .before .before .before .before .before .before .before .before .before .pre .1)
-    _ _ _ _ _ _ _ (n .0) (n .1 .0) (n .1 .1 .0) (n .1 .1 .1) _ _ _ _ _ (b .0) (b .1) _ (c .before .before .before .before .before .before .before .before .before .before .sum-of .ensures) _ _ _ _ _ (k .0) (k .1) in
+    finish (a .contract) (a .price .0) (a .netted) (a .left) (a .longs .now) (a .shorts .now) (a .weights .now) (pre .0 .1) (pre .0 .2) _ _ _ _ (pre .0 .0) (pre .1)
+    _ _ _ _ _ _ _ (n .0) (n .1 .0) (n .1 .1 .0) (n .1 .1 .1) _ _ _ _ _ (b .0) (b .1) _ (sum-of .ensures) _ _ _ _ _ (k .0) (k .1) in
     (all .0, (n .1 .0, (n .1 .1 .0, all .1)))
 
 pub book-steps-spec : {M : Type 1} → statement M

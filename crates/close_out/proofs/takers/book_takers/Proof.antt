@@ -18,7 +18,18 @@ slice-aggregate-deal-columns-2 : tie.Need-slice-aggregate-deal-columns-2
 slice-aggregate-deal-columns-2 c = simp length-take (omega (arith, c .before .before .before .before .before .before .before .before .pre .0 .1 .few))
 
 deal-columns-requires : tie.Need-deal-columns-requires
-deal-columns-requires c κs = (c .before .before .before .before .before .before .before .before .pre .0, (c .before .before .before .before .before .before .before .before .pre .1, (simp length-take (omega (arith, c .before .before .before .before .before .before .before .before .pre .0 .1 .few, c .before .before .before .before .before .before .before .before .pre .1 .3)), rw (← c .before .before .before .before .before .before .before .before .pre .1 .3) (zeros-front (length (c .before .before .before .before .before .before .before .before .args .weights .now)) 32 (omega (arith, c .before .before .before .before .before .before .before .before .pre .0 .1 .few))))))
+deal-columns-requires c κs =
+    let pre = c .before .before .before .before .before .before .before .before .pre in
+    let args = c .before .before .before .before .before .before .before .before .args in (
+      pre .0,
+      (
+        pre .1,
+        (
+          simp length-take (omega (arith, pre .0 .1 .few, pre .1 .3)),
+          rw (← pre .1 .3) (zeros-front (length (args .weights .now)) 32 (omega (arith, pre .0 .1 .few))),
+        ),
+      ),
+    )
 
 same-length : tie.Need-same-length
 same-length c = search needs

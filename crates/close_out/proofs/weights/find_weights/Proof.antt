@@ -20,25 +20,36 @@ mul-if1 : tie.Need-mul-if1
 mul-if1 c = search needs
 
 sum-of-requires : tie.Need-sum-of-requires
-sum-of-requires c κs = let a = c .before .before .before .before .before .before .before .args in
-    rw (c .before .before .before .read-column .ensures blank []) (column-fits (withHead (a .head .now) (withRows (a .lots .now) [] blank)) (c .before .before .before .before .before .before .before .pre .0 .0 .most-members) (c .before .before .before .before .before .before .before .pre .0 .1) Others (a .e .contract) (c .before .before .before .before .before .before .before .pre .1 .0))
+sum-of-requires c κs =
+    let pre = c .before .before .before .before .before .before .before .pre in
+    let a = c .before .before .before .before .before .before .before .args in
+    let read-column = c .before .before .before .read-column in
+    rw (read-column .ensures blank [])
+    (column-fits (withHead (a .head .now) (withRows (a .lots .now) [] blank)) (pre .0 .0 .most-members) (pre .0 .1) Others (a .e .contract) (pre .1 .0))
 
 mul-if1-2 : tie.Need-mul-if1-2
-mul-if1-2 c = let a = c .before .before .before .before .before .before .before .before .args in
+mul-if1-2 c =
+    let pre = c .before .before .before .before .before .before .before .before .pre in
+    let a = c .before .before .before .before .before .before .before .before .args in
+    let read-column = c .before .before .before .before .read-column in
     let t = withHead (a .head .now) (withRows (a .lots .now) [] blank) in
-    let most : c .sum-of .result ≤ mostMembers * mostWeight = rw (c .sum-of .ensures, c .before .before .before .before .read-column .ensures blank []) (sum-fits _ (column-fits t (c .before .before .before .before .before .before .before .before .pre .0 .0 .most-members) (c .before .before .before .before .before .before .before .before .pre .0 .1) Others (a .e .contract) (c .before .before .before .before .before .before .before .before .pre .1 .0))) in
-    omega (arith, mul-le-mul (c .before .before .before .before .before .before .before .before .pre .1 .1) most)
+    let most : c .sum-of .result ≤ mostMembers * mostWeight =
+    rw (c .sum-of .ensures, read-column .ensures blank []) (sum-fits _ (column-fits t (pre .0 .0 .most-members) (pre .0 .1) Others (a .e .contract) (pre .1 .0))) in
+    omega (arith, mul-le-mul (pre .1 .1) most)
 
 same-length : tie.Need-same-length
 same-length c = search needs
 
 returns : tie.Need-returns
-returns c = let a = c .before .before .before .before .before .before .before .before .before .args in
-    let r = c .before .before .before .before .before .read-column .ensures in
+returns c =
+    let pre = c .before .before .before .before .before .before .before .before .before .pre in
+    let a = c .before .before .before .before .before .before .before .before .before .args in
+    let read-column = c .before .before .before .before .before .read-column in
+    let r = read-column .ensures in
     let s = withHead (a .head .now) (withRows (a .lots .now) [] blank) in (
       λ t v k. let u = withHead (a .head .now) (withRows (a .lots .now) v t) in
           r t v ∙ weights-here u (a .e) (a .left) k (rw (← r t v, ← c .before .sum-of .ensures) (c .if1 .taken)),
-      rw (r blank []) (column-fits s (c .before .before .before .before .before .before .before .before .before .pre .0 .0 .most-members) (c .before .before .before .before .before .before .before .before .before .pre .0 .1) Others (a .e .contract) (c .before .before .before .before .before .before .before .before .before .pre .1 .0)),
+      rw (r blank []) (column-fits s (pre .0 .0 .most-members) (pre .0 .1) Others (a .e .contract) (pre .1 .0)),
     )
 
 weigh-by-days-requires : tie.Need-weigh-by-days-requires
@@ -48,13 +59,19 @@ same-length-2 : tie.Need-same-length-2
 same-length-2 c = search needs
 
 returns-2 : tie.Need-returns-2
-returns-2 c = let a = c .before .before .before .before .before .before .before .before .before .before .before .before .before .args in
-    let r = c .before .before .before .before .before .before .before .before .before .read-column .ensures in
-    let w = c .before .before .weigh-by-days .ensures in
+returns-2 c =
+    let pre = c .before .before .before .before .before .before .before .before .before .before .before .before .before .pre in
+    let a = c .before .before .before .before .before .before .before .before .before .before .before .before .before .args in
+    let read-column = c .before .before .before .before .before .before .before .before .before .read-column in
+    let sum-of = c .before .before .before .before .before .sum-of in
+    let if1 = c .before .before .before .before .if1 in
+    let weigh-by-days = c .before .before .weigh-by-days in
+    let r = read-column .ensures in
+    let w = weigh-by-days .ensures in
     let s = withHead (a .head .now) (withRows (a .lots .now) [] blank) in (
       λ t v k. let u = withHead (a .head .now) (withRows (a .lots .now) v t) in
-          w t v ∙ weights-days u (a .e) (a .left) k (rw (← r t v, ← c .before .before .before .before .before .sum-of .ensures) (c .before .before .before .before .if1 .left)),
-      rw (w blank []) (days-column s (c .before .before .before .before .before .before .before .before .before .before .before .before .before .pre .0 .0 .most-members) (c .before .before .before .before .before .before .before .before .before .before .before .before .before .pre .0 .1)),
+          w t v ∙ weights-days u (a .e) (a .left) k (rw (← r t v, ← sum-of .ensures) (if1 .left)),
+      rw (w blank []) (days-column s (pre .0 .0 .most-members) (pre .0 .1)),
     )
 
 pub find-weights-spec : {M : Type 1} → statement M

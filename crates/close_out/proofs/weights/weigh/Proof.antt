@@ -1,86 +1,49 @@
-use Prim.Native.Nat.{ℕ, _+_, _-_, _≤_}
-use mathlib.Core.Path.{_≡_, _∙_}
-use mathlib.Core.Bool.{cond}
-use mathlib.Core.List.{_++_, map}
-use mathlib.Core.Logic.{⊎-elim}
+use Prim.Native.Nat.{_+_}
+use mathlib.Core.Path.{_≡_, ap, _∙_}
 use native.Mathlib.Omega.{arith}
-use native.Mathlib.Nat.{sub-zero}
 use lib.Dec.{eqb}
-use lib.ListN.{length, getD, take, length-set}
+use lib.ListN.{length, getD, replicate, length-replicate}
 use borrow.Author.Needs.{needs}
-use borrow.Author.Tests.{eq-eqb, ne-eqb}
-use Rattle.arith.proofs.Columns.{mapped-next, mapped-end, written-next, written-end}
-use Rattle.arith.specs.Lists.{from}
+use Rattle.arith.proofs.Columns.{mapped-length}
 use Rattle.rules.specs.Ledger.{marksFrom}
-use Rattle.tables.specs.Fit.{membersIn}
-use Rattle.close_out.specs.Columns.{weightBy}
+use Rattle.rules.specs.Ranges.{mostLotsRun}
+use Rattle.tables.specs.Fit.{RowsFit, membersIn}
+use Rattle.close_out.proofs.DayWeights.{sums-read}
 use Rattle.close_out.proofs.weights.weigh.Statement.{statement}
 use Rattle.close_out.proofs.weights.weigh.Tie as tie
 
-abbrev Inv-loop : tie.InvT-loop
-Inv-loop head lots days weights₀ i₀ weights i = (i ≤ membersIn head) × (length weights ≡ membersIn head)
-    × (take i weights ++ map (λ m. cond (eqb (getD head (marksFrom + m) 0) 1) 0 (weightBy days lots m)) (from i (membersIn head - i))
-    ≡ map (λ m. cond (eqb (getD head (marksFrom + m) 0) 1) 0 (weightBy days lots m)) (from 0 (membersIn head)))
+add-contracts-requires : tie.Need-add-contracts-requires
+add-contracts-requires c κs =
+    let start = c .before .before .before .before .before in
+    let a = start .args in
+    let e : length (a .sums .now) ≡ membersIn (a .head .now) = ap length (start .pre .0 .3) ∙ length-replicate _ _ in
+    let fit : RowsFit (length (a .sums .now)) mostLotsRun (a .lots .now) = rw e (start .pre .0 .1) in
+    let zeros : a .sums .now ≡ replicate (length (a .sums .now)) 0 = rw e (start .pre .0 .3) in
+    (start .pre .1, (fit, omega (arith, start .pre .0 .0 .most-members), zeros))
 
-abbrev μ-loop : tie.MeasureT-loop
-μ-loop head lots days weights₀ i₀ weights i = membersIn head - i
+write-weights-requires : tie.Need-write-weights-requires
+write-weights-requires c κs =
+    let start = c .before .before .before .before .before .before .before .before .before .before in
+    let e = ap length (start .pre .0 .3) ∙ length-replicate _ _ in
+    (start .pre .0 .0, ap length (c .before .before .before .before .add-contracts .ensures) ∙ mapped-length _ 0 _ ∙ e, start .pre .0 .2)
 
-loop-holds : tie.Need-loop-holds Inv-loop μ-loop
-loop-holds c = (omega arith, c .before .before .before .pre .0 .2, rw (sub-zero (membersIn (c .before .before .before .args .head .now))))
+same-length : tie.Need-same-length
+same-length c = search needs
 
-add-if1 : tie.Need-add-if1 Inv-loop μ-loop
-add-if1 c = search needs
+same-length-2 : tie.Need-same-length-2
+same-length-2 c = search needs
 
-mul-if1 : tie.Need-mul-if1 Inv-loop μ-loop
-mul-if1 c = search needs
-
-shared-slice-read-if1 : tie.Need-shared-slice-read-if1 Inv-loop μ-loop
-shared-slice-read-if1 c = search needs
-
-weight-by-requires : tie.Need-weight-by-requires Inv-loop μ-loop
-weight-by-requires c κs = let f = c .before .before .before .before .before .before .before .pre .0 .1 in
-    ((c .before .before .before .before .before .before .before .pre .1 .0, c .before .before .before .before .before .before .before .pre .1 .1), (omega (arith, c .before .before .before .before .before .before .before .pre .0 .0 .most-members), record { long = f .long; within = λ k m p q. f .within k m p (omega arith) }))
-
-mul-weights : tie.Need-mul-weights Inv-loop μ-loop
-mul-weights c = search needs
-
-slice-write-weights : tie.Need-slice-write-weights Inv-loop μ-loop
-slice-write-weights c = search needs
-
-add-i : tie.Need-add-i Inv-loop μ-loop
-add-i c = search needs
-
-loop-less : tie.Need-loop-less Inv-loop μ-loop
-loop-less c = search needs
-
-loop-again : tie.Need-loop-again Inv-loop μ-loop
-loop-again c = let a = c .before .before .before .before .before .before .before .args in
-    let l = c .before .before .before .loop in
-    let f : ℕ → ℕ = λ m. cond (eqb (getD (a .head .now) (marksFrom + m) 0) 1) 0 (weightBy (a .days .now) (a .lots .now) m) in
-    let e : c .if1 .weights ≡ f (l .i) = ⊎-elim (λ w. w .1 ∙ rw (eq-eqb _ _ (w .0 .taken))) (λ w. w .2 ∙ w .1 .ensures ∙ rw (ne-eqb _ _ (w .0 .left))) (c .if1 .came) in
-    (omega arith, simp length-set (l .inv .1), rw e (written-next (l .weights) (l .i) _ _ _ (omega arith) (rw (mapped-next (membersIn (a .head .now)) (l .i) f (omega arith)) at (l .inv .2))))
-
-same-length : tie.Need-same-length Inv-loop μ-loop
-same-length c = omega arith
-
-returns : tie.Need-returns Inv-loop μ-loop
-returns c = written-end (c .before .loop .weights) (c .before .loop .i) _ _ (omega arith) (mapped-end _ (c .before .loop .i) _ (omega arith)) (c .before .loop .inv .2)
+returns : tie.Need-returns
+returns c =
+    let start = c .before .before .before .before .before .before .before .before .before .before .before .before .before in
+    let add-contracts = c .before .before .before .before .before .before .before .add-contracts in
+    let write-weights = c .before .before .write-weights in
+    let a = start .args in
+    let e : length (a .sums .now) ≡ membersIn (a .head .now) = ap length (start .pre .0 .3) ∙ length-replicate _ _ in
+    write-weights .ensures
+    ∙ sums-read (a .days .now) (a .lots .now) (membersIn (a .head .now)) (λ m. eqb (getD (a .head .now) (marksFrom + m) 0) 1) _ (rw e at (add-contracts .ensures))
 
 pub weigh-spec : {M : Type 1} → statement M
 weigh-spec =
     tie.close
-    (tie.spec
-    Inv-loop
-    μ-loop
-    loop-holds
-    add-if1
-    mul-if1
-    shared-slice-read-if1
-    weight-by-requires
-    mul-weights
-    slice-write-weights
-    add-i
-    loop-less
-    loop-again
-    same-length
-    returns)
+    (tie.spec add-contracts-requires write-weights-requires same-length same-length-2 returns)

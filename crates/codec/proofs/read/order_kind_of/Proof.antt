@@ -1,4 +1,3 @@
-use borrow.Author.Needs.{needs}
 use Rattle.arith.proofs.Tests.{tests}
 use Rattle.codec.proofs.read.order_kind_of.Statement.{statement}
 use Rattle.codec.proofs.read.order_kind_of.Tie as tie

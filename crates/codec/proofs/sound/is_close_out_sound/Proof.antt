@@ -1,4 +1,3 @@
-use borrow.Author.Needs.{needs}
 use Rattle.arith.proofs.Tests.{and-true}
 use Rattle.rules.specs.Records.{eventSound}
 use Rattle.codec.proofs.sound.is_close_out_sound.Statement.{statement}

@@ -1,4 +1,3 @@
-use native.Mathlib.Omega.{arith}
 use Rattle.arith.specs.Lists.{from}
 use Rattle.rules.specs.Records.{recordLength}
 use Rattle.codec.specs.Columns.{legRows}

@@ -40,7 +40,8 @@ same-length c = search needs
 returns : tie.Need-returns
 unfolding fieldBytes u16Bytes u32Bytes
 returns c =
-    let at-31 = c .before .before .before .before .before .before .before .before .before .before .before .before .before .before .before .before .before .before .before .before .before .before .before .before .before .before .before .before .before .before .before in
+    let earlier = c .before .before .before .before .before .before .before .before .before .before in
+    let at-31 = earlier .before .before .before .before .before .before .before .before .before .before .before .before .before .before .before .before .before .before .before .before .before in
     let start = at-31 in
     let lots = c .before .before in
     let price = lots .before .before .before .before in

@@ -36,11 +36,18 @@ record-length-requires c κs =
 
 returns-3 : tie.Need-returns-3
 returns-3 c =
-    let e = c .before .before .before .before .before .before .before .before .before .args .event in
-    let few = asked-true (c .before .before .before .before .before .before .before .is-member-count-sound .ensures) (c .before .before .before .before .before .before .if1 .left) in
-    let sized = rw (c .before .before .before .kind-number .ensures .0, c .before .before .leg-count .ensures) at (c .before .record-length .ensures) in
-    let whole = length-record e (legRows (legCount e) (c .before .before .before .before .before .before .before .before .before .args .legs)) (length-rows (legCount e) (c .before .before .before .before .before .before .before .before .before .args .legs)) in
-    write-short _ _ _ _ few (asked-true (c .before .before .before .before .before .is-event-sound .ensures) (c .before .before .before .before .if2 .left)) (omega (arith, sized, whole))
+    let args = c .before .before .before .before .before .before .before .before .before .args in
+    let is-member-count-sound = c .before .before .before .before .before .before .before .is-member-count-sound in
+    let if1 = c .before .before .before .before .before .before .if1 in
+    let is-event-sound = c .before .before .before .before .before .is-event-sound in
+    let if2 = c .before .before .before .before .if2 in
+    let kind-number = c .before .before .before .kind-number in
+    let leg-count = c .before .before .leg-count in
+    let e = args .event in
+    let few = asked-true (is-member-count-sound .ensures) (if1 .left) in
+    let sized = rw (kind-number .ensures .0, leg-count .ensures) at (c .before .record-length .ensures) in
+    let whole = length-record e (legRows (legCount e) (args .legs)) (length-rows (legCount e) (args .legs)) in
+    write-short _ _ _ _ few (asked-true (is-event-sound .ensures) (if2 .left)) (omega (arith, sized, whole))
 
 put-u8-requires : tie.Need-put-u8-requires
 put-u8-requires c κs =
@@ -49,9 +56,16 @@ put-u8-requires c κs =
 
 put-fields-requires : tie.Need-put-fields-requires
 put-fields-requires c κs =
-    let few = asked-true (c .before .before .before .before .before .before .before .before .before .before .before .before .is-member-count-sound .ensures) (c .before .before .before .before .before .before .before .before .before .before .before .if1 .left) in
-    let sized = rw (c .before .before .before .before .before .before .before .before .kind-number .ensures .0, c .before .before .before .before .before .before .before .leg-count .ensures) at (c .before .before .before .before .before .before .record-length .ensures) in
-    (omega (arith, sized), one-byte _ few _ _ (asked-true (c .before .before .before .before .before .before .before .before .before .before .is-event-sound .ensures) (c .before .before .before .before .before .before .before .before .before .if2 .left)))
+    let is-member-count-sound = c .before .before .before .before .before .before .before .before .before .before .before .before .is-member-count-sound in
+    let if1 = c .before .before .before .before .before .before .before .before .before .before .before .if1 in
+    let is-event-sound = c .before .before .before .before .before .before .before .before .before .before .is-event-sound in
+    let if2 = c .before .before .before .before .before .before .before .before .before .if2 in
+    let kind-number = c .before .before .before .before .before .before .before .before .kind-number in
+    let leg-count = c .before .before .before .before .before .before .before .leg-count in
+    let record-length = c .before .before .before .before .before .before .record-length in
+    let few = asked-true (is-member-count-sound .ensures) (if1 .left) in
+    let sized = rw (kind-number .ensures .0, leg-count .ensures) at (record-length .ensures) in
+    (omega (arith, sized), one-byte _ few _ _ (asked-true (is-event-sound .ensures) (if2 .left)))
 
 same-length : tie.Need-same-length
 same-length c = search needs
@@ -59,13 +73,22 @@ same-length c = search needs
 returns-4 : tie.Need-returns-4
 returns-4 c =
     let a = c .before .before .before .before .before .before .before .before .before .before .before .before .before .before .before .before .before .args in
+    let is-member-count-sound = c .before .before .before .before .before .before .before .before .before .before .before .before .before .before .before .is-member-count-sound in
+    let if1 = c .before .before .before .before .before .before .before .before .before .before .before .before .before .before .if1 in
+    let is-event-sound = c .before .before .before .before .before .before .before .before .before .before .before .before .before .is-event-sound in
+    let if2 = c .before .before .before .before .before .before .before .before .before .before .before .before .if2 in
+    let kind-number = c .before .before .before .before .before .before .before .before .before .before .before .kind-number in
+    let leg-count = c .before .before .before .before .before .before .before .before .before .before .leg-count in
+    let record-length = c .before .before .before .before .before .before .before .before .before .record-length in
+    let put-u8 = c .before .before .before .before .before .before .put-u8 in
+    let put-fields = c .before .before .put-fields in
     let e = a .event in
-    let few = asked-true (c .before .before .before .before .before .before .before .before .before .before .before .before .before .before .before .is-member-count-sound .ensures) (c .before .before .before .before .before .before .before .before .before .before .before .before .before .before .if1 .left) in
-    let sized = rw (c .before .before .before .before .before .before .before .before .before .before .before .kind-number .ensures .0, c .before .before .before .before .before .before .before .before .before .before .leg-count .ensures) at (c .before .before .before .before .before .before .before .before .before .record-length .ensures) in
+    let few = asked-true (is-member-count-sound .ensures) (if1 .left) in
+    let sized = rw (kind-number .ensures .0, leg-count .ensures) at (record-length .ensures) in
     let whole = length-record e (legRows (legCount e) (a .legs)) (length-rows (legCount e) (a .legs)) in
     let some = some-bytes e in
-    let put = record-put e _ _ _ _ (c .before .before .before .before .before .before .before .before .before .before .before .kind-number .ensures .0) (c .before .before .before .before .before .before .put-u8 .ensures) (c .before .before .put-fields .ensures) (omega (arith, sized)) in
-    write-whole _ _ _ _ few (asked-true (c .before .before .before .before .before .before .before .before .before .before .before .before .before .is-event-sound .ensures) (c .before .before .before .before .before .before .before .before .before .before .before .before .if2 .left)) _ _ (sized ∙ sym whole) (omega (arith, sized, whole)) put
+    let put = record-put e _ _ _ _ (kind-number .ensures .0) (put-u8 .ensures) (put-fields .ensures) (omega (arith, sized)) in
+    write-whole _ _ _ _ few (asked-true (is-event-sound .ensures) (if2 .left)) _ _ (sized ∙ sym whole) (omega (arith, sized, whole)) put
 
 pub write-record-spec : {M : Type 1} → statement M
 write-record-spec =

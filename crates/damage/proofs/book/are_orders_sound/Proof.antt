@@ -18,7 +18,9 @@ use Rattle.damage.proofs.book.are_orders_sound.Statement.{statement}
 use Rattle.damage.proofs.book.are_orders_sound.Tie as tie
 
 abbrev Inv-loop : tie.InvT-loop
-Inv-loop book count accepted members span sides₀ falls₀ least₀ i₀ sides falls least i = (i ≤ count) × (least ≤ accepted) × (ltb sides 2 && every (placeSound accepted members (span .start .0) (span .end .0) book) (from i (count - i)) ≡ placesSound accepted members (span .start .0) (span .end .0) book count) × (ltb falls (2 ^ 63) && risesFrom least (map (numberAt book) (from i (count - i))) ≡ risesFrom 0 (map (numberAt book) (from 0 count)))
+Inv-loop book count accepted members span sides₀ falls₀ least₀ i₀ sides falls least i = (i ≤ count) × (least ≤ accepted)
+    × (ltb sides 2 && every (placeSound accepted members (span .start .0) (span .end .0) book) (from i (count - i)) ≡ placesSound accepted members (span .start .0)
+    (span .end .0) book count) × (ltb falls (2 ^ 63) && risesFrom least (map (numberAt book) (from i (count - i))) ≡ risesFrom 0 (map (numberAt book) (from 0 count)))
 
 abbrev μ-loop : tie.MeasureT-loop
 μ-loop book count accepted members span sides₀ falls₀ least₀ i₀ sides falls least i = count - i
@@ -50,8 +52,11 @@ returns-2 : tie.Need-returns-2 Inv-loop μ-loop
 returns-2 c =
     let a = c .before .before .before .before .before .before .before .args in
     let l = c .before .before .before .before .before .loop in
+    let loop-test = c .before .before .before .before .loop-test in
+    let if1 = c .before .before .if1 in
     let sound = placeSound (a .accepted) (a .members) (a .span .start .0) (a .span .end .0) (a .book .now) in
-    rw (each-stop sound (a .count) (l .i) (ltb (l .sides) 2) _ (l .inv .2) (c .before .before .before .before .loop-test .taken) (rw (lt-ltb _ _ (c .before .before .if1 .left), asked-false (c .before .is-rest-sound .ensures) (c .if2 .taken))))
+    rw (each-stop sound (a .count) (l .i) (ltb (l .sides) 2) _ (l .inv .2) (loop-test .taken)
+    (rw (lt-ltb _ _ (if1 .left), asked-false (c .before .is-rest-sound .ensures) (c .if2 .taken))))
 
 add-sides : tie.Need-add-sides Inv-loop μ-loop
 add-sides c = search needs
@@ -78,16 +83,20 @@ loop-again : tie.Need-loop-again Inv-loop μ-loop
 loop-again c =
     let a = c .before .before .before .before .before .before .before .before .before .args in
     let l = c .before .before .before .before .before .before .before .loop in
+    let loop-test = c .before .before .before .before .before .before .loop-test in
+    let if1 = c .before .before .before .before .if1 in
+    let is-rest-sound = c .before .before .before .is-rest-sound in
+    let if2 = c .before .before .if2 in
     let f = numberAt (a .book .now) in
     let sound = placeSound (a .accepted) (a .members) (a .span .start .0) (a .span .end .0) (a .book .now) in
     let side = sideAt (a .book .now) (l .i) in
-    let here : sound (l .i) ≡ ltb side 2 = rw (lt-ltb _ _ (c .before .before .before .before .if1 .left), asked-true (c .before .before .before .is-rest-sound .ensures) (c .before .before .if2 .left)) in
+    let here : sound (l .i) ≡ ltb side 2 = rw (lt-ltb _ _ (if1 .left), asked-true (is-rest-sound .ensures) (if2 .left)) in
     let s = c .wrapping-sub-u64 .result in
     let rises = falls (f (l .i)) (l .least) s (omega arith) (omega arith) (c .wrapping-sub-u64 .ensures) (omega (arith, c .wrapping-sub-u64 .ok)) in (
       omega arith,
       omega arith,
-      rw (or-below 1 (l .sides) side, sym here) (each-next sound (a .count) (l .i) (ltb (l .sides) 2) _ (l .inv .2) (c .before .before .before .before .before .before .loop-test .taken)),
-      rw (or-below 63 (l .falls) s, rises) (rises-next f (a .count) (l .i) (l .least) (ltb (l .falls) (2 ^ 63)) _ (l .inv .3) (c .before .before .before .before .before .before .loop-test .taken)),
+      rw (or-below 1 (l .sides) side, sym here) (each-next sound (a .count) (l .i) (ltb (l .sides) 2) _ (l .inv .2) (loop-test .taken)),
+      rw (or-below 63 (l .falls) s, rises) (rises-next f (a .count) (l .i) (l .least) (ltb (l .falls) (2 ^ 63)) _ (l .inv .3) (loop-test .taken)),
     )
 
 returns-3 : tie.Need-returns-3 Inv-loop μ-loop

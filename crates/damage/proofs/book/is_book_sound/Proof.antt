@@ -16,7 +16,10 @@ shared-slice-read-are-orders-sound-2 : tie.Need-shared-slice-read-are-orders-sou
 shared-slice-read-are-orders-sound-2 c = search needs
 
 are-orders-sound-requires : tie.Need-are-orders-sound-requires
-are-orders-sound-requires c κs = let a = c .before .before .before .before .before .args in (c .before .before .before .before .before .pre .1 .1, c .before .before .before .before .before .pre .1 .0, c .before .before .before .before .before .pre .0 .2, span-rises (a .span) _ (c .before .before .before .before .before .pre .0 .1 []))
+are-orders-sound-requires c κs =
+    let pre = c .before .before .before .before .before .pre in
+    let a = c .before .before .before .before .before .args in
+    (pre .1 .1, pre .1 .0, pre .0 .2, span-rises (a .span) _ (pre .0 .1 []))
 
 returns : tie.Need-returns
 returns c =

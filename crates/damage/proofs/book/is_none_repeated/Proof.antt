@@ -33,11 +33,18 @@ loop-less c = search needs
 loop-again : tie.Need-loop-again Inv-loop μ-loop
 loop-again c =
     let a = c .before .before .before .before .args in
-    let s = c .before .before .loop in
-    (omega arith, rw (c .is-repeated .ensures) (distinct-next (numberAt (a .book .now)) (a .count) (s .i) (s .ok) (distinct (map (numberAt (a .book .now)) (from 0 (a .count)))) (s .inv .1) (c .before .loop-test .taken)))
+    let s = c .before .before .loop in (
+      omega arith,
+      rw (c .is-repeated .ensures)
+          (distinct-next (numberAt (a .book .now)) (a .count) (s .i) (s .ok) (distinct (map (numberAt (a .book .now)) (from 0 (a .count)))) (s .inv .1)
+          (c .before .loop-test .taken)),
+    )
 
 returns : tie.Need-returns Inv-loop μ-loop
-returns c = let a = c .before .before .before .args in let s = c .before .loop in distinct-end (numberAt (a .book .now)) (a .count) (s .i) (s .ok) (distinct (map (numberAt (a .book .now)) (from 0 (a .count)))) (s .inv .1) (c .loop-test .left)
+returns c =
+    let a = c .before .before .before .args in
+    let s = c .before .loop in distinct-end (numberAt (a .book .now)) (a .count) (s .i) (s .ok) (distinct (map (numberAt (a .book .now)) (from 0 (a .count)))) (s .inv .1)
+    (c .loop-test .left)
 
 pub is-none-repeated-spec : {M : Type 1} → statement M
 is-none-repeated-spec =

@@ -13,7 +13,8 @@ use Rattle.damage.proofs.book.is_repeated.Statement.{statement}
 use Rattle.damage.proofs.book.is_repeated.Tie as tie
 
 abbrev Inv-loop : tie.InvT-loop
-Inv-loop book i count number found₀ j₀ found j = (j ≤ count) × (found || any (eqb (numberAt book i)) (map (numberAt book) (from j (count - j))) ≡ any (eqb (numberAt book i)) (map (numberAt book) (from (suc i) (count - suc i))))
+Inv-loop book i count number found₀ j₀ found j = (j ≤ count)
+    × (found || any (eqb (numberAt book i)) (map (numberAt book) (from j (count - j))) ≡ any (eqb (numberAt book i)) (map (numberAt book) (from (suc i) (count - suc i))))
 
 abbrev μ-loop : tie.MeasureT-loop
 μ-loop book i count number found₀ j₀ found j = count - j
@@ -51,14 +52,18 @@ loop-less c = search needs
 loop-again : tie.Need-loop-again Inv-loop μ-loop
 loop-again c =
     let a = c .before .before .before .before .args in
-    let s = c .before .before .loop in
-    (omega arith, some-next (numberAt (a .book .now)) (eqb (numberAt (a .book .now) (a .i))) (a .count) (s .j) (s .found) (any (eqb (numberAt (a .book .now) (a .i))) (map (numberAt (a .book .now)) (from (suc (a .i)) (a .count - suc (a .i))))) (s .inv .1) (c .before .loop-test .taken))
+    let s = c .before .before .loop in (
+      omega arith,
+      some-next (numberAt (a .book .now)) (eqb (numberAt (a .book .now) (a .i))) (a .count) (s .j) (s .found)
+          (any (eqb (numberAt (a .book .now) (a .i))) (map (numberAt (a .book .now)) (from (suc (a .i)) (a .count - suc (a .i))))) (s .inv .1) (c .before .loop-test .taken),
+    )
 
 returns : tie.Need-returns Inv-loop μ-loop
 returns c =
     let a = c .before .before .before .args in
     let s = c .before .loop in
-    some-end (numberAt (a .book .now)) (eqb (numberAt (a .book .now) (a .i))) (a .count) (s .j) (s .found) (any (eqb (numberAt (a .book .now) (a .i))) (map (numberAt (a .book .now)) (from (suc (a .i)) (a .count - suc (a .i))))) (s .inv .1) (c .loop-test .left)
+    some-end (numberAt (a .book .now)) (eqb (numberAt (a .book .now) (a .i))) (a .count) (s .j) (s .found)
+    (any (eqb (numberAt (a .book .now) (a .i))) (map (numberAt (a .book .now)) (from (suc (a .i)) (a .count - suc (a .i))))) (s .inv .1) (c .loop-test .left)
 
 pub is-repeated-spec : {M : Type 1} → statement M
 is-repeated-spec =

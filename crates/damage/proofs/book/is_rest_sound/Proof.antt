@@ -72,7 +72,10 @@ is-between-requires-2 c κs = search needs
 
 returns-4 : tie.Need-returns-4
 unfolding restSound allOf
-returns-4 c = rw (asked-true (c .before .before .before .before .is-between .ensures) (c .before .before .before .if3 .left), asked-false (c .before .is-between2 .ensures) (c .if4 .taken)) (search tests)
+returns-4 c =
+    let is-between = c .before .before .before .before .is-between in
+    let if3 = c .before .before .before .if3 in
+    rw (asked-true (is-between .ensures) (if3 .left), asked-false (c .before .is-between2 .ensures) (c .if4 .taken)) (search tests)
 
 add-is-between-5 : tie.Need-add-is-between-5
 add-is-between-5 c = search needs
@@ -88,7 +91,12 @@ is-between-requires-3 c κs = search needs
 
 returns-5 : tie.Need-returns-5
 unfolding restSound allOf
-returns-5 c = rw (asked-true (c .before .before .before .before .before .before .before .is-between .ensures) (c .before .before .before .before .before .before .if3 .left), asked-true (c .before .before .before .before .is-between2 .ensures) (c .before .before .before .if4 .left), asked-false (c .before .is-between3 .ensures) (c .if5 .taken)) (search tests)
+returns-5 c =
+    let is-between = c .before .before .before .before .before .before .before .is-between in
+    let if3 = c .before .before .before .before .before .before .if3 in
+    let is-between2 = c .before .before .before .before .is-between2 in
+    let if4 = c .before .before .before .if4 in
+    rw (asked-true (is-between .ensures) (if3 .left), asked-true (is-between2 .ensures) (if4 .left), asked-false (c .before .is-between3 .ensures) (c .if5 .taken)) (search tests)
 
 add-result : tie.Need-add-result
 add-result c = search needs
@@ -102,10 +110,17 @@ shared-slice-read-result c = search needs
 returns-6 : tie.Need-returns-6
 unfolding restSound allOf
 returns-6 c =
-    let price = asked-true (c .before .before .before .before .before .before .before .before .is-between .ensures) (c .before .before .before .before .before .before .before .if3 .left) in
-    let lots = asked-true (c .before .before .before .before .before .is-between2 .ensures) (c .before .before .before .before .if4 .left) in
-    let day = asked-true (c .before .before .is-between3 .ensures) (c .before .if5 .left) in
-    rw (lt-ltb _ _ (c .before .before .before .before .before .before .before .before .before .before .before .before .if1 .left), le-leb _ _ (c .before .before .before .before .before .before .before .before .before .before .if2 .left), price, lots, day) (sym (and-true _))
+    let if1 = c .before .before .before .before .before .before .before .before .before .before .before .before .if1 in
+    let if2 = c .before .before .before .before .before .before .before .before .before .before .if2 in
+    let is-between = c .before .before .before .before .before .before .before .before .is-between in
+    let if3 = c .before .before .before .before .before .before .before .if3 in
+    let is-between2 = c .before .before .before .before .before .is-between2 in
+    let if4 = c .before .before .before .before .if4 in
+    let is-between3 = c .before .before .is-between3 in
+    let price = asked-true (is-between .ensures) (if3 .left) in
+    let lots = asked-true (is-between2 .ensures) (if4 .left) in
+    let day = asked-true (is-between3 .ensures) (c .before .if5 .left) in
+    rw (lt-ltb _ _ (if1 .left), le-leb _ _ (if2 .left), price, lots, day) (sym (and-true _))
 
 pub is-rest-sound-spec : {M : Type 1} → statement M
 is-rest-sound-spec =

@@ -16,7 +16,9 @@ use Rattle.damage.proofs.head.are_members_sound.Statement.{statement}
 use Rattle.damage.proofs.head.are_members_sound.Tie as tie
 
 abbrev Inv-loop : tie.InvT-loop
-Inv-loop head members count ok₀ m₀ ok m = (m ≤ members) × ((p : List ℕ) (l v : List ℤ) (b : List ℕ) (n : List ℤ) → ok && every (memberSound (lent head p l v b n)) (from m (members - m)) ≡ every (memberSound (lent head p l v b n)) (from 0 members))
+Inv-loop head members count ok₀ m₀ ok m = (m ≤ members)
+    × ((p : List ℕ) (l v : List ℤ) (b : List ℕ) (n : List ℤ)
+    → ok && every (memberSound (lent head p l v b n)) (from m (members - m)) ≡ every (memberSound (lent head p l v b n)) (from 0 members))
 
 abbrev μ-loop : tie.MeasureT-loop
 μ-loop head members count ok₀ m₀ ok m = members - m
@@ -60,18 +62,23 @@ loop-less c = search needs
 loop-again : tie.Need-loop-again Inv-loop μ-loop
 unfolding memberSound
 loop-again c =
-    let h = c .before .before .before .before .before .args .head .now in
-    let s = c .before .before .before .before .loop in (
+    let args = c .before .before .before .before .before .args in
+    let s = c .before .before .before .before .loop in
+    let loop-test = c .before .before .before .loop-test in
+    let h = args .head .now in (
       omega arith,
       λ p l v b n. rw (all-three (leb (getD h (128 + s .m) 0) 100000) (leb (getD h (160 + s .m) 0) 1) (leb (getD h (192 + s .m) 0) 5))
-          (each-next (memberSound (lent h p l v b n)) (c .before .before .before .before .before .args .members) (s .m) (s .ok) (every (memberSound (lent h p l v b n)) (from 0 (c .before .before .before .before .before .args .members))) (s .inv .1 p l v b n) (c .before .before .before .loop-test .taken)),
+          (each-next (memberSound (lent h p l v b n)) (args .members) (s .m) (s .ok) (every (memberSound (lent h p l v b n)) (from 0 (args .members))) (s .inv .1 p l v b n)
+          (loop-test .taken)),
     )
 
 returns : tie.Need-returns Inv-loop μ-loop
 returns c =
-    let h = c .before .before .args .head .now in
+    let args = c .before .before .args in
+    let h = args .head .now in
     let s = c .before .loop in
-    λ p l v b n. each-end (memberSound (lent h p l v b n)) (c .before .before .args .members) (s .m) (s .ok) (every (memberSound (lent h p l v b n)) (from 0 (c .before .before .args .members))) (s .inv .1 p l v b n) (c .loop-test .left)
+    λ p l v b n. each-end (memberSound (lent h p l v b n)) (args .members) (s .m) (s .ok) (every (memberSound (lent h p l v b n)) (from 0 (args .members))) (s .inv .1 p l v b n)
+    (c .loop-test .left)
 
 pub are-members-sound-spec : {M : Type 1} → statement M
 are-members-sound-spec =

@@ -54,16 +54,28 @@ returns-2 c =
 returns-3 : tie.Need-returns-3
 unfolding headSound allOf
 returns-3 c =
-    let h = c .before .before .before .before .before .before .before .before .before .args .head .now in
+    let args = c .before .before .before .before .before .before .before .before .before .args in
+    let if1 = c .before .before .before .before .before .if1 in
+    let is-calendar-sound = c .before .before .is-calendar-sound in
+    let h = args .head .now in
     let cut : 8 + getD h 2 0 - 8 ≡ getD h 2 0 = omega arith in
-    λ p l v b n. rw (le-leb _ _ (c .before .before .before .before .before .if1 .left), asked-true (rw cut at (c .before .before .is-calendar-sound .ensures)) (c .before .if2 .left), lt-leb 1 (getD h 1 0) (c .if3 .taken))
+    λ p l v b n. rw (le-leb _ _ (if1 .left), asked-true (rw cut at (is-calendar-sound .ensures)) (c .before .if2 .left), lt-leb 1 (getD h 1 0) (c .if3 .taken))
 
 returns-4 : tie.Need-returns-4
 unfolding headSound allOf
 returns-4 c =
-    let h = c .before .before .before .before .before .before .before .before .before .before .args .head .now in
+    let args = c .before .before .before .before .before .before .before .before .before .before .args in
+    let if1 = c .before .before .before .before .before .before .if1 in
+    let is-calendar-sound = c .before .before .before .is-calendar-sound in
+    let if2 = c .before .before .if2 in
+    let h = args .head .now in
     let cut : 8 + getD h 2 0 - 8 ≡ getD h 2 0 = omega arith in
-    λ p l v b n. rw (le-leb _ _ (c .before .before .before .before .before .before .if1 .left), asked-true (rw cut at (c .before .before .before .is-calendar-sound .ensures)) (c .before .before .if2 .left), le-leb 1 (getD h 1 0) (c .before .if3 .left), lt-leb (getD h 1 0) 32 (c .if4 .taken))
+    λ p l v b n. rw (
+      le-leb _ _ (if1 .left),
+      asked-true (rw cut at (is-calendar-sound .ensures)) (if2 .left),
+      le-leb 1 (getD h 1 0) (c .before .if3 .left),
+      lt-leb (getD h 1 0) 32 (c .if4 .taken),
+    )
 
 shared-slice-read-counts : tie.Need-shared-slice-read-counts
 shared-slice-read-counts c = search needs
@@ -89,15 +101,24 @@ are-members-sound-requires c κs = search needs
 returns-5 : tie.Need-returns-5
 unfolding headSound
 returns-5 c =
-    let h = c .before .before .before .before .before .before .before .before .before .before .before .before .before .before .before .before .before .args .head .now in
+    let pre = c .before .before .before .before .before .before .before .before .before .before .before .before .before .before .before .before .before .pre in
+    let args = c .before .before .before .before .before .before .before .before .before .before .before .before .before .before .before .before .before .args in
+    let if1 = c .before .before .before .before .before .before .before .before .before .before .before .before .before .if1 in
+    let is-calendar-sound = c .before .before .before .before .before .before .before .before .before .before .is-calendar-sound in
+    let if2 = c .before .before .before .before .before .before .before .before .before .if2 in
+    let if3 = c .before .before .before .before .before .before .before .before .if3 in
+    let if4 = c .before .before .before .before .before .before .before .if4 in
+    let is-day-sound = c .before .before .before .before .before .is-day-sound in
+    let h = args .head .now in
     let k : Calendar = record { firstYear = getD h 0 0; holidays = take (getD h 2 0) (drop 8 h) } in
     let cut : 8 + getD h 2 0 - 8 ≡ getD h 2 0 = omega arith in
-    let calendar = asked-true (rw cut at (c .before .before .before .before .before .before .before .before .before .before .is-calendar-sound .ensures)) (c .before .before .before .before .before .before .before .before .before .if2 .left) in
-    let some : membersSound (getD h 1 0) ≡ true = rw (le-leb 1 (getD h 1 0) (c .before .before .before .before .before .before .before .before .if3 .left), le-leb (getD h 1 0) 32 (c .before .before .before .before .before .before .before .if4 .left)) in
-    let day = rw cut at (c .before .before .before .before .before .is-day-sound .ensures (getD h 0 0) (c .before .before .before .before .before .before .before .before .before .before .before .before .before .before .before .before .before .pre .2 _)) in
+    let calendar = asked-true (rw cut at (is-calendar-sound .ensures)) (if2 .left) in
+    let some : membersSound (getD h 1 0) ≡ true = rw (le-leb 1 (getD h 1 0) (if3 .left), le-leb (getD h 1 0) 32 (if4 .left)) in
+    let day = rw cut at (is-day-sound .ensures (getD h 0 0) (pre .2 _)) in
     λ p l v b n. rw (day, c .are-members-sound .ensures p l v b n)
-    (all-nine (leb (getD h 2 0) 120) (calendarSound k) (membersSound (getD h 1 0)) (daySound k (getD h 3 0)) (leb (getD h 4 0) 86399) (leb (getD h 5 0) 4000000000) (leb (getD h 6 0) 5000000) (leb (getD h 7 0) 256) (every (memberSound (lent h p l v b n)) (from 0 (getD h 1 0)))
-    (le-leb _ _ (c .before .before .before .before .before .before .before .before .before .before .before .before .before .if1 .left)) calendar some)
+    (all-nine (leb (getD h 2 0) 120) (calendarSound k) (membersSound (getD h 1 0)) (daySound k (getD h 3 0)) (leb (getD h 4 0) 86399) (leb (getD h 5 0) 4000000000)
+    (leb (getD h 6 0) 5000000) (leb (getD h 7 0) 256) (every (memberSound (lent h p l v b n)) (from 0 (getD h 1 0)))
+    (le-leb _ _ (if1 .left)) calendar some)
 
 pub is-head-sound-spec : {M : Type 1} → statement M
 is-head-sound-spec =

@@ -45,8 +45,9 @@ returns : tie.Need-returns Inv-loop μ-loop
 returns c =
     let a = c .before .before .before .before .before .before .args in
     let l = c .before .before .before .before .loop in
+    let loop-test = c .before .before .before .loop-test in
     let cut : l .contract * 5 + 5 - l .contract * 5 ≡ 5 = omega arith in
-    stop-block 5 (contractPricesSound (a .run)) 102 (a .prices .now) (l .contract) (everyBlock 5 (contractPricesSound (a .run)) 102 (a .prices .now)) (l .inv .1) (c .before .before .before .loop-test .taken)
+    stop-block 5 (contractPricesSound (a .run)) 102 (a .prices .now) (l .contract) (everyBlock 5 (contractPricesSound (a .run)) 102 (a .prices .now)) (l .inv .1) (loop-test .taken)
     (asked-false (rw cut at (c .before .is-contract-sound .ensures)) (c .if1 .taken))
 
 add-contract : tie.Need-add-contract Inv-loop μ-loop
@@ -59,9 +60,11 @@ loop-again : tie.Need-loop-again Inv-loop μ-loop
 loop-again c =
     let a = c .before .before .before .before .before .before .args in
     let l = c .before .before .before .before .loop in
+    let loop-test = c .before .before .before .loop-test in
     let cut : l .contract * 5 + 5 - l .contract * 5 ≡ 5 = omega arith in (
       omega arith,
-      pass-block 5 (contractPricesSound (a .run)) 102 (a .prices .now) (l .contract) (everyBlock 5 (contractPricesSound (a .run)) 102 (a .prices .now)) (l .inv .1) (c .before .before .before .loop-test .taken)
+      pass-block 5 (contractPricesSound (a .run)) 102 (a .prices .now) (l .contract) (everyBlock 5 (contractPricesSound (a .run)) 102 (a .prices .now)) (l .inv .1)
+          (loop-test .taken)
           (asked-true (rw cut at (c .before .is-contract-sound .ensures)) (c .if1 .left)),
     )
 

@@ -31,14 +31,20 @@ is-between-requires c κs = search needs
 
 returns-3 : tie.Need-returns-3
 unfolding allOf
-returns-3 c = rw (← contract-in-turn (c .before .before .before .before .before .before .before .before .args .run) (c .before .before .before .before .before .before .before .before .args .prices .now), asked-false (c .before .is-between .ensures) (c .if3 .taken)) (search tests)
+returns-3 c =
+    let args = c .before .before .before .before .before .before .before .before .args in
+    rw (← contract-in-turn (args .run) (args .prices .now), asked-false (c .before .is-between .ensures) (c .if3 .taken)) (search tests)
 
 shared-slice-read-lots : tie.Need-shared-slice-read-lots
 shared-slice-read-lots c = search needs
 
 returns-4 : tie.Need-returns-4
 unfolding allOf
-returns-4 c = rw (← contract-in-turn (c .before .before .before .before .before .before .before .before .before .before .args .run) (c .before .before .before .before .before .before .before .before .before .before .args .prices .now), asked-true (c .before .before .before .is-between .ensures) (c .before .before .if3 .left)) (search tests)
+returns-4 c =
+    let args = c .before .before .before .before .before .before .before .before .before .before .args in
+    let is-between = c .before .before .before .is-between in
+    let if3 = c .before .before .if3 in
+    rw (← contract-in-turn (args .run) (args .prices .now), asked-true (is-between .ensures) (if3 .left)) (search tests)
 
 shared-slice-read-is-between-2 : tie.Need-shared-slice-read-is-between-2
 shared-slice-read-is-between-2 c = search needs
@@ -54,7 +60,12 @@ is-between-requires-2 c κs = search needs
 
 returns-5 : tie.Need-returns-5
 unfolding allOf
-returns-5 c = rw (← contract-in-turn (c .before .before .before .before .before .before .before .before .before .before .before .before .args .run) (c .before .before .before .before .before .before .before .before .before .before .before .before .args .prices .now), asked-true (c .before .before .before .before .before .is-between .ensures) (c .before .before .before .before .if3 .left), ← (c .is-between2 .ensures), and-true (c .is-between2 .result)) (search tests)
+returns-5 c =
+    let args = c .before .before .before .before .before .before .before .before .before .before .before .before .args in
+    let is-between = c .before .before .before .before .before .is-between in
+    let if3 = c .before .before .before .before .if3 in
+    rw (← contract-in-turn (args .run) (args .prices .now), asked-true (is-between .ensures) (if3 .left), ← (c .is-between2 .ensures), and-true (c .is-between2 .result))
+    (search tests)
 
 pub is-contract-sound-spec : {M : Type 1} → statement M
 is-contract-sound-spec =

@@ -40,8 +40,12 @@ loop-again : tie.Need-loop-again Inv-loop μ-loop
 loop-again c =
     let a = c .before .before .before .before .args in
     let l = c .before .before .before .loop in
-    let x = getD (a .rows .now) (l .i) (pos 0) in
-    (omega arith, rw (c .is-within .ensures, back-mag x (c .before .x .given)) (every-next (λ z. leb (natAbs z) (a .bound)) (a .rows .now) (pos 0) (l .i) (l .ok) (l .inv .1) (c .before .before .loop-test .taken)))
+    let loop-test = c .before .before .loop-test in
+    let x = getD (a .rows .now) (l .i) (pos 0) in (
+      omega arith,
+      rw (c .is-within .ensures, back-mag x (c .before .x .given))
+          (every-next (λ z. leb (natAbs z) (a .bound)) (a .rows .now) (pos 0) (l .i) (l .ok) (l .inv .1) (loop-test .taken)),
+    )
 
 returns : tie.Need-returns Inv-loop μ-loop
 returns c = let a = c .before .before .args in let l = c .before .loop in every-end (λ z. leb (natAbs z) (a .bound)) (a .rows .now) (pos 0) (l .i) (l .ok) (l .inv .1) (c .loop-test .left)

@@ -17,7 +17,9 @@ use Rattle.damage.proofs.rows.or_of_column.Statement.{statement}
 use Rattle.damage.proofs.rows.or_of_column.Tie as tie
 
 abbrev Inv-loop : tie.InvT-loop
-Inv-loop rows member half seen₀ contract₀ seen contract = (contract ≤ 102) × ((k : ℕ) → IsHalf half k → ltb seen (2 ^ k) && everyBlock 32 (λ rows. inWindow (2 ^ k) (getD rows member (pos 0))) (102 - contract) (drop (contract * 32) rows) ≡ everyColumn (inWindow (2 ^ k)) member rows)
+Inv-loop rows member half seen₀ contract₀ seen contract = (contract ≤ 102)
+    × ((k : ℕ) → IsHalf half k → ltb seen (2 ^ k) && everyBlock 32 (λ rows. inWindow (2 ^ k) (getD rows member (pos 0))) (102 - contract) (drop (contract * 32) rows) ≡ everyColumn
+    (inWindow (2 ^ k)) member rows)
 
 abbrev μ-loop : tie.MeasureT-loop
 μ-loop rows member half seen₀ contract₀ seen contract = 102 - contract
@@ -51,18 +53,24 @@ loop-again : tie.Need-loop-again Inv-loop μ-loop
 loop-again c =
     let a = c .before .before .before .before .args in
     let l = c .before .before .before .loop in
+    let loop-test = c .before .before .loop-test in
     let x = getD (a .rows .now) (l .contract * 32 + a .member) (pos 0) in
     let fits = c .before .x .given in (
       omega arith,
-      λ k h. rw (or-window k (l .seen) (c .raised .result) (a .half) x h fits (rw (back-mag x fits) at (c .raised .ensures)), ← place-at (a .rows .now) (pos 0) 32 (l .contract) (a .member) (omega arith))
-          (block-next 32 (λ rows. inWindow (2 ^ k) (getD rows (a .member) (pos 0))) 102 (a .rows .now) (l .contract) (ltb (l .seen) (2 ^ k)) (everyColumn (inWindow (2 ^ k)) (a .member) (a .rows .now)) (l .inv .1 k h) (c .before .before .loop-test .taken)),
+      λ k h. rw (
+        or-window k (l .seen) (c .raised .result) (a .half) x h fits (rw (back-mag x fits) at (c .raised .ensures)),
+        ← place-at (a .rows .now) (pos 0) 32 (l .contract) (a .member) (omega arith),
+      )
+          (block-next 32 (λ rows. inWindow (2 ^ k) (getD rows (a .member) (pos 0))) 102 (a .rows .now) (l .contract) (ltb (l .seen) (2 ^ k))
+          (everyColumn (inWindow (2 ^ k)) (a .member) (a .rows .now)) (l .inv .1 k h) (loop-test .taken)),
     )
 
 returns : tie.Need-returns Inv-loop μ-loop
 returns c =
     let a = c .before .before .args in
     let l = c .before .loop in
-    λ k h. block-end 32 (λ rows. inWindow (2 ^ k) (getD rows (a .member) (pos 0))) 102 (a .rows .now) (l .contract) (ltb (l .seen) (2 ^ k)) (everyColumn (inWindow (2 ^ k)) (a .member) (a .rows .now)) (l .inv .1 k h) (c .loop-test .left)
+    λ k h. block-end 32 (λ rows. inWindow (2 ^ k) (getD rows (a .member) (pos 0))) 102 (a .rows .now) (l .contract) (ltb (l .seen) (2 ^ k))
+    (everyColumn (inWindow (2 ^ k)) (a .member) (a .rows .now)) (l .inv .1 k h) (c .loop-test .left)
 
 pub or-of-column-spec : {M : Type 1} → statement M
 or-of-column-spec =

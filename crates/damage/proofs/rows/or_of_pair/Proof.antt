@@ -22,7 +22,9 @@ abbrev bothIn : ℕ → ℕ → List ℤ → Bool
 bothIn w member b = inWindow w (getD b member (pos 0)) && inWindow w (getD b (member + 1) (pos 0))
 
 abbrev Inv-loop : tie.InvT-loop
-Inv-loop rows member half seen₀ contract₀ seen contract = (contract ≤ 102) × ((k : ℕ) → IsHalf half k → ltb seen (2 ^ k) && everyBlock 32 (bothIn (2 ^ k) member) (102 - contract) (drop (contract * 32) rows) ≡ everyBlock 32 (bothIn (2 ^ k) member) 102 rows)
+Inv-loop rows member half seen₀ contract₀ seen contract = (contract ≤ 102)
+    × ((k : ℕ) → IsHalf half k → ltb seen (2 ^ k) && everyBlock 32 (bothIn (2 ^ k) member) (102 - contract) (drop (contract * 32) rows) ≡ everyBlock 32
+    (bothIn (2 ^ k) member) 102 rows)
 
 abbrev μ-loop : tie.MeasureT-loop
 μ-loop rows member half seen₀ contract₀ seen contract = 102 - contract
@@ -67,6 +69,9 @@ loop-again : tie.Need-loop-again Inv-loop μ-loop
 loop-again c =
     let a = c .before .before .before .before .before .before .args in
     let l = c .before .before .before .before .before .loop in
+    let loop-test = c .before .before .before .before .loop-test in
+    let x-here = c .before .before .before .x in
+    let y-here = c .before .before .y in
     let rows = a .rows .now in
     let place = l .contract * 32 + a .member in
     let x = getD rows place (pos 0) in
@@ -74,13 +79,19 @@ loop-again c =
     let next : place + 1 ≡ l .contract * 32 + (a .member + 1) = omega arith in
     let first = c .before .raised in
     let second = c .raised2 in
-    let x-fits = c .before .before .before .x .given in
-    let y-fits = c .before .before .y .given in
+    let x-fits = x-here .given in
+    let y-fits = y-here .given in
     let x-is = rw (back-mag x x-fits) at (first .ensures) in
     let y-is = rw (back-mag y y-fits) at (second .ensures) in (
       omega arith,
-      λ k h. rw (or-windows k (l .seen) (first .result) (second .result) (a .half) x y h x-fits x-is y-fits y-is, next, ← place-at rows (pos 0) 32 (l .contract) (a .member) (omega arith), ← place-at rows (pos 0) 32 (l .contract) (a .member + 1) (omega arith))
-          (block-next 32 (bothIn (2 ^ k) (a .member)) 102 rows (l .contract) (ltb (l .seen) (2 ^ k)) (everyBlock 32 (bothIn (2 ^ k) (a .member)) 102 rows) (l .inv .1 k h) (c .before .before .before .before .loop-test .taken)),
+      λ k h. rw (
+        or-windows k (l .seen) (first .result) (second .result) (a .half) x y h x-fits x-is y-fits y-is,
+        next,
+        ← place-at rows (pos 0) 32 (l .contract) (a .member) (omega arith),
+        ← place-at rows (pos 0) 32 (l .contract) (a .member + 1) (omega arith),
+      )
+          (block-next 32 (bothIn (2 ^ k) (a .member)) 102 rows (l .contract) (ltb (l .seen) (2 ^ k)) (everyBlock 32 (bothIn (2 ^ k) (a .member)) 102 rows) (l .inv .1 k h)
+          (loop-test .taken)),
     )
 
 returns : tie.Need-returns Inv-loop μ-loop

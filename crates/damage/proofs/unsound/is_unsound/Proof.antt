@@ -89,22 +89,34 @@ are-prices-sound-requires c κs = (long-at (c .before .before .before .before .b
 
 returns-5 : tie.Need-returns-5
 unfolding pricesSound
-returns-5 c = prices-fail (of (c .before .before .before .before .before .before .before .before .before .before .before .before .before .before .before .before .before)) (asked-false (c .before .are-prices-sound .ensures) (c .if5 .taken))
+returns-5 c =
+    let before = c .before .before .before .before .before .before .before .before .before .before .before .before .before .before .before .before .before in
+    prices-fail (of (before)) (asked-false (c .before .are-prices-sound .ensures) (c .if5 .taken))
 
 are-rows-within-requires : tie.Need-are-rows-within-requires
-are-rows-within-requires c κs = let h = gives (c .before .before .before .before) in (long-at (c .before .before .before .before .before .before .before .before .before .before .before .before) .lots, h .members-range .to, omega arith)
+are-rows-within-requires c κs =
+    let before = c .before .before .before .before .before .before .before .before .before .before .before .before in
+    let before-here = c .before .before .before .before in
+    let h = gives (before-here) in (long-at (before) .lots, h .members-range .to, omega arith)
 
 returns-6 : tie.Need-returns-6
-returns-6 c = lots-fail (of (c .before .before .before .before .before .before .before .before .before .before .before .before .before .before .before .before .before .before .before)) (asked-false (c .before .are-rows-within .ensures) (c .if6 .taken))
+returns-6 c =
+    let before = c .before .before .before .before .before .before .before .before .before .before .before .before .before .before .before .before .before .before .before in
+    lots-fail (of (before)) (asked-false (c .before .are-rows-within .ensures) (c .if6 .taken))
 
 mul-are-rows-within : tie.Need-mul-are-rows-within
 mul-are-rows-within c = omega (arith, gives (c .before .before .before .before .before .before) .run≤)
 
 are-rows-within-requires-2 : tie.Need-are-rows-within-requires-2
-are-rows-within-requires-2 c κs = let h = gives (c .before .before .before .before .before .before) in (long-at (c .before .before .before .before .before .before .before .before .before .before .before .before .before .before) .value, h .members-range .to, omega arith)
+are-rows-within-requires-2 c κs =
+    let before = c .before .before .before .before .before .before .before .before .before .before .before .before .before .before in
+    let before-here = c .before .before .before .before .before .before in
+    let h = gives (before-here) in (long-at (before) .value, h .members-range .to, omega arith)
 
 returns-7 : tie.Need-returns-7
-returns-7 c = value-fails (of (c .before .before .before .before .before .before .before .before .before .before .before .before .before .before .before .before .before .before .before .before .before)) (asked-false (c .before .are-rows-within2 .ensures) (c .if7 .taken))
+returns-7 c =
+    let before = c .before .before .before .before .before .before .before .before .before .before .before .before .before .before .before .before .before .before .before .before .before in
+    value-fails (of (before)) (asked-false (c .before .are-rows-within2 .ensures) (c .if7 .taken))
 
 is-book-sound-requires : tie.Need-is-book-sound-requires
 is-book-sound-requires c κs =
@@ -115,11 +127,21 @@ is-book-sound-requires c κs =
 returns-8 : tie.Need-returns-8
 unfolding pricesSound
 returns-8 c =
-    let t = of (c .before .before .before .before .before .before .before .before .before .before .before .before .before .before .before .before .before .before .before .before .before .before) in
-    let prices = asked-true (c .before .before .before .before .before .before .are-prices-sound .ensures) (c .before .before .before .before .before .if5 .left) in
-    let lots = asked-true (c .before .before .before .before .are-rows-within .ensures) (c .before .before .before .if6 .left) in
-    let value = asked-true (c .before .before .are-rows-within2 .ensures) (c .before .if7 .left) in
-    rw (c .is-book-sound .ensures (t .prices) (t .lots) (t .value) (t .lines)) (book-decides t (long (c .before .before .before .before .before .before .before .before .before .before .before .before .before .before .before .before .before)) (lines-long (c .before .before .before .before .before .before .before .before .before .before .before .before .before .before .before)) (head-good (c .before .before .before .before .before .before .before .before .before)) prices lots value)
+    let before = c .before .before .before .before .before .before .before .before .before .before .before .before .before .before .before .before .before .before .before .before .before .before in
+    let before-here = c .before .before .before .before .before .before .before .before .before .before .before .before .before .before .before .before .before in
+    let before-here14 = c .before .before .before .before .before .before .before .before .before .before .before .before .before .before .before in
+    let before-here8 = c .before .before .before .before .before .before .before .before .before in
+    let are-prices-sound = c .before .before .before .before .before .before .are-prices-sound in
+    let if5 = c .before .before .before .before .before .if5 in
+    let are-rows-within = c .before .before .before .before .are-rows-within in
+    let if6 = c .before .before .before .if6 in
+    let are-rows-within2 = c .before .before .are-rows-within2 in
+    let t = of (before) in
+    let prices = asked-true (are-prices-sound .ensures) (if5 .left) in
+    let lots = asked-true (are-rows-within .ensures) (if6 .left) in
+    let value = asked-true (are-rows-within2 .ensures) (c .before .if7 .left) in
+    rw (c .is-book-sound .ensures (t .prices) (t .lots) (t .value) (t .lines))
+    (book-decides t (long (before-here)) (lines-long (before-here14)) (head-good (before-here8)) prices lots value)
 
 pub is-unsound-spec : {M : Type 1} → statement M
 is-unsound-spec =

@@ -36,7 +36,13 @@ loop-less : tie.Need-loop-less Inv-loop μ-loop
 loop-less c = search needs
 
 loop-again : tie.Need-loop-again Inv-loop μ-loop
-loop-again c = (omega arith, omega (arith, c .before .before .before .pre .each (c .before .before .loop .i)), omega (arith, total-next (c .before .before .before .args .numbers .now) (c .before .before .loop .i) (λ n. n) 0 (c .before .loop-test .taken), c .before .before .loop .inv .2))
+loop-again c =
+    let start = c .before .before .before in (
+      omega arith,
+      omega (arith, start .pre .each (c .before .before .loop .i)),
+      omega
+          (arith, total-next (start .args .numbers .now) (c .before .before .loop .i) (λ n. n) 0 (c .before .loop-test .taken), c .before .before .loop .inv .2),
+    )
 
 returns : tie.Need-returns Inv-loop μ-loop
 returns c = omega (arith, total-end (c .before .before .args .numbers .now) (c .before .loop .i) (λ n. n) (c .loop-test .left), c .before .loop .inv .2)

@@ -41,7 +41,14 @@ loop-less : tie.Need-loop-less Inv-loop μ-loop
 loop-less c = search needs
 
 loop-again : tie.Need-loop-again Inv-loop μ-loop
-loop-again c = (omega arith, omega (arith, c .smaller .ensures), omega (arith, c .smaller .ensures, total-next (c .before .before .before .before .before .args .minima .now) (c .before .before .before .loop .i) (min (c .before .before .before .before .before .args .level)) 0 (c .before .before .loop-test .taken), c .before .before .before .loop .inv .2))
+loop-again c =
+    let start = c .before .before .before .before .before in
+    let loop = c .before .before .before .loop in (
+      omega arith,
+      omega (arith, c .smaller .ensures),
+      omega
+          (arith, c .smaller .ensures, total-next (start .args .minima .now) (loop .i) (min (start .args .level)) 0 (c .before .before .loop-test .taken), loop .inv .2),
+    )
 
 returns : tie.Need-returns Inv-loop μ-loop
 returns c = omega (arith, total-end (c .before .before .before .args .minima .now) (c .before .loop .i) (min (c .before .before .before .args .level)) (c .loop-test .left), c .before .loop .inv .2)

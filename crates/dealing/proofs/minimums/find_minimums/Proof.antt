@@ -32,13 +32,25 @@ shared-slice-read-minimum : tie.Need-shared-slice-read-minimum Inv-loop μ-loop
 shared-slice-read-minimum c = search needs
 
 mul-minimum-2 : tie.Need-mul-minimum-2 Inv-loop μ-loop
-mul-minimum-2 c = omega (arith, mul-le-mul (c .before .before .before .before .before .before .pre .0 .0) (c .before .before .before .before .before .before .pre .1 .each (c .before .before .loop .i)))
+mul-minimum-2 c =
+    let start = c .before .before .before .before .before .before in
+    omega (arith, mul-le-mul (start .pre .0 .0) (start .pre .1 .each (c .before .before .loop .i)))
 
 sub-minimum : tie.Need-sub-minimum Inv-loop μ-loop
 sub-minimum c = omega (arith, c .before .before .before .sum-of .ensures)
 
 add-minimum : tie.Need-add-minimum Inv-loop μ-loop
-add-minimum c = omega (arith, mul-le-mul (c .before .before .before .before .before .before .pre .0 .0) (c .before .before .before .before .before .before .pre .1 .each (c .before .before .loop .i)), c .before .before .before .sum-of .ensures, c .before .before .before .before .before .before .pre .1 .few, sum-most (c .before .before .before .before .before .before .args .weights .now) mostWeight (c .before .before .before .before .before .before .pre .1 .each))
+add-minimum c =
+    let start = c .before .before .before .before .before .before in
+    let sum-of = c .before .before .before .sum-of in
+    omega (
+      arith,
+      mul-le-mul (start .pre .0 .0) (start .pre .1 .each (c .before .before .loop .i)),
+      sum-of .ensures,
+      start .pre .1 .few,
+      sum-most
+          (start .args .weights .now) mostWeight (start .pre .1 .each),
+    )
 
 div-minimum : tie.Need-div-minimum Inv-loop μ-loop
 div-minimum c = omega (arith, c .before .before .before .sum-of .ensures)
@@ -66,8 +78,10 @@ same-length : tie.Need-same-length Inv-loop μ-loop
 same-length c = omega arith
 
 returns : tie.Need-returns Inv-loop μ-loop
-returns c = let l = c .before .loop in
-    written-end (l .minima) (l .i) _ _ (omega arith) (map-end _ (l .i) (minimum (c .before .before .before .before .before .args .lots) (c .before .before .sum-of .result)) (c .loop-test .left)) (l .inv .2)
+returns c =
+    let start = c .before .before .before .before .before in
+    let l = c .before .loop in
+    written-end (l .minima) (l .i) _ _ (omega arith) (map-end _ (l .i) (minimum (start .args .lots) (c .before .before .sum-of .result)) (c .loop-test .left)) (l .inv .2)
 
 pub find-minimums-spec : {M : Type 1} → statement M
 find-minimums-spec =

@@ -21,41 +21,68 @@ put-in-order-requires : tie.Need-put-in-order-requires
 put-in-order-requires c κs = (ap length (c .before .before .before .before .pre .1 .1) ∙ minimums-length _ _, simp length-take (omega arith))
 
 highest-level-requires : tie.Need-highest-level-requires
-highest-level-requires c κs = (omega arith, omega (arith, ap length (c .before .before .before .before .before .before .pre .1 .1), minimums-length (c .before .before .before .before .before .before .args .lots) (c .before .before .before .before .before .before .args .weights .now)))
+highest-level-requires c κs =
+    let start = c .before .before .before .before .before .before in
+    (omega arith, omega (arith, ap length (start .pre .1 .1), minimums-length (start .args .lots) (start .args .weights .now)))
 
 lots-at-level-requires : tie.Need-lots-at-level-requires
-lots-at-level-requires c κs = (omega (arith, c .highest-level .ensures .within), omega (arith, ap length (c .before .before .before .before .before .before .before .pre .1 .1), minimums-length (c .before .before .before .before .before .before .before .args .lots) (c .before .before .before .before .before .before .before .args .weights .now)))
+lots-at-level-requires c κs =
+    let start = c .before .before .before .before .before .before .before in
+    (omega (arith, c .highest-level .ensures .within), omega (arith, ap length (start .pre .1 .1), minimums-length (start .args .lots) (start .args .weights .now)))
 
 sub-left : tie.Need-sub-left
 sub-left c = omega (arith, c .lots-at-level .ensures, c .before .highest-level .ensures .enough)
 
 fill-to-level-requires : tie.Need-fill-to-level-requires
-fill-to-level-requires c κs = c .before .before .before .before .before .before .before .before .before .pre .0 .2 ∙ sym (ap length (c .before .before .before .before .before .before .before .before .before .pre .1 .1) ∙ minimums-length _ _)
+fill-to-level-requires c κs =
+    let start = c .before .before .before .before .before .before .before .before .before in
+    start .pre .0 .2 ∙ sym (ap length (start .pre .1 .1) ∙ minimums-length _ _)
 
 array-share-prefix-order : tie.Need-array-share-prefix-order
-array-share-prefix-order c = simp length-append (omega (arith, ap length (c .before .before .before .before .before .before .before .put-in-order .ensures) ∙ order-length _ _ ∙ from-length 0 (length (c .before .before .before .before .before .before .before .before .before .before .before .before .args .weights .now))))
+array-share-prefix-order c =
+    let start = c .before .before .before .before .before .before .before .before .before .before .before .before in
+    let put-in-order = c .before .before .before .before .before .before .before .put-in-order in
+    simp length-append (omega (arith, ap length (put-in-order .ensures) ∙ order-length _ _ ∙ from-length 0 (length (start .args .weights .now))))
 
 slice-aggregate-take-turns : tie.Need-slice-aggregate-take-turns
-slice-aggregate-take-turns c = let long : length (c .before .before .before .before .before .before .before .before .put-in-order .last .1 .1 .0) ≡ length (c .before .before .before .before .before .before .before .before .before .before .before .before .before .args .weights .now) = ap length (c .before .before .before .before .before .before .before .before .put-in-order .ensures) ∙ order-length _ _ ∙ from-length 0 (length (c .before .before .before .before .before .before .before .before .before .before .before .before .before .args .weights .now)) in
-    sym (ap length (take-at (c .before .before .before .before .before .before .before .before .put-in-order .last .1 .1 .0) _ _ long) ∙ long)
+slice-aggregate-take-turns c =
+    let start = c .before .before .before .before .before .before .before .before .before .before .before .before .before in
+    let put-in-order = c .before .before .before .before .before .before .before .before .put-in-order in
+    let long : length (put-in-order .last .1 .1 .0) ≡ length (start .args .weights .now) = ap length (put-in-order .ensures) ∙ order-length _ _ ∙ from-length 0
+    (length (start .args .weights .now)) in
+    sym (ap length (take-at (put-in-order .last .1 .1 .0) _ _ long) ∙ long)
 
 take-turns-requires : tie.Need-take-turns-requires
-take-turns-requires c κs = let a = c .before .before .before .before .before .before .before .before .before .before .before .before .before .before .args in
+take-turns-requires c κs =
+    let start = c .before .before .before .before .before .before .before .before .before .before .before .before .before .before in
+    let put-in-order = c .before .before .before .before .before .before .before .before .before .put-in-order in
+    let fill-to-level = c .before .before .before .before .fill-to-level in
+    let a = start .args in
     let n = length (a .weights .now) in
-    let long : length (c .before .before .before .before .before .before .before .before .before .put-in-order .last .1 .1 .0) ≡ n = ap length (c .before .before .before .before .before .before .before .before .before .put-in-order .ensures) ∙ order-length _ _ ∙ from-length 0 n in
-    let wide : length (a .minima .now) ≡ n = ap length (c .before .before .before .before .before .before .before .before .before .before .before .before .before .before .pre .1 .1) ∙ minimums-length _ _ in
-    let back = take-at (c .before .before .before .before .before .before .before .before .before .put-in-order .last .1 .1 .0) _ n long in
-    ((ap length back ∙ long ∙ sym wide, c .before .before .before .before .fill-to-level .kept .1 .1 .0 ∙ c .before .before .before .before .before .before .before .before .before .before .before .before .before .before .pre .0 .2 ∙ sym wide), λ i. rw (back, c .before .before .before .before .before .before .before .before .before .put-in-order .ensures, wide) (order-below _ n 0 n (some-members _ (c .before .before .before .before .before .before .before .before .before .before .before .before .before .before .pre .0 .1)) (omega arith) i))
+    let long : length (put-in-order .last .1 .1 .0) ≡ n = ap length (put-in-order .ensures) ∙ order-length _ _ ∙ from-length 0 n in
+    let wide : length (a .minima .now) ≡ n = ap length (start .pre .1 .1) ∙ minimums-length _ _ in
+    let back = take-at (put-in-order .last .1 .1 .0) _ n long in (
+      (ap length back ∙ long ∙ sym wide, fill-to-level .kept .1 .1 .0 ∙ start .pre .0 .2 ∙ sym wide),
+      λ i. rw (back, put-in-order .ensures, wide)
+          (order-below _ n 0 n (some-members _ (start .pre .0 .1)) (omega arith) i),
+    )
 
 same-length : tie.Need-same-length
 same-length c = search needs
 
 returns : tie.Need-returns
-returns c = let a = c .before .before .before .before .before .before .before .before .before .before .before .before .before .before .before .before .before .args in
+returns c =
+    let start = c .before .before .before .before .before .before .before .before .before .before .before .before .before .before .before .before .before in
+    let put-in-order = c .before .before .before .before .before .before .before .before .before .before .before .before .put-in-order in
+    let highest-level = c .before .before .before .before .before .before .before .before .before .before .highest-level in
+    let lots-at-level = c .before .before .before .before .before .before .before .before .before .lots-at-level in
+    let fill-to-level = c .before .before .before .before .before .before .before .fill-to-level in
+    let a = start .args in
     let n = length (a .weights .now) in
-    let long : length (c .before .before .before .before .before .before .before .before .before .before .before .before .put-in-order .last .1 .1 .0) ≡ n = ap length (c .before .before .before .before .before .before .before .before .before .before .before .before .put-in-order .ensures) ∙ order-length _ _ ∙ from-length 0 n in
-    dealt-by-round (a .lots) (a .weights .now) (c .before .before .before .before .before .before .before .before .before .before .before .before .before .before .before .before .before .pre .0 .1) (a .minima .now) _ _ (c .before .before .before .before .before .before .before .before .before .before .highest-level .result) _ _ (c .before .before .before .before .before .before .before .before .before .before .before .before .before .before .before .before .before .pre .1 .1)
-    (take-at _ _ n long ∙ c .before .before .before .before .before .before .before .before .before .before .before .before .put-in-order .ensures) (c .before .before .before .before .before .before .before .before .before .before .highest-level .ensures) (c .before .before .before .before .before .before .before .fill-to-level .ensures) (ap (λ s. a .lots - s) (c .before .before .before .before .before .before .before .before .before .lots-at-level .ensures)) (c .before .before .take-turns .ensures)
+    let long : length (put-in-order .last .1 .1 .0) ≡ n = ap length (put-in-order .ensures) ∙ order-length _ _ ∙ from-length 0 n in
+    dealt-by-round (a .lots) (a .weights .now) (start .pre .0 .1) (a .minima .now) _ _ (highest-level .result) _ _ (start .pre .1 .1)
+    (take-at _ _ n long ∙ put-in-order .ensures) (highest-level .ensures) (fill-to-level .ensures) (ap (λ s. a .lots - s) (lots-at-level .ensures))
+    (c .before .before .take-turns .ensures)
 
 pub deal-by-minimums-spec : {M : Type 1} → statement M
 deal-by-minimums-spec =

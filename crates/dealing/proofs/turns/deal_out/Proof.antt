@@ -20,12 +20,18 @@ array-share-prefix-minima : tie.Need-array-share-prefix-minima
 array-share-prefix-minima c = simp length-append (omega (arith, ap length (c .before .find-minimums .ensures) ∙ minimums-length _ _))
 
 slice-aggregate-deal-by-minimums : tie.Need-slice-aggregate-deal-by-minimums
-slice-aggregate-deal-by-minimums c = let long : length (c .before .before .find-minimums .last .1 .1 .0) ≡ length (c .before .before .before .before .before .before .args .weights .now) = ap length (c .before .before .find-minimums .ensures) ∙ minimums-length _ _ in
+slice-aggregate-deal-by-minimums c =
+    let start = c .before .before .before .before .before .before in
+    let long : length (c .before .before .find-minimums .last .1 .1 .0) ≡ length (start .args .weights .now) = ap length (c .before .before .find-minimums .ensures)
+    ∙ minimums-length _ _ in
     sym (ap length (take-at (c .before .before .find-minimums .last .1 .1 .0) _ _ long) ∙ long)
 
 deal-by-minimums-requires : tie.Need-deal-by-minimums-requires
-deal-by-minimums-requires c κs = let long : length (c .before .before .before .find-minimums .last .1 .1 .0) ≡ length (c .before .before .before .before .before .before .before .args .weights .now) = ap length (c .before .before .before .find-minimums .ensures) ∙ minimums-length _ _ in
-    (c .before .before .before .before .before .before .before .pre .0, (c .before .before .before .before .before .before .before .pre .1, take-at (c .before .before .before .find-minimums .last .1 .1 .0) _ _ long ∙ c .before .before .before .find-minimums .ensures))
+deal-by-minimums-requires c κs =
+    let start = c .before .before .before .before .before .before .before in
+    let find-minimums = c .before .before .before .find-minimums in
+    let long : length (find-minimums .last .1 .1 .0) ≡ length (start .args .weights .now) = ap length (find-minimums .ensures) ∙ minimums-length _ _ in
+    (start .pre .0, (start .pre .1, take-at (find-minimums .last .1 .1 .0) _ _ long ∙ find-minimums .ensures))
 
 same-length : tie.Need-same-length
 same-length c = search needs

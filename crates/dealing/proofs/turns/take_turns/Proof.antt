@@ -13,7 +13,8 @@ use Rattle.dealing.proofs.turns.take_turns.Statement.{statement}
 use Rattle.dealing.proofs.turns.take_turns.Tie as tie
 
 abbrev Inv-loop : tie.InvT-loop
-Inv-loop minima order received₀ lots left₀ i₀ received left i = (i ≤ length order) × (length received ≡ length minima) × (round minima (drop i order) (record { received = received; left = left }) ≡ round minima order (record { received = received₀; left = lots }))
+Inv-loop minima order received₀ lots left₀ i₀ received left i = (i ≤ length order) × (length received ≡ length minima)
+    × (round minima (drop i order) (record { received = received; left = left }) ≡ round minima order (record { received = received₀; left = lots }))
 
 abbrev μ-loop : tie.MeasureT-loop
 μ-loop minima order received₀ lots left₀ i₀ received left i = length order - i

@@ -1,4 +1,4 @@
-use mathlib.Core.Path.{_≡_, sym, _∙_}
+use mathlib.Core.Path.{sym, _∙_}
 use native.Mathlib.Omega.{arith}
 use Rattle.rules.specs.Ledger.{lent}
 use Rattle.rules.specs.Refusals.{applySpec, readingSpec}
@@ -44,8 +44,17 @@ enum-known-event : tie.Need-enum-known-event
 enum-known-event c = search needs
 
 apply-event-requires : tie.Need-apply-event-requires
-apply-event-requires c κs = let a = c .before .before .before .before .before .before .before .before .before .before .before .before .before .before .before .before .before .before .before .before .before .before .before .args in
-    (fits (lent (a .head .now) (a .prices .now) (a .lots .now) (a .value .now) (a .book .now) (a .lines .now)) (sym (c .before .before .before .before .before .before .before .before .before .before .before .before .is-unsound .ensures) ∙ c .before .before .before .before .before .before .before .before .before .before .before .if1 .left), sym (c .before .before .before .before .before .before .before .before .before .read-record .ensures) ∙ c .before .before .before .before .before .before .before .event .given .1)
+apply-event-requires c κs =
+    let earlier = c .before .before .before .before .before .before .before .before .before .before in
+    let a = earlier .before .before .before .before .before .before .before .before .before .before .before .before .before .args in
+    let is-unsound = earlier .before .before .is-unsound in
+    let if1 = earlier .before .if1 in
+    let read-record = c .before .before .before .before .before .before .before .before .before .read-record in
+    let event = c .before .before .before .before .before .before .before .event in (
+      fits (lent (a .head .now) (a .prices .now) (a .lots .now) (a .value .now) (a .book .now) (a .lines .now)) (sym (is-unsound .ensures) ∙ if1 .left),
+      sym (read-record .ensures)
+          ∙ event .given .1,
+    )
 
 enum-told : tie.Need-enum-told
 enum-told c = search needs
@@ -70,7 +79,14 @@ same-length-12 c = search needs
 
 returns-2 : tie.Need-returns-2
 unfolding applySpec readingSpec
-returns-2 c = rw (sym (c .before .before .before .before .before .before .before .before .before .before .before .before .before .before .before .before .before .before .before .before .before .before .is-unsound .ensures) ∙ c .before .before .before .before .before .before .before .before .before .before .before .before .before .before .before .before .before .before .before .before .before .if1 .left, sym (c .before .before .before .before .before .before .before .before .before .before .before .before .before .before .before .before .before .before .before .read-record .ensures) ∙ c .before .before .before .before .before .before .before .before .before .before .before .before .before .before .before .before .before .event .given .1) (c .before .before .before .before .before .before .before .before .before .apply-event .ensures)
+returns-2 c =
+    let earlier = c .before .before .before .before .before .before .before .before .before .before in
+    let is-unsound = earlier .before .before .before .before .before .before .before .before .before .before .before .before .is-unsound in
+    let if1 = earlier .before .before .before .before .before .before .before .before .before .before .before .if1 in
+    let read-record = earlier .before .before .before .before .before .before .before .before .before .read-record in
+    let event = earlier .before .before .before .before .before .before .before .event in
+    let apply-event = c .before .before .before .before .before .before .before .before .before .apply-event in
+    rw (sym (is-unsound .ensures) ∙ if1 .left, sym (read-record .ensures) ∙ event .given .1) (apply-event .ensures)
 
 same-length-13 : tie.Need-same-length-13
 same-length-13 c = search needs
@@ -92,7 +108,11 @@ same-length-18 c = search needs
 
 returns-3 : tie.Need-returns-3
 unfolding applySpec readingSpec
-returns-3 c = rw (sym (c .before .before .before .before .before .is-unsound .ensures) ∙ c .before .before .before .before .if1 .left, sym (c .before .before .read-record .ensures) ∙ c .enum-told .given .1)
+returns-3 c =
+    let is-unsound = c .before .before .before .before .before .is-unsound in
+    let if1 = c .before .before .before .before .if1 in
+    let read-record = c .before .before .read-record in
+    rw (sym (is-unsound .ensures) ∙ if1 .left, sym (read-record .ensures) ∙ c .enum-told .given .1)
 
 pub apply-spec : {M : Type 1} → statement M
 apply-spec =

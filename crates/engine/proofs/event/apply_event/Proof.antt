@@ -1,4 +1,4 @@
-use mathlib.Core.Path.{_≡_, ap, _∙_}
+use mathlib.Core.Path.{ap, _∙_}
 use Rattle.rules.specs.declared.event.Reading.the-variants.{Sound}
 use Rattle.rules.specs.Ledger.{lent}
 use Rattle.rules.specs.Refusals.{eventSpec}
@@ -11,9 +11,12 @@ enum-known-event : tie.Need-enum-known-event
 enum-known-event c = search needs
 
 apply-requires : tie.Need-apply-requires
-apply-requires c κs = let a = c .before .before .before .before .before .before .before .before .before .before .before .before .before .args in
-    let f = c .before .before .before .before .before .before .before .before .before .before .before .before .before .pre .0 in
-    let e = submission-fits (a .head .now) (a .bytes .now) _ (c .before .before .before .before .before .before .before .before .before .before .before .before .before .pre .1 ∙ ap Sound (c .before .before .before .before .before .before .before .event .given .1)) in
+apply-requires c κs =
+    let pre = c .before .before .before .before .before .before .before .before .before .before .before .before .before .pre in
+    let a = c .before .before .before .before .before .before .before .before .before .before .before .before .before .args in
+    let event = c .before .before .before .before .before .before .before .event in
+    let f = pre .0 in
+    let e = submission-fits (a .head .now) (a .bytes .now) _ (pre .1 ∙ ap Sound (event .given .1)) in
     ((f .head-fit, f .prices-fit, f .book-fit, e, f .lines-long), (f .lots-fit, f .value-fit))
 
 enum-known-event-2 : tie.Need-enum-known-event-2
@@ -26,33 +29,47 @@ enum-known-event-3 : tie.Need-enum-known-event-3
 enum-known-event-3 c = search needs
 
 apply-requires-3 : tie.Need-apply-requires-3
-apply-requires-3 c κs = let a = c .before .before .before .before .before .before .before .before .before .args in
-    let f = c .before .before .before .before .before .before .before .before .before .pre .0 in
-    (f .head-fit, f .prices-fit .long, limits-contract (a .head .now) (a .bytes .now) _ (c .before .before .before .before .before .before .before .before .before .pre .1 ∙ ap Sound (c .before .before .before .event3 .given .1)))
+apply-requires-3 c κs =
+    let pre = c .before .before .before .before .before .before .before .before .before .pre in
+    let a = c .before .before .before .before .before .before .before .before .before .args in
+    let event3 = c .before .before .before .event3 in
+    let f = pre .0 in
+    (f .head-fit, f .prices-fit .long, limits-contract (a .head .now) (a .bytes .now) _ (pre .1 ∙ ap Sound (event3 .given .1)))
 
 enum-known-event-4 : tie.Need-enum-known-event-4
 enum-known-event-4 c = search needs
 
 apply-legs-requires : tie.Need-apply-legs-requires
-apply-legs-requires c κs = (c .before .before .before .before .before .before .before .before .before .before .before .before .before .pre .0, c .before .before .before .before .before .before .before .before .before .before .before .before .before .pre .1 ∙ ap Sound (c .before .before .before .before .before .before .before .event4 .given .1))
+apply-legs-requires c κs =
+    let pre = c .before .before .before .before .before .before .before .before .before .before .before .before .before .pre in
+    let event4 = c .before .before .before .before .before .before .before .event4 in
+    (pre .0, pre .1 ∙ ap Sound (event4 .given .1))
 
 enum-known-event-5 : tie.Need-enum-known-event-5
 enum-known-event-5 c = search needs
 
 apply-requires-4 : tie.Need-apply-requires-4
-apply-requires-4 c κs = let a = c .before .before .before .before .before .before .before .before .before .args in
-    let f = c .before .before .before .before .before .before .before .before .before .pre .0 in
-    (f .head-fit, f .book-fit, member-below (a .head .now) (a .bytes .now) _ (c .before .before .before .before .before .before .before .before .before .pre .1 ∙ ap Sound (c .before .before .before .event5 .given .1)))
+apply-requires-4 c κs =
+    let pre = c .before .before .before .before .before .before .before .before .before .pre in
+    let a = c .before .before .before .before .before .before .before .before .before .args in
+    let event5 = c .before .before .before .event5 in
+    let f = pre .0 in
+    (f .head-fit, f .book-fit, member-below (a .head .now) (a .bytes .now) _ (pre .1 ∙ ap Sound (event5 .given .1)))
 
 enum-known-event-6 : tie.Need-enum-known-event-6
 enum-known-event-6 c = search needs
 
 apply-requires-5 : tie.Need-apply-requires-5
-apply-requires-5 c κs = let a = c .before .before .before .before .before .before .before .before .before .before .before .before .args in
-    let f = c .before .before .before .before .before .before .before .before .before .before .before .before .pre .0 in
-    let r = c .before .before .before .before .before .before .before .before .before .before .before .before .pre .1 ∙ ap Sound (c .before .before .before .before .before .before .event6 .given .1) in
-    let run = most-run-left (lent (a .head .now) (a .prices .now) (a .lots .now) (a .value .now) (a .book .now) (a .lines .now)) f in
-    ((record { head-fit = f .head-fit; lots-fit = f .lots-fit; value-fit = f .value-fit; lines-long = f .lines-long; most-run = run }, f .prices-fit), (close-out-contract-below (a .head .now) (a .bytes .now) _ r, close-out-ratio (a .head .now) (a .bytes .now) _ r))
+apply-requires-5 c κs =
+    let pre = c .before .before .before .before .before .before .before .before .before .before .before .before .pre in
+    let a = c .before .before .before .before .before .before .before .before .before .before .before .before .args in
+    let event6 = c .before .before .before .before .before .before .event6 in
+    let f = pre .0 in
+    let r = pre .1 ∙ ap Sound (event6 .given .1) in
+    let run = most-run-left (lent (a .head .now) (a .prices .now) (a .lots .now) (a .value .now) (a .book .now) (a .lines .now)) f in (
+      (record { head-fit = f .head-fit; lots-fit = f .lots-fit; value-fit = f .value-fit; lines-long = f .lines-long; most-run = run }, f .prices-fit),
+      (close-out-contract-below (a .head .now) (a .bytes .now) _ r, close-out-ratio (a .head .now) (a .bytes .now) _ r),
+    )
 
 enum-known-event-7 : tie.Need-enum-known-event-7
 enum-known-event-7 c = search needs
@@ -81,7 +98,12 @@ same-length-6 c = search needs
 
 returns : tie.Need-returns
 unfolding eventSpec
-returns c = let a = c .before .before .before .before .before .before .before .before .before .before .before .before .before .before .before .before .before .before .before .before .before .before .before .args in rw (c .before .before .before .before .before .before .before .before .before .before .before .before .before .before .before .before .before .event .given .1) (c .before .before .before .before .before .before .before .before .before .apply .ensures (lent (a .head .now) (a .prices .now) (a .lots .now) (a .value .now) (a .book .now) (a .lines .now)))
+returns c =
+    let earlier = c .before .before .before .before .before .before .before .before .before .before in
+    let a = earlier .before .before .before .before .before .before .before .before .before .before .before .before .before .args in
+    let event = earlier .before .before .before .before .before .before .before .event in
+    let apply = c .before .before .before .before .before .before .before .before .before .apply in
+    rw (event .given .1) (apply .ensures (lent (a .head .now) (a .prices .now) (a .lots .now) (a .value .now) (a .book .now) (a .lines .now)))
 
 same-length-7 : tie.Need-same-length-7
 same-length-7 c = search needs
@@ -91,7 +113,11 @@ same-length-8 c = search needs
 
 returns-2 : tie.Need-returns-2
 unfolding eventSpec
-returns-2 c = let a = c .before .before .before .before .before .before .before .before .before .before .before .before .before .before .args in rw (c .before .before .before .before .before .before .before .before .event2 .given .1) (c .before .before .before .before .apply2 .ensures (lent (a .head .now) (a .prices .now) (a .lots .now) (a .value .now) (a .book .now) (a .lines .now)))
+returns-2 c =
+    let a = c .before .before .before .before .before .before .before .before .before .before .before .before .before .before .args in
+    let event2 = c .before .before .before .before .before .before .before .before .event2 in
+    let apply2 = c .before .before .before .before .apply2 in
+    rw (event2 .given .1) (apply2 .ensures (lent (a .head .now) (a .prices .now) (a .lots .now) (a .value .now) (a .book .now) (a .lines .now)))
 
 same-length-9 : tie.Need-same-length-9
 same-length-9 c = search needs
@@ -101,7 +127,11 @@ same-length-10 c = search needs
 
 returns-3 : tie.Need-returns-3
 unfolding eventSpec
-returns-3 c = let a = c .before .before .before .before .before .before .before .before .before .before .before .before .args in rw (c .before .before .before .before .before .before .event3 .given .1) (c .before .before .apply3 .ensures (lent (a .head .now) (a .prices .now) (a .lots .now) (a .value .now) (a .book .now) (a .lines .now)))
+returns-3 c =
+    let a = c .before .before .before .before .before .before .before .before .before .before .before .before .args in
+    let event3 = c .before .before .before .before .before .before .event3 in
+    let apply3 = c .before .before .apply3 in
+    rw (event3 .given .1) (apply3 .ensures (lent (a .head .now) (a .prices .now) (a .lots .now) (a .value .now) (a .book .now) (a .lines .now)))
 
 same-length-11 : tie.Need-same-length-11
 same-length-11 c = search needs
@@ -123,7 +153,10 @@ same-length-16 c = search needs
 
 returns-4 : tie.Need-returns-4
 unfolding eventSpec
-returns-4 c = rw (c .before .before .before .before .before .before .before .before .before .before .before .before .before .before .before .event4 .given .1) (c .before .before .before .before .before .before .before .apply-legs .ensures)
+returns-4 c =
+    let event4 = c .before .before .before .before .before .before .before .before .before .before .before .before .before .before .before .event4 in
+    let apply-legs = c .before .before .before .before .before .before .before .apply-legs in
+    rw (event4 .given .1) (apply-legs .ensures)
 
 same-length-17 : tie.Need-same-length-17
 same-length-17 c = search needs
@@ -133,7 +166,11 @@ same-length-18 c = search needs
 
 returns-5 : tie.Need-returns-5
 unfolding eventSpec
-returns-5 c = let a = c .before .before .before .before .before .before .before .before .before .before .before .before .before .before .args in rw (c .before .before .before .before .before .before .before .before .event5 .given .1) (c .before .before .before .before .apply4 .ensures (lent (a .head .now) (a .prices .now) (a .lots .now) (a .value .now) (a .book .now) (a .lines .now)))
+returns-5 c =
+    let a = c .before .before .before .before .before .before .before .before .before .before .before .before .before .before .args in
+    let event5 = c .before .before .before .before .before .before .before .before .event5 in
+    let apply4 = c .before .before .before .before .apply4 in
+    rw (event5 .given .1) (apply4 .ensures (lent (a .head .now) (a .prices .now) (a .lots .now) (a .value .now) (a .book .now) (a .lines .now)))
 
 same-length-19 : tie.Need-same-length-19
 same-length-19 c = search needs
@@ -152,7 +189,11 @@ same-length-23 c = search needs
 
 returns-6 : tie.Need-returns-6
 unfolding eventSpec
-returns-6 c = let a = c .before .before .before .before .before .before .before .before .before .before .before .before .before .before .before .before .before .before .args in rw (c .before .before .before .before .before .before .before .before .before .before .before .before .event6 .given .1) (c .before .before .before .before .before .apply5 .ensures (lent (a .head .now) (a .prices .now) (a .lots .now) (a .value .now) (a .book .now) (a .lines .now)))
+returns-6 c =
+    let a = c .before .before .before .before .before .before .before .before .before .before .before .before .before .before .before .before .before .before .args in
+    let event6 = c .before .before .before .before .before .before .before .before .before .before .before .before .event6 in
+    let apply5 = c .before .before .before .before .before .apply5 in
+    rw (event6 .given .1) (apply5 .ensures (lent (a .head .now) (a .prices .now) (a .lots .now) (a .value .now) (a .book .now) (a .lines .now)))
 
 same-length-24 : tie.Need-same-length-24
 same-length-24 c = search needs
@@ -171,7 +212,11 @@ same-length-28 c = search needs
 
 returns-7 : tie.Need-returns-7
 unfolding eventSpec
-returns-7 c = let a = c .before .before .before .before .before .before .before .before .before .before .before .before .before .before .before .before .before .before .before .before .before .args in rw (c .before .before .before .before .before .before .before .before .before .before .before .before .before .before .before .event7 .given .1) (c .before .before .before .before .before .before .before .before .apply6 .ensures (lent (a .head .now) (a .prices .now) (a .lots .now) (a .value .now) (a .book .now) (a .lines .now)))
+returns-7 c =
+    let a = c .before .before .before .before .before .before .before .before .before .before .before .before .before .before .before .before .before .before .before .before .before .args in
+    let event7 = c .before .before .before .before .before .before .before .before .before .before .before .before .before .before .before .event7 in
+    let apply6 = c .before .before .before .before .before .before .before .before .apply6 in
+    rw (event7 .given .1) (apply6 .ensures (lent (a .head .now) (a .prices .now) (a .lots .now) (a .value .now) (a .book .now) (a .lines .now)))
 
 pub apply-event-spec : {M : Type 1} → statement M
 apply-event-spec =

@@ -13,7 +13,10 @@ use Rattle.engine.proofs.making.make.Tie as tie
 
 -- Where the header has members, the bytes begin with a sound one.
 sound-at : (c : tie.Else2) → beginsWithHeader (c .before .before .before .before .before .before .before .before .before .before .before .before .before .before .args .bytes .now) ≡ true
-sound-at c = read-well (c .before .before .before .before .before .before .before .before .before .before .before .before .before .before .args .bytes .now) (c .before .before .before .read-header .result) (c .before .before .before .read-header .ensures) (c .if2 .left)
+sound-at c =
+    let args = c .before .before .before .before .before .before .before .before .before .before .before .before .before .before .args in
+    let read-header = c .before .before .before .read-header in
+    read-well (args .bytes .now) (read-header .result) (read-header .ensures) (c .if2 .left)
 
 is-ledger-short-requires : tie.Need-is-ledger-short-requires
 is-ledger-short-requires c κs = search needs
@@ -51,28 +54,56 @@ same-length-8 c = search needs
 
 returns-2 : tie.Need-returns-2
 unfolding makeSpec
-returns-2 c = λ n. rw (sym (c .before .before .before .before .before .is-ledger-short .ensures n) ∙ c .before .before .before .before .if1 .left, turned-back (c .before .before .before .before .before .before .before .before .before .before .before .before .before .before .args .bytes .now) (c .before .before .before .read-header .result) (c .before .before .before .read-header .ensures) (c .if2 .taken))
+returns-2 c =
+    let args = c .before .before .before .before .before .before .before .before .before .before .before .before .before .before .args in
+    let is-ledger-short = c .before .before .before .before .before .is-ledger-short in
+    let if1 = c .before .before .before .before .if1 in
+    let read-header = c .before .before .before .read-header in
+    λ n. rw (sym (is-ledger-short .ensures n) ∙ if1 .left, turned-back (args .bytes .now) (read-header .result) (read-header .ensures) (c .if2 .taken))
 
 array-share-prefix-holidays : tie.Need-array-share-prefix-holidays
-array-share-prefix-holidays c = holiday-room (c .before .before .before .before .before .before .before .before .before .before .before .before .before .before .before .before .before .before .before .before .args .bytes .now) (c .before .before .before .before .before .before .before .before .before .read-header .result) (c .before .before .before .before .before .before .before .before .before .read-header .ensures) (sound-at (c .before .before .before .before .before .before))
+array-share-prefix-holidays c =
+    let args = c .before .before .before .before .before .before .before .before .before .before .before .before .before .before .before .before .before .before .before .before .args in
+    let read-header = c .before .before .before .before .before .before .before .before .before .read-header in
+    let before = c .before .before .before .before .before .before in
+    holiday-room (args .bytes .now) (read-header .result) (read-header .ensures) (sound-at (before))
 
 slice-aggregate-write-fresh : tie.Need-slice-aggregate-write-fresh
-slice-aggregate-write-fresh c = sym (length-take-le (c .before .before .before .before .before .before .before .before .before .before .read-header .result .header .«holiday_count») (c .before .before .before .before .before .before .before .before .before .before .read-header .result .header .holidays) (holiday-room (c .before .before .before .before .before .before .before .before .before .before .before .before .before .before .before .before .before .before .before .before .before .args .bytes .now) (c .before .before .before .before .before .before .before .before .before .before .read-header .result) (c .before .before .before .before .before .before .before .before .before .before .read-header .ensures) (sound-at (c .before .before .before .before .before .before .before))))
+slice-aggregate-write-fresh c =
+    let args = c .before .before .before .before .before .before .before .before .before .before .before .before .before .before .before .before .before .before .before .before .before .args in
+    let read-header = c .before .before .before .before .before .before .before .before .before .before .read-header in
+    let before = c .before .before .before .before .before .before .before in
+    sym (length-take-le (read-header .result .header .«holiday_count») (read-header .result .header .holidays)
+    (holiday-room (args .bytes .now) (read-header .result) (read-header .ensures) (sound-at (before))))
 
 array-share-prefix-limits : tie.Need-array-share-prefix-limits
-array-share-prefix-limits c = limit-room (c .before .before .before .before .before .before .before .before .before .before .before .before .before .before .before .before .before .before .before .before .before .args .bytes .now) (c .before .before .before .before .before .before .before .before .before .before .read-header .result) (c .before .before .before .before .before .before .before .before .before .before .read-header .ensures) (sound-at (c .before .before .before .before .before .before .before))
+array-share-prefix-limits c =
+    let args = c .before .before .before .before .before .before .before .before .before .before .before .before .before .before .before .before .before .before .before .before .before .args in
+    let read-header = c .before .before .before .before .before .before .before .before .before .before .read-header in
+    let before = c .before .before .before .before .before .before .before in
+    limit-room (args .bytes .now) (read-header .result) (read-header .ensures) (sound-at (before))
 
 slice-aggregate-write-fresh-2 : tie.Need-slice-aggregate-write-fresh-2
-slice-aggregate-write-fresh-2 c = sym (length-take-le (c .before .before .before .before .before .before .before .before .before .before .before .read-header .result .header .members) (c .before .before .before .before .before .before .before .before .before .before .before .read-header .result .header .limits) (limit-room (c .before .before .before .before .before .before .before .before .before .before .before .before .before .before .before .before .before .before .before .before .before .before .args .bytes .now) (c .before .before .before .before .before .before .before .before .before .before .before .read-header .result) (c .before .before .before .before .before .before .before .before .before .before .before .read-header .ensures) (sound-at (c .before .before .before .before .before .before .before .before))))
+slice-aggregate-write-fresh-2 c =
+    let earlier = c .before .before .before .before .before .before .before .before .before .before in
+    let args = earlier .before .before .before .before .before .before .before .before .before .before .before .before .args in
+    let read-header = earlier .before .read-header in
+    let before = c .before .before .before .before .before .before .before .before in
+    sym (length-take-le (read-header .result .header .members) (read-header .result .header .limits)
+    (limit-room (args .bytes .now) (read-header .result) (read-header .ensures) (sound-at (before))))
 
 write-fresh-requires : tie.Need-write-fresh-requires
 write-fresh-requires c κs =
     let a = c .before .before .before .before .before .before .before .before .before .before .before .before .before .before .before .before .before .before .before .before .before .before .args in
+    let is-ledger-short = c .before .before .before .before .before .before .before .before .before .before .before .before .before .is-ledger-short in
+    let if1 = c .before .before .before .before .before .before .before .before .before .before .before .before .if1 in
+    let read-header = c .before .before .before .before .before .before .before .before .before .before .before .read-header in
+    let before = c .before .before .before .before .before .before .before .before in
     let s = a .bytes .now in
-    let r = c .before .before .before .before .before .before .before .before .before .before .before .read-header .result in
-    let e = c .before .before .before .before .before .before .before .before .before .before .before .read-header .ensures in
-    let b = sound-at (c .before .before .before .before .before .before .before .before) in
-    let w = lengths (lent (a .head .now) (a .prices .now) (a .lots .now) (a .value .now) (a .book .now) []) (sym (c .before .before .before .before .before .before .before .before .before .before .before .before .before .is-ledger-short .ensures []) ∙ c .before .before .before .before .before .before .before .before .before .before .before .before .if1 .left) in
+    let r = read-header .result in
+    let e = read-header .ensures in
+    let b = sound-at (before) in
+    let w = lengths (lent (a .head .now) (a .prices .now) (a .lots .now) (a .value .now) (a .book .now) []) (sym (is-ledger-short .ensures []) ∙ if1 .left) in
     ((w .head-length, w .prices-length, w .lots-length, w .value-length), (holiday-most s r e b, limit-most s r e b))
 
 same-length-9 : tie.Need-same-length-9
@@ -90,12 +121,18 @@ same-length-12 c = search needs
 returns-3 : tie.Need-returns-3
 unfolding makeSpec
 returns-3 c =
-    let a = c .before .before .before .before .before .before .before .before .before .before .before .before .before .before .before .before .before .before .before .before .before .before .before .before .before .before .before .before .before .args in
+    let earlier = c .before .before .before .before .before .before .before .before .before .before in
+    let a = earlier .before .before .before .before .before .before .before .before .before .before .before .before .before .before .before .before .before .before .before .args in
+    let is-ledger-short = earlier .before .before .before .before .before .before .before .before .before .before .is-ledger-short in
+    let if1 = earlier .before .before .before .before .before .before .before .before .before .if1 in
+    let read-header = earlier .before .before .before .before .before .before .before .before .read-header in
+    let before = earlier .before .before .before .before .before in
+    let write-fresh = c .before .before .before .before .before .before .write-fresh in
     let s = a .bytes .now in
-    let r = c .before .before .before .before .before .before .before .before .before .before .before .before .before .before .before .before .before .before .read-header .result in
-    let e = c .before .before .before .before .before .before .before .before .before .before .before .before .before .before .before .before .before .before .read-header .ensures in
-    let b = sound-at (c .before .before .before .before .before .before .before .before .before .before .before .before .before .before .before) in
-    λ n. rw (sym (c .before .before .before .before .before .before .before .before .before .before .before .before .before .before .before .before .before .before .before .before .is-ledger-short .ensures n) ∙ c .before .before .before .before .before .before .before .before .before .before .before .before .before .before .before .before .before .before .before .if1 .left, b, c .before .before .before .before .before .before .write-fresh .ensures (a .book .now) n, as-listed s r e b)
+    let r = read-header .result in
+    let e = read-header .ensures in
+    let b = sound-at (before) in
+    λ n. rw (sym (is-ledger-short .ensures n) ∙ if1 .left, b, write-fresh .ensures (a .book .now) n, as-listed s r e b)
 
 pub make-spec : {M : Type 1} → statement M
 make-spec =

@@ -72,14 +72,27 @@ unsound-requires-6 c κs = search needs
 
 returns-6 : tie.Need-returns-6
 unfolding headerLength
-returns-6 c = c .unsound6 .ensures ∙ reading-unsound _
-    (begins-by (c .before .before .before .before .before .before .before .before .before .before .before .before .before .args .bytes .now) (omega arith) (asked-true (c .before .before .before .before .before .before .before .before .before .before .begins-with-letters .ensures) (c .before .before .before .before .before .before .before .before .before .if2 .left)) (omega arith) (c .before .before .before .fields-at .ensures) (c .before .before .is-header-sound .ensures) (not-true (c .before .before .is-header-sound .result) (c .before .if6 .taken)))
+returns-6 c =
+    let args = c .before .before .before .before .before .before .before .before .before .before .before .before .before .args in
+    let begins-with-letters = c .before .before .before .before .before .before .before .before .before .before .begins-with-letters in
+    let if2 = c .before .before .before .before .before .before .before .before .before .if2 in
+    let fields-at = c .before .before .before .fields-at in
+    let is-header-sound = c .before .before .is-header-sound in
+    c .unsound6 .ensures ∙ reading-unsound _
+    (begins-by (args .bytes .now) (omega arith) (asked-true (begins-with-letters .ensures) (if2 .left)) (omega arith) (fields-at .ensures) (is-header-sound .ensures)
+    (not-true (is-header-sound .result) (c .before .if6 .taken)))
 
 returns-7 : tie.Need-returns-7
 unfolding headerLength
-returns-7 c = rw (c .before .before .fields-at .ensures)
-    (reading-sound (c .before .before .before .before .before .before .before .before .before .before .before .before .args .bytes .now) _
-    (begins-by (c .before .before .before .before .before .before .before .before .before .before .before .before .args .bytes .now) (omega arith) (asked-true (c .before .before .before .before .before .before .before .before .before .begins-with-letters .ensures) (c .before .before .before .before .before .before .before .before .if2 .left)) (omega arith) (c .before .before .fields-at .ensures) (c .before .is-header-sound .ensures) (not-false (c .before .is-header-sound .result) (c .if6 .left)))
+returns-7 c =
+    let args = c .before .before .before .before .before .before .before .before .before .before .before .before .args in
+    let begins-with-letters = c .before .before .before .before .before .before .before .before .before .begins-with-letters in
+    let if2 = c .before .before .before .before .before .before .before .before .if2 in
+    let fields-at = c .before .before .fields-at in
+    rw (fields-at .ensures)
+    (reading-sound (args .bytes .now) _
+    (begins-by (args .bytes .now) (omega arith) (asked-true (begins-with-letters .ensures) (if2 .left)) (omega arith) (fields-at .ensures) (c .before .is-header-sound .ensures)
+    (not-false (c .before .is-header-sound .result) (c .if6 .left)))
     (omega arith))
 
 pub read-header-spec : {M : Type 1} → statement M

@@ -40,9 +40,9 @@ same-length c = search needs
 returns : tie.Need-returns
 unfolding headerBytes u16Bytes
 returns c =
-    let put-limits = c .before .before .put-limits in
-    let put-holidays = c .before .before .before .before .before .before .put-holidays in
     let at-10 = c .before .before .before .before .before .before .before .before .before .before in
+    let put-holidays = c .before .before .before .before .before .before .put-holidays in
+    let put-limits = c .before .before .put-limits in
     let put-u82 = at-10 .put-u82 in
     let put-u8 = at-10 .before .before .before .before .put-u8 in
     let at-18 = at-10 .before .before .before .before .before .before .before .before in
@@ -53,7 +53,11 @@ returns c =
     let start = at-26 .before .before .before .before .before in
     let room = start .pre .2 in
     rw (length-firsts (start .args .h .«holiday_count»))
-    (over-then _ _ _ _ _ _ (over-then _ _ _ _ _ _ (over-then _ _ _ _ _ _ (over-then _ _ _ _ _ _ (over-then _ _ _ _ _ _ (over-then _ _ _ _ _ _ (put-letters .ensures) (put-u16 .ensures) refl (omega arith)) (put-u162 .ensures) refl (omega arith)) (put-u8 .ensures) refl (omega arith)) (put-u82 .ensures) refl (omega arith)) (put-holidays .ensures) refl (omega arith)) (put-limits .ensures) (omega (arith, length-holidays (start .args .h))) (omega arith))
+    (over-then _ _ _ _ _ _ (over-then _ _ _ _ _ _
+    (over-then _ _ _ _ _ _ (over-then _ _ _ _ _ _
+    (over-then _ _ _ _ _ _ (over-then _ _ _ _ _ _ (put-letters .ensures) (put-u16 .ensures) refl (omega arith)) (put-u162 .ensures) refl (omega arith)) (put-u8 .ensures) refl
+    (omega arith)) (put-u82 .ensures) refl (omega arith)) (put-holidays .ensures) refl (omega arith)) (put-limits .ensures) (omega (arith, length-holidays (start .args .h)))
+    (omega arith))
 
 pub put-header-spec : {M : Type 1} → statement M
 put-header-spec =

@@ -54,7 +54,17 @@ same-length : tie.Need-same-length
 same-length c = search needs
 
 returns : tie.Need-returns
-returns c = over-then _ _ _ _ _ _ (over-then _ _ _ _ _ _ (over-then _ _ _ _ _ _ (over-then _ _ _ _ _ _ ((rw (c .before .before .before .before .before .before .before .before .before .before .before .before .before .before .before .before .before .before .before .before .before .before .before .wide .ensures .0) at (c .before .before .before .before .before .before .before .before .before .before .before .before .before .before .before .before .before .before .before .before .before .before .put-u8 .ensures))) (rw (c .before .before .before .before .before .before .before .before .before .before .before .before .before .before .before .before .before .before .wide2 .ensures .0) at (c .before .before .before .before .before .before .before .before .before .before .before .before .before .before .before .before .before .put-u82 .ensures)) refl (omega arith)) (rw (c .before .before .before .before .before .before .before .before .before .before .before .before .before .wide3 .ensures .0) at (c .before .before .before .before .before .before .before .before .before .before .before .before .put-u83 .ensures)) refl (omega arith)) (rw (c .before .before .before .before .before .before .before .before .wide4 .ensures .0) at (c .before .before .before .before .before .before .before .put-u84 .ensures)) refl (omega arith)) (rw (c .before .before .before .wide5 .ensures .0) at (c .before .before .put-u85 .ensures)) refl (omega arith)
+returns c =
+    let earlier = c .before .before .before .before .before .before .before .before .before .before in
+    over-then _ _ _ _ _ _ (over-then _ _ _ _ _ _ (over-then _ _ _ _ _ _ (over-then _ _ _ _ _ _
+    (rw (earlier .before .before .before .before .before .before .before .before .before .before .before .before .before .wide .ensures .0)
+    at (earlier .before .before .before .before .before .before .before .before .before .before .before .before .put-u8 .ensures))
+    (rw (earlier .before .before .before .before .before .before .before .before .wide2 .ensures .0)
+    at (earlier .before .before .before .before .before .before .before .put-u82 .ensures)) refl (omega arith))
+    (rw (earlier .before .before .before .wide3 .ensures .0) at (earlier .before .before .put-u83 .ensures)) refl (omega arith))
+    (rw (c .before .before .before .before .before .before .before .before .wide4 .ensures .0)
+    at (c .before .before .before .before .before .before .before .put-u84 .ensures)) refl (omega arith))
+    (rw (c .before .before .before .wide5 .ensures .0) at (c .before .before .put-u85 .ensures)) refl (omega arith)
 
 pub put-letters-spec : {M : Type 1} → statement M
 put-letters-spec =

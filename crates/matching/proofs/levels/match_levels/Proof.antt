@@ -4,7 +4,8 @@ use native.Mathlib.Omega.{arith}
 use mathlib.Core.Path.{sym, _∙_}
 use borrow.Author.Tests.{not-true, not-false}
 use Rattle.matching.specs.Ranks.{BestPlace}
-use Rattle.matching.proofs.Going.{Going, going-start, going-from, Next, none-left, best-apart, next-first, next-level, most-best, going-made, still-less, match-made, left-long, ranks-long, deals-long}
+use Rattle.matching.proofs.Going.{Going, going-start, going-from, Next, none-left, best-apart, next-first, next-level, most-best, going-made, still-less, match-made}
+use Rattle.matching.proofs.Going.{left-long, ranks-long, deals-long}
 use Rattle.matching.proofs.levels.match_levels.Statement.{statement}
 use Rattle.matching.proofs.levels.match_levels.Tie as tie
 

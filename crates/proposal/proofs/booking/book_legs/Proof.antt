@@ -1,98 +1,117 @@
 use borrow.Author.Needs.{needs}
 use native.Mathlib.Omega.{arith}
-use mathlib.Core.Path.{_≡_, refl, sym, ap, _∙_}
-use Prim.Native.Nat.{_-_, _≤_, _+_}
-use lib.ListN.{length, getD}
+use mathlib.Core.Path.{_≡_, refl, ap, _∙_}
+use Prim.Native.Nat.{_-_, _≤_}
+use lib.ListN.{length}
 use Rattle.rules.specs.Ledger.{withHead, withRows, withLines, booked}
 use Rattle.proposal.specs.Booking.{linesTo}
 use Rattle.proposal.proofs.LegLines.{LegsBooked, legs-start, legs-next, leg-line-fit}
 use Rattle.proposal.proofs.booking.book_legs.Statement.{statement}
 use Rattle.proposal.proofs.booking.book_legs.Tie as tie
-use Rattle.proposal.proofs.booking.book_legs.Reads as reads
-use Rattle.proposal.proofs.booking.book_legs.Lts as lts
-use Rattle.tables.proofs.order_at.Reads as order-at-reads
-use Rattle.tables.proofs.book_line.Reads as book-line-reads
 
 abbrev Inv-loop : tie.InvT-loop
-Inv-loop head₀ lots₀ value₀ lines₀ book places leg-lots leg-prices i₀ head lots value lines i = (i ≤ length places) × LegsBooked book places leg-lots leg-prices head₀ lots₀ value₀ lines₀ i head lots value lines × (length head ≡ length head₀) × (length lots ≡ length lots₀) × (length value ≡ length value₀) × (length lines ≡ length lines₀)
+Inv-loop head₀ lots₀ value₀ lines₀ book places leg-lots leg-prices i₀ head lots value lines i = (i ≤ length places)
+    × LegsBooked book places leg-lots leg-prices head₀ lots₀ value₀ lines₀ i head lots value lines × (length head ≡ length head₀) × (length lots ≡ length lots₀)
+    × (length value ≡ length value₀) × (length lines ≡ length lines₀)
 
 abbrev μ-loop : tie.MeasureT-loop
 μ-loop head₀ lots₀ value₀ lines₀ book places leg-lots leg-prices i₀ head lots value lines i = length places - i
 
--- src/booking.rt:52:5
 loop-holds : tie.Need-loop-holds Inv-loop μ-loop
-loop-holds c = let a = c .before .before .before .before .before .args in (omega arith, legs-start (a .book .now) (a .places .now) (a .leg-lots .now) (a .leg-prices .now) (a .head .now) (a .lots .now) (a .value .now) (a .lines .now) (c .before .before .before .before .before .pre .1), refl, refl, refl, refl)
+loop-holds c = let a = c .before .before .before .before .before .args in (
+  omega arith,
+  legs-start (a .book .now) (a .places .now) (a .leg-lots .now) (a .leg-prices .now) (a .head .now) (a .lots .now) (a .value .now) (a .lines .now)
+      (c .before .before .before .before .before .pre .1),
+  refl,
+  refl,
+  refl,
+  refl,
+)
 
--- src/booking.rt:53:36
 mul-order-at : tie.Need-mul-order-at Inv-loop μ-loop
 mul-order-at c = search needs
 
--- src/booking.rt:53:36
 shared-slice-read-order-at : tie.Need-shared-slice-read-order-at Inv-loop μ-loop
 shared-slice-read-order-at c = search needs
 
--- src/booking.rt:53:13
 order-at-requires : tie.Need-order-at-requires Inv-loop μ-loop
-order-at-requires c κs = (omega (arith, c .before .before .before .before .before .before .before .before .pre .0 .1 .below (c .before .before .loop .i) (c .before .loop-test .taken), c .before .before .before .before .before .before .before .before .pre .1 .head-fit .most-orders), c .before .before .before .before .before .before .before .before .pre .0 .0 .long)
+order-at-requires c κs =
+    let start = c .before .before .before .before .before .before .before .before in
+    (omega (arith, start .pre .0 .1 .below (c .before .before .loop .i) (c .before .loop-test .taken), start .pre .1 .head-fit .most-orders), start .pre .0 .0 .long)
 
--- src/booking.rt:59:24
 mul-t13 : tie.Need-mul-t13 Inv-loop μ-loop
 mul-t13 c = search needs
 
--- src/booking.rt:59:24
 shared-slice-read-t18 : tie.Need-shared-slice-read-t18 Inv-loop μ-loop
 shared-slice-read-t18 c = search needs
 
--- src/booking.rt:60:26
 mul-t16 : tie.Need-mul-t16 Inv-loop μ-loop
 mul-t16 c = search needs
 
--- src/booking.rt:60:26
 shared-slice-read-t21 : tie.Need-shared-slice-read-t21 Inv-loop μ-loop
 shared-slice-read-t21 c = search needs
 
--- src/booking.rt:62:9
 book-line-requires : tie.Need-book-line-requires Inv-loop μ-loop
-book-line-requires c κs = let a = c .before .before .before .before .before .before .before .before .before .before .before .before .before .before .before .args in let l = c .before .before .before .before .before .before .before .before .before .loop in
+book-line-requires c κs =
+    let at-order-at = c .before .before .before .before .before .before in
+    let at-loop-test = at-order-at .before .before in
+    let at-loop = at-loop-test .before in
+    let start = at-loop .before .before .before .before .before .before in
+    let a = start .args in let l = at-loop .loop in
     let able = l .inv .1 .able in
-    let fit = leg-line-fit (a .book .now) (a .places .now) (a .leg-lots .now) (a .leg-prices .now) (a .head .now) (a .lots .now) (a .value .now) (a .lines .now) (c .before .before .before .before .before .before .before .before .before .before .before .before .before .before .before .pre .0 .2) (c .before .before .before .before .before .before .before .before .before .before .before .before .before .before .before .pre .0 .0) (c .before .before .before .before .before .before .before .before .before .before .before .before .before .before .before .pre .0 .1) (omega (arith, c .before .before .before .before .before .before .before .before .before .before .before .before .before .before .before .pre .1 .head-fit .long)) (l .i) (c .before .before .before .before .before .before .before .before .loop-test .taken) (l .head) (l .lots) (l .value) (l .lines) (l .inv .1) (c .before .before .before .before .before .before .order-at .result) (c .before .before .before .before .before .before .order-at .ensures) in
-    ((able .head-fit .long, able .head-fit .most-members, fit), ((able .lots-fit, able .value-fit), (omega (arith, c .before .before .before .before .before .before .before .before .loop-test .taken, c .before .before .before .before .before .before .before .before .before .before .before .before .before .before .before .pre .0 .2 .most-legs), able .lines-long)))
+    let fit = leg-line-fit (a .book .now) (a .places .now) (a .leg-lots .now) (a .leg-prices .now) (a .head .now) (a .lots .now) (a .value .now) (a .lines .now) (start .pre .0 .2)
+    (start .pre .0 .0) (start .pre .0 .1) (omega (arith, start .pre .1 .head-fit .long)) (l .i) (at-loop-test .loop-test .taken) (l .head) (l .lots) (l .value) (l .lines)
+    (l .inv .1) (at-order-at .order-at .result) (at-order-at .order-at .ensures) in
+    ((able .head-fit .long, able .head-fit .most-members, fit), ((able .lots-fit, able .value-fit), (omega (arith, at-loop-test .loop-test .taken, start .pre .0 .2 .most-legs), able .lines-long)))
 
--- src/booking.rt:63:9
 add-i : tie.Need-add-i Inv-loop μ-loop
-add-i c = omega (arith, c .before .before .before .before .before .before .before .before .before .before .before .before .before .before .loop-test .taken, c .before .before .before .before .before .before .before .before .before .before .before .before .before .before .before .before .before .before .before .before .before .pre .0 .2 .most-legs)
+add-i c =
+    let at-loop-test = c .before .before .before .before .before .before .before .before .before .before .before .before .before .before in
+    let start = at-loop-test .before .before .before .before .before .before .before in
+    omega (arith, at-loop-test .loop-test .taken, start .pre .0 .2 .most-legs)
 
--- src/booking.rt:52:5
 loop-less : tie.Need-loop-less Inv-loop μ-loop
 loop-less c = search needs
 
--- src/booking.rt:52:5
 loop-again : tie.Need-loop-again Inv-loop μ-loop
-loop-again c = let a = c .before .before .before .before .before .before .before .before .before .before .before .before .before .before .before .before .before .before .before .before .before .args in let l = c .before .before .before .before .before .before .before .before .before .before .before .before .before .before .before .loop in
-    let next = legs-next (a .book .now) (a .places .now) (a .leg-lots .now) (a .leg-prices .now) (a .head .now) (a .lots .now) (a .value .now) (a .lines .now) (c .before .before .before .before .before .before .before .before .before .before .before .before .before .before .before .before .before .before .before .before .before .pre .0 .2) (c .before .before .before .before .before .before .before .before .before .before .before .before .before .before .before .before .before .before .before .before .before .pre .0 .0) (c .before .before .before .before .before .before .before .before .before .before .before .before .before .before .before .before .before .before .before .before .before .pre .0 .1) (omega (arith, c .before .before .before .before .before .before .before .before .before .before .before .before .before .before .before .before .before .before .before .before .before .pre .1 .head-fit .long)) (l .i) (c .before .before .before .before .before .before .before .before .before .before .before .before .before .before .loop-test .taken) (l .head) (l .lots) (l .value) (l .lines) (l .inv .1) (c .before .before .before .before .before .before .before .before .before .before .before .before .order-at .result) (c .before .before .before .before .before .before .before .before .before .before .before .before .order-at .ensures) in
-    let kept = c .before .before .before .before .before .book-line .kept in
-    (omega (arith, c .before .before .before .before .before .before .before .before .before .before .before .before .before .before .loop-test .taken), next _ _ _ _ (c .before .before .before .before .before .book-line .ensures), kept .0 ∙ l .inv .2, kept .1 .0 ∙ l .inv .3, kept .1 .1 .0 ∙ l .inv .4, kept .1 .1 .1 .0 ∙ l .inv .5)
+loop-again c =
+    let at-book-line = c .before .before .before .before .before in
+    let at-order-at = at-book-line .before .before .before .before .before .before .before in
+    let at-loop-test = at-order-at .before .before in
+    let at-loop = at-loop-test .before in
+    let start = at-loop .before .before .before .before .before .before in
+    let a = start .args in let l = at-loop .loop in
+    let next = legs-next (a .book .now) (a .places .now) (a .leg-lots .now) (a .leg-prices .now) (a .head .now) (a .lots .now) (a .value .now) (a .lines .now) (start .pre .0 .2)
+    (start .pre .0 .0) (start .pre .0 .1) (omega (arith, start .pre .1 .head-fit .long)) (l .i) (at-loop-test .loop-test .taken) (l .head) (l .lots) (l .value) (l .lines)
+    (l .inv .1) (at-order-at .order-at .result) (at-order-at .order-at .ensures) in
+    let kept = at-book-line .book-line .kept in (
+      omega (arith, at-loop-test .loop-test .taken),
+      next _ _ _ _ (at-book-line .book-line .ensures),
+      kept .0 ∙ l .inv .2,
+      kept .1 .0 ∙ l .inv .3,
+      kept .1 .1 .0
+          ∙ l .inv .4,
+      kept .1 .1 .1 .0 ∙ l .inv .5,
+    )
 
--- src/booking.rt:35:1
 same-length : tie.Need-same-length Inv-loop μ-loop
 same-length c = search needs
 
--- src/booking.rt:35:1
 same-length-2 : tie.Need-same-length-2 Inv-loop μ-loop
 same-length-2 c = search needs
 
--- src/booking.rt:35:1
 same-length-3 : tie.Need-same-length-3 Inv-loop μ-loop
 same-length-3 c = search needs
 
--- src/booking.rt:35:1
 same-length-4 : tie.Need-same-length-4 Inv-loop μ-loop
 same-length-4 c = search needs
 
--- src/booking.rt:35:1
 returns : tie.Need-returns Inv-loop μ-loop
-returns c = let a = c .before .before .before .before .before .before .before .args in let l = c .before .loop in let same : l .i ≡ length (a .places .now) = omega (arith, c .loop-test .left, l .inv .0) in
-    λ t. l .inv .1 .tables t ∙ ap (λ n. booked (linesTo (a .book .now) (a .places .now) (a .leg-lots .now) (a .leg-prices .now) n) (withHead (a .head .now) (withRows (a .lots .now) (a .value .now) (withLines (a .lines .now) t))) .after) same
+returns c = let a = c .before .before .before .before .before .before .before .args in let l = c .before .loop in
+    let same : l .i ≡ length (a .places .now) = omega (arith, c .loop-test .left, l .inv .0) in
+    λ t. l .inv .1 .tables t ∙ ap
+    (λ n. booked (linesTo (a .book .now) (a .places .now) (a .leg-lots .now) (a .leg-prices .now) n)
+    (withHead (a .head .now) (withRows (a .lots .now) (a .value .now) (withLines (a .lines .now) t))) .after) same
 
 pub book-legs-spec : {M : Type 1} → statement M
 book-legs-spec =

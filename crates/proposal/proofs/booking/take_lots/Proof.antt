@@ -1,16 +1,12 @@
 use borrow.Author.Needs.{needs}
 use native.Mathlib.Omega.{arith}
-use native.Mathlib.Numerals.{add-one}
-use mathlib.Core.Path.{_≡_, refl, sym, ap, _∙_}
+use mathlib.Core.Path.{_≡_, refl, ap, _∙_}
 use Prim.Native.Nat.{_-_, _≤_}
-use lib.ListN.{length, getD, set, length-set}
+use lib.ListN.{length, length-set}
 use Rattle.proposal.specs.Booking.{leftAfter}
-use Rattle.proposal.proofs.Taken.{after-length, after-next}
+use Rattle.proposal.proofs.Taken.{after-next}
 use Rattle.proposal.proofs.booking.take_lots.Statement.{statement}
 use Rattle.proposal.proofs.booking.take_lots.Tie as tie
-use Rattle.proposal.proofs.booking.take_lots.Reads as reads
-use Rattle.proposal.proofs.booking.take_lots.Lts as lts
-use Rattle.proposal.proofs.booking.less.Reads as less-reads
 
 abbrev Inv-loop : tie.InvT-loop
 Inv-loop left₀ places lots i₀ left i = (i ≤ length places) × (length left ≡ length left₀) × (left ≡ leftAfter places lots i left₀)
@@ -18,65 +14,67 @@ Inv-loop left₀ places lots i₀ left i = (i ≤ length places) × (length left
 abbrev μ-loop : tie.MeasureT-loop
 μ-loop left₀ places lots i₀ left i = length places - i
 
--- src/booking.rt:95:5
 loop-holds : tie.Need-loop-holds Inv-loop μ-loop
 unfolding leftAfter
 loop-holds c = (omega arith, refl, refl)
 
--- src/booking.rt:96:21
 mul-place : tie.Need-mul-place Inv-loop μ-loop
 mul-place c = search needs
 
--- src/booking.rt:96:21
 shared-slice-read-place : tie.Need-shared-slice-read-place Inv-loop μ-loop
 shared-slice-read-place c = search needs
 
--- src/booking.rt:97:28
 mul-less : tie.Need-mul-less Inv-loop μ-loop
-mul-less c = let l = c .before .before .loop in omega (arith, c .before .before .before .before .before .before .pre .1 .below (l .i) (c .before .loop-test .taken), c .before .before .before .before .before .before .pre .0, l .inv .1)
+mul-less c =
+    let start = c .before .before .before .before .before .before in
+    let l = c .before .before .loop in omega (arith, start .pre .1 .below (l .i) (c .before .loop-test .taken), start .pre .0, l .inv .1)
 
--- src/booking.rt:97:28
 slice-read-less : tie.Need-slice-read-less Inv-loop μ-loop
-slice-read-less c = let l = c .before .before .before .loop in omega (arith, c .before .before .before .before .before .before .before .pre .1 .below (l .i) (c .before .before .loop-test .taken), c .before .before .before .before .before .before .before .pre .0, l .inv .1)
+slice-read-less c =
+    let start = c .before .before .before .before .before .before .before in
+    let l = c .before .before .before .loop in omega (arith, start .pre .1 .below (l .i) (c .before .before .loop-test .taken), start .pre .0, l .inv .1)
 
--- src/booking.rt:97:41
 mul-less-2 : tie.Need-mul-less-2 Inv-loop μ-loop
 mul-less-2 c = search needs
 
--- src/booking.rt:97:41
 shared-slice-read-less : tie.Need-shared-slice-read-less Inv-loop μ-loop
 shared-slice-read-less c = search needs
 
--- src/booking.rt:97:23
 less-requires : tie.Need-less-requires Inv-loop μ-loop
 less-requires c κs = search needs
 
--- src/booking.rt:97:9
 mul-left : tie.Need-mul-left Inv-loop μ-loop
-mul-left c = let l = c .before .before .before .before .before .loop in omega (arith, c .before .before .before .before .before .before .before .before .before .pre .1 .below (l .i) (c .before .before .before .before .loop-test .taken), c .before .before .before .before .before .before .before .before .before .pre .0, l .inv .1)
+mul-left c =
+    let at-loop = c .before .before .before .before .before in
+    let start = at-loop .before .before .before .before in
+    let l = at-loop .loop in omega (arith, start .pre .1 .below (l .i) (c .before .before .before .before .loop-test .taken), start .pre .0, l .inv .1)
 
--- src/booking.rt:97:9
 slice-write-left : tie.Need-slice-write-left Inv-loop μ-loop
-slice-write-left c = let l = c .before .before .before .before .before .loop in omega (arith, c .before .before .before .before .before .before .before .before .before .pre .1 .below (l .i) (c .before .before .before .before .loop-test .taken), c .before .before .before .before .before .before .before .before .before .pre .0, l .inv .1)
+slice-write-left c =
+    let at-loop = c .before .before .before .before .before in
+    let start = at-loop .before .before .before .before in
+    let l = at-loop .loop in omega (arith, start .pre .1 .below (l .i) (c .before .before .before .before .loop-test .taken), start .pre .0, l .inv .1)
 
--- src/booking.rt:98:9
 add-i : tie.Need-add-i Inv-loop μ-loop
 add-i c = search needs
 
--- src/booking.rt:95:5
 loop-less : tie.Need-loop-less Inv-loop μ-loop
 loop-less c = search needs
 
--- src/booking.rt:95:5
 loop-again : tie.Need-loop-again Inv-loop μ-loop
-loop-again c = let a = c .before .before .before .before .before .before .before .before .before .args in let l = c .before .before .before .before .before .loop in
-    (omega (arith, c .before .before .before .before .loop-test .taken), length-set (l .left) _ _ ∙ l .inv .1, after-next (a .places .now) (a .lots .now) (l .i) (a .left .now) (l .left) _ (l .inv .2) (c .less .ensures))
+loop-again c =
+    let at-loop = c .before .before .before .before .before in
+    let start = at-loop .before .before .before .before in
+    let a = start .args in let l = at-loop .loop in (
+      omega (arith, c .before .before .before .before .loop-test .taken),
+      length-set (l .left) _ _
+          ∙ l .inv .1,
+      after-next (a .places .now) (a .lots .now) (l .i) (a .left .now) (l .left) _ (l .inv .2) (c .less .ensures),
+    )
 
--- src/booking.rt:90:1
 same-length : tie.Need-same-length Inv-loop μ-loop
 same-length c = search needs
 
--- src/booking.rt:90:1
 returns : tie.Need-returns Inv-loop μ-loop
 returns c = let a = c .before .before .before .before .before .args in let l = c .before .loop in let same : l .i ≡ length (a .places .now) = omega (arith, c .loop-test .left, l .inv .0) in
     l .inv .2 ∙ ap (λ n. leftAfter (a .places .now) (a .lots .now) n (a .left .now)) same

@@ -1,16 +1,12 @@
 use borrow.Author.Needs.{needs}
 use native.Mathlib.Omega.{arith}
-use native.Mathlib.Nat.{zero-add}
-use native.Mathlib.Numerals.{add-one}
-use mathlib.Core.Path.{_≡_, refl, sym, ap, _∙_}
+use mathlib.Core.Path.{_≡_, refl, ap, _∙_}
 use Prim.Native.Nat.{_*_, _-_, _≤_}
 use lib.ListN.{length, getD}
 use Rattle.arith.specs.Lists.{total, from}
 use Rattle.proposal.proofs.Lists.{sum-next}
 use Rattle.proposal.proofs.booking.total_lots.Statement.{statement}
 use Rattle.proposal.proofs.booking.total_lots.Tie as tie
-use Rattle.proposal.proofs.booking.total_lots.Reads as reads
-use Rattle.proposal.proofs.booking.total_lots.Lts as lts
 
 abbrev Inv-loop : tie.InvT-loop
 Inv-loop lots prices sum₀ i₀ sum i = (i ≤ length lots) × (sum ≤ i * 100) × (sum ≡ total (λ j. getD lots j 0) (from 0 i))
@@ -18,36 +14,33 @@ Inv-loop lots prices sum₀ i₀ sum i = (i ≤ length lots) × (sum ≤ i * 100
 abbrev μ-loop : tie.MeasureT-loop
 μ-loop lots prices sum₀ i₀ sum i = length lots - i
 
--- src/booking.rt:27:5
 loop-holds : tie.Need-loop-holds Inv-loop μ-loop
 unfolding total from
 loop-holds c = (omega arith, omega arith, refl)
 
--- src/booking.rt:28:16
 mul-sum : tie.Need-mul-sum Inv-loop μ-loop
 mul-sum c = search needs
 
--- src/booking.rt:28:16
 shared-slice-read-sum : tie.Need-shared-slice-read-sum Inv-loop μ-loop
 shared-slice-read-sum c = search needs
 
--- src/booking.rt:28:9
 add-sum : tie.Need-add-sum Inv-loop μ-loop
-add-sum c = let l = c .before .before .loop in omega (arith, c .before .before .before .pre .most-lots (l .i) (c .before .loop-test .taken), c .before .before .before .pre .most-legs, c .before .loop-test .taken, l .inv .1)
+add-sum c = let l = c .before .before .loop in
+    omega (arith, c .before .before .before .pre .most-lots (l .i) (c .before .loop-test .taken), c .before .before .before .pre .most-legs, c .before .loop-test .taken, l .inv .1)
 
--- src/booking.rt:29:9
 add-i : tie.Need-add-i Inv-loop μ-loop
 add-i c = search needs
 
--- src/booking.rt:27:5
 loop-less : tie.Need-loop-less Inv-loop μ-loop
 loop-less c = search needs
 
--- src/booking.rt:27:5
 loop-again : tie.Need-loop-again Inv-loop μ-loop
-loop-again c = let a = c .before .before .before .args in let l = c .before .before .loop in (omega (arith, c .before .loop-test .taken), omega (arith, c .before .before .before .pre .most-lots (l .i) (c .before .loop-test .taken), l .inv .1), sum-next (λ j. getD (a .lots .now) j 0) (l .i) (l .sum) (l .inv .2))
+loop-again c = let a = c .before .before .before .args in let l = c .before .before .loop in (
+  omega (arith, c .before .loop-test .taken),
+  omega (arith, c .before .before .before .pre .most-lots (l .i) (c .before .loop-test .taken), l .inv .1),
+  sum-next (λ j. getD (a .lots .now) j 0) (l .i) (l .sum) (l .inv .2),
+)
 
--- src/booking.rt:21:1
 returns : tie.Need-returns Inv-loop μ-loop
 returns c = let a = c .before .before .args in let l = c .before .loop in let same : l .i ≡ length (a .lots .now) = omega (arith, c .loop-test .left, l .inv .0) in
     (l .inv .2 ∙ ap (λ n. total (λ j. getD (a .lots .now) j 0) (from 0 n)) same, omega (arith, l .inv .1, same, c .before .before .pre .most-legs))

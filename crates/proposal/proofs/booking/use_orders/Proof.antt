@@ -1,5 +1,5 @@
 use native.Mathlib.Omega.{arith}
-use mathlib.Core.Path.{_≡_, sym, ap, subst, _∙_}
+use mathlib.Core.Path.{sym, ap, subst, _∙_}
 use lib.ListN.{getD, length, replicate}
 use lib.Seq.{length-take-le}
 use Rattle.rules.specs.Ledger.{withHead, withBook, withOrders}
@@ -10,39 +10,37 @@ use Rattle.proposal.proofs.Taken.{left-long, left-many, left-front}
 use borrow.Author.Needs.{needs}
 use Rattle.proposal.proofs.booking.use_orders.Statement.{statement}
 use Rattle.proposal.proofs.booking.use_orders.Tie as tie
-use Rattle.proposal.proofs.booking.use_orders.Reads as reads
-use Rattle.proposal.proofs.booking.use_orders.Lts as lts
-use Rattle.proposal.proofs.booking.write_left.Reads as write-left-reads
-use Rattle.tables.proofs.keep_orders.Reads as keep-orders-reads
 
--- src/booking.rt:118:17
 slice-read-count : tie.Need-slice-read-count
 slice-read-count c = search needs
 
--- src/booking.rt:120:24
 array-borrow-prefix-left : tie.Need-array-borrow-prefix-left
 array-borrow-prefix-left c = search needs
 
--- src/booking.rt:120:24
 slice-aggregate-write-left : tie.Need-slice-aggregate-write-left
 slice-aggregate-write-left c = sym (length-take-le _ _ (c .before .before .before .before .before .before .before .pre .1))
 
--- src/booking.rt:120:5
 write-left-requires : tie.Need-write-left-requires
-write-left-requires c κs = let a = c .before .before .before .before .before .before .before .args in let most = c .before .before .before .before .before .before .before .pre .1 in
-    (rw (length-take-le _ _ most) most, c .before .before .before .before .before .before .before .pre .2, subst (λ n. PlacesFit n (a .places .now)) (sym (length-take-le _ _ most)) (c .before .before .before .before .before .before .before .pre .3), c .before .before .before .before .before .before .before .pre .4)
+write-left-requires c κs =
+    let start = c .before .before .before .before .before .before .before in
+    let a = start .args in let most = start .pre .1 in
+    (rw (length-take-le _ _ most) most, start .pre .2, subst (λ n. PlacesFit n (a .places .now)) (sym (length-take-le _ _ most)) (start .pre .3), start .pre .4)
 
--- src/booking.rt:121:41
 array-share-prefix-left : tie.Need-array-share-prefix-left
-array-share-prefix-left c = let a = c .before .before .before .before .before .before .before .before .before .before .before .args in left-long (a .places .now) (a .lots .now) (length (a .places .now)) (getD (a .head .now) 7 0) _ (replicate 256 0) (a .book .now) (c .before .before .before .before .before .before .before .before .before .before .before .pre .1) (c .before .before .before .write-left .ensures)
+array-share-prefix-left c =
+    let start = c .before .before .before .before .before .before .before .before .before .before .before in
+    let a = start .args in left-long (a .places .now) (a .lots .now) (length (a .places .now)) (getD (a .head .now) 7 0) _ (replicate 256 0) (a .book .now) (start .pre .1)
+    (c .before .before .before .write-left .ensures)
 
--- src/booking.rt:121:41
 slice-aggregate-keep-orders : tie.Need-slice-aggregate-keep-orders
-slice-aggregate-keep-orders c = let a = c .before .before .before .before .before .before .before .before .before .before .before .before .args in left-many (a .places .now) (a .lots .now) (length (a .places .now)) (getD (a .head .now) 7 0) _ (replicate 256 0) (a .book .now) (c .before .before .before .before .before .before .before .before .before .before .before .before .pre .1) (c .before .before .before .before .write-left .ensures)
+slice-aggregate-keep-orders c =
+    let start = c .before .before .before .before .before .before .before .before .before .before .before .before in
+    let a = start .args in left-many (a .places .now) (a .lots .now) (length (a .places .now)) (getD (a .head .now) 7 0) _ (replicate 256 0) (a .book .now) (start .pre .1)
+    (c .before .before .before .before .write-left .ensures)
 
--- src/booking.rt:121:5
 keep-orders-requires : tie.Need-keep-orders-requires
 keep-orders-requires c κs =
+    let at-before = c .before .before .before .before .before .before .before .before .before .before .before in
     let start = c .before .before .before .before .before .before .before .before .before .before .before .before in
     let a = start .args in
     let n = getD (a .head .now) 7 0 in
@@ -51,20 +49,20 @@ keep-orders-requires c κs =
     let many = left-many (a .places .now) (a .lots .now) (length (a .places .now)) n _ (replicate 256 0) (a .book .now) (p .1) (left .ensures) in
     ((p .0, p .2, p .1, rw (← many) (omega arith)), p .5)
 
--- src/booking.rt:112:1
 same-length : tie.Need-same-length
 same-length c = search needs
 
--- src/booking.rt:112:1
 same-length-2 : tie.Need-same-length-2
 same-length-2 c = search needs
 
--- src/booking.rt:112:1
 returns : tie.Need-returns
-returns c = let a = c .before .before .before .before .before .before .before .before .before .before .before .before .before .before .before .before .before .args in let n = getD (a .head .now) 7 0 in
+returns c =
+    let at-write-left = c .before .before .before .before .before .before .before .before .before in
+    let start = at-write-left .before .before .before .before .before .before .before .before in
+    let a = start .args in let n = getD (a .head .now) 7 0 in
     λ t. c .before .before .before .before .keep-orders .ensures t
     ∙ ap (λ left. withOrders (leftOver left (ordersIn n (a .book .now))) (withHead (a .head .now) (withBook (a .book .now) t)))
-    (left-front (a .places .now) (a .lots .now) (length (a .places .now)) n _ (replicate 256 0) (a .book .now) (c .before .before .before .before .before .before .before .before .before .before .before .before .before .before .before .before .before .pre .1) (c .before .before .before .before .before .before .before .before .before .write-left .ensures))
+    (left-front (a .places .now) (a .lots .now) (length (a .places .now)) n _ (replicate 256 0) (a .book .now) (start .pre .1) (at-write-left .write-left .ensures))
 
 pub use-orders-spec : {M : Type 1} → statement M
 use-orders-spec =

@@ -3,15 +3,12 @@ use native.Mathlib.Omega.{arith}
 use mathlib.Core.Path.{_≡_, refl, sym, ap, _∙_}
 use mathlib.Core.List.{_++_}
 use Prim.Native.Nat.{_-_, _≤_}
-use lib.ListN.{length, take, drop, getD, length-set}
+use lib.ListN.{length, take, drop, length-set}
 use Rattle.arith.proofs.Writes.{front-next, front-end}
 use Rattle.proposal.specs.Booking.{lotsIn}
 use Rattle.proposal.proofs.Taken.{lots-length, lots-at}
 use Rattle.proposal.proofs.booking.write_lots.Statement.{statement}
 use Rattle.proposal.proofs.booking.write_lots.Tie as tie
-use Rattle.proposal.proofs.booking.write_lots.Reads as reads
-use Rattle.proposal.proofs.booking.write_lots.Lts as lts
-use Rattle.tables.proofs.order_at.Reads as order-at-reads
 
 abbrev Inv-loop : tie.InvT-loop
 Inv-loop book left₀ i₀ left i = (length left ≡ length left₀) × (i ≤ length left₀) × (left ≡ take i (lotsIn (length left₀) book) ++ drop i left₀)
@@ -19,43 +16,39 @@ Inv-loop book left₀ i₀ left i = (length left ≡ length left₀) × (i ≤ l
 abbrev μ-loop : tie.MeasureT-loop
 μ-loop book left₀ i₀ left i = length left₀ - i
 
--- src/booking.rt:82:5
 loop-holds : tie.Need-loop-holds Inv-loop μ-loop
 loop-holds c = (refl, omega arith, refl)
 
--- src/booking.rt:83:13
 order-at-requires : tie.Need-order-at-requires Inv-loop μ-loop
 order-at-requires c κs = search needs
 
--- src/booking.rt:84:9
 mul-left : tie.Need-mul-left Inv-loop μ-loop
 mul-left c = search needs
 
--- src/booking.rt:84:9
 slice-write-left : tie.Need-slice-write-left Inv-loop μ-loop
 slice-write-left c = search needs
 
--- src/booking.rt:85:9
 add-i : tie.Need-add-i Inv-loop μ-loop
 add-i c = search needs
 
--- src/booking.rt:82:5
 loop-less : tie.Need-loop-less Inv-loop μ-loop
 loop-less c = search needs
 
--- src/booking.rt:82:5
 loop-again : tie.Need-loop-again Inv-loop μ-loop
 loop-again c = let a = c .before .before .before .before .before .args in let l = c .before .before .loop in
     let n = length (a .left .now) in
     let all = lotsIn n (a .book .now) in
-    let here = ap (λ o. o .lots .0) (c .order-at .ensures) ∙ sym (lots-at n (a .book .now) (l .i) (omega (arith, c .before .loop-test .taken, l .inv .0))) in
-    (length-set (l .left) (l .i) _ ∙ l .inv .0, omega (arith, c .before .loop-test .taken, l .inv .0), rw (here, l .inv .2) (front-next (l .i) all (a .left .now) 0 (omega (arith, lots-length n (a .book .now), c .before .loop-test .taken, l .inv .0)) (omega (arith, c .before .loop-test .taken, l .inv .0))))
+    let here = ap (λ o. o .lots .0) (c .order-at .ensures) ∙ sym (lots-at n (a .book .now) (l .i) (omega (arith, c .before .loop-test .taken, l .inv .0))) in (
+      length-set (l .left) (l .i) _
+          ∙ l .inv .0,
+      omega (arith, c .before .loop-test .taken, l .inv .0),
+      rw (here, l .inv .2) (front-next (l .i) all (a .left .now) 0 (omega (arith, lots-length n (a .book .now), c .before .loop-test .taken, l .inv .0))
+          (omega (arith, c .before .loop-test .taken, l .inv .0))),
+    )
 
--- src/booking.rt:77:1
 same-length : tie.Need-same-length Inv-loop μ-loop
 same-length c = search needs
 
--- src/booking.rt:77:1
 returns : tie.Need-returns Inv-loop μ-loop
 returns c = let a = c .before .before .before .before .args in let l = c .before .loop in
     let n = length (a .left .now) in

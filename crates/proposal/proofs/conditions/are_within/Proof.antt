@@ -1,13 +1,12 @@
 use native.Mathlib.Nat.{sub-zero}
 use borrow.Author.Needs.{needs}
 use native.Mathlib.Omega.{arith}
-use mathlib.Core.Path.{_≡_, refl, sym, ap, _∙_}
+use mathlib.Core.Path.{_≡_}
 use mathlib.Core.Bool.{_&&_}
 use mathlib.Core.List.{map}
 use Prim.Native.Nat.{_-_, _≤_}
 use lib.ListN.{length}
 use Rattle.arith.specs.Lists.{every, from}
-use Rattle.arith.proofs.Scans.{each-start}
 use Rattle.rules.specs.Ledger.{Tables, withPrices}
 use Rattle.rules.specs.Synthetic.{hasLots, priceAllowed}
 use Rattle.proposal.specs.Columns.{namedAt}
@@ -15,61 +14,73 @@ use Rattle.proposal.proofs.Lists.{all-next, all-end}
 use Rattle.proposal.proofs.Named.{within-same}
 use Rattle.proposal.proofs.conditions.are_within.Statement.{statement}
 use Rattle.proposal.proofs.conditions.are_within.Tie as tie
-use Rattle.proposal.proofs.conditions.are_within.Reads as reads
-use Rattle.proposal.proofs.conditions.are_within.Lts as lts
-use Rattle.proposal.proofs.conditions.is_price_allowed.Reads as is-price-allowed-reads
-use Rattle.proposal.proofs.conditions.leg_at.Reads as leg-at-reads
-use Rattle.tables.proofs.order_at.Reads as order-at-reads
 
 abbrev Inv-loop : tie.InvT-loop
-Inv-loop prices book places orders leg-lots leg-prices ok₀ i₀ ok i = (i ≤ length places) × ((t : Tables) → ok && every (λ n. hasLots n && priceAllowed (withPrices prices t) n) (map (namedAt book places orders leg-lots leg-prices) (from i (length orders - i))) ≡ every (λ n. hasLots n && priceAllowed (withPrices prices t) n) (map (namedAt book places orders leg-lots leg-prices) (from 0 (length orders))))
+Inv-loop prices book places orders leg-lots leg-prices ok₀ i₀ ok i = (i ≤ length places)
+    × ((t : Tables) → ok && every (λ n. hasLots n && priceAllowed (withPrices prices t) n)
+    (map (namedAt book places orders leg-lots leg-prices) (from i (length orders - i))) ≡ every (λ n. hasLots n && priceAllowed (withPrices prices t) n)
+    (map (namedAt book places orders leg-lots leg-prices) (from 0 (length orders))))
 
 abbrev μ-loop : tie.MeasureT-loop
 μ-loop prices book places orders leg-lots leg-prices ok₀ i₀ ok i = length places - i
 
--- src/conditions.rt:94:5
 loop-holds : tie.Need-loop-holds Inv-loop μ-loop
 loop-holds c = (omega arith, λ t. rw (sub-zero (length (c .before .before .before .before .before .before .args .orders .now))))
 
--- src/conditions.rt:95:13
 leg-at-requires : tie.Need-leg-at-requires Inv-loop μ-loop
-leg-at-requires c κs = let fit = c .before .before .before .before .before .before .before .before .pre .1 in let h = c .loop-test .taken in (omega (arith, h, fit .1), omega (arith, h, fit .1, fit .0 .lots-length), omega (arith, h, fit .1, fit .0 .prices-length))
+leg-at-requires c κs = let fit = c .before .before .before .before .before .before .before .before .pre .1 in let h = c .loop-test .taken in
+    (omega (arith, h, fit .1), omega (arith, h, fit .1, fit .0 .lots-length), omega (arith, h, fit .1, fit .0 .prices-length))
 
--- src/conditions.rt:96:36
 mul-order-at : tie.Need-mul-order-at Inv-loop μ-loop
 mul-order-at c = search needs
 
--- src/conditions.rt:96:36
 shared-slice-read-order-at : tie.Need-shared-slice-read-order-at Inv-loop μ-loop
 shared-slice-read-order-at c = search needs
 
--- src/conditions.rt:96:13
 order-at-requires : tie.Need-order-at-requires Inv-loop μ-loop
-order-at-requires c κs = (c .before .before .before .before .before .before .before .before .before .before .pre .0 .1 .below (c .before .before .before .loop .i) (c .before .before .loop-test .taken), c .before .before .before .before .before .before .before .before .before .before .pre .0 .2 .long)
+order-at-requires c κs =
+    let start = c .before .before .before .before .before .before .before .before .before .before in
+    (start .pre .0 .1 .below (c .before .before .before .loop .i) (c .before .before .loop-test .taken), start .pre .0 .2 .long)
 
--- src/conditions.rt:97:51
 is-price-allowed-requires : tie.Need-is-price-allowed-requires Inv-loop μ-loop
-is-price-allowed-requires c κs = (c .before .before .before .before .before .before .before .before .before .before .before .before .before .pre .0 .0, rw (c .before .before .order-at .ensures) (c .before .before .before .before .before .before .before .before .before .before .before .before .before .pre .0 .2 .contract-below (c .before .before .before .before .before .before .loop .i) (c .before .before .before .before .before .loop-test .taken)))
+is-price-allowed-requires c κs =
+    let at-loop-test = c .before .before .before .before .before in
+    let at-loop = at-loop-test .before in
+    let start = at-loop .before .before .before .before .before .before .before in
+    (start .pre .0 .0, rw (c .before .before .order-at .ensures) (start .pre .0 .2 .contract-below (at-loop .loop .i) (at-loop-test .loop-test .taken)))
 
--- src/conditions.rt:98:9
 add-i : tie.Need-add-i Inv-loop μ-loop
-add-i c = omega (arith, c .before .before .before .before .before .before .loop-test .taken, c .before .before .before .before .before .before .before .before .before .before .before .before .before .before .pre .1 .1, c .before .before .before .before .before .before .before .before .before .before .before .before .before .before .pre .1 .0 .most-legs)
+add-i c =
+    let at-loop-test = c .before .before .before .before .before .before in
+    let start = at-loop-test .before .before .before .before .before .before .before .before in
+    omega (arith, at-loop-test .loop-test .taken, start .pre .1 .1, start .pre .1 .0 .most-legs)
 
--- src/conditions.rt:94:5
 loop-less : tie.Need-loop-less Inv-loop μ-loop
 loop-less c = search needs
 
--- src/conditions.rt:94:5
 loop-again : tie.Need-loop-again Inv-loop μ-loop
-loop-again c = let a = c .before .before .before .before .before .before .before .before .before .before .before .before .before .before .args in let l = c .before .before .before .before .before .before .before .loop in
-    let named = namedAt (a .book .now) (a .places .now) (a .orders .now) (a .leg-lots .now) (a .leg-prices .now) in
-    (omega (arith, c .before .before .before .before .before .before .loop-test .taken), λ t. rw (within-same (withPrices (a .prices .now) t) (c .before .before .before .before .before .leg-at .result) _ (c .before .before .before .order-at .result) _ _ (c .before .before .before .before .before .leg-at .ensures) (c .before .before .before .order-at .ensures) (c .is-price-allowed .ensures t)) (all-next named (λ n. hasLots n && priceAllowed (withPrices (a .prices .now) t) n) (length (a .orders .now)) (l .i) (l .ok) _ (l .inv .1 t) (omega (arith, c .before .before .before .before .before .before .loop-test .taken, c .before .before .before .before .before .before .before .before .before .before .before .before .before .before .pre .1 .1))))
+loop-again c =
+    let at-order-at = c .before .before .before in
+    let at-leg-at = at-order-at .before .before in
+    let at-loop-test = at-leg-at .before in
+    let at-loop = at-loop-test .before in
+    let start = at-loop .before .before .before .before .before .before .before in
+    let a = start .args in let l = at-loop .loop in
+    let named = namedAt (a .book .now) (a .places .now) (a .orders .now) (a .leg-lots .now) (a .leg-prices .now) in (
+      omega (arith, at-loop-test .loop-test .taken),
+      λ t. rw (within-same (withPrices (a .prices .now) t) (at-leg-at .leg-at .result) _ (at-order-at .order-at .result) _ _ (at-leg-at .leg-at .ensures)
+          (at-order-at .order-at .ensures) (c .is-price-allowed .ensures t))
+          (all-next named (λ n. hasLots n && priceAllowed (withPrices (a .prices .now) t) n) (length (a .orders .now)) (l .i) (l .ok) _ (l .inv .1 t)
+          (omega (arith, at-loop-test .loop-test .taken, start .pre .1 .1))),
+    )
 
--- src/conditions.rt:79:1
 returns : tie.Need-returns Inv-loop μ-loop
-returns c = let a = c .before .before .before .before .before .before .before .before .args in let l = c .before .loop in
+returns c =
+    let start = c .before .before .before .before .before .before .before .before in
+    let a = start .args in let l = c .before .loop in
     let named = namedAt (a .book .now) (a .places .now) (a .orders .now) (a .leg-lots .now) (a .leg-prices .now) in
-    λ t. all-end named (λ n. hasLots n && priceAllowed (withPrices (a .prices .now) t) n) (length (a .orders .now)) (l .i) (l .ok) _ (l .inv .1 t) (omega (arith, c .loop-test .left, c .before .before .before .before .before .before .before .before .pre .1 .1))
+    λ t. all-end named (λ n. hasLots n && priceAllowed (withPrices (a .prices .now) t) n) (length (a .orders .now)) (l .i) (l .ok) _ (l .inv .1 t)
+    (omega (arith, c .loop-test .left, start .pre .1 .1))
 
 pub are-within-spec : {M : Type 1} → statement M
 are-within-spec =

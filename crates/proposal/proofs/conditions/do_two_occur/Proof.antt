@@ -9,76 +9,60 @@ use Rattle.arith.specs.Lists.{any}
 use Rattle.arith.proofs.Tests.{any-next, any-end}
 use Rattle.proposal.proofs.conditions.do_two_occur.Statement.{statement}
 use Rattle.proposal.proofs.conditions.do_two_occur.Tie as tie
-use Rattle.proposal.proofs.conditions.do_two_occur.Reads as reads
-use Rattle.proposal.proofs.conditions.do_two_occur.Lts as lts
 
 abbrev Inv-loop : tie.InvT-loop
-Inv-loop book places field first found₀ i₀ found i = (i ≤ length places) × (found || any (λ p. not (eqb (getD book (p * 8 + field) 0) first)) (drop i places) ≡ any (λ p. not (eqb (getD book (p * 8 + field) 0) first)) places)
+Inv-loop book places field first found₀ i₀ found i = (i ≤ length places)
+    × (found || any (λ p. not (eqb (getD book (p * 8 + field) 0) first)) (drop i places) ≡ any (λ p. not (eqb (getD book (p * 8 + field) 0) first)) places)
 
 abbrev μ-loop : tie.MeasureT-loop
 μ-loop book places field first found₀ i₀ found i = length places - i
 
--- src/conditions.rt:42:22
 shared-slice-read-first : tie.Need-shared-slice-read-first Inv-loop μ-loop
 shared-slice-read-first c = omega arith
 
--- src/conditions.rt:42:22
 mul-first : tie.Need-mul-first Inv-loop μ-loop
 mul-first c = omega (arith, c .before .pre .3 .below 0 (omega arith))
 
--- src/conditions.rt:42:22
 add-first : tie.Need-add-first Inv-loop μ-loop
 add-first c = omega (arith, c .before .pre .3 .below 0 (omega arith))
 
--- src/conditions.rt:42:17
 mul-first-2 : tie.Need-mul-first-2 Inv-loop μ-loop
 mul-first-2 c = omega (arith, c .before .pre .3 .below 0 (omega arith))
 
--- src/conditions.rt:42:17
 shared-slice-read-first-2 : tie.Need-shared-slice-read-first-2 Inv-loop μ-loop
 shared-slice-read-first-2 c = omega (arith, c .before .before .pre .3 .below 0 (omega arith))
 
--- src/conditions.rt:45:5
 loop-holds : tie.Need-loop-holds Inv-loop μ-loop
 loop-holds c = (omega arith, refl)
 
--- src/conditions.rt:46:32
 mul-found : tie.Need-mul-found Inv-loop μ-loop
 mul-found c = omega (arith, c .before .before .before .before .pre .3 .below (c .before .loop .i) (c .loop-test .taken))
 
--- src/conditions.rt:46:32
 shared-slice-read-found : tie.Need-shared-slice-read-found Inv-loop μ-loop
 shared-slice-read-found c = search needs
 
--- src/conditions.rt:46:32
 mul-found-2 : tie.Need-mul-found-2 Inv-loop μ-loop
 mul-found-2 c = omega (arith, c .before .before .before .before .before .pre .3 .below (c .before .before .loop .i) (c .before .loop-test .taken))
 
--- src/conditions.rt:46:32
 add-found : tie.Need-add-found Inv-loop μ-loop
 add-found c = omega (arith, c .before .before .before .before .before .pre .3 .below (c .before .before .loop .i) (c .before .loop-test .taken))
 
--- src/conditions.rt:46:27
 mul-found-3 : tie.Need-mul-found-3 Inv-loop μ-loop
 mul-found-3 c = omega (arith, c .before .before .before .before .before .pre .3 .below (c .before .before .loop .i) (c .before .loop-test .taken))
 
--- src/conditions.rt:46:27
 shared-slice-read-found-2 : tie.Need-shared-slice-read-found-2 Inv-loop μ-loop
 shared-slice-read-found-2 c = omega (arith, c .before .before .before .before .before .before .pre .3 .below (c .before .before .before .loop .i) (c .before .before .loop-test .taken))
 
--- src/conditions.rt:47:9
 add-i : tie.Need-add-i Inv-loop μ-loop
 add-i c = search needs
 
--- src/conditions.rt:45:5
 loop-less : tie.Need-loop-less Inv-loop μ-loop
 loop-less c = search needs
 
--- src/conditions.rt:45:5
 loop-again : tie.Need-loop-again Inv-loop μ-loop
-loop-again c = let a = c .before .before .before .before .before .before .args in let l = c .before .before .before .loop in (omega arith, any-next _ (a .places .now) 0 (l .i) (l .found) (l .inv .1) (c .before .before .loop-test .taken))
+loop-again c = let a = c .before .before .before .before .before .before .args in let l = c .before .before .before .loop in
+    (omega arith, any-next _ (a .places .now) 0 (l .i) (l .found) (l .inv .1) (c .before .before .loop-test .taken))
 
--- src/conditions.rt:38:1
 returns : tie.Need-returns Inv-loop μ-loop
 returns c = let a = c .before .before .before .before .args in let l = c .before .loop in any-end _ (a .places .now) 0 (l .i) (l .found) (l .inv .1) (c .loop-test .left)
 

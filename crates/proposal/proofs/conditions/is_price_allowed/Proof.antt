@@ -2,51 +2,38 @@ use Rattle.rules.specs.Synthetic.{priceAllowed}
 use borrow.Author.Needs.{needs}
 use Rattle.proposal.proofs.conditions.is_price_allowed.Statement.{statement}
 use Rattle.proposal.proofs.conditions.is_price_allowed.Tie as tie
-use Rattle.proposal.proofs.conditions.is_price_allowed.Reads as reads
-use Rattle.proposal.proofs.conditions.is_price_allowed.Lts as lts
 
--- src/conditions.rt:68:14
 mul-at : tie.Need-mul-at
 mul-at c = search needs
 
--- src/conditions.rt:73:30
 enum-told : tie.Need-enum-told
 enum-told c = search needs
 
--- src/conditions.rt:73:30
 add-result : tie.Need-add-result
 add-result c = search needs
 
--- src/conditions.rt:73:23
 mul-result : tie.Need-mul-result
 mul-result c = search needs
 
--- src/conditions.rt:73:23
 shared-slice-read-result : tie.Need-shared-slice-read-result
 shared-slice-read-result c = search needs
 
--- src/conditions.rt:74:24
 enum-told-2 : tie.Need-enum-told-2
 enum-told-2 c = search needs
 
--- src/conditions.rt:74:61
 add-result-2 : tie.Need-add-result-2
 add-result-2 c = search needs
 
--- src/conditions.rt:74:54
 mul-result-2 : tie.Need-mul-result-2
 mul-result-2 c = search needs
 
--- src/conditions.rt:74:54
 shared-slice-read-result-2 : tie.Need-shared-slice-read-result-2
 shared-slice-read-result-2 c = search needs
 
--- src/conditions.rt:64:1
 returns : tie.Need-returns
 unfolding priceAllowed
 returns c = λ t. rw (c .before .enum-told .given .1)
 
--- src/conditions.rt:64:1
 returns-2 : tie.Need-returns-2
 unfolding priceAllowed
 returns-2 c = λ t. rw (c .before .enum-told2 .given .1)

@@ -9,8 +9,6 @@ use Rattle.arith.specs.Lists.{every}
 use Rattle.arith.proofs.Scans.{every-next, every-end}
 use Rattle.proposal.proofs.places.are_found.Statement.{statement}
 use Rattle.proposal.proofs.places.are_found.Tie as tie
-use Rattle.proposal.proofs.places.are_found.Reads as reads
-use Rattle.proposal.proofs.places.are_found.Lts as lts
 
 abbrev Inv-loop : tie.InvT-loop
 Inv-loop places count ok₀ i₀ ok i = (i ≤ length places) × (ok && every (λ p. ltb p count) (drop i places) ≡ every (λ p. ltb p count) places)
@@ -18,31 +16,25 @@ Inv-loop places count ok₀ i₀ ok i = (i ≤ length places) × (ok && every (�
 abbrev μ-loop : tie.MeasureT-loop
 μ-loop places count ok₀ i₀ ok i = length places - i
 
--- src/places.rt:48:5
 loop-holds : tie.Need-loop-holds Inv-loop μ-loop
 loop-holds c = (omega arith, refl)
 
--- src/places.rt:49:20
 mul-ok : tie.Need-mul-ok Inv-loop μ-loop
 mul-ok c = search needs
 
--- src/places.rt:49:20
 shared-slice-read-ok : tie.Need-shared-slice-read-ok Inv-loop μ-loop
 shared-slice-read-ok c = search needs
 
--- src/places.rt:50:9
 add-i : tie.Need-add-i Inv-loop μ-loop
 add-i c = search needs
 
--- src/places.rt:48:5
 loop-less : tie.Need-loop-less Inv-loop μ-loop
 loop-less c = search needs
 
--- src/places.rt:48:5
 loop-again : tie.Need-loop-again Inv-loop μ-loop
-loop-again c = let a = c .before .before .before .args in let l = c .before .before .loop in (omega arith, every-next (λ p. ltb p (a .count)) (a .places .now) 0 (l .i) (l .ok) (l .inv .1) (c .before .loop-test .taken))
+loop-again c = let a = c .before .before .before .args in let l = c .before .before .loop in
+    (omega arith, every-next (λ p. ltb p (a .count)) (a .places .now) 0 (l .i) (l .ok) (l .inv .1) (c .before .loop-test .taken))
 
--- src/places.rt:43:1
 returns : tie.Need-returns Inv-loop μ-loop
 returns c = let a = c .before .before .args in let l = c .before .loop in every-end (λ p. ltb p (a .count)) (a .places .now) 0 (l .i) (l .ok) (l .inv .1) (c .loop-test .left)
 

@@ -11,8 +11,6 @@ use Rattle.proposal.specs.Columns.{placeOf}
 use Rattle.proposal.proofs.Named.{place-here, place-next, place-end}
 use Rattle.proposal.proofs.places.place_of.Statement.{statement}
 use Rattle.proposal.proofs.places.place_of.Tie as tie
-use Rattle.proposal.proofs.places.place_of.Reads as reads
-use Rattle.proposal.proofs.places.place_of.Lts as lts
 
 abbrev Inv-loop : tie.InvT-loop
 Inv-loop book count number i₀ i = (i ≤ count) × (i + placeOf number (map (orderAt book) (from i (count - i))) ≡ placeOf number (map (orderAt book) (from 0 count)))
@@ -20,45 +18,38 @@ Inv-loop book count number i₀ i = (i ≤ count) × (i + placeOf number (map (o
 abbrev μ-loop : tie.MeasureT-loop
 μ-loop book count number i₀ i = count - i
 
--- src/places.rt:21:5
 loop-holds : tie.Need-loop-holds Inv-loop μ-loop
 loop-holds c = let a = c .args in (omega arith, rw (sub-zero (a .count)) (zero-add _))
 
--- src/places.rt:22:17
 mul-if1 : tie.Need-mul-if1 Inv-loop μ-loop
 mul-if1 c = search needs
 
--- src/places.rt:22:17
 add-if1 : tie.Need-add-if1 Inv-loop μ-loop
 add-if1 c = search needs
 
--- src/places.rt:22:12
 mul-if1-2 : tie.Need-mul-if1-2 Inv-loop μ-loop
 mul-if1-2 c = search needs
 
--- src/places.rt:22:12
 shared-slice-read-if1 : tie.Need-shared-slice-read-if1 Inv-loop μ-loop
 shared-slice-read-if1 c = search needs
 
--- src/places.rt:23:13
 returns : tie.Need-returns Inv-loop μ-loop
 returns c = let a = c .before .before .before .before .args in let l = c .before .before .before .loop in
     place-here (a .number) (a .book .now) (a .count) (l .i) _ (l .inv .1) (c .before .before .loop-test .taken) (ap (λ j. getD (a .book .now) j 0) (sym (add-zero (l .i * 8))) ∙ c .if1 .taken)
 
--- src/places.rt:25:9
 add-i : tie.Need-add-i Inv-loop μ-loop
 add-i c = search needs
 
--- src/places.rt:21:5
 loop-less : tie.Need-loop-less Inv-loop μ-loop
 loop-less c = search needs
 
--- src/places.rt:21:5
 loop-again : tie.Need-loop-again Inv-loop μ-loop
-loop-again c = let a = c .before .before .before .before .args in let l = c .before .before .before .loop in
-    (omega arith, place-next (a .number) (a .book .now) (a .count) (l .i) _ (l .inv .1) (c .before .before .loop-test .taken) (λ e. c .if1 .left (ap (λ j. getD (a .book .now) j 0) (add-zero (l .i * 8)) ∙ e)))
+loop-again c = let a = c .before .before .before .before .args in let l = c .before .before .before .loop in (
+  omega arith,
+  place-next (a .number) (a .book .now) (a .count) (l .i) _ (l .inv .1) (c .before .before .loop-test .taken)
+      (λ e. c .if1 .left (ap (λ j. getD (a .book .now) j 0) (add-zero (l .i * 8)) ∙ e)),
+)
 
--- src/places.rt:16:1
 returns-2 : tie.Need-returns-2 Inv-loop μ-loop
 returns-2 c = let a = c .before .before .args in let l = c .before .loop in place-end (a .number) (a .book .now) (a .count) (l .i) _ (l .inv .1) (c .loop-test .left)
 

@@ -1,18 +1,15 @@
 use borrow.Author.Needs.{needs}
 use native.Mathlib.Omega.{arith}
-use mathlib.Core.Path.{_≡_, refl, sym, ap, _∙_}
+use mathlib.Core.Path.{_≡_, refl, sym, _∙_}
 use mathlib.Core.List.{map, _++_}
 use Prim.Native.Nat.{_-_, _≤_}
-use lib.ListN.{length, take, drop, getD, length-set, length-map}
+use lib.ListN.{length, take, drop, length-set, length-map}
 use Rattle.arith.proofs.Appends.{map-at}
 use Rattle.arith.proofs.Writes.{front-next, front-end}
 use Rattle.tables.specs.Fit.{ordersIn}
 use Rattle.proposal.specs.Columns.{placeOf}
 use Rattle.proposal.proofs.places.write_places.Statement.{statement}
 use Rattle.proposal.proofs.places.write_places.Tie as tie
-use Rattle.proposal.proofs.places.write_places.Reads as reads
-use Rattle.proposal.proofs.places.write_places.Lts as lts
-use Rattle.proposal.proofs.places.place_of.Reads as place-of-reads
 
 abbrev Inv-loop : tie.InvT-loop
 Inv-loop book count orders places₀ i₀ places i = (length places ≡ length places₀) × (i ≤ length orders) × (places ≡ take i (map (λ n. placeOf n (ordersIn count book)) orders) ++ drop i places₀)
@@ -20,39 +17,30 @@ Inv-loop book count orders places₀ i₀ places i = (length places ≡ length p
 abbrev μ-loop : tie.MeasureT-loop
 μ-loop book count orders places₀ i₀ places i = length orders - i
 
--- src/places.rt:36:5
 loop-holds : tie.Need-loop-holds Inv-loop μ-loop
 loop-holds c = (refl, omega arith, refl)
 
--- src/places.rt:37:43
 mul-place-of : tie.Need-mul-place-of Inv-loop μ-loop
 mul-place-of c = search needs
 
--- src/places.rt:37:43
 shared-slice-read-place-of : tie.Need-shared-slice-read-place-of Inv-loop μ-loop
 shared-slice-read-place-of c = search needs
 
--- src/places.rt:37:21
 place-of-requires : tie.Need-place-of-requires Inv-loop μ-loop
 place-of-requires c κs = search needs
 
--- src/places.rt:37:9
 mul-places : tie.Need-mul-places Inv-loop μ-loop
 mul-places c = search needs
 
--- src/places.rt:37:9
 slice-write-places : tie.Need-slice-write-places Inv-loop μ-loop
 slice-write-places c = search needs
 
--- src/places.rt:38:9
 add-i : tie.Need-add-i Inv-loop μ-loop
 add-i c = search needs
 
--- src/places.rt:36:5
 loop-less : tie.Need-loop-less Inv-loop μ-loop
 loop-less c = search needs
 
--- src/places.rt:36:5
 loop-again : tie.Need-loop-again Inv-loop μ-loop
 loop-again c = let a = c .before .before .before .before .before .before .before .args in let l = c .before .before .before .loop in
     let all = map (λ n. placeOf n (ordersIn (a .count) (a .book .now))) (a .orders .now) in
@@ -63,11 +51,9 @@ loop-again c = let a = c .before .before .before .before .before .before .before
           (front-next (l .i) all (a .places .now) 0 (omega (arith, length-map (a .orders .now) (λ n. placeOf n (ordersIn (a .count) (a .book .now))))) (omega arith)),
     )
 
--- src/places.rt:31:1
 same-length : tie.Need-same-length Inv-loop μ-loop
 same-length c = search needs
 
--- src/places.rt:31:1
 returns : tie.Need-returns Inv-loop μ-loop
 returns c = let a = c .before .before .before .before .before .args in let l = c .before .loop in
     let all = map (λ n. placeOf n (ordersIn (a .count) (a .book .now))) (a .orders .now) in

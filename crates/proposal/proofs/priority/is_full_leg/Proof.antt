@@ -1,7 +1,6 @@
 use borrow.Author.Needs.{needs}
 use native.Mathlib.Omega.{arith}
-use native.Mathlib.Nat.{sub-zero}
-use mathlib.Core.Path.{_≡_, refl}
+use mathlib.Core.Path.{_≡_}
 use mathlib.Core.Bool.{_&&_, _||_}
 use Prim.Native.Nat.{_-_, _≤_}
 use lib.Dec.{eqb}
@@ -11,51 +10,50 @@ use Rattle.proposal.specs.Columns.{isFullLeg}
 use Rattle.proposal.proofs.Lists.{one-start, one-next, one-end}
 use Rattle.proposal.proofs.priority.is_full_leg.Statement.{statement}
 use Rattle.proposal.proofs.priority.is_full_leg.Tie as tie
-use Rattle.proposal.proofs.priority.is_full_leg.Reads as reads
-use Rattle.proposal.proofs.priority.is_full_leg.Lts as lts
 
 abbrev Inv-loop : tie.InvT-loop
-Inv-loop orders lots o found₀ i₀ found i = (i ≤ length orders) × (found || any (λ j. eqb (getD orders j 0) (o .number) && eqb (getD lots j 0) (o .lots .0)) (from i (length orders - i)) ≡ isFullLeg orders lots o)
+Inv-loop orders lots o found₀ i₀ found i = (i ≤ length orders)
+    × (found || any (λ j. eqb (getD orders j 0) (o .number) && eqb (getD lots j 0) (o .lots .0)) (from i (length orders - i)) ≡ isFullLeg orders lots o)
 
 abbrev μ-loop : tie.MeasureT-loop
 μ-loop orders lots o found₀ i₀ found i = length orders - i
 
--- src/priority.rt:68:5
 loop-holds : tie.Need-loop-holds Inv-loop μ-loop
 unfolding isFullLeg
 loop-holds c = let a = c .args in (omega arith, one-start _ (length (a .orders .now)))
 
--- src/priority.rt:69:27
 mul-found : tie.Need-mul-found Inv-loop μ-loop
 mul-found c = search needs
 
--- src/priority.rt:69:27
 shared-slice-read-found : tie.Need-shared-slice-read-found Inv-loop μ-loop
 shared-slice-read-found c = search needs
 
--- src/priority.rt:69:53
 mul-found-2 : tie.Need-mul-found-2 Inv-loop μ-loop
 mul-found-2 c = search needs
 
--- src/priority.rt:69:53
 shared-slice-read-found-2 : tie.Need-shared-slice-read-found-2 Inv-loop μ-loop
 shared-slice-read-found-2 c = search needs
 
--- src/priority.rt:70:9
 add-i : tie.Need-add-i Inv-loop μ-loop
 add-i c = search needs
 
--- src/priority.rt:68:5
 loop-less : tie.Need-loop-less Inv-loop μ-loop
 loop-less c = search needs
 
--- src/priority.rt:68:5
 loop-again : tie.Need-loop-again Inv-loop μ-loop
-loop-again c = let a = c .before .before .before .before .before .before .args in let l = c .before .before .before .before .before .loop in (omega arith, one-next (λ j. eqb (getD (a .orders .now) j 0) (a .o .number) && eqb (getD (a .lots .now) j 0) (a .o .lots .0)) (length (a .orders .now)) (l .i) (l .found) _ (l .inv .1) (c .before .before .before .before .loop-test .taken))
+loop-again c =
+    let at-loop = c .before .before .before .before .before in
+    let start = at-loop .before in
+    let a = start .args in let l = at-loop .loop in (
+      omega arith,
+      one-next (λ j. eqb (getD (a .orders .now) j 0) (a .o .number) && eqb (getD (a .lots .now) j 0) (a .o .lots .0)) (length (a .orders .now)) (l .i)
+          (l .found) _ (l .inv .1) (c .before .before .before .before .loop-test .taken),
+    )
 
--- src/priority.rt:62:1
 returns : tie.Need-returns Inv-loop μ-loop
-returns c = let a = c .before .before .args in let l = c .before .loop in one-end (λ j. eqb (getD (a .orders .now) j 0) (a .o .number) && eqb (getD (a .lots .now) j 0) (a .o .lots .0)) (length (a .orders .now)) (l .i) (l .found) _ (l .inv .1) (c .loop-test .left)
+returns c = let a = c .before .before .args in let l = c .before .loop in
+    one-end (λ j. eqb (getD (a .orders .now) j 0) (a .o .number) && eqb (getD (a .lots .now) j 0) (a .o .lots .0)) (length (a .orders .now)) (l .i) (l .found) _ (l .inv .1)
+    (c .loop-test .left)
 
 pub is-full-leg-spec : {M : Type 1} → statement M
 is-full-leg-spec =

@@ -1,28 +1,47 @@
-use borrow.Author.Tests.{not-true, not-false}
-use mathlib.Core.Path.{sym, _∙_}
+use mathlib.Core.Path.{_∙_}
+use Rattle.proposal.proofs.LastRanks.{kept-behind, kept-ahead}
 use borrow.Author.Needs.{needs}
 use Rattle.proposal.proofs.priority.is_kept.Statement.{statement}
 use Rattle.proposal.proofs.priority.is_kept.Tie as tie
-use Rattle.proposal.proofs.priority.is_kept.Reads as reads
-use Rattle.proposal.proofs.priority.is_kept.Lts as lts
-use Rattle.proposal.proofs.priority.is_ahead.Reads as is-ahead-reads
-use Rattle.proposal.proofs.priority.is_full_leg.Reads as is-full-leg-reads
 
--- src/priority.rt:80:9
-is-ahead-requires : tie.Need-is-ahead-requires
-is-ahead-requires c κs = search needs
+side-place-requires : tie.Need-side-place-requires
+side-place-requires c κs = search needs
 
--- src/priority.rt:81:9
+mul-if1 : tie.Need-mul-if1
+mul-if1 c = search needs
+
+shared-slice-read-if1 : tie.Need-shared-slice-read-if1
+shared-slice-read-if1 c = search needs
+
+rank-of-requires : tie.Need-rank-of-requires
+rank-of-requires c κs = search needs
+
 returns : tie.Need-returns
-returns c = rw (sym (c .before .is-ahead .ensures) ∙ not-true _ (c .if1 .taken))
+returns c =
+    let at-side-place = c .before .before .before in
+    let start = at-side-place .before .before .before .before in
+    let a = start .args in kept-behind (a .lasts .now) (a .orders .now) (a .lots .now) (a .o) (at-side-place .side-place .result) (c .before .rank-of .result)
+    (at-side-place .side-place .ensures .0) (c .before .rank-of .ensures) (c .if1 .taken)
 
--- src/priority.rt:83:5
 is-full-leg-requires : tie.Need-is-full-leg-requires
 is-full-leg-requires c κs = search needs
 
--- src/priority.rt:76:1
 returns-2 : tie.Need-returns-2
-returns-2 c = rw (sym (c .before .before .is-ahead .ensures) ∙ not-false _ (c .before .if1 .left)) (c .is-full-leg .ensures)
+returns-2 c =
+    let at-side-place = c .before .before .before .before in
+    let start = at-side-place .before .before .before .before in
+    let a = start .args in
+    c .is-full-leg .ensures ∙ kept-ahead (a .lasts .now) (a .orders .now) (a .lots .now) (a .o) (at-side-place .side-place .result) (c .before .before .rank-of .result)
+    (at-side-place .side-place .ensures .0) (c .before .before .rank-of .ensures) (c .before .if1 .left)
 
 pub is-kept-spec : {M : Type 1} → statement M
-is-kept-spec = tie.close (tie.spec is-ahead-requires returns is-full-leg-requires returns-2)
+is-kept-spec =
+    tie.close
+    (tie.spec
+    side-place-requires
+    mul-if1
+    shared-slice-read-if1
+    rank-of-requires
+    returns
+    is-full-leg-requires
+    returns-2)

@@ -113,7 +113,10 @@ shared-slice-read-t36 c = search needs
 
 -- src/book.rt:54:1
 returns : tie.Need-returns
-returns c = rw (← c .before .before .before .before .before .before .before .side-of .ensures, add-zero (c .before .before .before .before .before .before .before .before .before .before .args .i * 8))
+returns c =
+    let args = c .before .before .before .before .before .before .before .before .before .before .args in
+    let side-of = c .before .before .before .before .before .before .before .side-of in
+    rw (← side-of .ensures, add-zero (args .i * 8))
 
 pub order-at-spec : {M : Type 1} → statement M
 order-at-spec =

@@ -25,7 +25,11 @@ same-length : tie.Need-same-length
 same-length c = search needs
 
 returns : tie.Need-returns
-returns c = let a = c .before .before .before .before .before .args in rw (c .before .before .clear .ensures) (filled (a .at) (a .count) (a .head .now) 0 (c .before .before .before .before .before .pre))
+returns c =
+    let pre = c .before .before .before .before .before .pre in
+    let a = c .before .before .before .before .before .args in
+    let clear = c .before .before .clear in
+    rw (clear .ensures) (filled (a .at) (a .count) (a .head .now) 0 (pre))
 
 pub clear-at-spec : {M : Type 1} → statement M
 clear-at-spec =

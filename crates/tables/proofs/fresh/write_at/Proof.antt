@@ -28,7 +28,10 @@ same-length : tie.Need-same-length
 same-length c = search needs
 
 returns : tie.Need-returns
-returns c = let a = c .before .before .before .before .before .before .args in rw (c .before .before .copy .ensures) (came-back (a .at) (a .at + length (a .list .now) - a .at) (a .head .now) (a .list .now) (omega arith))
+returns c =
+    let a = c .before .before .before .before .before .before .args in
+    let copy = c .before .before .copy in
+    rw (copy .ensures) (came-back (a .at) (a .at + length (a .list .now) - a .at) (a .head .now) (a .list .now) (omega arith))
 
 pub write-at-spec : {M : Type 1} → statement M
 write-at-spec =

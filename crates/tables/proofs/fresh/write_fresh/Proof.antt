@@ -29,7 +29,11 @@ same-length-4 c = search needs
 
 returns : tie.Need-returns
 unfolding fresh
-returns c = λ b n. rw (c .before .before .before .before .before .before .before .before .before .before .before .before .write-head .ensures, c .before .before .before .before .before .before .before .before .write-prices .ensures, c .before .before .before .before .write-rows .ensures, c .before .write-rows2 .ensures)
+returns c =
+    let write-head = c .before .before .before .before .before .before .before .before .before .before .before .before .write-head in
+    let write-prices = c .before .before .before .before .before .before .before .before .write-prices in
+    let write-rows = c .before .before .before .before .write-rows in
+    λ b n. rw (write-head .ensures, write-prices .ensures, write-rows .ensures, c .before .write-rows2 .ensures)
 
 pub write-fresh-spec : {M : Type 1} → statement M
 write-fresh-spec =

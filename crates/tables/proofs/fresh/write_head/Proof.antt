@@ -23,7 +23,13 @@ same-length c = search needs
 
 returns : tie.Need-returns
 unfolding freshHead
-returns c = rw (c .before .before .clear-at2 .ensures, c .before .before .before .before .before .before .clear-at .ensures, c .before .before .before .before .before .before .before .before .before .before .write-at2 .ensures, c .before .before .before .before .before .before .before .before .before .before .before .before .before .before .write-at .ensures, c .before .before .before .before .before .before .before .before .before .before .before .before .before .before .before .before .before .before .write-numbers .ensures)
+returns c =
+    let write-numbers = c .before .before .before .before .before .before .before .before .before .before .before .before .before .before .before .before .before .before .write-numbers in
+    let write-at = c .before .before .before .before .before .before .before .before .before .before .before .before .before .before .write-at in
+    let write-at2 = c .before .before .before .before .before .before .before .before .before .before .write-at2 in
+    let clear-at = c .before .before .before .before .before .before .clear-at in
+    let clear-at2 = c .before .before .clear-at2 in
+    rw (clear-at2 .ensures, clear-at .ensures, write-at2 .ensures, write-at .ensures, write-numbers .ensures)
 
 pub write-head-spec : {M : Type 1} → statement M
 write-head-spec =

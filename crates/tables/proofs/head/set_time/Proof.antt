@@ -26,7 +26,11 @@ same-length c = search needs
 
 returns-2 : tie.Need-returns-2
 unfolding timed withoutSubmits
-returns-2 c = λ t. rw (c .before .before .clear-at .ensures, lt-ltb (getD (c .before .before .before .before .before .before .before .before .args .head .now) 4 0) (c .before .before .before .before .before .before .before .before .args .time) (c .before .before .before .before .before .if1 .left))
+returns-2 c =
+    let args = c .before .before .before .before .before .before .before .before .args in
+    let if1 = c .before .before .before .before .before .if1 in
+    let clear-at = c .before .before .clear-at in
+    λ t. rw (clear-at .ensures, lt-ltb (getD (args .head .now) 4 0) (args .time) (if1 .left))
 
 pub set-time-spec : {M : Type 1} → statement M
 set-time-spec =

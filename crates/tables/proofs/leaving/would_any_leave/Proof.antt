@@ -37,10 +37,18 @@ loop-again : tie.Need-loop-again Inv-loop μ-loop
 loop-again c =
     let a = c .before .before .before .before .before .args in
     let s = c .before .before .before .loop in
-    (omega arith, rw (c .does-leave .ensures ∙ ap (leaves (a .w)) (c .before .order-at .ensures)) (some-next (orderAt (a .book .now)) (leaves (a .w)) (a .count) (s .i) (s .found) (any (leaves (a .w)) (map (orderAt (a .book .now)) (from 0 (a .count)))) (s .inv .1) (c .before .before .loop-test .taken)))
+    let loop-test = c .before .before .loop-test in (
+      omega arith,
+      rw (c .does-leave .ensures ∙ ap (leaves (a .w)) (c .before .order-at .ensures))
+          (some-next (orderAt (a .book .now)) (leaves (a .w)) (a .count) (s .i) (s .found) (any (leaves (a .w)) (map (orderAt (a .book .now)) (from 0 (a .count)))) (s .inv .1)
+          (loop-test .taken)),
+    )
 
 returns : tie.Need-returns Inv-loop μ-loop
-returns c = let a = c .before .before .before .args in let s = c .before .loop in some-end (orderAt (a .book .now)) (leaves (a .w)) (a .count) (s .i) (s .found) (any (leaves (a .w)) (map (orderAt (a .book .now)) (from 0 (a .count)))) (s .inv .1) (c .loop-test .left)
+returns c =
+    let a = c .before .before .before .args in
+    let s = c .before .loop in some-end (orderAt (a .book .now)) (leaves (a .w)) (a .count) (s .i) (s .found)
+    (any (leaves (a .w)) (map (orderAt (a .book .now)) (from 0 (a .count)))) (s .inv .1) (c .loop-test .left)
 
 pub would-any-leave-spec : {M : Type 1} → statement M
 would-any-leave-spec =

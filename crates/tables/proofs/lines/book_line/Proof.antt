@@ -51,7 +51,11 @@ same-length-4 c = search needs
 -- src/lines.rt:90:1
 returns : tie.Need-returns
 unfolding withLine
-returns c = let l = c .before .before .before .before .before .before .before .before .before .before .before .before .args .line in λ t. rw (abs-signed (l .side) (l .lots .0), c .before .before .before .before .before .before .post-line .ensures .0, c .before .before .before .before .before .before .post-line .ensures .1, c .before .before .print-line .ensures)
+returns c =
+    let args = c .before .before .before .before .before .before .before .before .before .before .before .before .args in
+    let post-line = c .before .before .before .before .before .before .post-line in
+    let print-line = c .before .before .print-line in
+    let l = args .line in λ t. rw (abs-signed (l .side) (l .lots .0), post-line .ensures .0, post-line .ensures .1, print-line .ensures)
 
 pub book-line-spec : {M : Type 1} → statement M
 book-line-spec =

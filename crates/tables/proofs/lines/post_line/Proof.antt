@@ -27,17 +27,31 @@ with-sign-requires c κs = search needs
 
 -- src/lines.rt:67:5
 add-at-requires : tie.Need-add-at-requires
-add-at-requires c κs = let l = c .before .before .before .args .line in (omega arith, omega (arith, c .with-sign .ensures .1, c .before .before .before .pre .0 .0 .within (l .contract) (l .member) (omega arith) (omega arith)))
+add-at-requires c κs =
+    let pre = c .before .before .before .pre in
+    let args = c .before .before .before .args in
+    let l = args .line in (omega arith, omega (arith, c .with-sign .ensures .1, pre .0 .0 .within (l .contract) (l .member) (omega arith) (omega arith)))
 
 -- src/lines.rt:68:23
 with-sign-requires-2 : tie.Need-with-sign-requires-2
-with-sign-requires-2 c κs = worth-most (c .before .before .before .before .before .before .args .line .lots .0) (c .before .before .before .before .before .before .args .line .price .0) (omega arith) (omega arith)
+with-sign-requires-2 c κs =
+    let args = c .before .before .before .before .before .before .args in
+    worth-most (args .line .lots .0) (args .line .price .0) (omega arith) (omega arith)
 
 -- src/lines.rt:68:5
 add-at-requires-2 : tie.Need-add-at-requires-2
 add-at-requires-2 c κs =
-    let l = c .before .before .before .before .before .before .before .args .line in
-    (omega arith, omega (arith, c .with-sign2 .ensures .1, worth-most (l .lots .0) (l .price .0) (omega arith) (omega arith), c .before .before .before .before .before .before .before .pre .0 .1 .within (l .contract) (l .member) (omega arith) (omega arith)))
+    let pre = c .before .before .before .before .before .before .before .pre in
+    let args = c .before .before .before .before .before .before .before .args in
+    let l = args .line in (
+      omega arith,
+      omega (
+        arith,
+        c .with-sign2 .ensures .1,
+        worth-most (l .lots .0) (l .price .0) (omega arith) (omega arith),
+        pre .0 .1 .within (l .contract) (l .member) (omega arith) (omega arith),
+      ),
+    )
 
 -- src/lines.rt:58:1
 same-length : tie.Need-same-length
@@ -51,8 +65,12 @@ same-length-2 c = search needs
 returns : tie.Need-returns
 unfolding posted
 returns c =
-    let l = c .before .before .before .before .before .before .before .before .before .args .line in
-    (rw (c .before .before .before .before .before .before .with-sign .ensures .0) at (c .before .before .before .before .before .add-at .ensures), rw (c .before .before .with-sign2 .ensures .0, signed-times (l .side) (l .lots .0) (l .price .0)) at (c .before .add-at2 .ensures))
+    let args = c .before .before .before .before .before .before .before .before .before .args in
+    let with-sign = c .before .before .before .before .before .before .with-sign in
+    let add-at-here = c .before .before .before .before .before .add-at in
+    let with-sign2 = c .before .before .with-sign2 in
+    let l = args .line in
+    (rw (with-sign .ensures .0) at (add-at-here .ensures), rw (with-sign2 .ensures .0, signed-times (l .side) (l .lots .0) (l .price .0)) at (c .before .add-at2 .ensures))
 
 pub post-line-spec : {M : Type 1} → statement M
 post-line-spec =

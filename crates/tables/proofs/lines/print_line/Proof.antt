@@ -89,10 +89,22 @@ same-length c = search needs
 -- src/lines.rt:72:1
 returns : tie.Need-returns
 returns c =
-    let l = c .before .before .before .before .before .args .line in
-    let at = c .before .before .before .before .before .args .i * 4 in
-    rw (rd-pos (l .member) (omega arith), rd-pos (l .contract) (omega arith), rd-pos (l .price .0) (omega arith), back (c .before .before .before .before .with-sign .result .0) (omega (arith, c .before .before .before .before .with-sign .ensures .1)), c .before .before .before .before .with-sign .ensures .0, add-zero at, add-one at, add-two at, add-three at)
-    (stored (linePlaces (lineOf l)) (c .before .before .before .before .before .args .lines .now) at (omega arith))
+    let args = c .before .before .before .before .before .args in
+    let with-sign = c .before .before .before .before .with-sign in
+    let l = args .line in
+    let at = args .i * 4 in
+    rw (
+      rd-pos (l .member) (omega arith),
+      rd-pos (l .contract) (omega arith),
+      rd-pos (l .price .0) (omega arith),
+      back (with-sign .result .0) (omega (arith, with-sign .ensures .1)),
+      with-sign .ensures .0,
+      add-zero at,
+      add-one at,
+      add-two at,
+      add-three at,
+    )
+    (stored (linePlaces (lineOf l)) (args .lines .now) at (omega arith))
 
 pub print-line-spec : {M : Type 1} → statement M
 print-line-spec =

@@ -1,0 +1,39 @@
+use Prim.Native.Nat.{ℕ, _≤_}
+use mathlib.Core.Path.{_≡_}
+use lib.Dec.{leb}
+use borrow.Author.Needs.{needs}
+use Rattle.rules.specs.Days.{businessDayBefore}
+use Rattle.rules.specs.Contracts.{closingDistance, notBefore}
+use Rattle.calendar.specs.OpenDays.{leastOf}
+use Rattle.calendar.proofs.OpenDays.{by-kind}
+use Rattle.calendar.proofs.open_days.find_least.Statement.{statement}
+use Rattle.calendar.proofs.open_days.find_least.Tie as tie
+
+least-first-day-requires : tie.Need-least-first-day-requires
+least-first-day-requires c κs = search needs
+
+least-first-day-requires-2 : tie.Need-least-first-day-requires-2
+least-first-day-requires-2 c κs = search needs
+
+least-first-day-requires-3 : tie.Need-least-first-day-requires-3
+least-first-day-requires-3 c κs = search needs
+
+returns : tie.Need-returns
+returns c =
+    let a = c .before .before .before .before .args in
+    let year = c .before .before .least-first-day in
+    let quarter = c .before .least-first-day2 in
+    let month = c .least-first-day3 in
+    λ y. by-kind
+    (λ s. (f : ℕ) → f ≤ a .end .0 → notBefore (businessDayBefore (record { firstYear = y; holidays = a .holidays .now }) (closingDistance s) f) (a .day .0)
+    ≡ leb (leastOf (record { year = year .result; quarter = quarter .result; month = month .result }) s) f)
+    (year .ensures y) (quarter .ensures y) (month .ensures y)
+
+pub find-least-spec : {M : Type 1} → statement M
+find-least-spec =
+    tie.close
+    (tie.spec
+    least-first-day-requires
+    least-first-day-requires-2
+    least-first-day-requires-3
+    returns)

@@ -1,0 +1,68 @@
+use mathlib.Core.Path.{_≡_}
+use borrow.Author.Needs.{needs}
+use Rattle.rules.specs.Days.{Calendar}
+use Rattle.calendar.specs.OpenDays.{startsOf}
+use Rattle.calendar.proofs.OpenDays.{starts-made, starts-length, span-end, span-most, none-earlier}
+use Rattle.calendar.proofs.open_days.find_open_days.Statement.{statement}
+use Rattle.calendar.proofs.open_days.find_open_days.Tie as tie
+
+first-month-requires : tie.Need-first-month-requires
+first-month-requires c κs = search needs
+
+slice-aggregate-read-starts : tie.Need-slice-aggregate-read-starts
+slice-aggregate-read-starts c = search needs
+
+read-starts-requires : tie.Need-read-starts-requires
+read-starts-requires c κs = search needs
+
+sub-t12 : tie.Need-sub-t12
+sub-t12 c = search needs
+
+mul-t13 : tie.Need-mul-t13
+mul-t13 c = search needs
+
+array-read-t9 : tie.Need-array-read-t9
+array-read-t9 c = search needs
+
+find-least-requires : tie.Need-find-least-requires
+find-least-requires c κs =
+    let start = c .before .before .before .before .before .before in
+    let k : Calendar = record { firstYear = start .args .first-year; holidays = start .args .holidays .now } in
+    rw (starts-made k _ _ (c .before .read-starts .ensures) (c .before .before .before .first-month .ensures), span-end k) (span-most k (start .pre .0 .1))
+
+slice-aggregate-write-open-days : tie.Need-slice-aggregate-write-open-days
+slice-aggregate-write-open-days c = search needs
+
+write-open-days-requires : tie.Need-write-open-days-requires
+write-open-days-requires c κs =
+    let start = c .before .before .before .before .before .before .before .before .before in
+    let k : Calendar = record { firstYear = start .args .first-year; holidays = start .args .holidays .now } in
+    rw (starts-made k _ _ (c .before .before .before .before .read-starts .ensures) (c .before .before .before .before .before .before .first-month .ensures))
+    (starts-length k, none-earlier k, start .pre .1)
+
+same-length : tie.Need-same-length
+same-length c = search needs
+
+returns : tie.Need-returns
+returns c =
+    let a = c .before .before .before .before .before .before .before .before .before .before .before .before .args in
+    let k : Calendar = record { firstYear = a .first-year; holidays = a .holidays .now } in
+    let read-starts = c .before .before .before .before .before .before .before .read-starts in
+    let made : read-starts .last .1 .0 ≡ startsOf k = starts-made k _ _ (read-starts .ensures) (c .before .before .before .before .before .before .before .before .before .first-month .ensures) in
+    c .before .before .write-open-days .ensures k (a .day .0) made (λ s f h. c .before .before .before .before .before .find-least .ensures (a .first-year) s f (rw (made, span-end k) h))
+
+pub find-open-days-spec : {M : Type 1} → statement M
+find-open-days-spec =
+    tie.close
+    (tie.spec
+    first-month-requires
+    slice-aggregate-read-starts
+    read-starts-requires
+    sub-t12
+    mul-t13
+    array-read-t9
+    find-least-requires
+    slice-aggregate-write-open-days
+    write-open-days-requires
+    same-length
+    returns)

@@ -1,0 +1,243 @@
+use borrow.Author.Needs.{needs}
+use Prim.Native.Nat.{_-_, _≤_}
+use mathlib.Core.Path.{_≡_, refl}
+use native.Mathlib.Omega.{arith}
+use lib.ListN.{length}
+use Rattle.journal.specs.Places.{Stands}
+use Rattle.journal.proofs.Turning.{going-stands}
+use Rattle.journal.proofs.shell.run_turns.Statement.{statement}
+use Rattle.journal.proofs.shell.run_turns.Tie as tie
+
+abbrev Inv-loop : tie.InvT-loop
+Inv-loop input₀ output₀ head₀ prices₀ lots₀ value₀ book₀ lines₀ place₀ turns₀ t13 input output head prices lots value book lines place turns =
+    Stands place × (place .turns ≡ turns) × (turns ≤ 70368744177664)
+    × (length input ≡ length input₀)
+    × (length output ≡ length output₀)
+    × (length head ≡ length head₀)
+    × (length prices ≡ length prices₀)
+    × (length lots ≡ length lots₀)
+    × (length value ≡ length value₀)
+    × (length book ≡ length book₀)
+    × (length lines ≡ length lines₀)
+
+abbrev μ-loop : tie.MeasureT-loop
+μ-loop input₀ output₀ head₀ prices₀ lots₀ value₀ book₀ lines₀ place₀ turns₀ t13 input output head prices lots value book lines place turns =
+    70368744177664 - turns
+
+first-place-requires : tie.Need-first-place-requires Inv-loop μ-loop
+first-place-requires c κs = search needs
+
+loop-holds : tie.Need-loop-holds Inv-loop μ-loop
+loop-holds c = (c .first-place .ensures .0, omega (arith, c .first-place .ensures .1), omega arith, refl, refl, refl, refl, refl, refl, refl, refl)
+
+turn-requires : tie.Need-turn-requires Inv-loop μ-loop
+turn-requires c κs = (
+  c .before .before .before .before .before .before .before .before .before .loop .inv .0,
+  omega (
+    arith,
+    c .before .before .before .before .before .before .before .before .before .loop .inv .1,
+    c .before .before .before .before .before .before .before .before .loop-test .taken,
+  ),
+  omega (
+    arith,
+    c .before .before .before .before .before .before .before .before .before .loop .inv .3,
+    c .before .before .before .before .before .before .before .before .before .before .before .before .before .before .before .before .pre .0,
+  ),
+  omega (
+    arith,
+    c .before .before .before .before .before .before .before .before .before .loop .inv .4,
+    c .before .before .before .before .before .before .before .before .before .before .before .before .before .before .before .before .pre .1,
+  ),
+  omega (
+    arith,
+    c .before .before .before .before .before .before .before .before .before .loop .inv .5,
+    c .before .before .before .before .before .before .before .before .before .before .before .before .before .before .before .before .pre .2,
+  ),
+  omega (
+    arith,
+    c .before .before .before .before .before .before .before .before .before .loop .inv .10,
+    c .before .before .before .before .before .before .before .before .before .before .before .before .before .before .before .before .pre .3,
+  ),
+)
+
+enum-known-next : tie.Need-enum-known-next Inv-loop μ-loop
+enum-known-next c = search needs
+
+enum-known-ending : tie.Need-enum-known-ending Inv-loop μ-loop
+enum-known-ending c = search needs
+
+same-length : tie.Need-same-length Inv-loop μ-loop
+same-length c =
+    omega (
+      arith,
+      c .before .before .before .before .before .before .before .before .before .before .before .before .before .before .before .before .turn .kept .1 .0,
+      c .before .before .before .before .before .before .before .before .before .before .before .before .before .before .before .before .before .before .before .before .before .before .before .before .before .before .loop .inv .3,
+    )
+
+same-length-2 : tie.Need-same-length-2 Inv-loop μ-loop
+same-length-2 c =
+    omega (
+      arith,
+      c .before .before .before .before .before .before .before .before .before .before .before .before .before .before .before .before .turn .kept .1 .1 .0,
+      c .before .before .before .before .before .before .before .before .before .before .before .before .before .before .before .before .before .before .before .before .before .before .before .before .before .before .loop .inv .4,
+    )
+
+same-length-3 : tie.Need-same-length-3 Inv-loop μ-loop
+same-length-3 c =
+    omega (
+      arith,
+      c .before .before .before .before .before .before .before .before .before .before .before .before .before .before .before .before .turn .kept .1 .1 .1 .0,
+      c .before .before .before .before .before .before .before .before .before .before .before .before .before .before .before .before .before .before .before .before .before .before .before .before .before .before .loop .inv .5,
+    )
+
+same-length-4 : tie.Need-same-length-4 Inv-loop μ-loop
+same-length-4 c =
+    omega (
+      arith,
+      c .before .before .before .before .before .before .before .before .before .before .before .before .before .before .before .before .turn .kept .1 .1 .1 .1 .0,
+      c .before .before .before .before .before .before .before .before .before .before .before .before .before .before .before .before .before .before .before .before .before .before .before .before .before .before .loop .inv .6,
+    )
+
+same-length-5 : tie.Need-same-length-5 Inv-loop μ-loop
+same-length-5 c =
+    omega (
+      arith,
+      c .before .before .before .before .before .before .before .before .before .before .before .before .before .before .before .before .turn .kept .1 .1 .1 .1 .1 .0,
+      c .before .before .before .before .before .before .before .before .before .before .before .before .before .before .before .before .before .before .before .before .before .before .before .before .before .before .loop .inv .7,
+    )
+
+same-length-6 : tie.Need-same-length-6 Inv-loop μ-loop
+same-length-6 c =
+    omega (
+      arith,
+      c .before .before .before .before .before .before .before .before .before .before .before .before .before .before .before .before .turn .kept .1 .1 .1 .1 .1 .1 .0,
+      c .before .before .before .before .before .before .before .before .before .before .before .before .before .before .before .before .before .before .before .before .before .before .before .before .before .before .loop .inv .8,
+    )
+
+same-length-7 : tie.Need-same-length-7 Inv-loop μ-loop
+same-length-7 c =
+    omega (
+      arith,
+      c .before .before .before .before .before .before .before .before .before .before .before .before .before .before .before .before .turn .kept .1 .1 .1 .1 .1 .1 .1 .0,
+      c .before .before .before .before .before .before .before .before .before .before .before .before .before .before .before .before .before .before .before .before .before .before .before .before .before .before .loop .inv .9,
+    )
+
+same-length-8 : tie.Need-same-length-8 Inv-loop μ-loop
+same-length-8 c =
+    omega (
+      arith,
+      c .before .before .before .before .before .before .before .before .before .before .before .before .before .before .before .before .turn .kept .1 .1 .1 .1 .1 .1 .1 .1 .0,
+      c .before .before .before .before .before .before .before .before .before .before .before .before .before .before .before .before .before .before .before .before .before .before .before .before .before .before .loop .inv .10,
+    )
+
+returns : tie.Need-returns Inv-loop μ-loop
+returns c = search needs
+
+add-turns : tie.Need-add-turns Inv-loop μ-loop
+add-turns c = omega arith
+
+loop-less : tie.Need-loop-less Inv-loop μ-loop
+loop-less c =
+    omega (
+      arith,
+      c .before .before .before .before .before .before .before .before .before .before .before .before .before .before .before .before .before .before .before .before .before .before .before .before .before .loop-test .taken,
+    )
+
+loop-again : tie.Need-loop-again Inv-loop μ-loop
+loop-again c =
+    let g = going-stands _ _ _
+    (c .before .before .before .before .before .before .before .before .before .before .before .before .before .before .before .before .turn .ensures)
+    (c .before .next .given .1) in
+    let k = c .before .before .before .before .before .before .before .before .before .before .before .before .before .before .before .before .turn .kept in
+    let w = c .before .before .before .before .before .before .before .before .before .before .before .before .before .before .before .before .before .before .before .before .before .before .before .before .before .before .loop .inv in (
+      g .0,
+      omega (arith, g .1, w .1),
+      omega (
+        arith,
+        c .before .before .before .before .before .before .before .before .before .before .before .before .before .before .before .before .before .before .before .before .before .before .before .before .before .loop-test .taken,
+      ),
+      omega (arith, k .1 .0, w .3),
+      omega (arith, k .1 .1 .0, w .4),
+      omega (arith, k .1 .1 .1 .0, w .5),
+      omega (arith, k .1 .1 .1 .1 .0, w .6),
+      omega (
+        arith,
+        k .1 .1 .1 .1 .1 .0,
+        w .7,
+      ),
+      omega (arith, k .1 .1 .1 .1 .1 .1 .0, w .8),
+      omega (arith, k .1 .1 .1 .1 .1 .1 .1 .0, w .9),
+      omega (
+        arith,
+        k .1 .1 .1 .1 .1 .1 .1 .1 .0,
+        w .10,
+      ),
+    )
+
+slice-aggregate-write-all : tie.Need-slice-aggregate-write-all Inv-loop μ-loop
+slice-aggregate-write-all c = search needs
+
+write-all-requires : tie.Need-write-all-requires Inv-loop μ-loop
+write-all-requires c κs = search needs
+
+same-length-9 : tie.Need-same-length-9 Inv-loop μ-loop
+same-length-9 c = omega (arith, c .before .before .before .loop .inv .3)
+
+same-length-10 : tie.Need-same-length-10 Inv-loop μ-loop
+same-length-10 c = omega (arith, c .before .before .before .loop .inv .4)
+
+same-length-11 : tie.Need-same-length-11 Inv-loop μ-loop
+same-length-11 c = omega (arith, c .before .before .before .loop .inv .5)
+
+same-length-12 : tie.Need-same-length-12 Inv-loop μ-loop
+same-length-12 c = omega (arith, c .before .before .before .loop .inv .6)
+
+same-length-13 : tie.Need-same-length-13 Inv-loop μ-loop
+same-length-13 c = omega (arith, c .before .before .before .loop .inv .7)
+
+same-length-14 : tie.Need-same-length-14 Inv-loop μ-loop
+same-length-14 c = omega (arith, c .before .before .before .loop .inv .8)
+
+same-length-15 : tie.Need-same-length-15 Inv-loop μ-loop
+same-length-15 c = omega (arith, c .before .before .before .loop .inv .9)
+
+same-length-16 : tie.Need-same-length-16 Inv-loop μ-loop
+same-length-16 c = omega (arith, c .before .before .before .loop .inv .10)
+
+returns-2 : tie.Need-returns-2 Inv-loop μ-loop
+returns-2 c = search needs
+
+pub run-turns-spec : {M : Type 1} → statement M
+run-turns-spec =
+    tie.close
+    (tie.spec
+    Inv-loop
+    μ-loop
+    first-place-requires
+    loop-holds
+    turn-requires
+    enum-known-next
+    enum-known-ending
+    same-length
+    same-length-2
+    same-length-3
+    same-length-4
+    same-length-5
+    same-length-6
+    same-length-7
+    same-length-8
+    returns
+    add-turns
+    loop-less
+    loop-again
+    slice-aggregate-write-all
+    write-all-requires
+    same-length-9
+    same-length-10
+    same-length-11
+    same-length-12
+    same-length-13
+    same-length-14
+    same-length-15
+    same-length-16
+    returns-2)

@@ -1,0 +1,36 @@
+-- Where the program stands in its buffers, and its exit status.
+use Prim.Native.Nat.{ℕ, _*_, _≤_}
+use mathlib.Core.Path.{_≡_}
+use lib.IntN.{ℤ, pos}
+use Rattle.records.specs.Stages.{Counts}
+use Rattle.journal.specs.declared.input.Filled.{Filled}
+use Rattle.journal.specs.declared.input.Filled.the-variants.{Until, End, Failed}
+use Rattle.journal.specs.declared.shell.Ending.{Ending}
+use Rattle.journal.specs.declared.shell.Ending.the-variants.{ReadToEnd, HeaderUnsound, RecordUnsound, ReadFailed, WriteFailed}
+use Rattle.journal.specs.declared.shell.Next.{Next}
+use Rattle.journal.specs.declared.shell.Next.the-variants.{Going, Ended}
+use Rattle.journal.specs.declared.shell.Place.{Place}
+
+abbrev pub filledTo : Filled → ℕ → Type 0
+filledTo (Until end) n = end ≤ n
+filledTo End n = Unit {0}
+filledTo Failed n = Unit {0}
+
+-- Its places lie in order within buffers of 65,536 bytes, and each turn counts no more records than these.
+pub record Stands (p : Place) : Type 0 where
+  pub before : p .from ≤ p .end
+  pub inside : p .end ≤ 65536
+  pub printed : p .filled ≤ 65536
+  pub counts : Counts (p .stage) (65536 * p .turns)
+  pub few : p .turns ≤ 70368744177664
+
+abbrev pub nextStands : ℕ → Next → Type 0
+nextStands turns (Going p) = Stands p × (p .turns ≡ turns)
+nextStands turns (Ended ending) = Unit {0}
+
+unfoldable pub statusOf : Ending → ℤ
+statusOf ReadToEnd = pos 0
+statusOf HeaderUnsound = pos 2
+statusOf RecordUnsound = pos 3
+statusOf ReadFailed = pos 4
+statusOf WriteFailed = pos 5

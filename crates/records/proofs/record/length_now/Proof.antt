@@ -1,0 +1,45 @@
+use Rattle.records.specs.Stages.{lengthByNow}
+use borrow.Author.Needs.{needs}
+use Rattle.records.proofs.record.length_now.Statement.{statement}
+use Rattle.records.proofs.record.length_now.Tie as tie
+
+front-record-requires : tie.Need-front-record-requires
+front-record-requires c κs = search needs
+
+enum-known-n : tie.Need-enum-known-n
+enum-known-n c = search needs
+
+enum-told : tie.Need-enum-told
+enum-told c = search needs
+
+enum-told-2 : tie.Need-enum-told-2
+enum-told-2 c = search needs
+
+returns : tie.Need-returns
+unfolding lengthByNow
+returns c = rw (← c .before .before .before .front-record .ensures, c .before .n .given .1)
+
+returns-2 : tie.Need-returns-2
+unfolding lengthByNow
+returns-2 c = rw (← c .before .before .front-record .ensures, c .enum-told .given .1)
+
+returns-3 : tie.Need-returns-3
+unfolding lengthByNow
+returns-3 c = rw (← c .before .before .before .front-record .ensures, c .before .enum-told2 .given .1, c .if1 .taken)
+
+returns-4 : tie.Need-returns-4
+unfolding lengthByNow
+returns-4 c = rw (← c .before .before .before .front-record .ensures, c .before .enum-told2 .given .1, c .if1 .left)
+
+pub length-now-spec : {M : Type 1} → statement M
+length-now-spec =
+    tie.close
+    (tie.spec
+    front-record-requires
+    enum-known-n
+    enum-told
+    enum-told-2
+    returns
+    returns-2
+    returns-3
+    returns-4)

@@ -1,0 +1,251 @@
+use borrow.Author.Needs.{needs}
+use Prim.Native.Nat.{_+_, _-_}
+use mathlib.Core.Path.{_≡_, refl, sym, _∙_}
+use native.Mathlib.Omega.{arith}
+use lib.ListN.{length, drop}
+use Rattle.rules.specs.Ledger.{lent}
+use Rattle.accounts.specs.Lengths.{SameLengths}
+use Rattle.records.specs.Stages.{readyLength}
+use Rattle.records.proofs.Fronts.{positive}
+use Rattle.records.proofs.Running.{Runs, runs-start, next-inside, next-room, one-at-most, ran-part, ready-of-rest, runs-next, runs-end}
+use Rattle.records.proofs.run.run_records.Statement.{statement}
+use Rattle.records.proofs.run.run_records.Tie as tie
+
+abbrev Inv-loop : tie.InvT-loop
+Inv-loop counted-before accepted-before bytes is-last out₀ filled head₀ prices₀ lots₀ value₀ book₀ lines₀ place₀ end₀ counted₀ accepted₀ is-stopped₀ n₀ out head prices lots value book lines place end counted accepted is-stopped n =
+    Runs counted-before accepted-before (lent head₀ prices₀ lots₀ value₀ book₀ lines₀) bytes is-last filled out₀ out
+    (lent head prices lots value book lines) place end counted accepted is-stopped
+    × SameLengths (lent head₀ prices₀ lots₀ value₀ book₀ lines₀) (lent head prices lots value book lines)
+    × (n ≡ readyLength is-last is-stopped (length out - end) (drop place bytes))
+
+abbrev μ-loop : tie.MeasureT-loop
+μ-loop counted-before accepted-before bytes is-last out₀ filled head₀ prices₀ lots₀ value₀ book₀ lines₀ place₀ end₀ counted₀ accepted₀ is-stopped₀ n₀ out head prices lots value book lines place end counted accepted is-stopped n =
+    length bytes - place
+
+sub-ready-length : tie.Need-sub-ready-length Inv-loop μ-loop
+sub-ready-length c = search needs
+
+ready-length-requires : tie.Need-ready-length-requires Inv-loop μ-loop
+ready-length-requires c κs = search needs
+
+loop-holds : tie.Need-loop-holds Inv-loop μ-loop
+loop-holds c = (
+  runs-start _ _ _ _ _ _ _ (c .before .before .before .before .before .before .pre .0) (c .before .before .before .before .before .before .pre .2),
+  record { head = refl; prices = refl; lots = refl; value = refl; book = refl; lines = refl },
+  c .ready-length .ensures,
+)
+
+add-next : tie.Need-add-next Inv-loop μ-loop
+add-next c =
+    let w = c .before .loop .inv .0 in
+    omega (arith, next-inside w _ (c .before .loop .inv .2) (positive _ (c .loop-test .taken)) (omega (arith, w .within, w .same)))
+
+add-counted : tie.Need-add-counted Inv-loop μ-loop
+add-counted c = omega (arith, c .before .loop .inv .0 .few, c .before .loop .inv .0 .inside, c .before .before .before .before .before .before .before .before .pre .1)
+
+sub-run-record : tie.Need-sub-run-record Inv-loop μ-loop
+sub-run-record c = omega arith
+
+part-run-record-start : tie.Need-part-run-record-start Inv-loop μ-loop
+part-run-record-start c =
+    let w = c .before .loop .inv .0 in
+    omega (arith, next-inside w _ (c .before .loop .inv .2) (positive _ (c .loop-test .taken)) (omega (arith, w .within, w .same)))
+
+part-run-record-end : tie.Need-part-run-record-end Inv-loop μ-loop
+part-run-record-end c =
+    let w = c .before .loop .inv .0 in
+    omega (arith, next-inside w _ (c .before .loop .inv .2) (positive _ (c .loop-test .taken)) (omega (arith, w .within, w .same)))
+
+run-record-requires : tie.Need-run-record-requires Inv-loop μ-loop
+run-record-requires c κs =
+    let w = c .before .before .before .before .before .before .before .before .before .loop .inv .0 in (
+      omega (
+        arith,
+        next-room w _ (c .before .before .before .before .before .before .before .before .before .loop .inv .2)
+            (positive _ (c .before .before .before .before .before .before .before .before .loop-test .taken)) (omega (arith, w .within, w .same)),
+      ),
+      omega (
+        arith,
+        c .before .before .before .before .before .before .before .before .before .loop .inv .1 .lines,
+        c .before .before .before .before .before .before .before .before .before .before .before .before .before .before .before .before .pre .3,
+      ),
+    )
+
+add-accepted : tie.Need-add-accepted Inv-loop μ-loop
+add-accepted c =
+    let w = c .before .before .before .before .before .before .before .before .before .before .before .before .before .before .before .before .before .before .before .before .before .before .loop .inv .0 in
+    omega (
+      arith,
+      w .below,
+      w .few,
+      w .inside,
+      c .before .before .before .before .before .before .before .before .before .before .before .before .before .before .before .before .before .before .before .before .before .before .before .before .before .before .before .before .before .pre .1,
+      one-at-most (c .before .before .before .before .before .before .before .before .before .before .before .before .run-record .ensures),
+    )
+
+sub-ready-length-2 : tie.Need-sub-ready-length-2 Inv-loop μ-loop
+sub-ready-length-2 c =
+    let w = c .before .before .before .before .before .before .before .before .before .before .before .before .before .before .before .before .before .before .before .before .before .before .loop .inv .0 in
+    omega (
+      arith,
+      next-inside w _
+          (c .before .before .before .before .before .before .before .before .before .before .before .before .before .before .before .before .before .before .before .before .before .before .loop .inv .2)
+          (positive _
+          (c .before .before .before .before .before .before .before .before .before .before .before .before .before .before .before .before .before .before .before .before .before .loop-test .taken))
+          (omega (arith, w .within, w .same)),
+    )
+
+part-ready-length-start : tie.Need-part-ready-length-start Inv-loop μ-loop
+part-ready-length-start c =
+    let w = c .before .before .before .before .before .before .before .before .before .before .before .before .before .before .before .before .before .before .before .before .before .before .loop .inv .0 in
+    omega (
+      arith,
+      next-inside w _
+          (c .before .before .before .before .before .before .before .before .before .before .before .before .before .before .before .before .before .before .before .before .before .before .loop .inv .2)
+          (positive _
+          (c .before .before .before .before .before .before .before .before .before .before .before .before .before .before .before .before .before .before .before .before .before .loop-test .taken))
+          (omega (arith, w .within, w .same)),
+    )
+
+part-ready-length-end : tie.Need-part-ready-length-end Inv-loop μ-loop
+part-ready-length-end c =
+    let w = c .before .before .before .before .before .before .before .before .before .before .before .before .before .before .before .before .before .before .before .before .before .before .loop .inv .0 in
+    omega (
+      arith,
+      next-inside w _
+          (c .before .before .before .before .before .before .before .before .before .before .before .before .before .before .before .before .before .before .before .before .before .before .loop .inv .2)
+          (positive _
+          (c .before .before .before .before .before .before .before .before .before .before .before .before .before .before .before .before .before .before .before .before .before .loop-test .taken))
+          (omega (arith, w .within, w .same)),
+    )
+
+sub-ready-length-3 : tie.Need-sub-ready-length-3 Inv-loop μ-loop
+sub-ready-length-3 c =
+    let w = c .before .before .before .before .before .before .before .before .before .before .before .before .before .before .before .before .before .before .before .before .before .before .before .loop .inv .0 in
+    omega (
+      arith,
+      c .before .before .before .before .before .before .before .before .before .before .before .before .before .run-record .kept .1 .1 .0,
+      c .before .before .before .before .before .before .before .before .before .before .before .before .before .run-record .ensures .room,
+      next-room w _
+          (c .before .before .before .before .before .before .before .before .before .before .before .before .before .before .before .before .before .before .before .before .before .before .before .loop .inv .2)
+          (positive _
+          (c .before .before .before .before .before .before .before .before .before .before .before .before .before .before .before .before .before .before .before .before .before .before .loop-test .taken))
+          (omega (arith, w .within, w .same)),
+    )
+
+ready-length-requires-2 : tie.Need-ready-length-requires-2 Inv-loop μ-loop
+ready-length-requires-2 c κs = search needs
+
+loop-less : tie.Need-loop-less Inv-loop μ-loop
+loop-less c =
+    let w = c .before .before .before .before .before .before .before .before .before .before .before .before .before .before .before .before .before .before .before .before .before .before .before .before .loop .inv .0 in
+    let some = positive _
+    (c .before .before .before .before .before .before .before .before .before .before .before .before .before .before .before .before .before .before .before .before .before .before .before .loop-test .taken) in
+    omega (
+      arith,
+      some,
+      next-inside w _
+          (c .before .before .before .before .before .before .before .before .before .before .before .before .before .before .before .before .before .before .before .before .before .before .before .before .loop .inv .2) some
+          (omega (arith, w .within, w .same)),
+    )
+
+loop-again : tie.Need-loop-again Inv-loop μ-loop
+loop-again c =
+    let w = c .before .before .before .before .before .before .before .before .before .before .before .before .before .before .before .before .before .before .before .before .before .before .before .before .loop .inv .0 in
+    let l = c .before .before .before .before .before .before .before .before .before .before .before .before .before .before .before .before .before .before .before .before .before .before .before .before .loop .inv .1 in
+    let k = c .before .before .before .before .before .before .before .before .before .before .before .before .before .before .run-record .kept in
+    let one = ran-part
+    (c .before .before .before .before .before .before .before .before .before .before .before .before .before .before .before .before .before .before .before .before .before .before .before .before .loop .place)
+    (c .before .before .before .before .before .before .before .before .before .before .before .before .before .before .before .before .before .before .before .before .before .before .before .before .loop .n)
+    _ _ (c .before .before .before .before .before .before .before .before .before .before .before .before .before .before .run-record .ensures) in (
+      runs-next w _
+          (c .before .before .before .before .before .before .before .before .before .before .before .before .before .before .before .before .before .before .before .before .before .before .before .before .loop .inv .2)
+          (positive _
+          (c .before .before .before .before .before .before .before .before .before .before .before .before .before .before .before .before .before .before .before .before .before .before .before .loop-test .taken))
+          (omega (arith, w .within, w .same)) one (k .1 .1 .0),
+      record {
+        head =
+            omega (arith, k .1 .1 .1 .1 .0, l .head);
+        prices = omega (arith, k .1 .1 .1 .1 .1 .0, l .prices);
+        lots = omega
+            (arith, k .1 .1 .1 .1 .1 .1 .0, l .lots);
+        value = omega (arith, k .1 .1 .1 .1 .1 .1 .1 .0, l .value);
+        book = omega
+            (arith, k .1 .1 .1 .1 .1 .1 .1 .1 .0, l .book);
+        lines = omega (arith, k .1 .1 .1 .1 .1 .1 .1 .1 .1 .0, l .lines);
+      },
+      ready-of-rest _ _ _
+          (c .before .before .before .before .before .before .before .before .before .before .before .before .before .before .before .before .before .before .before .before .before .before .before .before .loop .place + c .before .before .before .before .before .before .before .before .before .before .before .before .before .before .before .before .before .before .before .before .before .before .before .before .loop .n)
+          _ (c .ready-length2 .ensures),
+    )
+
+sub-room : tie.Need-sub-room Inv-loop μ-loop
+sub-room c = omega (arith, c .before .loop .inv .0 .within, c .before .loop .inv .0 .same)
+
+stage-after-requires : tie.Need-stage-after-requires Inv-loop μ-loop
+stage-after-requires c κs = search needs
+
+wants-after-requires : tie.Need-wants-after-requires Inv-loop μ-loop
+wants-after-requires c κs = search needs
+
+same-length : tie.Need-same-length Inv-loop μ-loop
+same-length c = omega (arith, c .before .before .before .loop .inv .0 .same)
+
+same-length-2 : tie.Need-same-length-2 Inv-loop μ-loop
+same-length-2 c = omega (arith, c .before .before .before .loop .inv .1 .head)
+
+same-length-3 : tie.Need-same-length-3 Inv-loop μ-loop
+same-length-3 c = omega (arith, c .before .before .before .loop .inv .1 .prices)
+
+same-length-4 : tie.Need-same-length-4 Inv-loop μ-loop
+same-length-4 c = omega (arith, c .before .before .before .loop .inv .1 .lots)
+
+same-length-5 : tie.Need-same-length-5 Inv-loop μ-loop
+same-length-5 c = omega (arith, c .before .before .before .loop .inv .1 .value)
+
+same-length-6 : tie.Need-same-length-6 Inv-loop μ-loop
+same-length-6 c = omega (arith, c .before .before .before .loop .inv .1 .book)
+
+same-length-7 : tie.Need-same-length-7 Inv-loop μ-loop
+same-length-7 c = omega (arith, c .before .before .before .loop .inv .1 .lines)
+
+returns : tie.Need-returns Inv-loop μ-loop
+returns c =
+    let w = c .before .before .before .loop .inv .0 in
+    runs-end w _ _ (omega (arith, w .within, w .same)) refl (sym (c .before .before .before .loop .inv .2) ∙ c .before .before .loop-test .left)
+    (c .before .stage-after .ensures) (c .wants-after .ensures)
+
+pub run-records-spec : {M : Type 1} → statement M
+run-records-spec =
+    tie.close
+    (tie.spec
+    Inv-loop
+    μ-loop
+    sub-ready-length
+    ready-length-requires
+    loop-holds
+    add-next
+    add-counted
+    sub-run-record
+    part-run-record-start
+    part-run-record-end
+    run-record-requires
+    add-accepted
+    sub-ready-length-2
+    part-ready-length-start
+    part-ready-length-end
+    sub-ready-length-3
+    ready-length-requires-2
+    loop-less
+    loop-again
+    sub-room
+    stage-after-requires
+    wants-after-requires
+    same-length
+    same-length-2
+    same-length-3
+    same-length-4
+    same-length-5
+    same-length-6
+    same-length-7
+    returns)

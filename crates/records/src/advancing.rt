@@ -1,0 +1,79 @@
+// One stage of a journal after the other.
+ghost use Prim.Native.Nat.{_≤_, _<_, _^_};
+ghost use lib.ListN.{length};
+ghost use Rattle.rules.specs.Ledger.{lent};
+ghost use Rattle.records.specs.Stages.{Advanced, Counts};
+use crate::beginning::begin;
+use crate::run::run_records;
+use crate::stage::Progress;
+use crate::stage::ROOM;
+use crate::stage::Stage;
+use crate::stage::Wants;
+use crate::stage::standing;
+use printing::put_end;
+
+// What can be run of these bytes at a stage. The last bytes of a journal are told by is_last.
+pub fn advance(
+    stage: Stage,
+    bytes: &[u8],
+    is_last: bool,
+    out: &mut [u8],
+    filled: usize,
+    head: &mut [u64],
+    prices: &mut [u64],
+    lots: &mut [i64],
+    value: &mut [i64],
+    book: &mut [u64],
+    lines: &mut [i64],
+) -> Progress
+    requires { ⌜ Counts stage (2 ^ 62) × (length (now bytes) < 2 ^ 62) × (filled ≤ length (now out)) × (224 ≤ length (now head)) × (800 ≤ length (now lines)) ⌝ }
+    ensures { λ r. ⌜ Advanced stage
+        (lent (now (head .entry)) (now (prices .entry)) (now (lots .entry)) (now (value .entry)) (now (book .entry)) (now (lines .entry)))
+        (now (bytes .entry)) «is_last» filled (now (out .entry)) (now (out .exit))
+        (lent (now (head .exit)) (now (prices .exit)) (now (lots .exit)) (now (value .exit)) (now (book .exit)) (now (lines .exit))) r ⌝ }
+{
+    if out.len() - filled < ROOM {
+        return standing(filled, stage, Wants::Room);
+    }
+    match stage {
+        Stage::Header => begin(
+            bytes,
+            is_last,
+            out,
+            filled,
+            head,
+            prices,
+            lots,
+            value,
+            &*book,
+            &*lines,
+        ),
+        Stage::Records(counted, accepted) => run_records(
+            counted,
+            accepted,
+            bytes,
+            is_last,
+            out,
+            filled,
+            head,
+            prices,
+            lots,
+            value,
+            book,
+            lines,
+        ),
+        Stage::Read(counted, accepted) => standing(
+            put_end(out, filled, counted, accepted, &*head),
+            Stage::ReadToEnd,
+            Wants::Nothing,
+        ),
+        Stage::Stopped(counted, accepted) => standing(
+            put_end(out, filled, counted, accepted, &*head),
+            Stage::RecordUnsound,
+            Wants::Nothing,
+        ),
+        Stage::ReadToEnd => standing(filled, stage, Wants::Nothing),
+        Stage::RecordUnsound => standing(filled, stage, Wants::Nothing),
+        Stage::HeaderUnsound => standing(filled, stage, Wants::Nothing),
+    }
+}

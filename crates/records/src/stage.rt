@@ -1,0 +1,52 @@
+// How far a journal has been run, and why it went no further.
+ghost use mathlib.Core.Path.{_≡_};
+
+// The most that one record prints, 200 lines, and one line more.
+pub const ROOM: usize = 17286;
+
+// Where there are two numbers: the records counted so far, and those of them that were accepted.
+pub enum Stage {
+    // The header is to be read.
+    Header,
+    // Records are to be read.
+    Records(u64, u64),
+    // Every record was run, and E is left.
+    Read(u64, u64),
+    // A record was number 3, and E is left.
+    Stopped(u64, u64),
+    // All is printed: of a journal that was read to its end,
+    ReadToEnd,
+    // of one with a record that was number 3,
+    RecordUnsound,
+    // of one with a header that was number 2.
+    HeaderUnsound,
+}
+
+pub enum Wants {
+    // The next stage can begin.
+    Nothing,
+    // Less than a header or a record is left.
+    Bytes,
+    // The output has less room than a record may need.
+    Room,
+}
+
+pub struct Progress {
+    // The bytes that were run, and the end of what is printed.
+    pub used: usize,
+    pub end: usize,
+    pub stage: Stage,
+    pub wants: Wants,
+}
+
+// No bytes are run.
+pub fn standing(end: usize, stage: Stage, wants: Wants) -> Progress
+    ensures { λ r. ⌜ r ≡ record { used = 0; end = end; stage = stage; wants = wants } ⌝ }
+{
+    Progress {
+        used: 0,
+        end: end,
+        stage: stage,
+        wants: wants,
+    }
+}
