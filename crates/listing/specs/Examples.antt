@@ -42,7 +42,8 @@ lotsLine =
 
 -- As record 7, after 100 bytes, in a ledger of two members from 2021 on.
 pub lines : map (recordLine 2 2021 7 100) (submit 0 0 100 ∷ submit 2 0 100 ∷ submit 0 100 0 ∷ []) ≡ soundLine ∷ sideLine ∷ lotsLine ∷ []
-unfolding recordLine wordsIn quantityWords faultWords faultText fieldsOf fieldsOfKind verdictOf within numberAt u16At u32At kindWord sideWord orderKindWord timeText twoDigits priceText contractText quarterText termName termOf outOfRange hint otherWayRound decimal digits
+unfolding recordLine wordsIn quantityWords faultWords faultText fieldsOf fieldsOfKind verdictOf within numberAt u16At u32At kindWord sideWord orderKindWord timeText twoDigits priceText
+    contractText quarterText termName termOf outOfRange hint otherWayRound decimal digits
 lines = refl
 
 -- A journal of which every number is written the other way round: version 256.

@@ -27,7 +27,12 @@ does-pass-requires : tie.Need-does-pass-requires Inv-loop μ-loop
 does-pass-requires c κs = search needs
 
 put-fault-requires : tie.Need-put-fault-requires Inv-loop μ-loop
-put-fault-requires c κs = (omega (arith, c .before .before .before .before .before .before .loop .inv .wrote .short, c .before .before .before .before .before .before .loop .inv .same), c .before .before .before .before .before .before .loop .inv .inside, omega arith, omega arith)
+put-fault-requires c κs = (
+  omega (arith, c .before .before .before .before .before .before .loop .inv .wrote .short, c .before .before .before .before .before .before .loop .inv .same),
+  c .before .before .before .before .before .before .loop .inv .inside,
+  omega arith,
+  omega arith,
+)
 
 same-length : tie.Need-same-length Inv-loop μ-loop
 same-length c = omega (arith, c .before .before .before .before .before .before .before .before .before .loop .inv .same, c .before .before .put-fault .kept .1)
@@ -46,10 +51,22 @@ number-at-requires : tie.Need-number-at-requires Inv-loop μ-loop
 number-at-requires c κs = omega (arith, c .before .before .before .before .before .before .before .loop .inv .inside)
 
 put-quantity-requires : tie.Need-put-quantity-requires Inv-loop μ-loop
-put-quantity-requires c κs = (omega (arith, c .before .before .before .before .before .before .before .before .loop .inv .wrote .short, c .before .before .before .before .before .before .before .before .loop .inv .same), omega arith, c .number-at .ensures .1)
+put-quantity-requires c κs = (
+  omega (
+    arith,
+    c .before .before .before .before .before .before .before .before .loop .inv .wrote .short,
+    c .before .before .before .before .before .before .before .before .loop .inv .same,
+  ),
+  omega arith,
+  c .number-at .ensures .1,
+)
 
 add-place : tie.Need-add-place Inv-loop μ-loop
-add-place c = omega (arith, c .before .before .before .before .before .size-of .ensures .1, c .before .before .before .before .before .before .before .before .before .before .before .loop .inv .inside)
+add-place c = omega (
+  arith,
+  c .before .before .before .before .before .size-of .ensures .1,
+  c .before .before .before .before .before .before .before .before .before .before .before .loop .inv .inside,
+)
 
 add-i : tie.Need-add-i Inv-loop μ-loop
 add-i c = omega arith

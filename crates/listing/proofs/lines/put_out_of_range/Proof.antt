@@ -37,7 +37,11 @@ same-length c = search needs
 returns : tie.Need-returns
 unfolding outOfRange
 returns c =
-    let least = next (next (number (c .before .before .before .before .before .before .before .before .before .before .before .before .before .before .before .before .before .before .before .before .before .before .before .before .put-field .ensures)) (exactly 7 _ (c .before .before .before .before .before .before .before .before .before .before .before .before .before .before .before .before .before .before .before .put-bytes .ensures) refl) (omega arith)) (number (c .before .before .before .before .before .before .before .before .before .before .before .before .before .before .before .put-field2 .ensures)) (omega arith) in
+    let least = next (next (number (c .before .before .before .before .before .before .before .before .before .before .before .before .before .before .before .before .before .before
+    .before .before .before .before .before .before .put-field .ensures))
+    (exactly 7 _ (c .before .before .before .before .before .before .before .before .before .before .before .before .before .before .before .before .before .before .before
+    .put-bytes .ensures) refl) (omega arith))
+    (number (c .before .before .before .before .before .before .before .before .before .before .before .before .before .before .before .put-field2 .ensures)) (omega arith) in
     let most = next (next least (exactly 3 _ (c .before .before .before .before .before .before .before .before .before .before .put-bytes2 .ensures) refl) (omega arith))
     (number (c .before .before .before .before .before .before .put-field3 .ensures)) (omega arith) in
     within-room 118 _ (next most (c .before .before .put-hint .ensures) (omega arith)) (simp append-assoc) (omega arith)

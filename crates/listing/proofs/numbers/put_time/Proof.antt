@@ -31,7 +31,10 @@ same-length c = search needs
 returns : tie.Need-returns
 unfolding timeText
 returns c =
-    let hours = next (exactly 1 _ (c .before .before .before .before .before .before .before .before .before .before .before .before .before .before .before .before .before .before .before .before .before .before .put-byte .ensures) refl) (c .before .before .before .before .before .before .before .before .before .before .before .before .before .before .before .before .before .before .put-two-digits .ensures) (omega arith) in
+    let hours = next (exactly 1 _ (c .before .before .before .before .before .before .before .before .before .before .before .before .before .before .before .before .before .before
+    .before .before .before .before .put-byte .ensures) refl)
+    (c .before .before .before .before .before .before .before .before .before .before .before .before .before .before .before .before .before .before .put-two-digits .ensures)
+    (omega arith) in
     let minutes = next (next hours (exactly 1 _
     (c .before .before .before .before .before .before .before .before .before .before .before .before .before .before .put-byte2 .ensures) refl) (omega arith))
     (c .before .before .before .before .before .before .before .before .before .before .put-two-digits2 .ensures) (omega arith) in

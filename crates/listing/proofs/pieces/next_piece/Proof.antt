@@ -34,7 +34,16 @@ returns c = (
 
 returns-2 : tie.Need-returns-2
 unfolding pieceOf
-returns-2 c = (rw (← (c .before .before .before .before .front-record .ensures), c .before .before .enum-told2 .given .1, asked-true {b = c .before .before .before .before .before .before .args .is-last} refl (c .before .if1 .left), eq-eqb _ _ (c .if2 .taken)) refl, tt)
+returns-2 c = (
+  rw (
+    ← (c .before .before .before .before .front-record .ensures),
+    c .before .before .enum-told2 .given .1,
+    asked-true
+        {b = c .before .before .before .before .before .before .args .is-last} refl (c .before .if1 .left),
+    eq-eqb _ _ (c .if2 .taken),
+  ) refl,
+  tt,
+)
 
 returns-3 : tie.Need-returns-3
 unfolding pieceOf
@@ -54,8 +63,16 @@ returns-4 c = (
 returns-5 : tie.Need-returns-5
 unfolding pieceOf
 returns-5 c =
-    let some = c .if2 .left in
-    (rw (← (c .before .before .before .before .front-record .ensures), c .before .before .enum-told2 .given .1, asked-true {b = c .before .before .before .before .before .before .args .is-last} refl (c .before .if1 .left), ne-eqb _ _ some) refl, (omega arith, omega arith))
+    let some = c .if2 .left in (
+      rw (
+        ← (c .before .before .before .before .front-record .ensures),
+        c .before .before .enum-told2 .given .1,
+        asked-true
+            {b = c .before .before .before .before .before .before .args .is-last} refl (c .before .if1 .left),
+        ne-eqb _ _ some,
+      ) refl,
+      (omega arith, omega arith),
+    )
 
 pub next-piece-spec : {M : Type 1} → statement M
 next-piece-spec =

@@ -17,7 +17,13 @@ loop-holds : tie.Need-loop-holds Inv-loop μ-loop
 loop-holds c = (c .before .before .pre .0, c .before .before .pre .1, c .before .before .pre .3, c .before .before .pre .4)
 
 turn-requires : tie.Need-turn-requires Inv-loop μ-loop
-turn-requires c κs = (c .before .before .before .loop .inv .0, omega arith, c .before .before .before .before .before .before .pre .2, c .before .before .before .loop .inv .2, c .before .before .before .loop .inv .3)
+turn-requires c κs = (
+  c .before .before .before .loop .inv .0,
+  omega arith,
+  c .before .before .before .before .before .before .pre .2,
+  c .before .before .before .loop .inv .2,
+  c .before .before .before .loop .inv .3,
+)
 
 enum-known-next : tie.Need-enum-known-next Inv-loop μ-loop
 enum-known-next c = search needs
