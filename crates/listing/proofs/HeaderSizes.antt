@@ -12,7 +12,7 @@ use Rattle.arith.proofs.Tests.{and-left}
 use Rattle.listing.specs.declared.field.Field.{Field}
 use Rattle.listing.specs.declared.field.Field.the-variants.{Holiday, Limit}
 use Rattle.listing.specs.declared.field.Shape.the-variants.{Header}
-use Rattle.listing.specs.Fields.{sizeOf, fixedFields, fieldsOf, headerShape, isNone, headerFault}
+use Rattle.listing.specs.Fields.{fixedFields, fieldsOf, headerShape, isNone, headerFault}
 use Rattle.listing.proofs.Faults.{sizes, inRanges, none-is}
 
 sizes-append : (xs ys : List Field) → sizes (xs ++ ys) ≡ sizes xs + sizes ys

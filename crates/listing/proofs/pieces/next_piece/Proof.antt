@@ -7,9 +7,6 @@ use Rattle.listing.proofs.Fronts.{front-fits}
 use borrow.Author.Needs.{needs}
 use Rattle.listing.proofs.pieces.next_piece.Statement.{statement}
 use Rattle.listing.proofs.pieces.next_piece.Tie as tie
-use Rattle.listing.proofs.pieces.next_piece.Reads as reads
-use Rattle.listing.proofs.pieces.next_piece.Lts as lts
-use Rattle.codec.proofs.front_record.Reads as front-record-reads
 
 front-record-requires : tie.Need-front-record-requires
 front-record-requires c κs = search needs

@@ -1,0 +1,62 @@
+use Prim.Native.Nat.{_-_, _≤_}
+use mathlib.Core.Path.{_≡_, refl}
+use native.Mathlib.Omega.{arith}
+use lib.ListN.{length, length-set}
+use Rattle.listing_program.proofs.Moving.{Moved, moved-none, moved-next}
+use Rattle.listing_program.proofs.input.shift.Statement.{statement}
+use Rattle.listing_program.proofs.input.shift.Tie as tie
+
+abbrev Inv-loop : tie.InvT-loop
+Inv-loop input₀ from end n i₀ input i = (i ≤ end - from) × (length input ≡ length input₀) × Moved from i input₀ input
+
+abbrev μ-loop : tie.MeasureT-loop
+μ-loop input₀ from end n i₀ input i = n - i
+
+sub-n : tie.Need-sub-n Inv-loop μ-loop
+sub-n c = omega arith
+
+loop-holds : tie.Need-loop-holds Inv-loop μ-loop
+loop-holds c = (omega arith, refl, moved-none _ _)
+
+add-input : tie.Need-add-input Inv-loop μ-loop
+add-input c = omega arith
+
+slice-read-input : tie.Need-slice-read-input Inv-loop μ-loop
+slice-read-input c = omega arith
+
+slice-write-input : tie.Need-slice-write-input Inv-loop μ-loop
+slice-write-input c = omega arith
+
+add-i : tie.Need-add-i Inv-loop μ-loop
+add-i c = omega arith
+
+loop-less : tie.Need-loop-less Inv-loop μ-loop
+loop-less c = omega arith
+
+loop-again : tie.Need-loop-again Inv-loop μ-loop
+loop-again c = (omega arith, simp length-set (omega arith), moved-next _ _ _ _ (omega arith) (c .before .before .loop .inv .1) (c .before .before .loop .inv .2))
+
+same-length : tie.Need-same-length Inv-loop μ-loop
+same-length c = c .before .loop .inv .1
+
+returns : tie.Need-returns Inv-loop μ-loop
+returns c =
+    let e : c .before .loop .i ≡ c .before .before .args .end - c .before .before .args .from = omega arith in
+    rw (← e) (c .before .loop .inv .2 .moved)
+
+pub shift-spec : {M : Type 1} → statement M
+shift-spec =
+    tie.close
+    (tie.spec
+    Inv-loop
+    μ-loop
+    sub-n
+    loop-holds
+    add-input
+    slice-read-input
+    slice-write-input
+    add-i
+    loop-less
+    loop-again
+    same-length
+    returns)

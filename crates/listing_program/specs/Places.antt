@@ -1,0 +1,47 @@
+-- Where the program stands in its buffers, and its exit status.
+use Prim.Native.Nat.{ℕ, _+_, _*_, _≤_}
+use mathlib.Core.List.{List}
+use mathlib.Core.Path.{_≡_}
+use lib.ListN.{getD}
+use lib.IntN.{ℤ, pos}
+use Rattle.listing_program.specs.declared.input.Filled.{Filled}
+use Rattle.listing_program.specs.declared.input.Filled.the-variants.{Until, End, Failed}
+use Rattle.listing_program.specs.declared.shell.Ending.{Ending}
+use Rattle.listing_program.specs.declared.shell.Ending.the-variants.{Listed, HeaderUnsound, RecordUnsound, ReadFailed, WriteFailed}
+use Rattle.listing_program.specs.declared.shell.Ledger.{Ledger}
+use Rattle.listing_program.specs.declared.shell.Next.{Next}
+use Rattle.listing_program.specs.declared.shell.Next.the-variants.{Going, Ended}
+use Rattle.listing_program.specs.declared.shell.Place.{Place}
+
+abbrev pub filledTo : Filled → ℕ → Type 0
+filledTo (Until end) n = end ≤ n
+filledTo End n = Unit {0}
+filledTo Failed n = Unit {0}
+
+-- Members, first year and size of the header that the bytes begin with.
+pub record LedgerOf (s : List ℕ) (r : Ledger) : Type 0 where
+  pub members : r .members ≡ getD s 9 0
+  pub year : r .«first_year» ≡ getD s 5 0 * 256 + getD s 6 0
+  pub size : r .«header_size» ≡ 11 + (2 * getD s 10 0 + 4 * getD s 9 0)
+  pub yearFits : r .«first_year» ≤ 65535
+  pub sizeFits : r .«header_size» ≤ 65536
+
+-- Its places lie in order within the buffers, and each turn lists at most one record of at most 65,536 bytes.
+pub record Stands (p : Place) : Type 0 where
+  pub before : p .from ≤ p .end
+  pub inside : p .end ≤ 65536
+  pub printed : p .filled ≤ 131072
+  pub counted : p .records ≤ p .turns
+  pub passed : p .base ≤ 65536 * (p .turns + 1)
+  pub few : p .turns ≤ 70368744177664
+
+abbrev pub nextStands : ℕ → Next → Type 0
+nextStands turns (Going p) = Stands p × (p .turns ≡ turns)
+nextStands turns (Ended ending) = Unit {0}
+
+unfoldable pub statusOf : Ending → ℤ
+statusOf Listed = pos 0
+statusOf HeaderUnsound = pos 2
+statusOf RecordUnsound = pos 3
+statusOf ReadFailed = pos 4
+statusOf WriteFailed = pos 5

@@ -1,0 +1,261 @@
+// The program's turns: the next record is listed, or bytes are read, or lines are written. No contract can say what a read brought
+// or a write took; what is listed for the bytes that came is the promise of crate listing.
+ghost use mathlib.Core.Path.{_≡_};
+ghost use Prim.Native.Nat.{_+_, _*_, _≤_, _<_};
+ghost use lib.ListN.{length};
+ghost use Rattle.listing_program.specs.Places.{filledTo, LedgerOf, Stands, nextStands};
+use crate::input::Filled;
+use crate::input::fill;
+use crate::input::shift;
+use crate::output::flush;
+use big_endian::u8_or_zero;
+use listing::Piece;
+use listing::ROOM;
+use listing::next_piece;
+use listing::put_header_line;
+use listing::put_record_line;
+
+const INPUT: usize = 65536;
+
+// Room for a line beside those that wait.
+const OUTPUT: usize = 131072;
+
+// The longest header that can be sound: 120 holidays and 32 limits.
+const LONGEST_HEADER: usize = 379;
+
+// Nothing says that standard input ends, so turns are counted: this many take years.
+const MOST_TURNS: u64 = 70368744177664;
+
+pub enum Ending {
+    Listed,
+    HeaderUnsound,
+    RecordUnsound,
+    ReadFailed,
+    WriteFailed,
+}
+
+// What the header says of the records.
+struct Ledger {
+    members: u64,
+    first_year: u64,
+    // In bytes.
+    header_size: u64,
+}
+
+// The bytes from a place to end are still to be listed, those below filled still to be written; so many records and bytes came before.
+struct Place {
+    turns: u64,
+    from: usize,
+    end: usize,
+    is_last: bool,
+    filled: usize,
+    records: u64,
+    base: u64,
+}
+
+enum Next {
+    Going(Place),
+    Ended(Ending),
+}
+
+// The lines that wait go out, and the program ends.
+fn finish(output: &[u8], filled: usize, ending: Ending) -> Ending
+    requires { ⌜ filled ≤ length (now output) ⌝ }
+{
+    if flush(output, filled) {
+        return ending;
+    }
+    Ending::WriteFailed
+}
+
+// The rest goes to the front, and more comes behind it. After a failed read the lines that wait go out.
+fn read_more(place: Place, input: &mut [u8], output: &[u8]) -> Next
+    requires { ⌜ Stands place × (length (now input) ≡ 65536) × (length (now output) ≡ 131072) ⌝ }
+    ensures { λ r. ⌜ nextStands (place .turns) r ⌝ }
+{
+    let rest = place.end - place.from;
+    shift(&mut *input, place.from, place.end);
+    match fill(input, rest) {
+        Filled::Until(end) => Next::Going(Place {
+            turns: place.turns,
+            from: 0,
+            end: end,
+            is_last: false,
+            filled: place.filled,
+            records: place.records,
+            base: place.base,
+        }),
+        Filled::End => Next::Going(Place {
+            turns: place.turns,
+            from: 0,
+            end: rest,
+            is_last: true,
+            filled: place.filled,
+            records: place.records,
+            base: place.base,
+        }),
+        Filled::Failed => {
+            flush(output, place.filled);
+            Next::Ended(Ending::ReadFailed)
+        }
+    }
+}
+
+fn write_out(place: Place, output: &[u8]) -> Next
+    requires { ⌜ Stands place × (length (now output) ≡ 131072) ⌝ }
+    ensures { λ r. ⌜ nextStands (place .turns) r ⌝ }
+{
+    if flush(output, place.filled) {
+        return Next::Going(Place {
+            turns: place.turns,
+            from: place.from,
+            end: place.end,
+            is_last: place.is_last,
+            filled: 0,
+            records: place.records,
+            base: place.base,
+        });
+    }
+    Next::Ended(Ending::WriteFailed)
+}
+
+// The record of the first bytes; the program ends after one that is unsound, since no later record's place is known.
+fn list_record(ledger: Ledger, place: Place, size: usize, input: &[u8], output: &mut [u8]) -> Next
+    requires { ⌜ Stands place × (place .turns < 70368744177664) × (place .from + size ≤ place .end) × (place .filled + 62000 ≤ 131072) ⌝ }
+    requires { ⌜ (ledger .«first_year» ≤ 65535) × (length (now input) ≡ 65536) × (length (now output) ≡ 131072) ⌝ }
+    ensures { λ r. ⌜ nextStands (place .turns + 1) r ⌝ }
+{
+    let from = place.from;
+    let to = from + size;
+    let number = place.records + 1;
+    let listed = put_record_line(
+        ledger.members,
+        ledger.first_year,
+        number,
+        place.base,
+        &input[from..to],
+        &mut *output,
+        place.filled,
+    );
+    if !listed.is_sound {
+        return Next::Ended(finish(&*output, listed.end, Ending::RecordUnsound));
+    }
+    Next::Going(Place {
+        turns: place.turns + 1,
+        from: to,
+        end: place.end,
+        is_last: place.is_last,
+        filled: listed.end,
+        records: number,
+        base: place.base + size as u64,
+    })
+}
+
+fn turn(ledger: Ledger, place: Place, input: &mut [u8], output: &mut [u8]) -> Next
+    requires { ⌜ Stands place × (place .turns < 70368744177664) × (ledger .«first_year» ≤ 65535) × (length (now input) ≡ 65536) × (length (now output) ≡ 131072) ⌝ }
+    ensures { λ r. ⌜ nextStands (place .turns + 1) r ⌝ }
+{
+    let from = place.from;
+    let end = place.end;
+    let next = Place {
+        turns: place.turns + 1,
+        from: from,
+        end: end,
+        is_last: place.is_last,
+        filled: place.filled,
+        records: place.records,
+        base: place.base,
+    };
+    if OUTPUT - place.filled < ROOM {
+        return write_out(next, &*output);
+    }
+    match next_piece(&input[from..end], place.is_last) {
+        Piece::Record(size) => list_record(ledger, place, size, &*input, output),
+        Piece::More => read_more(next, input, &*output),
+        Piece::End => Next::Ended(finish(&*output, place.filled, Ending::Listed)),
+    }
+}
+
+fn list_records(ledger: Ledger, first: Place, input: &mut [u8], output: &mut [u8]) -> Ending
+    requires { ⌜ Stands first × (first .turns ≡ 0) × (ledger .«first_year» ≤ 65535) × (length (now input) ≡ 65536) × (length (now output) ≡ 131072) ⌝ }
+{
+    let mut place = first;
+    let mut turns: u64 = 0;
+    while turns < MOST_TURNS {
+        match turn(ledger, place, &mut *input, &mut *output) {
+            Next::Going(next) => {
+                place = next;
+            }
+            Next::Ended(ending) => return ending,
+        }
+        turns += 1;
+    }
+    Ending::ReadFailed
+}
+
+// The bytes of the longest header, or all that there are.
+fn fill_header(input: &mut [u8]) -> Filled
+    requires { ⌜ length (now input) ≡ 65536 ⌝ }
+    ensures { λ r. ⌜ filledTo r (length (now (input .entry))) ⌝ }
+{
+    let mut end: usize = 0;
+    let mut turns = MOST_TURNS;
+    while 0 < turns {
+        if LONGEST_HEADER <= end {
+            return Filled::Until(end);
+        }
+        match fill(&mut *input, end) {
+            Filled::Until(next) => {
+                end = next;
+            }
+            Filled::End => return Filled::Until(end),
+            Filled::Failed => return Filled::Failed,
+        }
+        turns -= 1;
+    }
+    Filled::Until(end)
+}
+
+fn ledger_of(bytes: &[u8]) -> Ledger
+    ensures { λ r. ⌜ LedgerOf (now (bytes .entry)) r ⌝ }
+{
+    let members = u8_or_zero(bytes, 9);
+    let holidays = u8_or_zero(bytes, 10);
+    Ledger {
+        members: members,
+        first_year: u8_or_zero(bytes, 5) * 256 + u8_or_zero(bytes, 6),
+        header_size: 11 + (2 * holidays + 4 * members),
+    }
+}
+
+// The header's line, then those of the records behind it.
+fn list_from(end: usize, input: &mut [u8], output: &mut [u8]) -> Ending
+    requires { ⌜ (end ≤ length (now input)) × (length (now input) ≡ 65536) × (length (now output) ≡ 131072) ⌝ }
+{
+    let listed = put_header_line(&input[..end], &mut *output, 0);
+    if !listed.is_sound {
+        return finish(&*output, listed.end, Ending::HeaderUnsound);
+    }
+    let ledger = ledger_of(&input[..end]);
+    let size = ledger.header_size;
+    let first = Place {
+        turns: 0,
+        from: size as usize,
+        end: end,
+        is_last: false,
+        filled: listed.end,
+        records: 0,
+        base: size,
+    };
+    list_records(ledger, first, input, output)
+}
+
+pub fn run() -> Ending {
+    let mut input = [0u8; INPUT];
+    let mut output = [0u8; OUTPUT];
+    match fill_header(&mut input) {
+        Filled::Until(end) => list_from(end, &mut input, &mut output),
+        Filled::End => list_from(0, &mut input, &mut output),
+        Filled::Failed => Ending::ReadFailed,
+    }
+}
