@@ -1,12 +1,12 @@
 -- No field is at fault exactly if the bytes hold them all and each is in its range. Assumes nothing.
-use Prim.Native.Nat.{ℕ, _+_, _≤_}
+use Prim.Native.Nat.{ℕ, _+_, _-_, _≤_}
 use mathlib.Core.Bool.{Bool, true, false, cond, _&&_}
 use mathlib.Core.List.{List, [], _∷_}
 use mathlib.Core.Path.{_≡_, refl, sym, _∙_}
 use native.Mathlib.Nat.{add-assoc, add-zero}
 use native.Mathlib.Omega.{arith}
 use borrow.Author.Tests.{le-ltb, lt-ltb, le-leb, lt-leb}
-use lib.Dec.{leb}
+use lib.Dec.{leb, ltb}
 use lib.ListN.{length}
 use Rattle.arith.proofs.Tests.{true-or, le-or-lt, and-false}
 use Rattle.listing.specs.declared.field.Field.{Field}
@@ -47,3 +47,11 @@ none-is n s place (f ∷ fs) h =
     ∙ rw (none-is n s (place + sizeOf f) fs k, add-assoc place (sizeOf f) (sizes fs))
     (length-first (within (rangeOf n s place f) v) (passes (dayVerdict s (quantityOf f) v)) (leb (place + (sizeOf f + sizes fs)) (length s)) (inRanges n s (place + sizeOf f) fs))))
     (λ k. rw (lt-ltb (length s) (place + sizeOf f) k, lt-leb (place + (sizeOf f + sizes fs)) (length s) (omega arith)) refl)
+
+-- ---- tests of ranges
+pub from-zero : (v : ℕ) → leb 0 v ≡ true
+from-zero v = le-leb 0 v (omega arith)
+
+pub last-before : (v after : ℕ) → 1 ≤ after → leb v (after - 1) ≡ ltb v after
+last-before v after some =
+    le-or-lt v (after - 1) (λ h. rw (le-leb v (after - 1) h, lt-ltb v after (omega arith)) refl) (λ h. rw (lt-leb v (after - 1) h, le-ltb v after (omega arith)) refl)

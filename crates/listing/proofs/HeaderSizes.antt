@@ -20,7 +20,7 @@ unfolding sizes
 sizes-append [] ys = sym (zero-add (sizes ys))
 sizes-append (f ∷ xs) ys = rw (sizes-append xs ys) (omega arith)
 
-sizes-holidays : (n : ℕ) → sizes (replicate n Holiday) ≡ 2 * n
+pub sizes-holidays : (n : ℕ) → sizes (replicate n Holiday) ≡ 2 * n
 unfolding sizes
 sizes-holidays zero = refl
 sizes-holidays (suc n) = rw (sizes-holidays n) (omega arith)

@@ -7,3 +7,4 @@ pub mod Writers
 pub mod Goings
 pub mod Fronts
 pub mod HeaderSizes
+pub mod HeaderFaults

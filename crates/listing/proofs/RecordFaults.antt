@@ -19,10 +19,11 @@ use Rattle.rules.specs.declared.event.Reading.{Reading}
 use Rattle.rules.specs.declared.event.Reading.the-variants.{Sound, Unsound}
 use Rattle.rules.specs.Ranges.{mostMembers, mostPrice, leastLegs, mostLegs}
 use Rattle.rules.specs.Header.{u16At, u32At, membersSound}
-use Rattle.rules.specs.Records.{recordLength, frontLength, timeSound, contractSound, sideSound, orderKindSound, priceSound, lotsSound, dayLimitsSound, numberSound, legSound, legAt, legPlace, submissionOf, submitOf, cancellationOf, newDayLimitsOf, closeOutOf, fieldsByKind, fieldsOf as readFields, legsOf, eventSound, ifSound, readOf}
+use Rattle.rules.specs.Records.{recordLength, frontLength, timeSound, contractSound, sideSound, orderKindSound, priceSound, lotsSound, dayLimitsSound, numberSound, legSound, legAt}
+use Rattle.rules.specs.Records.{legPlace, submissionOf, submitOf, cancellationOf, newDayLimitsOf, closeOutOf, fieldsByKind, fieldsOf as readFields, legsOf, eventSound, ifSound, readOf}
 use Rattle.listing.specs.Exact.{isSound, RecordExact}
 use Rattle.listing.specs.Fields.{legFields, fieldsOfKind, fieldsOf, numberAt, range, within, recordShape, isNone, faultOf}
-use Rattle.listing.proofs.Faults.{sizes, inRanges, none-is}
+use Rattle.listing.proofs.Faults.{sizes, inRanges, none-is, from-zero, last-before}
 
 -- ---- tests in another order
 sound-event : (n : ℕ) (legs : List Leg) (e : Event) → isSound (ifSound n legs (Sound e)) ≡ eventSound n e legs
@@ -37,9 +38,6 @@ of-length len m n legs r ranges h =
     (le-or-lt m len (λ k. rw (lt-leb len m (omega arith)) (sym (and-false (leb m len && ranges)))) (λ k. rw (lt-leb m len k) refl)))
 
 -- ---- by kind
-from-zero : (v : ℕ) → leb 0 v ≡ true
-from-zero v = le-leb 0 v (omega arith)
-
 below : (v most : ℕ) → ltb v (suc most) ≡ leb v most
 below v most = le-or-lt v most (λ k. rw (le-leb v most k, lt-ltb v (suc most) (omega arith)) refl) (λ k. rw (lt-leb v most k, le-ltb v (suc most) (omega arith)) refl)
 
@@ -89,7 +87,7 @@ leg-sizes (suc k) = rw (leg-sizes k) (omega arith)
 
 module _ (n : ℕ) (s : List ℕ) (some : 1 ≤ n) where
   member-range : (m : ℕ) → leb m (n - 1) ≡ ltb m n
-  member-range m = le-or-lt m (n - 1) (λ k. rw (le-leb m (n - 1) k, lt-ltb m n (omega arith)) refl) (λ k. rw (lt-leb m (n - 1) k, le-ltb m n (omega arith)) refl)
+  member-range m = last-before m n some
 
   Ranges : ℕ → List Leg → Reading → Type 0
   Ranges kind legs r = getD s 0 0 ≡ kind → isSound (ifSound n legs r) ≡ inRanges n s 0 (fieldsOf (recordShape s))

@@ -1,4 +1,4 @@
--- A field is found at fault exactly where document 01's reader takes no record.
+-- A field is found at fault exactly where document 01's reader takes no record, or no header.
 use Prim.Native.Nat.{ℕ}
 use mathlib.Core.Bool.{Bool, true, false, _&&_}
 use mathlib.Core.List.{List}
@@ -7,9 +7,9 @@ use lib.Dec.{leb}
 use lib.ListN.{length}
 use Rattle.rules.specs.declared.event.Reading.{Reading}
 use Rattle.rules.specs.declared.event.Reading.the-variants.{Sound, Unsound}
-use Rattle.rules.specs.Header.{membersSound}
+use Rattle.rules.specs.Header.{membersSound, beginsWithHeader}
 use Rattle.rules.specs.Records.{frontLength, readOf}
-use Rattle.listing.specs.Fields.{isNone, faultOf}
+use Rattle.listing.specs.Fields.{isNone, faultOf, headerFault}
 
 abbrev pub isSound : Reading → Bool
 isSound (Sound e) = true
@@ -19,3 +19,7 @@ isSound Unsound = false
 abbrev pub RecordExact : Type 0
 RecordExact =
     (n : ℕ) (s : List ℕ) → membersSound n ≡ true → isSound (readOf n s) ≡ isNone (faultOf n s) && leb (length s) (frontLength s)
+
+-- Bytes begin with a sound header exactly if no field of it is at fault.
+abbrev pub HeaderExact : Type 0
+HeaderExact = (s : List ℕ) → beginsWithHeader s ≡ isNone (headerFault s)

@@ -7,7 +7,8 @@ use Rattle.rules.specs.Header.{u16At, u32At}
 use Rattle.rules.specs.Text.{decimal, digits}
 use Rattle.listing.specs.declared.field.Field.the-variants.{Side, Lots}
 use Rattle.listing.specs.Fields.{fieldsOfKind, fieldsOf, numberAt, within, verdictOf, none, at, faultIn, faultOf}
-use Rattle.listing.specs.Words.{kindWord, sideWord, orderKindWord, quantityWords, twoDigits, timeText, priceText, quarterText, termName, contractText, otherWayRound, hint, outOfRange, faultText, faultWords, wordsIn, recordLine, headerLine}
+use Rattle.listing.specs.Words.{kindWord, sideWord, orderKindWord, quantityWords, twoDigits, timeText, priceText, quarterText, termName, contractText, otherWayRound, hint}
+use Rattle.listing.specs.Words.{outOfRange, faultText, faultWords, wordsIn, recordLine, headerLine}
 
 -- A submit of 36010 s, member 1, contract 18, with a side, OEYE, 26005 kuruş and the two bytes of its lots.
 abbrev pub submit : ℕ → ℕ → ℕ → List ℕ

@@ -4,8 +4,9 @@ use mathlib.Core.List.{List, _++_}
 use mathlib.Core.Path.{_≡_}
 use lib.ListN.{length, drop}
 use Rattle.listing.specs.declared.field.Field.{Field}
+use Rattle.listing.specs.declared.field.Shape.{Shape}
 use Rattle.listing.specs.declared.lines.Listed.{Listed}
-use Rattle.listing.specs.Fields.{Fault, isNone, faultIn}
+use Rattle.listing.specs.Fields.{fieldsOf, Fault, isNone, faultIn}
 use Rattle.listing.specs.Short.{Short}
 use Rattle.listing.specs.Words.{wordsIn}
 
@@ -13,6 +14,11 @@ use Rattle.listing.specs.Words.{wordsIn}
 pub record ListedAs (most start : ℕ) (text : List ℕ) (fault : Fault) (entry exit : List ℕ) (r : Listed) : Type 0 where
   pub written : Short most start text entry exit (r .end)
   pub sound : r .«is_sound» ≡ isNone fault
+
+-- The fields of a shape, as the bytes have them.
+abbrev pub FieldsListed : ℕ → ℕ → ℕ → ℕ → ℕ → List ℕ → Shape → List ℕ → List ℕ → Listed → Type 0
+FieldsListed count start first base n s shape entry exit r =
+    ListedAs (80 * count + 170) start (wordsIn first base n s 0 (fieldsOf shape)) (faultIn n s 0 (fieldsOf shape)) entry exit r
 
 -- The first i fields are written; what is left from here makes the whole.
 pub record Going (first base n : ℕ) (s : List ℕ) (fs : List Field) (entry out : List ℕ) (start i place end : ℕ) : Type 0 where

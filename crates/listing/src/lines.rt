@@ -4,10 +4,10 @@ ghost use mathlib.Core.List.{_∷_, _++_};
 ghost use Prim.Native.Nat.{_+_, _*_, _≤_, _<_};
 ghost use lib.ListN.{length};
 ghost use Rattle.rules.specs.Text.{space, decimal};
-ghost use Rattle.listing.specs.Fields.{fieldsOf, headerFault, faultOf, faultIn, faultPlace};
-ghost use Rattle.listing.specs.Lines.{ListedAs};
+ghost use Rattle.listing.specs.Fields.{fieldsOf, headerFault, faultOf, faultPlace};
+ghost use Rattle.listing.specs.Lines.{ListedAs, FieldsListed};
 ghost use Rattle.listing.specs.Short.{Short};
-ghost use Rattle.listing.specs.Words.{nameOf, priceText, contractText, fieldWords, hint, outOfRange, reason, faultText, faultWords, wordsIn, recordLine, headerLine};
+ghost use Rattle.listing.specs.Words.{nameOf, priceText, contractText, fieldWords, hint, outOfRange, reason, faultText, faultWords, recordLine, headerLine};
 use crate::field::Field;
 use crate::field::Quantity;
 use crate::field::Range;
@@ -211,7 +211,7 @@ fn put_fields(
 ) -> Listed
     requires { ⌜ (count ≡ length (fieldsOf shape)) × (start + (80 * count + 170) ≤ length (now out)) × (length (now bytes) ≤ 65536) ⌝ }
     requires { ⌜ («first_year» ≤ 4294967296) × (base ≤ 4611686018427387904) × (count ≤ 767) ⌝ }
-    ensures { λ r. ⌜ ListedAs (80 * count + 170) start (wordsIn «first_year» base members (now (bytes .entry)) 0 (fieldsOf shape)) (faultIn members (now (bytes .entry)) 0 (fieldsOf shape)) (now (out .entry)) (now (out .exit)) r ⌝ }
+    ensures { λ r. ⌜ FieldsListed count start «first_year» base members (now (bytes .entry)) shape (now (out .entry)) (now (out .exit)) r ⌝ }
 {
     let mut place: usize = 0;
     let mut end = start;
