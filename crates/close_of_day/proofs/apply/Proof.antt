@@ -90,10 +90,12 @@ same-length-5 c = search needs
 -- src/lib.rt:98:1
 returns-2 : tie.Need-returns-2
 returns-2 c =
-    let a = c .before .before .before .before .before .before .before .before .before .before .before .before .before .before .before .before .before .before .before .before .before .before .before .before .before .before .before .args in
-    let if1 = c .before .before .before .before .before .before .before .before .before .before .before .before .before .before .before .before .before .before .before .before .before .before .if1 in
-    let next-business-day = c .before .before .before .before .before .before .before .before .before .before .before .before .before .before .before .before .before .next-business-day in
-    let next = c .before .before .before .before .before .before .before .before .before .before .before .before .before .before .before .next in
+    let earlier = c .before .before .before .before .before .before .before .before .before .before in
+    let earlier-still = earlier .before .before .before .before .before .before .before .before .before .before in
+    let a = earlier-still .before .before .before .before .before .before .before .args in
+    let if1 = earlier-still .before .before .if1 in
+    let next-business-day = earlier .before .before .before .before .before .before .before .next-business-day in
+    let next = earlier .before .before .before .before .before .next in
     let close = c .before .before .before .before .before .before .before .before .close in
     let h = a .head .now in
     let cut : 8 + getD h 2 0 - 8 ≡ getD h 2 0 = omega arith in

@@ -83,17 +83,22 @@ slice-aggregate-remove-closing c = search needs
 -- src/lib.rt:93:5
 remove-closing-requires : tie.Need-remove-closing-requires
 remove-closing-requires c κs =
-    let pre = c .before .before .before .before .before .before .before .before .before .before .before .before .before .before .before .before .before .before .before .before .before .before .before .before .before .before .pre in
-    let a = c .before .before .before .before .before .before .before .before .before .before .before .before .before .before .before .before .before .before .before .before .before .before .before .before .before .before .args in
-    let write-phases = c .before .before .before .before .before .before .before .before .before .before .before .before .before .before .before .before .before .before .before .write-phases in
+    let earlier = c .before .before .before .before .before .before .before .before .before .before in
+    let earlier-still = earlier .before .before .before .before .before .before .before .before .before .before in
+    let pre = earlier-still .before .before .before .before .before .before .pre in
+    let a = earlier-still .before .before .before .before .before .before .args in
+    let write-phases = earlier .before .before .before .before .before .before .before .before .before .write-phases in
     (pre .0 .0 .long, book-reads (a .head .now) (a .book .now) (pre .0 .0) (pre .0 .2), ap length (write-phases .ensures) ∙ phases-length _ _)
 
 -- src/lib.rt:94:5
 begin-day-requires : tie.Need-begin-day-requires
 unfolding withOrders
 begin-day-requires c κs =
-    let pre = c .before .before .before .before .before .before .before .before .before .before .before .before .before .before .before .before .before .before .before .before .before .before .before .before .before .before .before .before .before .before .before .before .pre in
-    let a = c .before .before .before .before .before .before .before .before .before .before .before .before .before .before .before .before .before .before .before .before .before .before .before .before .before .before .before .before .before .before .before .before .args in
+    let earlier = c .before .before .before .before .before .before .before .before .before .before in
+    let earlier-still = earlier .before .before .before .before .before .before .before .before .before .before in
+    let long-before = earlier-still .before .before .before .before .before .before .before .before .before .before in
+    let pre = long-before .before .before .pre in
+    let a = long-before .before .before .args in
     let remove-closing = c .before .before .before .before .before .remove-closing in
     let u = lent (a .head .now) [] [] [] (a .book .now) [] in
     let same = ap (λ t. getD (t .head) 1 0) (remove-closing .ensures u) ∙ getD-set-other (a .head .now) 7 1 _ 0 (λ e. omega arith) in
@@ -123,12 +128,15 @@ same-length-5 c = search needs
 returns : tie.Need-returns
 unfolding orders
 returns c =
-    let pre = c .before .before .before .before .before .before .before .before .before .before .before .before .before .before .before .before .before .before .before .before .before .before .before .before .before .before .before .before .before .before .before .before .before .before .before .pre in
-    let a = c .before .before .before .before .before .before .before .before .before .before .before .before .before .before .before .before .before .before .before .before .before .before .before .before .before .before .before .before .before .before .before .before .before .before .before .args in
-    let write-phases = c .before .before .before .before .before .before .before .before .before .before .before .before .before .before .before .before .before .before .before .before .before .before .before .before .before .before .before .before .write-phases in
-    let write-prices = c .before .before .before .before .before .before .before .before .before .before .before .before .before .before .before .before .before .before .before .before .before .before .write-prices in
-    let cascade-all = c .before .before .before .before .before .before .before .before .before .before .before .before .before .before .before .before .before .cascade-all in
-    let cascade-all2 = c .before .before .before .before .before .before .before .before .before .before .before .before .before .cascade-all2 in
+    let earlier = c .before .before .before .before .before .before .before .before .before .before in
+    let earlier-still = earlier .before .before .before .before .before .before .before .before .before .before in
+    let long-before = earlier-still .before .before .before .before .before .before .before .before .before .before in
+    let pre = long-before .before .before .before .before .before .pre in
+    let a = long-before .before .before .before .before .before .args in
+    let write-phases = earlier-still .before .before .before .before .before .before .before .before .write-phases in
+    let write-prices = earlier-still .before .before .write-prices in
+    let cascade-all = earlier .before .before .before .before .before .before .before .cascade-all in
+    let cascade-all2 = earlier .before .before .before .cascade-all2 in
     let remove-closing = c .before .before .before .before .before .before .before .before .remove-closing in
     let begin-day = c .before .before .begin-day in
     let prices = write-prices .last .1 .0 in

@@ -101,9 +101,11 @@ same-length-6 c = search needs
 
 returns-3 : tie.Need-returns-3
 returns-3 c =
-    let a = c .before .before .before .before .before .before .before .before .before .before .before .before .before .before .before .before .before .before .before .before .before .before .before .before .args in
-    let is-contract-open = c .before .before .before .before .before .before .before .before .before .before .before .before .before .before .before .before .before .before .before .before .is-contract-open in
-    let if1 = c .before .before .before .before .before .before .before .before .before .before .before .before .before .before .before .before .before .before .before .if1 in
+    let earlier = c .before .before .before .before .before .before .before .before .before .before in
+    let earlier-still = earlier .before .before .before .before .before .before .before .before .before .before in
+    let a = earlier-still .before .before .before .before .args in
+    let is-contract-open = earlier .before .before .before .before .before .before .before .before .before .before .is-contract-open in
+    let if1 = earlier .before .before .before .before .before .before .before .before .before .if1 in
     let close-out-lots = c .before .before .before .before .before .before .before .before .close-out-lots in
     let same : getD (a .prices .now) (a .e .contract * 5 + 0) 0 ≡ getD (a .prices .now) (a .e .contract * 5) 0 =
     ap (λ i. getD (a .prices .now) i 0) (add-zero (a .e .contract * 5)) in

@@ -83,10 +83,12 @@ add-left c = search needs
 
 find-weights-requires : tie.Need-find-weights-requires
 find-weights-requires c κs =
-    let pre = c .before .before .before .before .before .before .before .before .before .before .before .before .before .before .before .before .before .before .before .before .before .before .before .before .before .pre in
-    let a = c .before .before .before .before .before .before .before .before .before .before .before .before .before .before .before .before .before .before .before .before .before .before .before .before .before .args in
-    let read-column = c .before .before .before .before .before .before .before .before .before .before .before .before .before .before .before .before .before .read-column in
-    let read-column2 = c .before .before .before .before .before .before .before .before .before .before .before .read-column2 in
+    let earlier = c .before .before .before .before .before .before .before .before .before .before in
+    let earlier-still = earlier .before .before .before .before .before .before .before .before .before .before in
+    let pre = earlier-still .before .before .before .before .before .pre in
+    let a = earlier-still .before .before .before .before .before .args in
+    let read-column = earlier .before .before .before .before .before .before .before .read-column in
+    let read-column2 = earlier .before .read-column2 in
     let sum-of = c .before .before .before .before .before .before .before .sum-of in
     let sum-of2 = c .before .before .before .before .before .sum-of2 in
     let smaller = c .before .before .before .smaller in
@@ -117,12 +119,15 @@ same-length-9 c = search needs
 
 returns-2 : tie.Need-returns-2
 returns-2 c =
-    let pre = c .before .before .before .before .before .before .before .before .before .before .before .before .before .before .before .before .before .before .before .before .before .before .before .before .before .before .before .before .before .before .before .pre in
-    let a = c .before .before .before .before .before .before .before .before .before .before .before .before .before .before .before .before .before .before .before .before .before .before .before .before .before .before .before .before .before .before .before .args in
-    let read-column = c .before .before .before .before .before .before .before .before .before .before .before .before .before .before .before .before .before .before .before .before .before .before .before .read-column in
-    let read-column2 = c .before .before .before .before .before .before .before .before .before .before .before .before .before .before .before .before .before .read-column2 in
-    let sum-of = c .before .before .before .before .before .before .before .before .before .before .before .before .before .sum-of in
-    let sum-of2 = c .before .before .before .before .before .before .before .before .before .before .before .sum-of2 in
+    let earlier = c .before .before .before .before .before .before .before .before .before .before in
+    let earlier-still = earlier .before .before .before .before .before .before .before .before .before .before in
+    let long-before = earlier-still .before .before .before .before .before .before .before .before .before .before in
+    let pre = long-before .before .pre in
+    let a = long-before .before .args in
+    let read-column = earlier-still .before .before .before .read-column in
+    let read-column2 = earlier .before .before .before .before .before .before .before .read-column2 in
+    let sum-of = earlier .before .before .before .sum-of in
+    let sum-of2 = earlier .before .sum-of2 in
     let if1 = c .before .before .before .before .before .before .before .before .before .before .if1 in
     let smaller = c .before .before .before .before .before .before .before .before .before .smaller in
     let find-weights = c .before .before .before .before .before .find-weights in
@@ -138,17 +143,23 @@ returns-2 c =
 
 slice-read-if3 : tie.Need-slice-read-if3
 slice-read-if3 c =
-    let pre = c .before .before .before .before .before .before .before .before .before .before .before .before .before .before .before .before .before .before .before .before .before .before .before .before .before .before .before .before .before .before .before .before .pre in
+    let earlier = c .before .before .before .before .before .before .before .before .before .before in
+    let earlier-still = earlier .before .before .before .before .before .before .before .before .before .before in
+    let long-before = earlier-still .before .before .before .before .before .before .before .before .before .before in
+    let pre = long-before .before .before .pre in
     omega (arith, pre .0 .0 .head-fit .long)
 
 add-if3 : tie.Need-add-if3
 add-if3 c =
-    let pre = c .before .before .before .before .before .before .before .before .before .before .before .before .before .before .before .before .before .before .before .before .before .before .before .before .before .before .before .before .before .before .before .before .pre in
-    let a = c .before .before .before .before .before .before .before .before .before .before .before .before .before .before .before .before .before .before .before .before .before .before .before .before .before .before .before .before .before .before .before .before .args in
-    let read-column = c .before .before .before .before .before .before .before .before .before .before .before .before .before .before .before .before .before .before .before .before .before .before .before .before .read-column in
-    let read-column2 = c .before .before .before .before .before .before .before .before .before .before .before .before .before .before .before .before .before .before .read-column2 in
-    let sum-of = c .before .before .before .before .before .before .before .before .before .before .before .before .before .before .sum-of in
-    let sum-of2 = c .before .before .before .before .before .before .before .before .before .before .before .before .sum-of2 in
+    let earlier = c .before .before .before .before .before .before .before .before .before .before in
+    let earlier-still = earlier .before .before .before .before .before .before .before .before .before .before in
+    let long-before = earlier-still .before .before .before .before .before .before .before .before .before .before in
+    let pre = long-before .before .before .pre in
+    let a = long-before .before .before .args in
+    let read-column = earlier-still .before .before .before .before .read-column in
+    let read-column2 = earlier .before .before .before .before .before .before .before .before .read-column2 in
+    let sum-of = earlier .before .before .before .before .sum-of in
+    let sum-of2 = earlier .before .before .sum-of2 in
     let smaller = c .before .before .before .before .before .before .before .before .before .before .smaller in
     let f = pre .0 .0 in
     let rl = read-fits DefaultedLongs _ _ _ _ (a .e .contract) _ f (pre .0 .1) (read-column .ensures) in
@@ -159,12 +170,15 @@ add-if3 c =
 
 add-if3-2 : tie.Need-add-if3-2
 add-if3-2 c =
-    let pre = c .before .before .before .before .before .before .before .before .before .before .before .before .before .before .before .before .before .before .before .before .before .before .before .before .before .before .before .before .before .before .before .before .pre in
-    let a = c .before .before .before .before .before .before .before .before .before .before .before .before .before .before .before .before .before .before .before .before .before .before .before .before .before .before .before .before .before .before .before .before .args in
-    let read-column = c .before .before .before .before .before .before .before .before .before .before .before .before .before .before .before .before .before .before .before .before .before .before .before .before .read-column in
-    let read-column2 = c .before .before .before .before .before .before .before .before .before .before .before .before .before .before .before .before .before .before .read-column2 in
-    let sum-of = c .before .before .before .before .before .before .before .before .before .before .before .before .before .before .sum-of in
-    let sum-of2 = c .before .before .before .before .before .before .before .before .before .before .before .before .sum-of2 in
+    let earlier = c .before .before .before .before .before .before .before .before .before .before in
+    let earlier-still = earlier .before .before .before .before .before .before .before .before .before .before in
+    let long-before = earlier-still .before .before .before .before .before .before .before .before .before .before in
+    let pre = long-before .before .before .pre in
+    let a = long-before .before .before .args in
+    let read-column = earlier-still .before .before .before .before .read-column in
+    let read-column2 = earlier .before .before .before .before .before .before .before .before .read-column2 in
+    let sum-of = earlier .before .before .before .before .sum-of in
+    let sum-of2 = earlier .before .before .sum-of2 in
     let f = pre .0 .0 in
     let rl = read-fits DefaultedLongs _ _ _ _ (a .e .contract) _ f (pre .0 .1) (read-column .ensures) in
     let rs = read-fits DefaultedShorts _ _ _ _ (a .e .contract) _ f (pre .0 .1) (read-column2 .ensures) in
@@ -174,12 +188,15 @@ add-if3-2 c =
 
 add-if3-3 : tie.Need-add-if3-3
 add-if3-3 c =
-    let pre = c .before .before .before .before .before .before .before .before .before .before .before .before .before .before .before .before .before .before .before .before .before .before .before .before .before .before .before .before .before .before .before .before .pre in
-    let a = c .before .before .before .before .before .before .before .before .before .before .before .before .before .before .before .before .before .before .before .before .before .before .before .before .before .before .before .before .before .before .before .before .args in
-    let read-column = c .before .before .before .before .before .before .before .before .before .before .before .before .before .before .before .before .before .before .before .before .before .before .before .before .read-column in
-    let read-column2 = c .before .before .before .before .before .before .before .before .before .before .before .before .before .before .before .before .before .before .read-column2 in
-    let sum-of = c .before .before .before .before .before .before .before .before .before .before .before .before .before .before .sum-of in
-    let sum-of2 = c .before .before .before .before .before .before .before .before .before .before .before .before .sum-of2 in
+    let earlier = c .before .before .before .before .before .before .before .before .before .before in
+    let earlier-still = earlier .before .before .before .before .before .before .before .before .before .before in
+    let long-before = earlier-still .before .before .before .before .before .before .before .before .before .before in
+    let pre = long-before .before .before .pre in
+    let a = long-before .before .before .args in
+    let read-column = earlier-still .before .before .before .before .read-column in
+    let read-column2 = earlier .before .before .before .before .before .before .before .before .read-column2 in
+    let sum-of = earlier .before .before .before .before .sum-of in
+    let sum-of2 = earlier .before .before .sum-of2 in
     let smaller = c .before .before .before .before .before .before .before .before .before .before .smaller in
     let f = pre .0 .0 in
     let rl = read-fits DefaultedLongs _ _ _ _ (a .e .contract) _ f (pre .0 .1) (read-column .ensures) in
@@ -190,12 +207,15 @@ add-if3-3 c =
 
 add-if3-4 : tie.Need-add-if3-4
 add-if3-4 c =
-    let pre = c .before .before .before .before .before .before .before .before .before .before .before .before .before .before .before .before .before .before .before .before .before .before .before .before .before .before .before .before .before .before .before .before .pre in
-    let a = c .before .before .before .before .before .before .before .before .before .before .before .before .before .before .before .before .before .before .before .before .before .before .before .before .before .before .before .before .before .before .before .before .args in
-    let read-column = c .before .before .before .before .before .before .before .before .before .before .before .before .before .before .before .before .before .before .before .before .before .before .before .before .read-column in
-    let read-column2 = c .before .before .before .before .before .before .before .before .before .before .before .before .before .before .before .before .before .before .read-column2 in
-    let sum-of = c .before .before .before .before .before .before .before .before .before .before .before .before .before .before .sum-of in
-    let sum-of2 = c .before .before .before .before .before .before .before .before .before .before .before .before .sum-of2 in
+    let earlier = c .before .before .before .before .before .before .before .before .before .before in
+    let earlier-still = earlier .before .before .before .before .before .before .before .before .before .before in
+    let long-before = earlier-still .before .before .before .before .before .before .before .before .before .before in
+    let pre = long-before .before .before .pre in
+    let a = long-before .before .before .args in
+    let read-column = earlier-still .before .before .before .before .read-column in
+    let read-column2 = earlier .before .before .before .before .before .before .before .before .read-column2 in
+    let sum-of = earlier .before .before .before .before .sum-of in
+    let sum-of2 = earlier .before .before .sum-of2 in
     let smaller = c .before .before .before .before .before .before .before .before .before .before .smaller in
     let f = pre .0 .0 in
     let rl = read-fits DefaultedLongs _ _ _ _ (a .e .contract) _ f (pre .0 .1) (read-column .ensures) in
@@ -221,14 +241,17 @@ same-length-14 c = search needs
 
 returns-3 : tie.Need-returns-3
 returns-3 c =
-    let pre = c .before .before .before .before .before .before .before .before .before .before .before .before .before .before .before .before .before .before .before .before .before .before .before .before .before .before .before .before .before .before .before .before .before .pre in
-    let a = c .before .before .before .before .before .before .before .before .before .before .before .before .before .before .before .before .before .before .before .before .before .before .before .before .before .before .before .before .before .before .before .before .before .args in
-    let read-column = c .before .before .before .before .before .before .before .before .before .before .before .before .before .before .before .before .before .before .before .before .before .before .before .before .before .read-column in
-    let read-column2 = c .before .before .before .before .before .before .before .before .before .before .before .before .before .before .before .before .before .before .before .read-column2 in
-    let sum-of = c .before .before .before .before .before .before .before .before .before .before .before .before .before .before .before .sum-of in
-    let sum-of2 = c .before .before .before .before .before .before .before .before .before .before .before .before .before .sum-of2 in
-    let if1 = c .before .before .before .before .before .before .before .before .before .before .before .before .if1 in
-    let smaller = c .before .before .before .before .before .before .before .before .before .before .before .smaller in
+    let earlier = c .before .before .before .before .before .before .before .before .before .before in
+    let earlier-still = earlier .before .before .before .before .before .before .before .before .before .before in
+    let long-before = earlier-still .before .before .before .before .before .before .before .before .before .before in
+    let pre = long-before .before .before .before .pre in
+    let a = long-before .before .before .before .args in
+    let read-column = earlier-still .before .before .before .before .before .read-column in
+    let read-column2 = earlier .before .before .before .before .before .before .before .before .before .read-column2 in
+    let sum-of = earlier .before .before .before .before .before .sum-of in
+    let sum-of2 = earlier .before .before .before .sum-of2 in
+    let if1 = earlier .before .before .if1 in
+    let smaller = earlier .before .smaller in
     let find-weights = c .before .before .before .before .before .before .before .find-weights in
     let sum-of3 = c .before .before .before .sum-of3 in
     let if2 = c .before .before .if2 in
@@ -244,14 +267,17 @@ returns-3 c =
 
 book-steps-requires : tie.Need-book-steps-requires
 book-steps-requires c κs =
-    let pre = c .before .before .before .before .before .before .before .before .before .before .before .before .before .before .before .before .before .before .before .before .before .before .before .before .before .before .before .before .before .before .before .before .before .before .before .before .before .before .before .before .pre in
-    let a = c .before .before .before .before .before .before .before .before .before .before .before .before .before .before .before .before .before .before .before .before .before .before .before .before .before .before .before .before .before .before .before .before .before .before .before .before .before .before .before .before .args in
-    let read-column = c .before .before .before .before .before .before .before .before .before .before .before .before .before .before .before .before .before .before .before .before .before .before .before .before .before .before .before .before .before .before .before .before .read-column in
-    let read-column2 = c .before .before .before .before .before .before .before .before .before .before .before .before .before .before .before .before .before .before .before .before .before .before .before .before .before .before .read-column2 in
-    let sum-of = c .before .before .before .before .before .before .before .before .before .before .before .before .before .before .before .before .before .before .before .before .before .before .sum-of in
-    let sum-of2 = c .before .before .before .before .before .before .before .before .before .before .before .before .before .before .before .before .before .before .before .before .sum-of2 in
-    let smaller = c .before .before .before .before .before .before .before .before .before .before .before .before .before .before .before .before .before .before .smaller in
-    let find-weights = c .before .before .before .before .before .before .before .before .before .before .before .before .before .before .find-weights in
+    let earlier = c .before .before .before .before .before .before .before .before .before .before in
+    let earlier-still = earlier .before .before .before .before .before .before .before .before .before .before in
+    let long-before = earlier-still .before .before .before .before .before .before .before .before .before .before in
+    let pre = long-before .before .before .before .before .before .before .before .before .before .before .pre in
+    let a = long-before .before .before .before .before .before .before .before .before .before .before .args in
+    let read-column = long-before .before .before .read-column in
+    let read-column2 = earlier-still .before .before .before .before .before .before .read-column2 in
+    let sum-of = earlier-still .before .before .sum-of in
+    let sum-of2 = earlier .before .before .before .before .before .before .before .before .before .before .sum-of2 in
+    let smaller = earlier .before .before .before .before .before .before .before .before .smaller in
+    let find-weights = earlier .before .before .before .before .find-weights in
     let sum-of3 = c .before .before .before .before .before .before .before .before .before .before .sum-of3 in
     let if2 = c .before .before .before .before .before .before .before .before .before .if2 in
     let if3 = c .before .before .before .before .before .before .before .if3 in
@@ -279,13 +305,20 @@ same-length-18 c = search needs
 
 same-length-19 : tie.Need-same-length-19
 same-length-19 c =
-    let read-column = c .before .before .before .before .before .before .before .before .before .before .before .before .before .before .before .before .before .before .before .before .before .before .before .before .before .before .before .before .before .before .before .before .before .before .before .before .before .before .before .before .before .before .read-column in
+    let earlier = c .before .before .before .before .before .before .before .before .before .before in
+    let earlier-still = earlier .before .before .before .before .before .before .before .before .before .before in
+    let long-before = earlier-still .before .before .before .before .before .before .before .before .before .before in
+    let at-first = long-before .before .before .before .before .before .before .before .before .before .before in
+    let read-column = at-first .before .before .read-column in
     let book-steps = c .before .before .before .before .before .before .before .before .before .book-steps in
     book-steps .kept .1 .1 .1 .1 .1 .1 .1 .1 .0 ∙ read-column .kept .1 .1 .1 .1 .0
 
 same-length-20 : tie.Need-same-length-20
 same-length-20 c =
-    let read-column2 = c .before .before .before .before .before .before .before .before .before .before .before .before .before .before .before .before .before .before .before .before .before .before .before .before .before .before .before .before .before .before .before .before .before .before .before .before .read-column2 in
+    let earlier = c .before .before .before .before .before .before .before .before .before .before in
+    let earlier-still = earlier .before .before .before .before .before .before .before .before .before .before in
+    let long-before = earlier-still .before .before .before .before .before .before .before .before .before .before in
+    let read-column2 = long-before .before .before .before .before .before .before .read-column2 in
     let book-steps = c .before .before .before .before .before .before .before .before .before .book-steps in
     book-steps .kept .1 .1 .1 .1 .1 .1 .1 .1 .1 .0 ∙ read-column2 .kept .1 .1 .1 .1 .0
 
@@ -294,18 +327,22 @@ same-length-21 c = search needs
 
 returns-4 : tie.Need-returns-4
 returns-4 c =
-    let pre = c .before .before .before .before .before .before .before .before .before .before .before .before .before .before .before .before .before .before .before .before .before .before .before .before .before .before .before .before .before .before .before .before .before .before .before .before .before .before .before .before .before .before .before .before .before .before .before .before .before .before .pre in
-    let a = c .before .before .before .before .before .before .before .before .before .before .before .before .before .before .before .before .before .before .before .before .before .before .before .before .before .before .before .before .before .before .before .before .before .before .before .before .before .before .before .before .before .before .before .before .before .before .before .before .before .before .args in
-    let read-column = c .before .before .before .before .before .before .before .before .before .before .before .before .before .before .before .before .before .before .before .before .before .before .before .before .before .before .before .before .before .before .before .before .before .before .before .before .before .before .before .before .before .before .read-column in
-    let read-column2 = c .before .before .before .before .before .before .before .before .before .before .before .before .before .before .before .before .before .before .before .before .before .before .before .before .before .before .before .before .before .before .before .before .before .before .before .before .read-column2 in
-    let sum-of = c .before .before .before .before .before .before .before .before .before .before .before .before .before .before .before .before .before .before .before .before .before .before .before .before .before .before .before .before .before .before .before .before .sum-of in
-    let sum-of2 = c .before .before .before .before .before .before .before .before .before .before .before .before .before .before .before .before .before .before .before .before .before .before .before .before .before .before .before .before .before .before .sum-of2 in
-    let if1 = c .before .before .before .before .before .before .before .before .before .before .before .before .before .before .before .before .before .before .before .before .before .before .before .before .before .before .before .before .before .if1 in
-    let smaller = c .before .before .before .before .before .before .before .before .before .before .before .before .before .before .before .before .before .before .before .before .before .before .before .before .before .before .before .before .smaller in
-    let find-weights = c .before .before .before .before .before .before .before .before .before .before .before .before .before .before .before .before .before .before .before .before .before .before .before .before .find-weights in
-    let sum-of3 = c .before .before .before .before .before .before .before .before .before .before .before .before .before .before .before .before .before .before .before .before .sum-of3 in
-    let if2 = c .before .before .before .before .before .before .before .before .before .before .before .before .before .before .before .before .before .before .before .if2 in
-    let if3 = c .before .before .before .before .before .before .before .before .before .before .before .before .before .before .before .before .before .if3 in
+    let earlier = c .before .before .before .before .before .before .before .before .before .before in
+    let earlier-still = earlier .before .before .before .before .before .before .before .before .before .before in
+    let long-before = earlier-still .before .before .before .before .before .before .before .before .before .before in
+    let at-first = long-before .before .before .before .before .before .before .before .before .before .before in
+    let pre = at-first .before .before .before .before .before .before .before .before .before .before .pre in
+    let a = at-first .before .before .before .before .before .before .before .before .before .before .args in
+    let read-column = at-first .before .before .read-column in
+    let read-column2 = long-before .before .before .before .before .before .before .read-column2 in
+    let sum-of = long-before .before .before .sum-of in
+    let sum-of2 = earlier-still .before .before .before .before .before .before .before .before .before .before .sum-of2 in
+    let if1 = earlier-still .before .before .before .before .before .before .before .before .before .if1 in
+    let smaller = earlier-still .before .before .before .before .before .before .before .before .smaller in
+    let find-weights = earlier-still .before .before .before .before .find-weights in
+    let sum-of3 = earlier .before .before .before .before .before .before .before .before .before .before .sum-of3 in
+    let if2 = earlier .before .before .before .before .before .before .before .before .before .if2 in
+    let if3 = earlier .before .before .before .before .before .before .before .if3 in
     let book-steps = c .before .before .before .before .before .before .before .before .before .book-steps in
     let f = pre .0 .0 in
     let rl = read-fits DefaultedLongs _ _ _ _ (a .e .contract) _ f (pre .0 .1) (read-column .ensures) in

@@ -29,16 +29,26 @@ same-length c = search needs
 returns : tie.Need-returns
 unfolding dealText
 returns c =
-    let room = c .before .before .before .before .before .before .before .before .before .before .before .before .before .before .before .before .before .before .before .before .before .before .before .before .before .pre in
+    let earlier = c .before .before .before .before .before .before .before .before .before .before in
+    let earlier-still = earlier .before .before .before .before .before .before .before .before .before .before in
+    let room = earlier-still .before .before .before .before .before .pre in
+    let fits = earlier-still .before .before .before .before .before .fits in
+    let args = earlier-still .before .before .before .before .before .args in
+    let put-byte = earlier-still .before .before .put-byte in
+    let put-field = earlier .before .before .before .before .before .before .before .before .put-field in
+    let put-field2 = earlier .before .before .before .before .put-field2 in
+    let put-signed-field = c .before .before .before .before .before .before .before .before .before .before .put-signed-field in
+    let put-field3 = c .before .before .before .before .before .before .put-field3 in
+    let put-byte2 = c .before .before .put-byte2 in
     let two = field room (omega arith) (field room (omega arith) (begun
-    (c .before .before .before .before .before .before .before .before .before .before .before .before .before .before .before .before .before .before .before .before .before .before .put-byte .ensures))
-    (c .before .before .before .before .before .before .before .before .before .before .before .before .before .before .before .before .before .before .put-field .ensures))
-    (c .before .before .before .before .before .before .before .before .before .before .before .before .before .before .put-field2 .ensures) in
+    (put-byte .ensures))
+    (put-field .ensures))
+    (put-field2 .ensures) in
     let three = field room (omega arith) two (signed-field
-    (c .before .before .before .before .before .before .before .before .before .before .before .before .before .before .before .before .before .before .before .before .before .before .before .before .before .args .lots)
-    (c .before .before .before .before .before .before .before .before .before .before .before .before .before .before .before .before .before .before .before .before .before .before .before .before .before .fits .lots)
-    (c .before .before .before .before .before .before .before .before .before .before .put-signed-field .ensures)) in
-    ended room (omega arith) (field room (omega arith) three (c .before .before .before .before .before .before .put-field3 .ensures)) (c .before .before .put-byte2 .ensures)
+    (args .lots)
+    (fits .lots)
+    (put-signed-field .ensures)) in
+    ended room (omega arith) (field room (omega arith) three (put-field3 .ensures)) (put-byte2 .ensures)
 
 pub put-deal-spec : {M : Type 1} → statement M
 put-deal-spec =

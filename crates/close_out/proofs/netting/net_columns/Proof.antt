@@ -32,7 +32,9 @@ subtract-requires c κs =
 
 subtract-requires-2 : tie.Need-subtract-requires-2
 subtract-requires-2 c κs =
-    let give-up2 = c .before .before .before .before .before .before .before .before .before .before .before .before .before .before .before .before .before .before .before .before .before .give-up2 in
+    let earlier = c .before .before .before .before .before .before .before .before .before .before in
+    let earlier-still = earlier .before .before .before .before .before .before .before .before .before .before in
+    let give-up2 = earlier-still .before .give-up2 in
     given-fits _ _ _ (give-up2 .ensures)
 
 same-length : tie.Need-same-length
@@ -61,10 +63,13 @@ same-length-8 c = search needs
 
 returns : tie.Need-returns
 returns c =
-    let a = c .before .before .before .before .before .before .before .before .before .before .before .before .before .before .before .before .before .before .before .before .before .before .before .before .before .before .before .before .before .before .before .before .before .before .before .before .before .args in
-    let give-up = c .before .before .before .before .before .before .before .before .before .before .before .before .before .before .before .before .before .before .before .before .before .before .before .before .before .before .before .before .before .give-up in
-    let give-up2 = c .before .before .before .before .before .before .before .before .before .before .before .before .before .before .before .before .before .before .before .before .before .before .before .before .give-up2 in
-    let book-changes = c .before .before .before .before .before .before .before .before .before .before .before .before .before .before .before .book-changes in
+    let earlier = c .before .before .before .before .before .before .before .before .before .before in
+    let earlier-still = earlier .before .before .before .before .before .before .before .before .before .before in
+    let long-before = earlier-still .before .before .before .before .before .before .before .before .before .before in
+    let a = long-before .before .before .before .before .before .before .before .args in
+    let give-up = earlier-still .before .before .before .before .before .before .before .before .before .give-up in
+    let give-up2 = earlier-still .before .before .before .before .give-up2 in
+    let book-changes = earlier .before .before .before .before .before .book-changes in
     let subtract = c .before .before .before .before .before .before .before .subtract in
     let subtract2 = c .before .before .subtract2 in
     let gl = give-up .ensures in

@@ -13,9 +13,11 @@ book-netting-requires c κs =
 
 book-changes-requires : tie.Need-book-changes-requires
 book-changes-requires c κs =
-    let pre = c .before .before .before .before .before .before .before .before .before .before .before .before .before .before .before .before .before .before .before .before .before .before .before .before .before .before .pre in
-    let a = c .before .before .before .before .before .before .before .before .before .before .before .before .before .before .before .before .before .before .before .before .before .before .before .before .before .before .args in
-    let book-netting = c .before .before .before .before .before .before .before .before .before .before .before .before .before .before .before .book-netting in
+    let earlier = c .before .before .before .before .before .before .before .before .before .before in
+    let earlier-still = earlier .before .before .before .before .before .before .before .before .before .before in
+    let pre = earlier-still .before .before .before .before .before .before .pre in
+    let a = earlier-still .before .before .before .before .before .before .args in
+    let book-netting = earlier .before .before .before .before .before .book-netting in
     let n = book-netting .ensures in
     second-requires (a .contract) (a .price .0) (a .netted) (a .left) (a .longs .now) (a .shorts .now) (a .weights .now) (pre .0 .1) (pre .0 .2) _ _ _ _ (pre .0 .0) (pre .1)
     _ _ _ _ _ _ _ (n .0) (n .1 .0) (n .1 .1 .0) (n .1 .1 .1)
@@ -40,9 +42,12 @@ same-length-6 c = search needs
 
 returns : tie.Need-returns
 returns c =
-    let pre = c .before .before .before .before .before .before .before .before .before .before .before .before .before .before .before .before .before .before .before .before .before .before .before .before .before .before .before .before .before .before .before .before .before .pre in
-    let a = c .before .before .before .before .before .before .before .before .before .before .before .before .before .before .before .before .before .before .before .before .before .before .before .before .before .before .before .before .before .before .before .before .before .args in
-    let book-netting = c .before .before .before .before .before .before .before .before .before .before .before .before .before .before .before .before .before .before .before .before .before .before .book-netting in
+    let earlier = c .before .before .before .before .before .before .before .before .before .before in
+    let earlier-still = earlier .before .before .before .before .before .before .before .before .before .before in
+    let long-before = earlier-still .before .before .before .before .before .before .before .before .before .before in
+    let pre = long-before .before .before .before .pre in
+    let a = long-before .before .before .before .args in
+    let book-netting = earlier-still .before .before .book-netting in
     let book-changes = c .before .before .before .before .before .before .book-changes in
     let n = book-netting .ensures in
     let b = book-changes .ensures in
@@ -53,16 +58,22 @@ returns c =
 
 sum-of-requires : tie.Need-sum-of-requires
 sum-of-requires c κs =
-    let pre = c .before .before .before .before .before .before .before .before .before .before .before .before .before .before .before .before .before .before .before .before .before .before .before .before .before .before .before .before .before .before .before .before .before .before .pre in
-    let book-netting = c .before .before .before .before .before .before .before .before .before .before .before .before .before .before .before .before .before .before .before .before .before .before .before .book-netting in
+    let earlier = c .before .before .before .before .before .before .before .before .before .before in
+    let earlier-still = earlier .before .before .before .before .before .before .before .before .before .before in
+    let long-before = earlier-still .before .before .before .before .before .before .before .before .before .before in
+    let pre = long-before .before .before .before .before .pre in
+    let book-netting = earlier-still .before .before .before .book-netting in
     left-column _ _ _ (book-netting .ensures .1 .0) (pre .1 .longs-column)
 
 book-takers-requires : tie.Need-book-takers-requires
 book-takers-requires c κs =
-    let pre = c .before .before .before .before .before .before .before .before .before .before .before .before .before .before .before .before .before .before .before .before .before .before .before .before .before .before .before .before .before .before .before .before .before .before .before .before .before .before .before .pre in
-    let a = c .before .before .before .before .before .before .before .before .before .before .before .before .before .before .before .before .before .before .before .before .before .before .before .before .before .before .before .before .before .before .before .before .before .before .before .before .before .before .before .args in
-    let book-netting = c .before .before .before .before .before .before .before .before .before .before .before .before .before .before .before .before .before .before .before .before .before .before .before .before .before .before .before .before .book-netting in
-    let book-changes = c .before .before .before .before .before .before .before .before .before .before .before .before .book-changes in
+    let earlier = c .before .before .before .before .before .before .before .before .before .before in
+    let earlier-still = earlier .before .before .before .before .before .before .before .before .before .before in
+    let long-before = earlier-still .before .before .before .before .before .before .before .before .before .before in
+    let pre = long-before .before .before .before .before .before .before .before .before .before .pre in
+    let a = long-before .before .before .before .before .before .before .before .before .before .args in
+    let book-netting = earlier-still .before .before .before .before .before .before .before .before .book-netting in
+    let book-changes = earlier .before .before .book-changes in
     let if1 = c .before .before .before .before .before .before .if1 in
     let n = book-netting .ensures in
     let b = book-changes .ensures in
@@ -89,10 +100,14 @@ same-length-12 c = search needs
 
 returns-2 : tie.Need-returns-2
 returns-2 c =
-    let pre = c .before .before .before .before .before .before .before .before .before .before .before .before .before .before .before .before .before .before .before .before .before .before .before .before .before .before .before .before .before .before .before .before .before .before .before .before .before .before .before .before .before .before .before .before .before .pre in
-    let a = c .before .before .before .before .before .before .before .before .before .before .before .before .before .before .before .before .before .before .before .before .before .before .before .before .before .before .before .before .before .before .before .before .before .before .before .before .before .before .before .before .before .before .before .before .before .args in
-    let book-netting = c .before .before .before .before .before .before .before .before .before .before .before .before .before .before .before .before .before .before .before .before .before .before .before .before .before .before .before .before .before .before .before .before .before .before .book-netting in
-    let book-changes = c .before .before .before .before .before .before .before .before .before .before .before .before .before .before .before .before .before .before .book-changes in
+    let earlier = c .before .before .before .before .before .before .before .before .before .before in
+    let earlier-still = earlier .before .before .before .before .before .before .before .before .before .before in
+    let long-before = earlier-still .before .before .before .before .before .before .before .before .before .before in
+    let at-first = long-before .before .before .before .before .before .before .before .before .before .before in
+    let pre = at-first .before .before .before .before .before .pre in
+    let a = at-first .before .before .before .before .before .args in
+    let book-netting = long-before .before .before .before .before .book-netting in
+    let book-changes = earlier .before .before .before .before .before .before .before .before .book-changes in
     let sum-of = c .before .before .before .before .before .before .before .before .before .before .sum-of in
     let book-takers = c .before .before .before .before .before .book-takers in
     let n = book-netting .ensures in

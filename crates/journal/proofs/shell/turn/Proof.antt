@@ -38,22 +38,28 @@ enum-told c = search needs
 
 go-on-requires : tie.Need-go-on-requires
 go-on-requires c κs =
-    let a = c .before .before .before .before .before .before .before .before .before .before .before .before .before .before .before .before .advance .ensures in (
+    let earlier = c .before .before .before .before .before .before .before .before .before .before in
+    let earlier-still = earlier .before .before .before .before .before .before .before .before .before .before in
+    let long-before = earlier-still .before .before .before .before .before .before .before .before .before .before in
+    let pre = long-before .before .pre in
+    let args = long-before .before .args in
+    let advance = earlier .before .before .before .before .before .before .advance in
+    let a = advance .ensures in (
       turn-stands
-          (c .before .before .before .before .before .before .before .before .before .before .before .before .before .before .before .before .before .before .before .before .before .before .before .before .before .before .before .before .before .before .before .args .place)
-          (c .before .before .before .before .before .before .before .before .before .before .before .before .before .before .before .before .before .before .before .before .before .before .before .before .before .before .before .before .before .before .before .args .input .now)
-          (c .before .before .before .before .before .before .before .before .before .before .before .before .before .before .before .before .before .before .before .before .before .before .before .before .before .before .before .before .before .before .before .pre .0)
-          (c .before .before .before .before .before .before .before .before .before .before .before .before .before .before .before .before .before .before .before .before .before .before .before .before .before .before .before .before .before .before .before .pre .1)
+          (args .place)
+          (args .input .now)
+          (pre .0)
+          (pre .1)
           _ _ _ (a .inside) (omega (
             arith,
             a .within,
-            c .before .before .before .before .before .before .before .before .before .before .before .before .before .before .before .before .before .before .before .before .before .before .before .before .before .before .before .before .before .before .before .pre .3,
+            pre .3,
           ))
           (a .counts),
       omega (
         arith,
-        c .before .before .before .before .before .before .before .before .before .before .before .before .before .before .before .before .advance .kept .1 .1 .1 .0,
-        c .before .before .before .before .before .before .before .before .before .before .before .before .before .before .before .before .before .before .before .before .before .before .before .before .before .before .before .before .before .before .before .pre .3,
+        advance .kept .1 .1 .1 .0,
+        pre .3,
       ),
     )
 
@@ -62,26 +68,32 @@ enum-told-2 c = search needs
 
 read-more-requires : tie.Need-read-more-requires
 read-more-requires c κs =
-    let a = c .before .before .before .before .before .before .before .before .before .before .before .before .before .before .before .before .before .advance .ensures in (
+    let earlier = c .before .before .before .before .before .before .before .before .before .before in
+    let earlier-still = earlier .before .before .before .before .before .before .before .before .before .before in
+    let long-before = earlier-still .before .before .before .before .before .before .before .before .before .before in
+    let pre = long-before .before .before .pre in
+    let args = long-before .before .before .args in
+    let advance = earlier .before .before .before .before .before .before .before .advance in
+    let a = advance .ensures in (
       turn-stands
-          (c .before .before .before .before .before .before .before .before .before .before .before .before .before .before .before .before .before .before .before .before .before .before .before .before .before .before .before .before .before .before .before .before .args .place)
-          (c .before .before .before .before .before .before .before .before .before .before .before .before .before .before .before .before .before .before .before .before .before .before .before .before .before .before .before .before .before .before .before .before .args .input .now)
-          (c .before .before .before .before .before .before .before .before .before .before .before .before .before .before .before .before .before .before .before .before .before .before .before .before .before .before .before .before .before .before .before .before .pre .0)
-          (c .before .before .before .before .before .before .before .before .before .before .before .before .before .before .before .before .before .before .before .before .before .before .before .before .before .before .before .before .before .before .before .before .pre .1)
+          (args .place)
+          (args .input .now)
+          (pre .0)
+          (pre .1)
           _ _ _ (a .inside) (omega (
             arith,
             a .within,
-            c .before .before .before .before .before .before .before .before .before .before .before .before .before .before .before .before .before .before .before .before .before .before .before .before .before .before .before .before .before .before .before .before .pre .3,
+            pre .3,
           ))
           (a .counts),
       omega (
         arith,
-        c .before .before .before .before .before .before .before .before .before .before .before .before .before .before .before .before .before .before .before .before .before .before .before .before .before .before .before .before .before .before .before .before .pre .2,
+        pre .2,
       ),
       omega (
         arith,
-        c .before .before .before .before .before .before .before .before .before .before .before .before .before .before .before .before .before .advance .kept .1 .1 .1 .0,
-        c .before .before .before .before .before .before .before .before .before .before .before .before .before .before .before .before .before .before .before .before .before .before .before .before .before .before .before .before .before .before .before .before .pre .3,
+        advance .kept .1 .1 .1 .0,
+        pre .3,
       ),
     )
 
@@ -90,22 +102,28 @@ enum-told-3 c = search needs
 
 write-out-requires : tie.Need-write-out-requires
 write-out-requires c κs =
-    let a = c .before .before .before .before .before .before .before .before .before .before .before .before .before .before .before .before .advance .ensures in (
+    let earlier = c .before .before .before .before .before .before .before .before .before .before in
+    let earlier-still = earlier .before .before .before .before .before .before .before .before .before .before in
+    let long-before = earlier-still .before .before .before .before .before .before .before .before .before .before in
+    let pre = long-before .before .pre in
+    let args = long-before .before .args in
+    let advance = earlier .before .before .before .before .before .before .advance in
+    let a = advance .ensures in (
       turn-stands
-          (c .before .before .before .before .before .before .before .before .before .before .before .before .before .before .before .before .before .before .before .before .before .before .before .before .before .before .before .before .before .before .before .args .place)
-          (c .before .before .before .before .before .before .before .before .before .before .before .before .before .before .before .before .before .before .before .before .before .before .before .before .before .before .before .before .before .before .before .args .input .now)
-          (c .before .before .before .before .before .before .before .before .before .before .before .before .before .before .before .before .before .before .before .before .before .before .before .before .before .before .before .before .before .before .before .pre .0)
-          (c .before .before .before .before .before .before .before .before .before .before .before .before .before .before .before .before .before .before .before .before .before .before .before .before .before .before .before .before .before .before .before .pre .1)
+          (args .place)
+          (args .input .now)
+          (pre .0)
+          (pre .1)
           _ _ _ (a .inside) (omega (
             arith,
             a .within,
-            c .before .before .before .before .before .before .before .before .before .before .before .before .before .before .before .before .before .before .before .before .before .before .before .before .before .before .before .before .before .before .before .pre .3,
+            pre .3,
           ))
           (a .counts),
       omega (
         arith,
-        c .before .before .before .before .before .before .before .before .before .before .before .before .before .before .before .before .advance .kept .1 .1 .1 .0,
-        c .before .before .before .before .before .before .before .before .before .before .before .before .before .before .before .before .before .before .before .before .before .before .before .before .before .before .before .before .before .before .before .pre .3,
+        advance .kept .1 .1 .1 .0,
+        pre .3,
       ),
     )
 

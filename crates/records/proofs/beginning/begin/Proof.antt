@@ -36,16 +36,25 @@ same-length-5 c = search needs
 
 returns-2 : tie.Need-returns-2
 returns-2 c =
-    start-made _ _ _ _ _ _ _ _ (c .before .before .before .before .before .before .before .before .before .before .before .before .before .before .make .ensures
+    let earlier = c .before .before .before .before .before .before .before .before .before .before in
+    let earlier-still = earlier .before .before .before .before .before .before .before .before .before .before in
+    let pre = earlier-still .before .before .before .before .before .before .pre in
+    let header-length = earlier .before .before .before .before .before .before .before .before .before .before .header-length in
+    let if1 = earlier .before .before .before .before .before .before .before .before .before .if1 in
+    let make = earlier .before .before .before .before .make in
+    let told-of = c .before .before .before .before .before .before .before .told-of in
+    let if2 = c .before .before .before .before .before .if2 in
+    let put-head = c .before .before .put-head in
+    start-made _ _ _ _ _ _ _ _ (make .ensures
     _) (rw
-    (c .before .before .before .before .before .before .before .before .before .before .before .before .before .before .before .before .before .before .before .before .header-length .ensures .0) at
-    (c .before .before .before .before .before .before .before .before .before .before .before .before .before .before .before .before .before .before .before .if1 .left))
-    _ _ (c .before .before .before .before .before .before .before .told-of .ensures .0)
-    (c .before .before .before .before .before .before .before .before .before .before .before .before .before .before .before .before .before .before .before .before .before .before .before .before .before .before .pre .0)
+    (header-length .ensures .0) at
+    (if1 .left))
+    _ _ (told-of .ensures .0)
+    (pre .0)
     _
-    (c .before .before .before .before .before .before .before .before .before .before .before .before .before .before .before .before .before .before .before .before .header-length .ensures .0)
-    (c .before .before .before .before .before .if2 .taken)
-    (c .before .before .put-head .ensures .0) (c .before .before .put-head .ensures .1)
+    (header-length .ensures .0)
+    (if2 .taken)
+    (put-head .ensures .0) (put-head .ensures .1)
 
 put-refusal-requires : tie.Need-put-refusal-requires
 put-refusal-requires c κs = search needs
@@ -67,14 +76,23 @@ same-length-10 c = search needs
 
 returns-3 : tie.Need-returns-3
 returns-3 c =
-    start-refused _ _ _ _ _ _ _ _ (c .before .before .before .before .before .before .before .before .before .before .before .before .before .make .ensures _)
+    let earlier = c .before .before .before .before .before .before .before .before .before .before in
+    let earlier-still = earlier .before .before .before .before .before .before .before .before .before .before in
+    let pre = earlier-still .before .before .before .before .before .pre in
+    let header-length = earlier .before .before .before .before .before .before .before .before .before .header-length in
+    let if1 = earlier .before .before .before .before .before .before .before .before .if1 in
+    let make = earlier .before .before .before .make in
+    let told-of = c .before .before .before .before .before .before .told-of in
+    let if2 = c .before .before .before .before .if2 in
+    let put-refusal = c .before .before .put-refusal in
+    start-refused _ _ _ _ _ _ _ _ (make .ensures _)
     (rw
-    (c .before .before .before .before .before .before .before .before .before .before .before .before .before .before .before .before .before .before .before .header-length .ensures .0) at
-    (c .before .before .before .before .before .before .before .before .before .before .before .before .before .before .before .before .before .before .if1 .left))
-    _ _ (c .before .before .before .before .before .before .told-of .ensures .0)
-    (c .before .before .before .before .before .before .before .before .before .before .before .before .before .before .before .before .before .before .before .before .before .before .before .before .before .pre .0)
-    (c .before .before .before .before .if2 .left)
-    (c .before .before .put-refusal .ensures .0) (c .before .before .put-refusal .ensures .1)
+    (header-length .ensures .0) at
+    (if1 .left))
+    _ _ (told-of .ensures .0)
+    (pre .0)
+    (if2 .left)
+    (put-refusal .ensures .0) (put-refusal .ensures .1)
 
 pub begin-spec : {M : Type 1} → statement M
 begin-spec =

@@ -12,17 +12,23 @@ told-of-requires c κs = search needs
 
 put-deals-requires : tie.Need-put-deals-requires
 put-deals-requires c κs =
+    let earlier = c .before .before .before .before .before .before .before .before .before .before in
+    let earlier-still = earlier .before .before .before .before .before .before .before .before .before .before in
+    let pre = earlier-still .before .before .before .before .before .before .pre in
+    let apply = earlier .before .before .before .before .apply in
+    let told-of = c .before .before .before .before .told-of in
+    let if1 = c .before .before .if1 in
     let few = few-lines _ _ _ _ _ _
-    (c .before .before .before .before .before .before .before .before .before .before .before .before .before .before .apply .ensures)
-    (c .before .before .before .before .told-of .ensures .0) (c .before .before .before .before .told-of .ensures .1) (c .before .before .if1 .taken) in (
+    (apply .ensures)
+    (told-of .ensures .0) (told-of .ensures .1) (if1 .taken) in (
       omega (
         arith,
-        c .before .before .before .before .before .before .before .before .before .before .before .before .before .before .before .before .before .before .before .before .before .before .before .before .before .before .pre .0,
+        pre .0,
       ),
       omega (
         arith,
-        c .before .before .before .before .before .before .before .before .before .before .before .before .before .before .before .before .before .before .before .before .before .before .before .before .before .before .pre .1,
-        c .before .before .before .before .before .before .before .before .before .before .before .before .before .before .apply .kept .1 .1 .1 .1 .1 .0,
+        pre .1,
+        apply .kept .1 .1 .1 .1 .1 .0,
       ),
     )
 

@@ -73,63 +73,85 @@ run-record-requires c κs =
 
 add-accepted : tie.Need-add-accepted Inv-loop μ-loop
 add-accepted c =
-    let w = c .before .before .before .before .before .before .before .before .before .before .before .before .before .before .before .before .before .before .before .before .before .before .loop .inv .0 in
+    let earlier = c .before .before .before .before .before .before .before .before .before .before in
+    let earlier-still = earlier .before .before .before .before .before .before .before .before .before .before in
+    let pre = earlier-still .before .before .before .before .before .before .before .before .before .pre in
+    let loop = earlier-still .before .before .loop in
+    let run-record = earlier .before .before .run-record in
+    let w = loop .inv .0 in
     omega (
       arith,
       w .below,
       w .few,
       w .inside,
-      c .before .before .before .before .before .before .before .before .before .before .before .before .before .before .before .before .before .before .before .before .before .before .before .before .before .before .before .before .before .pre .1,
-      one-at-most (c .before .before .before .before .before .before .before .before .before .before .before .before .run-record .ensures),
+      pre .1,
+      one-at-most (run-record .ensures),
     )
 
 sub-ready-length-2 : tie.Need-sub-ready-length-2 Inv-loop μ-loop
 sub-ready-length-2 c =
-    let w = c .before .before .before .before .before .before .before .before .before .before .before .before .before .before .before .before .before .before .before .before .before .before .loop .inv .0 in
+    let earlier = c .before .before .before .before .before .before .before .before .before .before in
+    let earlier-still = earlier .before .before .before .before .before .before .before .before .before .before in
+    let loop = earlier-still .before .before .loop in
+    let loop-test = earlier-still .before .loop-test in
+    let w = loop .inv .0 in
     omega (
       arith,
       next-inside w _
-          (c .before .before .before .before .before .before .before .before .before .before .before .before .before .before .before .before .before .before .before .before .before .before .loop .inv .2)
+          (loop .inv .2)
           (positive _
-          (c .before .before .before .before .before .before .before .before .before .before .before .before .before .before .before .before .before .before .before .before .before .loop-test .taken))
+          (loop-test .taken))
           (omega (arith, w .within, w .same)),
     )
 
 part-ready-length-start : tie.Need-part-ready-length-start Inv-loop μ-loop
 part-ready-length-start c =
-    let w = c .before .before .before .before .before .before .before .before .before .before .before .before .before .before .before .before .before .before .before .before .before .before .loop .inv .0 in
+    let earlier = c .before .before .before .before .before .before .before .before .before .before in
+    let earlier-still = earlier .before .before .before .before .before .before .before .before .before .before in
+    let loop = earlier-still .before .before .loop in
+    let loop-test = earlier-still .before .loop-test in
+    let w = loop .inv .0 in
     omega (
       arith,
       next-inside w _
-          (c .before .before .before .before .before .before .before .before .before .before .before .before .before .before .before .before .before .before .before .before .before .before .loop .inv .2)
+          (loop .inv .2)
           (positive _
-          (c .before .before .before .before .before .before .before .before .before .before .before .before .before .before .before .before .before .before .before .before .before .loop-test .taken))
+          (loop-test .taken))
           (omega (arith, w .within, w .same)),
     )
 
 part-ready-length-end : tie.Need-part-ready-length-end Inv-loop μ-loop
 part-ready-length-end c =
-    let w = c .before .before .before .before .before .before .before .before .before .before .before .before .before .before .before .before .before .before .before .before .before .before .loop .inv .0 in
+    let earlier = c .before .before .before .before .before .before .before .before .before .before in
+    let earlier-still = earlier .before .before .before .before .before .before .before .before .before .before in
+    let loop = earlier-still .before .before .loop in
+    let loop-test = earlier-still .before .loop-test in
+    let w = loop .inv .0 in
     omega (
       arith,
       next-inside w _
-          (c .before .before .before .before .before .before .before .before .before .before .before .before .before .before .before .before .before .before .before .before .before .before .loop .inv .2)
+          (loop .inv .2)
           (positive _
-          (c .before .before .before .before .before .before .before .before .before .before .before .before .before .before .before .before .before .before .before .before .before .loop-test .taken))
+          (loop-test .taken))
           (omega (arith, w .within, w .same)),
     )
 
 sub-ready-length-3 : tie.Need-sub-ready-length-3 Inv-loop μ-loop
 sub-ready-length-3 c =
-    let w = c .before .before .before .before .before .before .before .before .before .before .before .before .before .before .before .before .before .before .before .before .before .before .before .loop .inv .0 in
+    let earlier = c .before .before .before .before .before .before .before .before .before .before in
+    let earlier-still = earlier .before .before .before .before .before .before .before .before .before .before in
+    let loop = earlier-still .before .before .before .loop in
+    let loop-test = earlier-still .before .before .loop-test in
+    let run-record = earlier .before .before .before .run-record in
+    let w = loop .inv .0 in
     omega (
       arith,
-      c .before .before .before .before .before .before .before .before .before .before .before .before .before .run-record .kept .1 .1 .0,
-      c .before .before .before .before .before .before .before .before .before .before .before .before .before .run-record .ensures .room,
+      run-record .kept .1 .1 .0,
+      run-record .ensures .room,
       next-room w _
-          (c .before .before .before .before .before .before .before .before .before .before .before .before .before .before .before .before .before .before .before .before .before .before .before .loop .inv .2)
+          (loop .inv .2)
           (positive _
-          (c .before .before .before .before .before .before .before .before .before .before .before .before .before .before .before .before .before .before .before .before .before .before .loop-test .taken))
+          (loop-test .taken))
           (omega (arith, w .within, w .same)),
     )
 
@@ -138,30 +160,39 @@ ready-length-requires-2 c κs = search needs
 
 loop-less : tie.Need-loop-less Inv-loop μ-loop
 loop-less c =
-    let w = c .before .before .before .before .before .before .before .before .before .before .before .before .before .before .before .before .before .before .before .before .before .before .before .before .loop .inv .0 in
+    let earlier = c .before .before .before .before .before .before .before .before .before .before in
+    let earlier-still = earlier .before .before .before .before .before .before .before .before .before .before in
+    let loop = earlier-still .before .before .before .before .loop in
+    let loop-test = earlier-still .before .before .before .loop-test in
+    let w = loop .inv .0 in
     let some = positive _
-    (c .before .before .before .before .before .before .before .before .before .before .before .before .before .before .before .before .before .before .before .before .before .before .before .loop-test .taken) in
+    (loop-test .taken) in
     omega (
       arith,
       some,
       next-inside w _
-          (c .before .before .before .before .before .before .before .before .before .before .before .before .before .before .before .before .before .before .before .before .before .before .before .before .loop .inv .2) some
+          (loop .inv .2) some
           (omega (arith, w .within, w .same)),
     )
 
 loop-again : tie.Need-loop-again Inv-loop μ-loop
 loop-again c =
-    let w = c .before .before .before .before .before .before .before .before .before .before .before .before .before .before .before .before .before .before .before .before .before .before .before .before .loop .inv .0 in
-    let l = c .before .before .before .before .before .before .before .before .before .before .before .before .before .before .before .before .before .before .before .before .before .before .before .before .loop .inv .1 in
-    let k = c .before .before .before .before .before .before .before .before .before .before .before .before .before .before .run-record .kept in
+    let earlier = c .before .before .before .before .before .before .before .before .before .before in
+    let earlier-still = earlier .before .before .before .before .before .before .before .before .before .before in
+    let loop = earlier-still .before .before .before .before .loop in
+    let loop-test = earlier-still .before .before .before .loop-test in
+    let run-record = earlier .before .before .before .before .run-record in
+    let w = loop .inv .0 in
+    let l = loop .inv .1 in
+    let k = run-record .kept in
     let one = ran-part
-    (c .before .before .before .before .before .before .before .before .before .before .before .before .before .before .before .before .before .before .before .before .before .before .before .before .loop .place)
-    (c .before .before .before .before .before .before .before .before .before .before .before .before .before .before .before .before .before .before .before .before .before .before .before .before .loop .n)
-    _ _ (c .before .before .before .before .before .before .before .before .before .before .before .before .before .before .run-record .ensures) in (
+    (loop .place)
+    (loop .n)
+    _ _ (run-record .ensures) in (
       runs-next w _
-          (c .before .before .before .before .before .before .before .before .before .before .before .before .before .before .before .before .before .before .before .before .before .before .before .before .loop .inv .2)
+          (loop .inv .2)
           (positive _
-          (c .before .before .before .before .before .before .before .before .before .before .before .before .before .before .before .before .before .before .before .before .before .before .before .loop-test .taken))
+          (loop-test .taken))
           (omega (arith, w .within, w .same)) one (k .1 .1 .0),
       record {
         head =
@@ -175,7 +206,7 @@ loop-again c =
         lines = omega (arith, k .1 .1 .1 .1 .1 .1 .1 .1 .1 .0, l .lines);
       },
       ready-of-rest _ _ _
-          (c .before .before .before .before .before .before .before .before .before .before .before .before .before .before .before .before .before .before .before .before .before .before .before .before .loop .place + c .before .before .before .before .before .before .before .before .before .before .before .before .before .before .before .before .before .before .before .before .before .before .before .before .loop .n)
+          (loop .place + loop .n)
           _ (c .ready-length2 .ensures),
     )
 
