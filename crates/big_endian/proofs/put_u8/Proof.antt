@@ -5,18 +5,11 @@ use Rattle.arith.specs.Lists.{over}
 use Rattle.big_endian.proofs.put_u8.Statement.{statement}
 use Rattle.big_endian.proofs.put_u8.Tie as tie
 
-cast-out : tie.Need-cast-out
-cast-out c = search needs
-
-slice-write-out : tie.Need-slice-write-out
-slice-write-out c = search needs
-
-same-length : tie.Need-same-length
-same-length c = search needs
-
 returns : tie.Need-returns
 unfolding over
 returns c = rw add-one (set-split _ _ _ (c .pre .0))
 
 pub put-u8-spec : {M : Type 1} → statement M
-put-u8-spec = tie.close (tie.spec cast-out slice-write-out same-length returns)
+put-u8-spec =
+    tie.close
+    (tie.spec (λ c. search needs) (λ c. search needs) (λ c. search needs) returns)

@@ -4,25 +4,12 @@ use Rattle.rules.specs.Header.{u16At}
 use Rattle.big_endian.proofs.u16_at.Statement.{statement}
 use Rattle.big_endian.proofs.u16_at.Tie as tie
 
-u8-at-requires : tie.Need-u8-at-requires
-u8-at-requires c κs = search needs
-
-mul-result : tie.Need-mul-result
-mul-result c = search needs
-
-add-u8-at : tie.Need-add-u8-at
-add-u8-at c = search needs
-
-u8-at-requires-2 : tie.Need-u8-at-requires-2
-u8-at-requires-2 c κs = search needs
-
-add-result : tie.Need-add-result
-add-result c = search needs
-
 returns : tie.Need-returns
 unfolding u16At
 returns c = omega arith
 
 pub u16-at-spec : {M : Type 1} → statement M
 u16-at-spec =
-    tie.close (tie.spec u8-at-requires mul-result add-u8-at u8-at-requires-2 add-result returns)
+    tie.close
+    (tie.spec (λ c κs. search needs) (λ c. search needs) (λ c. search needs) (λ c κs. search needs)
+    (λ c. search needs) returns)

@@ -5,14 +5,10 @@ use borrow.Author.Needs.{needs}
 use Rattle.big_endian.proofs.u8_or_zero.Statement.{statement}
 use Rattle.big_endian.proofs.u8_or_zero.Tie as tie
 
-u8-at-requires : tie.Need-u8-at-requires
-u8-at-requires c κs = search needs
-
-returns : tie.Need-returns
-returns c = search needs
-
 returns-2 : tie.Need-returns-2
 returns-2 c = (sym (List·getD-eq-default (c .before .before .args .s .now) 0 (c .if1 .left)), omega arith)
 
 pub u8-or-zero-spec : {M : Type 1} → statement M
-u8-or-zero-spec = tie.close (tie.spec u8-at-requires returns returns-2)
+u8-or-zero-spec =
+    tie.close
+    (tie.spec (λ c κs. search needs) (λ c. search needs) returns-2)

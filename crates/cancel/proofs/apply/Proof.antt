@@ -12,34 +12,14 @@ use Rattle.tables.proofs.Heads.{orders-fit, timed-place}
 use borrow.Author.Needs.{needs}
 use Rattle.cancel.proofs.apply.Statement.{statement}
 use Rattle.cancel.proofs.apply.Tie as tie
-use Rattle.cancel.proofs.apply.Reads as reads
-use Rattle.cancel.proofs.apply.Lts as lts
-use Rattle.tables.proofs.set_time.Reads as set-time-reads
-use Rattle.tables.proofs.remove_orders.Reads as remove-orders-reads
-use Rattle.tables.proofs.would_any_leave.Reads as would-any-leave-reads
 
--- src/lib.rt:19:15
-slice-read-if1 : tie.Need-slice-read-if1
-slice-read-if1 c = search needs
-
--- src/lib.rt:20:9
 returns : tie.Need-returns
 unfolding cancelSpec
 returns c = λ t. rw (lt-ltb (c .before .before .before .before .args .e .time) (getD (c .before .before .before .before .args .head .now) 4 0) (c .if1 .taken))
 
--- src/lib.rt:22:17
-slice-read-count : tie.Need-slice-read-count
-slice-read-count c = search needs
-
--- src/lib.rt:24:9
 would-any-leave-requires : tie.Need-would-any-leave-requires
 would-any-leave-requires c κs = (c .before .before .before .before .before .before .pre .0 .most-orders, c .before .before .before .before .before .before .pre .1 .long)
 
--- src/lib.rt:25:9
-same-length : tie.Need-same-length
-same-length c = search needs
-
--- src/lib.rt:25:9
 returns-2 : tie.Need-returns-2
 unfolding cancelSpec orders
 returns-2 c =
@@ -47,13 +27,11 @@ returns-2 c =
     let if1 = c .before .before .before .before .if1 in
     λ t. rw (le-ltb (args .e .time) (getD (args .head .now) 4 0) (if1 .left), sym (c .before .would-any-leave .ensures) ∙ not-true _ (c .if2 .taken))
 
--- src/lib.rt:27:5
 set-time-requires : tie.Need-set-time-requires
 set-time-requires c κs =
     let pre = c .before .before .before .before .before .before .before .before .before .pre in
     (pre .0 .long, pre .0 .most-members)
 
--- src/lib.rt:28:5
 remove-orders-requires : tie.Need-remove-orders-requires
 remove-orders-requires c κs =
     let pre = c .before .before .before .before .before .before .before .before .before .before .before .before .before .before .pre in
@@ -63,15 +41,6 @@ remove-orders-requires c κs =
     let count = ap (λ t. getD (t .head) 7 0) (set-time .ensures u) ∙ timed-place (a .e .time) u (pre .0 .long) (pre .0 .most-members) 7 (omega arith) (λ e. omega arith) in
     (omega (arith, set-time .kept .0, pre .0 .long), subst (λ n. OrdersFit n (a .book .now)) (sym count) (orders-fit (a .head .now) (a .book .now) (pre .0) (pre .1)))
 
--- src/lib.rt:13:1
-same-length-2 : tie.Need-same-length-2
-same-length-2 c = search needs
-
--- src/lib.rt:13:1
-same-length-3 : tie.Need-same-length-3
-same-length-3 c = search needs
-
--- src/lib.rt:13:1
 returns-3 : tie.Need-returns-3
 unfolding cancelSpec orders
 returns-3 c =
@@ -97,15 +66,5 @@ returns-3 c =
 pub apply-spec : {M : Type 1} → statement M
 apply-spec =
     tie.close
-    (tie.spec
-    slice-read-if1
-    returns
-    slice-read-count
-    would-any-leave-requires
-    same-length
-    returns-2
-    set-time-requires
-    remove-orders-requires
-    same-length-2
-    same-length-3
-    returns-3)
+    (tie.spec (λ c. search needs) returns (λ c. search needs) would-any-leave-requires (λ c. search needs) returns-2
+    set-time-requires remove-orders-requires (λ c. search needs) (λ c. search needs) returns-3)

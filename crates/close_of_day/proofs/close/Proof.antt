@@ -14,39 +14,7 @@ use Rattle.close_of_day.proofs.Closes.{book-reads, closed-is}
 use borrow.Author.Needs.{needs}
 use Rattle.close_of_day.proofs.close.Statement.{statement}
 use Rattle.close_of_day.proofs.close.Tie as tie
-use Rattle.close_of_day.proofs.close.Reads as reads
-use Rattle.close_of_day.proofs.close.Lts as lts
-use Rattle.close_of_day.proofs.begin_day.Reads as begin-day-reads
-use Rattle.close_of_day.proofs.cascade.cascade_all.Reads as cascade-all-reads
-use Rattle.close_of_day.proofs.orders.remove_closing.Reads as remove-closing-reads
-use Rattle.close_of_day.proofs.write_phases.Reads as write-phases-reads
-use Rattle.close_of_day.proofs.write_prices.Reads as write-prices-reads
 
--- src/lib.rt:87:19
-slice-read-members : tie.Need-slice-read-members
-slice-read-members c = search needs
-
--- src/lib.rt:89:26
-slice-aggregate-write-phases : tie.Need-slice-aggregate-write-phases
-slice-aggregate-write-phases c = search needs
-
--- src/lib.rt:89:5
-write-phases-requires : tie.Need-write-phases-requires
-write-phases-requires c κs = search needs
-
--- src/lib.rt:90:48
-slice-aggregate-write-prices : tie.Need-slice-aggregate-write-prices
-slice-aggregate-write-prices c = search needs
-
--- src/lib.rt:90:5
-write-prices-requires : tie.Need-write-prices-requires
-write-prices-requires c κs = search needs
-
--- src/lib.rt:91:38
-slice-aggregate-cascade-all : tie.Need-slice-aggregate-cascade-all
-slice-aggregate-cascade-all c = search needs
-
--- src/lib.rt:91:5
 cascade-all-requires : tie.Need-cascade-all-requires
 cascade-all-requires c κs =
     let pre = c .before .before .before .before .before .before .before .before .before .before .before .before .before .before .before .before .before .pre in
@@ -59,11 +27,6 @@ cascade-all-requires c κs =
           ∙ phases-length _ _,
     )
 
--- src/lib.rt:92:39
-slice-aggregate-cascade-all-2 : tie.Need-slice-aggregate-cascade-all-2
-slice-aggregate-cascade-all-2 c = search needs
-
--- src/lib.rt:92:5
 cascade-all-requires-2 : tie.Need-cascade-all-requires-2
 cascade-all-requires-2 c κs =
     let pre = c .before .before .before .before .before .before .before .before .before .before .before .before .before .before .before .before .before .before .before .before .before .pre in
@@ -76,11 +39,6 @@ cascade-all-requires-2 c κs =
           ∙ phases-length _ _,
     )
 
--- src/lib.rt:93:52
-slice-aggregate-remove-closing : tie.Need-slice-aggregate-remove-closing
-slice-aggregate-remove-closing c = search needs
-
--- src/lib.rt:93:5
 remove-closing-requires : tie.Need-remove-closing-requires
 remove-closing-requires c κs =
     let earlier = c .before .before .before .before .before .before .before .before .before .before in
@@ -90,7 +48,6 @@ remove-closing-requires c κs =
     let write-phases = earlier .before .before .before .before .before .before .before .before .before .write-phases in
     (pre .0 .0 .long, book-reads (a .head .now) (a .book .now) (pre .0 .0) (pre .0 .2), ap length (write-phases .ensures) ∙ phases-length _ _)
 
--- src/lib.rt:94:5
 begin-day-requires : tie.Need-begin-day-requires
 unfolding withOrders
 begin-day-requires c κs =
@@ -104,27 +61,6 @@ begin-day-requires c κs =
     let same = ap (λ t. getD (t .head) 1 0) (remove-closing .ensures u) ∙ getD-set-other (a .head .now) 7 1 _ 0 (λ e. omega arith) in
     (omega (arith, remove-closing .kept .0, pre .0 .0 .long), omega (arith, same, pre .0 .0 .most-members))
 
--- src/lib.rt:73:1
-same-length : tie.Need-same-length
-same-length c = search needs
-
--- src/lib.rt:73:1
-same-length-2 : tie.Need-same-length-2
-same-length-2 c = search needs
-
--- src/lib.rt:73:1
-same-length-3 : tie.Need-same-length-3
-same-length-3 c = search needs
-
--- src/lib.rt:73:1
-same-length-4 : tie.Need-same-length-4
-same-length-4 c = search needs
-
--- src/lib.rt:73:1
-same-length-5 : tie.Need-same-length-5
-same-length-5 c = search needs
-
--- src/lib.rt:73:1
 returns : tie.Need-returns
 unfolding orders
 returns c =
@@ -158,22 +94,7 @@ returns c =
 pub close-spec : {M : Type 1} → statement M
 close-spec =
     tie.close
-    (tie.spec
-    slice-read-members
-    slice-aggregate-write-phases
-    write-phases-requires
-    slice-aggregate-write-prices
-    write-prices-requires
-    slice-aggregate-cascade-all
-    cascade-all-requires
-    slice-aggregate-cascade-all-2
-    cascade-all-requires-2
-    slice-aggregate-remove-closing
-    remove-closing-requires
-    begin-day-requires
-    same-length
-    same-length-2
-    same-length-3
-    same-length-4
-    same-length-5
-    returns)
+    (tie.spec (λ c. search needs) (λ c. search needs) (λ c κs. search needs) (λ c. search needs)
+    (λ c κs. search needs) (λ c. search needs) cascade-all-requires (λ c. search needs) cascade-all-requires-2
+    (λ c. search needs) remove-closing-requires begin-day-requires (λ c. search needs) (λ c. search needs)
+    (λ c. search needs) (λ c. search needs) (λ c. search needs) returns)

@@ -11,51 +11,19 @@ use Rattle.close_of_day.proofs.Closes.{book-reads, deals-fit, priced-is
 use borrow.Author.Needs.{needs}
 use Rattle.close_of_day.proofs.write_prices.Statement.{statement}
 use Rattle.close_of_day.proofs.write_prices.Tie as tie
-use Rattle.close_of_day.proofs.write_prices.Reads as reads
-use Rattle.close_of_day.proofs.write_prices.Lts as lts
-use Rattle.close_of_day.proofs.prices.clear_deals.Reads as clear-deals-reads
-use Rattle.close_of_day.proofs.prices.write_ggfs.Reads as write-ggfs-reads
-use Rattle.close_of_day.proofs.quotes.write_quotes.Reads as write-quotes-reads
 
--- src/lib.rt:52:21
-shared-slice-read-count : tie.Need-shared-slice-read-count
-shared-slice-read-count c = search needs
-
--- src/lib.rt:53:17
-shared-slice-read-count-2 : tie.Need-shared-slice-read-count-2
-shared-slice-read-count-2 c = search needs
-
--- src/lib.rt:56:61
-slice-aggregate-write-quotes : tie.Need-slice-aggregate-write-quotes
-slice-aggregate-write-quotes c = search needs
-
--- src/lib.rt:56:5
 write-quotes-requires : tie.Need-write-quotes-requires
 write-quotes-requires c κs =
     let pre = c .before .before .before .before .before .before .before .pre in
     let a = c .before .before .before .before .before .before .before .args in
     (book-reads (a .head .now) (a .book .now) (pre .0 .0) (pre .0 .2), refl)
 
--- src/lib.rt:57:62
-slice-aggregate-write-quotes-2 : tie.Need-slice-aggregate-write-quotes-2
-slice-aggregate-write-quotes-2 c = search needs
-
--- src/lib.rt:57:5
 write-quotes-requires-2 : tie.Need-write-quotes-requires-2
 write-quotes-requires-2 c κs =
     let pre = c .before .before .before .before .before .before .before .before .before .before .pre in
     let a = c .before .before .before .before .before .before .before .before .before .before .args in
     (book-reads (a .head .now) (a .book .now) (pre .0 .0) (pre .0 .2), refl)
 
--- src/lib.rt:58:46
-slice-aggregate-write-ggfs : tie.Need-slice-aggregate-write-ggfs
-slice-aggregate-write-ggfs c = search needs
-
--- src/lib.rt:58:57
-slice-aggregate-write-ggfs-2 : tie.Need-slice-aggregate-write-ggfs-2
-slice-aggregate-write-ggfs-2 c = search needs
-
--- src/lib.rt:58:5
 write-ggfs-requires : tie.Need-write-ggfs-requires
 write-ggfs-requires c κs =
     let pre = c .before .before .before .before .before .before .before .before .before .before .before .before .before .before .before .pre in
@@ -70,15 +38,6 @@ write-ggfs-requires c κs =
       ap length (pre .1) ∙ phases-length _ _,
     )
 
--- src/lib.rt:59:5
-clear-deals-requires : tie.Need-clear-deals-requires
-clear-deals-requires c κs = search needs
-
--- src/lib.rt:46:1
-same-length : tie.Need-same-length
-same-length c = search needs
-
--- src/lib.rt:46:1
 returns : tie.Need-returns
 unfolding priced orders
 returns c =
@@ -100,16 +59,6 @@ returns c =
 pub write-prices-spec : {M : Type 1} → statement M
 write-prices-spec =
     tie.close
-    (tie.spec
-    shared-slice-read-count
-    shared-slice-read-count-2
-    slice-aggregate-write-quotes
-    write-quotes-requires
-    slice-aggregate-write-quotes-2
-    write-quotes-requires-2
-    slice-aggregate-write-ggfs
-    slice-aggregate-write-ggfs-2
-    write-ggfs-requires
-    clear-deals-requires
-    same-length
-    returns)
+    (tie.spec (λ c. search needs) (λ c. search needs) (λ c. search needs) write-quotes-requires (λ c. search needs)
+    write-quotes-requires-2 (λ c. search needs) (λ c. search needs) write-ggfs-requires (λ c κs. search needs)
+    (λ c. search needs) returns)

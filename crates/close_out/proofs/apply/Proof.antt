@@ -11,31 +11,10 @@ use Rattle.close_out.proofs.Verdicts.{not-open, no-reference}
 use Rattle.close_out.proofs.apply.Statement.{statement}
 use Rattle.close_out.proofs.apply.Tie as tie
 
-is-contract-open-requires : tie.Need-is-contract-open-requires
-is-contract-open-requires c κs = search needs
-
-same-length : tie.Need-same-length
-same-length c = search needs
-
 returns : tie.Need-returns
 returns c = let a = c .before .before .before .before .before .args in
     λ t. not-open (withPrices (a .prices .now) (put (a .head .now) (a .lots .now) (a .value .now) (a .lines .now) t)) (a .e)
     (sym (c .before .is-contract-open .ensures (withPrices (a .prices .now) (withRows (a .lots .now) (a .value .now) (withLines (a .lines .now) t)))) ∙ not-true _ (c .if1 .taken))
-
-mul-price : tie.Need-mul-price
-mul-price c = search needs
-
-add-price : tie.Need-add-price
-add-price c = search needs
-
-mul-price-2 : tie.Need-mul-price-2
-mul-price-2 c = search needs
-
-shared-slice-read-price : tie.Need-shared-slice-read-price
-shared-slice-read-price c = search needs
-
-same-length-2 : tie.Need-same-length-2
-same-length-2 c = search needs
 
 returns-2 : tie.Need-returns-2
 returns-2 c =
@@ -48,27 +27,15 @@ returns-2 c =
     (sym (is-contract-open .ensures (withPrices (a .prices .now) (withRows (a .lots .now) (a .value .now) (withLines (a .lines .now) t)))) ∙ not-false _ (if1 .left))
     (sym same ∙ c .if2 .taken)
 
-slice-read-members : tie.Need-slice-read-members
-slice-read-members c = search needs
-
-array-borrow-prefix-longs : tie.Need-array-borrow-prefix-longs
-array-borrow-prefix-longs c = search needs
-
 slice-aggregate-close-out-lots : tie.Need-slice-aggregate-close-out-lots
 slice-aggregate-close-out-lots c =
     let pre = c .before .before .before .before .before .before .before .before .before .before .before .before .before .pre in
     simp length-take (omega (arith, pre .0 .0 .head-fit .most-members))
 
-array-borrow-prefix-shorts : tie.Need-array-borrow-prefix-shorts
-array-borrow-prefix-shorts c = search needs
-
 slice-aggregate-close-out-lots-2 : tie.Need-slice-aggregate-close-out-lots-2
 slice-aggregate-close-out-lots-2 c =
     let pre = c .before .before .before .before .before .before .before .before .before .before .before .before .before .before .pre in
     simp length-take (omega (arith, pre .0 .0 .head-fit .most-members))
-
-array-borrow-prefix-weights : tie.Need-array-borrow-prefix-weights
-array-borrow-prefix-weights c = search needs
 
 slice-aggregate-close-out-lots-3 : tie.Need-slice-aggregate-close-out-lots-3
 slice-aggregate-close-out-lots-3 c =
@@ -87,18 +54,6 @@ close-out-lots-requires c κs =
       (simp length-take (omega (arith, few)), simp length-take (omega (arith, few)), simp length-take (omega (arith, few))),
     )
 
-same-length-3 : tie.Need-same-length-3
-same-length-3 c = search needs
-
-same-length-4 : tie.Need-same-length-4
-same-length-4 c = search needs
-
-same-length-5 : tie.Need-same-length-5
-same-length-5 c = search needs
-
-same-length-6 : tie.Need-same-length-6
-same-length-6 c = search needs
-
 returns-3 : tie.Need-returns-3
 returns-3 c =
     let earlier = c .before .before .before .before .before .before .before .before .before .before in
@@ -115,26 +70,8 @@ returns-3 c =
 pub apply-spec : {M : Type 1} → statement M
 apply-spec =
     tie.close
-    (tie.spec
-    is-contract-open-requires
-    same-length
-    returns
-    mul-price
-    add-price
-    mul-price-2
-    shared-slice-read-price
-    same-length-2
-    returns-2
-    slice-read-members
-    array-borrow-prefix-longs
-    slice-aggregate-close-out-lots
-    array-borrow-prefix-shorts
-    slice-aggregate-close-out-lots-2
-    array-borrow-prefix-weights
-    slice-aggregate-close-out-lots-3
-    close-out-lots-requires
-    same-length-3
-    same-length-4
-    same-length-5
-    same-length-6
-    returns-3)
+    (tie.spec (λ c κs. search needs) (λ c. search needs) returns (λ c. search needs) (λ c. search needs)
+    (λ c. search needs) (λ c. search needs) (λ c. search needs) returns-2 (λ c. search needs) (λ c. search needs)
+    slice-aggregate-close-out-lots (λ c. search needs) slice-aggregate-close-out-lots-2 (λ c. search needs)
+    slice-aggregate-close-out-lots-3 close-out-lots-requires (λ c. search needs) (λ c. search needs)
+    (λ c. search needs) (λ c. search needs) returns-3)

@@ -11,12 +11,6 @@ use Rattle.close_out.proofs.Verdicts.{read-fits, left-is, no-lots, no-t
 use Rattle.close_out.proofs.close_out_lots.Statement.{statement}
 use Rattle.close_out.proofs.close_out_lots.Tie as tie
 
-read-column-requires : tie.Need-read-column-requires
-read-column-requires c κs = search needs
-
-read-column-requires-2 : tie.Need-read-column-requires-2
-read-column-requires-2 c κs = search needs
-
 sum-of-requires : tie.Need-sum-of-requires
 sum-of-requires c κs =
     let pre = c .before .before .before .before .before .before .before .before .before .before .before .before .before .before .before .before .before .pre in
@@ -43,18 +37,6 @@ add-if1 c =
     let bs : c .sum-of2 .result ≤ 160000000 = rw (c .sum-of2 .ensures) (rs .most) in
     omega (arith, bl, bs)
 
-same-length : tie.Need-same-length
-same-length c = search needs
-
-same-length-2 : tie.Need-same-length-2
-same-length-2 c = search needs
-
-same-length-3 : tie.Need-same-length-3
-same-length-3 c = search needs
-
-same-length-4 : tie.Need-same-length-4
-same-length-4 c = search needs
-
 returns : tie.Need-returns
 returns c =
     let pre = c .before .before .before .before .before .before .before .before .before .before .before .before .before .before .before .before .before .before .before .before .before .pre in
@@ -68,18 +50,6 @@ returns c =
     λ t o p. no-lots (put (a .head .now) (a .lots .now) (a .value .now) (a .lines .now) t) (a .e) _ _ (read-column .ensures (withLines (a .lines .now) t) (a .value .now))
     (read-column2 .ensures (withLines (a .lines .now) t) (a .value .now)) (rl .long ∙ sym (rs .long)) _ _ (sum-of .ensures) (c .before .sum-of2 .ensures) _ refl _ refl
     (a .price .0) p _ refl o (pre .0 .4) (c .if1 .taken)
-
-smaller-requires : tie.Need-smaller-requires
-smaller-requires c κs = search needs
-
-sub-left : tie.Need-sub-left
-sub-left c = search needs
-
-sub-left-2 : tie.Need-sub-left-2
-sub-left-2 c = search needs
-
-add-left : tie.Need-add-left
-add-left c = search needs
 
 find-weights-requires : tie.Need-find-weights-requires
 find-weights-requires c κs =
@@ -98,24 +68,6 @@ find-weights-requires c κs =
     let bl : sum-of .result ≤ 160000000 = rw (sum-of .ensures) (rl .most) in
     let bs : sum-of2 .result ≤ 160000000 = rw (sum-of2 .ensures) (rs .most) in
     ((f .head-fit, rows-wider _ _ mostLotsRun _ (f .head-fit .most-run) (f .lots-fit), pre .1 .2), (pre .0 .1, pre .0 .2, omega (arith, smaller .ensures)))
-
-sum-of-requires-3 : tie.Need-sum-of-requires-3
-sum-of-requires-3 c κs = search needs
-
-same-length-5 : tie.Need-same-length-5
-same-length-5 c = search needs
-
-same-length-6 : tie.Need-same-length-6
-same-length-6 c = search needs
-
-same-length-7 : tie.Need-same-length-7
-same-length-7 c = search needs
-
-same-length-8 : tie.Need-same-length-8
-same-length-8 c = search needs
-
-same-length-9 : tie.Need-same-length-9
-same-length-9 c = search needs
 
 returns-2 : tie.Need-returns-2
 returns-2 c =
@@ -224,21 +176,6 @@ add-if3-4 c =
     let bs : sum-of2 .result ≤ 160000000 = rw (sum-of2 .ensures) (rs .most) in
     omega (arith, bl, bs, smaller .ensures, f .head-fit .most-run)
 
-same-length-10 : tie.Need-same-length-10
-same-length-10 c = search needs
-
-same-length-11 : tie.Need-same-length-11
-same-length-11 c = search needs
-
-same-length-12 : tie.Need-same-length-12
-same-length-12 c = search needs
-
-same-length-13 : tie.Need-same-length-13
-same-length-13 c = search needs
-
-same-length-14 : tie.Need-same-length-14
-same-length-14 c = search needs
-
 returns-3 : tie.Need-returns-3
 returns-3 c =
     let earlier = c .before .before .before .before .before .before .before .before .before .before in
@@ -291,18 +228,6 @@ book-steps-requires c κs =
           (rw (sum-of3 .ensures) at (if2 .left)) (rl .long) (find-weights .kept .1 .1 .1 .1 .0 ∙ pre .1 .2) (rl .fits) (find-weights .ensures .1),
     )
 
-same-length-15 : tie.Need-same-length-15
-same-length-15 c = search needs
-
-same-length-16 : tie.Need-same-length-16
-same-length-16 c = search needs
-
-same-length-17 : tie.Need-same-length-17
-same-length-17 c = search needs
-
-same-length-18 : tie.Need-same-length-18
-same-length-18 c = search needs
-
 same-length-19 : tie.Need-same-length-19
 same-length-19 c =
     let earlier = c .before .before .before .before .before .before .before .before .before .before in
@@ -321,9 +246,6 @@ same-length-20 c =
     let read-column2 = long-before .before .before .before .before .before .before .read-column2 in
     let book-steps = c .before .before .before .before .before .before .before .before .before .book-steps in
     book-steps .kept .1 .1 .1 .1 .1 .1 .1 .1 .1 .0 ∙ read-column2 .kept .1 .1 .1 .1 .0
-
-same-length-21 : tie.Need-same-length-21
-same-length-21 c = search needs
 
 returns-4 : tie.Need-returns-4
 returns-4 c =
@@ -358,46 +280,10 @@ returns-4 c =
 pub close-out-lots-spec : {M : Type 1} → statement M
 close-out-lots-spec =
     tie.close
-    (tie.spec
-    read-column-requires
-    read-column-requires-2
-    sum-of-requires
-    sum-of-requires-2
-    add-if1
-    same-length
-    same-length-2
-    same-length-3
-    same-length-4
-    returns
-    smaller-requires
-    sub-left
-    sub-left-2
-    add-left
-    find-weights-requires
-    sum-of-requires-3
-    same-length-5
-    same-length-6
-    same-length-7
-    same-length-8
-    same-length-9
-    returns-2
-    slice-read-if3
-    add-if3
-    add-if3-2
-    add-if3-3
-    add-if3-4
-    same-length-10
-    same-length-11
-    same-length-12
-    same-length-13
-    same-length-14
-    returns-3
-    book-steps-requires
-    same-length-15
-    same-length-16
-    same-length-17
-    same-length-18
-    same-length-19
-    same-length-20
-    same-length-21
-    returns-4)
+    (tie.spec (λ c κs. search needs) (λ c κs. search needs) sum-of-requires sum-of-requires-2 add-if1
+    (λ c. search needs) (λ c. search needs) (λ c. search needs) (λ c. search needs) returns (λ c κs. search needs)
+    (λ c. search needs) (λ c. search needs) (λ c. search needs) find-weights-requires (λ c κs. search needs)
+    (λ c. search needs) (λ c. search needs) (λ c. search needs) (λ c. search needs) (λ c. search needs) returns-2
+    slice-read-if3 add-if3 add-if3-2 add-if3-3 add-if3-4 (λ c. search needs) (λ c. search needs) (λ c. search needs)
+    (λ c. search needs) (λ c. search needs) returns-3 book-steps-requires (λ c. search needs) (λ c. search needs)
+    (λ c. search needs) (λ c. search needs) same-length-19 same-length-20 (λ c. search needs) returns-4)

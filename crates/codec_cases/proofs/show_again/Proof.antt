@@ -4,51 +4,12 @@ use lib.ListN.{length-take}
 use Rattle.codec_cases.proofs.show_again.Statement.{statement}
 use Rattle.codec_cases.proofs.show_again.Tie as tie
 
-slice-aggregate-text : tie.Need-slice-aggregate-text
-slice-aggregate-text c = search needs
-
-text-requires : tie.Need-text-requires
-text-requires c κs = search needs
-
-returns : tie.Need-returns
-returns c = search needs
-
 slice-aggregate-same : tie.Need-slice-aggregate-same
 slice-aggregate-same c = simp length-take (omega arith)
-
-same-requires : tie.Need-same-requires
-same-requires c κs = search needs
-
-slice-aggregate-text-2 : tie.Need-slice-aggregate-text-2
-slice-aggregate-text-2 c = search needs
-
-text-requires-2 : tie.Need-text-requires-2
-text-requires-2 c κs = search needs
-
-slice-aggregate-text-3 : tie.Need-slice-aggregate-text-3
-slice-aggregate-text-3 c = search needs
-
-text-requires-3 : tie.Need-text-requires-3
-text-requires-3 c κs = search needs
-
-returns-2 : tie.Need-returns-2
-returns-2 c = search needs
-
-returns-3 : tie.Need-returns-3
-returns-3 c = search needs
 
 pub show-again-spec : {M : Type 1} → statement M
 show-again-spec =
     tie.close
-    (tie.spec
-    slice-aggregate-text
-    text-requires
-    returns
-    slice-aggregate-same
-    same-requires
-    slice-aggregate-text-2
-    text-requires-2
-    slice-aggregate-text-3
-    text-requires-3
-    returns-2
-    returns-3)
+    (tie.spec (λ c. search needs) (λ c κs. search needs) (λ c. search needs) slice-aggregate-same
+    (λ c κs. search needs) (λ c. search needs) (λ c κs. search needs) (λ c. search needs) (λ c κs. search needs)
+    (λ c. search needs) (λ c. search needs))

@@ -3,9 +3,6 @@ use Rattle.host.specs.Sent.{damageNumber}
 use Rattle.host.proofs.ledger_is_damaged.Statement.{statement}
 use Rattle.host.proofs.ledger_is_damaged.Tie as tie
 
-is-unsound-requires : tie.Need-is-unsound-requires
-is-unsound-requires c κs = search needs
-
 returns : tie.Need-returns
 unfolding damageNumber
 returns c = rw (← (c .before .is-unsound .ensures)) (search (c .if1 .taken))
@@ -15,4 +12,6 @@ unfolding damageNumber
 returns-2 c = rw (← (c .before .is-unsound .ensures)) (search (c .if1 .left))
 
 pub ledger-is-damaged-spec : {M : Type 1} → statement M
-ledger-is-damaged-spec = tie.close (tie.spec is-unsound-requires returns returns-2)
+ledger-is-damaged-spec =
+    tie.close
+    (tie.spec (λ c κs. search needs) returns returns-2)

@@ -4,24 +4,6 @@ use borrow.Author.Needs.{needs}
 use Rattle.host.proofs.ledger_make.Statement.{statement}
 use Rattle.host.proofs.ledger_make.Tie as tie
 
-make-requires : tie.Need-make-requires
-make-requires c κs = search needs
-
-told-of-requires : tie.Need-told-of-requires
-told-of-requires c κs = search needs
-
-same-length : tie.Need-same-length
-same-length c = search needs
-
-same-length-2 : tie.Need-same-length-2
-same-length-2 c = search needs
-
-same-length-3 : tie.Need-same-length-3
-same-length-3 c = search needs
-
-same-length-4 : tie.Need-same-length-4
-same-length-4 c = search needs
-
 returns : tie.Need-returns
 returns c =
     let a = c .before .before .before .before .before .before .before .before .before .before .before .before .before .before .before .before .args in
@@ -32,11 +14,5 @@ returns c =
 pub ledger-make-spec : {M : Type 1} → statement M
 ledger-make-spec =
     tie.close
-    (tie.spec
-    make-requires
-    told-of-requires
-    same-length
-    same-length-2
-    same-length-3
-    same-length-4
-    returns)
+    (tie.spec (λ c κs. search needs) (λ c κs. search needs) (λ c. search needs) (λ c. search needs)
+    (λ c. search needs) (λ c. search needs) returns)

@@ -7,9 +7,6 @@ use borrow.Author.Needs.{needs}
 use Rattle.proposal.proofs.apply.Statement.{statement}
 use Rattle.proposal.proofs.apply.Tie as tie
 
-slice-read-count : tie.Need-slice-read-count
-slice-read-count c = search needs
-
 array-borrow-prefix-places : tie.Need-array-borrow-prefix-places
 array-borrow-prefix-places c = omega (arith, c .before .before .before .before .before .before .before .before .pre .1 .1 .most-legs)
 
@@ -49,38 +46,9 @@ apply-at-requires c κs =
       ),
     )
 
-same-length : tie.Need-same-length
-same-length c = search needs
-
-same-length-2 : tie.Need-same-length-2
-same-length-2 c = search needs
-
-same-length-3 : tie.Need-same-length-3
-same-length-3 c = search needs
-
-same-length-4 : tie.Need-same-length-4
-same-length-4 c = search needs
-
-same-length-5 : tie.Need-same-length-5
-same-length-5 c = search needs
-
-returns : tie.Need-returns
-returns c = search needs
-
 pub apply-spec : {M : Type 1} → statement M
 apply-spec =
     tie.close
-    (tie.spec
-    slice-read-count
-    array-borrow-prefix-places
-    slice-aggregate-write-places
-    write-places-requires
-    array-share-prefix-places
-    slice-aggregate-apply-at
-    apply-at-requires
-    same-length
-    same-length-2
-    same-length-3
-    same-length-4
-    same-length-5
-    returns)
+    (tie.spec (λ c. search needs) array-borrow-prefix-places slice-aggregate-write-places write-places-requires
+    array-share-prefix-places slice-aggregate-apply-at apply-at-requires (λ c. search needs) (λ c. search needs)
+    (λ c. search needs) (λ c. search needs) (λ c. search needs) (λ c. search needs))

@@ -16,36 +16,15 @@ use borrow.Author.Needs.{needs}
 use Rattle.proposal.proofs.apply_at.Statement.{statement}
 use Rattle.proposal.proofs.apply_at.Tie as tie
 
-is-acceptable-requires : tie.Need-is-acceptable-requires
-is-acceptable-requires c κs = search needs
-
-same-length : tie.Need-same-length
-same-length c = search needs
-
-same-length-2 : tie.Need-same-length-2
-same-length-2 c = search needs
-
 returns : tie.Need-returns
 unfolding proposalSpec
 returns c = let a = c .before .before .before .before .before .before .before .before .before .before .before .args in
     λ t. rw (sym (c .before .is-acceptable .ensures (withRows (a .lots .now) (a .value .now) (withLines (a .lines .now) t))) ∙ not-true _ (c .if1 .taken))
 
-slice-read-run : tie.Need-slice-read-run
-slice-read-run c = search needs
-
 total-lots-requires : tie.Need-total-lots-requires
 total-lots-requires c κs =
     let start = c .before .before .before .before .before .before .before .before .before .before .before .before in
     let a = start .args in let fit = start .pre .1 .1 .0 in subst (λ k. LegsFit k (a .leg-lots .now) (a .leg-prices .now)) (sym (fit .lots-length)) fit
-
-add-run : tie.Need-add-run
-add-run c = search needs
-
-same-length-3 : tie.Need-same-length-3
-same-length-3 c = search needs
-
-same-length-4 : tie.Need-same-length-4
-same-length-4 c = search needs
 
 returns-2 : tie.Need-returns-2
 unfolding proposalSpec orders
@@ -128,21 +107,6 @@ use-orders-requires c κs =
       λ i k. start .pre .0 .2 .order-fit i (omega (arith, count)) .most-side,
     )
 
-same-length-5 : tie.Need-same-length-5
-same-length-5 c = search needs
-
-same-length-6 : tie.Need-same-length-6
-same-length-6 c = search needs
-
-same-length-7 : tie.Need-same-length-7
-same-length-7 c = search needs
-
-same-length-8 : tie.Need-same-length-8
-same-length-8 c = search needs
-
-same-length-9 : tie.Need-same-length-9
-same-length-9 c = search needs
-
 returns-3 : tie.Need-returns-3
 unfolding proposalSpec proposalBooked orders
 returns-3 c =
@@ -179,22 +143,7 @@ returns-3 c =
 pub apply-at-spec : {M : Type 1} → statement M
 apply-at-spec =
     tie.close
-    (tie.spec
-    is-acceptable-requires
-    same-length
-    same-length-2
-    returns
-    slice-read-run
-    total-lots-requires
-    add-run
-    same-length-3
-    same-length-4
-    returns-2
-    book-legs-requires
-    use-orders-requires
-    same-length-5
-    same-length-6
-    same-length-7
-    same-length-8
-    same-length-9
-    returns-3)
+    (tie.spec (λ c κs. search needs) (λ c. search needs) (λ c. search needs) returns (λ c. search needs)
+    total-lots-requires (λ c. search needs) (λ c. search needs) (λ c. search needs) returns-2 book-legs-requires
+    use-orders-requires (λ c. search needs) (λ c. search needs) (λ c. search needs) (λ c. search needs)
+    (λ c. search needs) returns-3)

@@ -9,4 +9,6 @@ returns-2 : tie.Need-returns-2
 returns-2 c = search tests
 
 pub side-of-spec : {M : Type 1} → statement M
-side-of-spec = tie.close (tie.spec returns returns-2)
+side-of-spec =
+    tie.close
+    (tie.spec returns returns-2)

@@ -6,18 +6,6 @@ use borrow.Author.Needs.{needs}
 use Rattle.submit.proofs.apply.Statement.{statement}
 use Rattle.submit.proofs.apply.Tie as tie
 
-first-cause-requires : tie.Need-first-cause-requires
-first-cause-requires c κs = search needs
-
-enum-known-first : tie.Need-enum-known-first
-enum-known-first c = search needs
-
-same-length : tie.Need-same-length
-same-length c = search needs
-
-same-length-2 : tie.Need-same-length-2
-same-length-2 c = search needs
-
 returns : tie.Need-returns
 returns c =
     let start = c .before .before .before .before .before .before .before .before .before in
@@ -32,15 +20,6 @@ returns c =
     let all = lent head prices lots value book lines in
     λ t. refused-first head prices lots value book lines (a .e) (f .0) (f .2) (f .3) _ (c .before .before .before .first-cause .ensures all) _ (c .before .first .given .1)
 
-enum-told : tie.Need-enum-told
-enum-told c = search needs
-
-slice-read-count : tie.Need-slice-read-count
-slice-read-count c = search needs
-
-order-of-requires : tie.Need-order-of-requires
-order-of-requires c κs = search needs
-
 measure-requires : tie.Need-measure-requires
 measure-requires c κs =
     let f = c .before .before .before .before .before .before .before .before .before .before .before .before .pre .0 in
@@ -51,21 +30,6 @@ measured-cause-requires c κs =
     let start = c .before .before .before .before .before .before .before .before .before .before .before .before .before .before .before in
     let f = start .pre .0 in
     ((f .0, start .pre .1 .0, f .3), omega (arith, c .before .before .measure .ensures .1 .0, f .0 .most-orders))
-
-enum-known-second : tie.Need-enum-known-second
-enum-known-second c = search needs
-
-same-length-3 : tie.Need-same-length-3
-same-length-3 c = search needs
-
-same-length-4 : tie.Need-same-length-4
-same-length-4 c = search needs
-
-same-length-5 : tie.Need-same-length-5
-same-length-5 c = search needs
-
-same-length-6 : tie.Need-same-length-6
-same-length-6 c = search needs
 
 returns-2 : tie.Need-returns-2
 returns-2 c =
@@ -86,9 +50,6 @@ returns-2 c =
     λ t. refused-second head prices lots value book lines (a .e) (f .0) (f .2) (f .3) _ (at-order-of .order-of .ensures all) _ _ (at-measure .measure .ensures .0)
     (at-measure .measure .ensures .1 .1) _ _ (at-first-cause .first-cause .ensures all) (c .before .before .before .measured-cause .ensures all)
     (at-enum-told .enum-told .given .1) _ (c .before .second .given .1)
-
-enum-told-2 : tie.Need-enum-told-2
-enum-told-2 c = search needs
 
 book-submit-requires : tie.Need-book-submit-requires
 book-submit-requires c κs =
@@ -117,24 +78,6 @@ book-submit-requires c κs =
       ),
     )
 
-same-length-7 : tie.Need-same-length-7
-same-length-7 c = search needs
-
-same-length-8 : tie.Need-same-length-8
-same-length-8 c = search needs
-
-same-length-9 : tie.Need-same-length-9
-same-length-9 c = search needs
-
-same-length-10 : tie.Need-same-length-10
-same-length-10 c = search needs
-
-same-length-11 : tie.Need-same-length-11
-same-length-11 c = search needs
-
-same-length-12 : tie.Need-same-length-12
-same-length-12 c = search needs
-
 returns-3 : tie.Need-returns-3
 returns-3 c =
     let at-book-submit = c .before .before .before .before .before .before .before .before .before in
@@ -161,29 +104,8 @@ returns-3 c =
 pub apply-spec : {M : Type 1} → statement M
 apply-spec =
     tie.close
-    (tie.spec
-    first-cause-requires
-    enum-known-first
-    same-length
-    same-length-2
-    returns
-    enum-told
-    slice-read-count
-    order-of-requires
-    measure-requires
-    measured-cause-requires
-    enum-known-second
-    same-length-3
-    same-length-4
-    same-length-5
-    same-length-6
-    returns-2
-    enum-told-2
-    book-submit-requires
-    same-length-7
-    same-length-8
-    same-length-9
-    same-length-10
-    same-length-11
-    same-length-12
-    returns-3)
+    (tie.spec (λ c κs. search needs) (λ c. search needs) (λ c. search needs) (λ c. search needs) returns
+    (λ c. search needs) (λ c. search needs) (λ c κs. search needs) measure-requires measured-cause-requires
+    (λ c. search needs) (λ c. search needs) (λ c. search needs) (λ c. search needs) (λ c. search needs) returns-2
+    (λ c. search needs) book-submit-requires (λ c. search needs) (λ c. search needs) (λ c. search needs)
+    (λ c. search needs) (λ c. search needs) (λ c. search needs) returns-3)

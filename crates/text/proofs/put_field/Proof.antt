@@ -5,9 +5,6 @@ use borrow.Author.Needs.{needs}
 use Rattle.text.proofs.put_field.Statement.{statement}
 use Rattle.text.proofs.put_field.Tie as tie
 
-put-byte-requires : tie.Need-put-byte-requires
-put-byte-requires c κs = search needs
-
 put-decimal-requires : tie.Need-put-decimal-requires
 put-decimal-requires c κs =
     omega (
@@ -18,9 +15,6 @@ put-decimal-requires c κs =
           (c .before .before .before .before .before .before .fits .n .fits),
     )
 
-same-length : tie.Need-same-length
-same-length c = search needs
-
 returns : tie.Need-returns
 returns c =
     let p = c .before .before .before .before .before .before .put-byte .ensures in
@@ -29,4 +23,6 @@ returns c =
     (then p q (omega arith), omega (arith, p .after, q .after))
 
 pub put-field-spec : {M : Type 1} → statement M
-put-field-spec = tie.close (tie.spec put-byte-requires put-decimal-requires same-length returns)
+put-field-spec =
+    tie.close
+    (tie.spec (λ c κs. search needs) put-decimal-requires (λ c. search needs) returns)

@@ -4,9 +4,6 @@ use borrow.Author.Needs.{needs}
 use Rattle.text.proofs.put_signed.Statement.{statement}
 use Rattle.text.proofs.put_signed.Tie as tie
 
-size-requires : tie.Need-size-requires
-size-requires c κs = search needs
-
 put-byte-requires : tie.Need-put-byte-requires
 put-byte-requires c κs =
     omega
@@ -23,9 +20,6 @@ put-decimal-requires c κs =
           (c .before .before .before .before .before .if1 .taken) (c .before .before .before .before .before .before .before .before .pre),
     )
 
-same-length : tie.Need-same-length
-same-length c = search needs
-
 returns : tie.Need-returns
 returns c =
     wrote-below _ (c .before .before .before .before .before .before .before .before .before .before .before .fits .x) _
@@ -39,9 +33,6 @@ put-decimal-requires-2 c κs =
     room-other _ (c .before .before .before .before .fits .x) _ (c .before .before .size .ensures) _ (c .before .if1 .left)
     (c .before .before .before .before .pre)
 
-same-length-2 : tie.Need-same-length-2
-same-length-2 c = search needs
-
 returns-2 : tie.Need-returns-2
 returns-2 c =
     wrote-other _ (c .before .before .before .before .before .before .before .fits .x) _ (c .before .before .before .before .before .size .ensures) _
@@ -50,12 +41,5 @@ returns-2 c =
 pub put-signed-spec : {M : Type 1} → statement M
 put-signed-spec =
     tie.close
-    (tie.spec
-    size-requires
-    put-byte-requires
-    put-decimal-requires
-    same-length
-    returns
-    put-decimal-requires-2
-    same-length-2
-    returns-2)
+    (tie.spec (λ c κs. search needs) put-byte-requires put-decimal-requires (λ c. search needs) returns
+    put-decimal-requires-2 (λ c. search needs) returns-2)

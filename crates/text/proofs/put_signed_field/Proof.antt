@@ -6,9 +6,6 @@ use borrow.Author.Needs.{needs}
 use Rattle.text.proofs.put_signed_field.Statement.{statement}
 use Rattle.text.proofs.put_signed_field.Tie as tie
 
-put-byte-requires : tie.Need-put-byte-requires
-put-byte-requires c κs = search needs
-
 put-signed-requires : tie.Need-put-signed-requires
 put-signed-requires c κs =
     rw (toZ-ofZ (c .before .before .before .before .before .before .fits .x)) (omega (
@@ -18,9 +15,6 @@ put-signed-requires c κs =
       signed-20 (c .before .before .before .before .before .before .args .x)
           (c .before .before .before .before .before .before .fits .x .sfits),
     ))
-
-same-length : tie.Need-same-length
-same-length c = search needs
 
 returns : tie.Need-returns
 returns c =
@@ -32,4 +26,6 @@ returns c =
     (then p q (omega arith), omega (arith, p .after, q .after))
 
 pub put-signed-field-spec : {M : Type 1} → statement M
-put-signed-field-spec = tie.close (tie.spec put-byte-requires put-signed-requires same-length returns)
+put-signed-field-spec =
+    tie.close
+    (tie.spec (λ c κs. search needs) put-signed-requires (λ c. search needs) returns)

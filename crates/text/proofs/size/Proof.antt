@@ -22,8 +22,7 @@ returns c =
 cast-result-2 : tie.Need-cast-result-2
 cast-result-2 c = positive-cast (c .before .args .x) (c .before .fits .x) (c .if1 .left)
 
-returns-2 : tie.Need-returns-2
-returns-2 c = search needs
-
 pub size-spec : {M : Type 1} → statement M
-size-spec = tie.close (tie.spec sub-less-one cast-result add-result returns cast-result-2 returns-2)
+size-spec =
+    tie.close
+    (tie.spec sub-less-one cast-result add-result returns cast-result-2 (λ c. search needs))

@@ -7,9 +7,6 @@ use borrow.Author.Needs.{needs}
 use Rattle.calendar.proofs.contracts.days_of.Statement.{statement}
 use Rattle.calendar.proofs.contracts.days_of.Tie as tie
 
-term-of-requires : tie.Need-term-of-requires
-term-of-requires c κs = search needs
-
 term-period-requires : tie.Need-term-period-requires
 term-period-requires c κs = (c .before .pre .0, rw (c .term-of .ensures) (numbered _ (c .before .pre .1)))
 
@@ -22,4 +19,6 @@ unfolding daysOf
 returns c = λ h. rw (c .before .term-period .ensures h .starts, c .before .term-period .ensures h .ends, c .before .before .term-of .ensures)
 
 pub days-of-spec : {M : Type 1} → statement M
-days-of-spec = tie.close (tie.spec term-of-requires term-period-requires sub-result returns)
+days-of-spec =
+    tie.close
+    (tie.spec (λ c κs. search needs) term-period-requires sub-result returns)

@@ -6,9 +6,6 @@ use borrow.Author.Needs.{needs}
 use Rattle.calendar.proofs.contracts.is_open.Statement.{statement}
 use Rattle.calendar.proofs.contracts.is_open.Tie as tie
 
-term-of-requires : tie.Need-term-of-requires
-term-of-requires c κs = search needs
-
 is-open-term-requires : tie.Need-is-open-term-requires
 is-open-term-requires c κs = (c .before .before .pre .0, rw (c .term-of .ensures) (numbered _ (c .before .before .pre .1)))
 
@@ -16,4 +13,6 @@ returns : tie.Need-returns
 returns c = rw (c .before .term-of .ensures) at (c .is-open-term .ensures) ∙ sym (open-by-count _ _ _ (omega arith))
 
 pub is-open-spec : {M : Type 1} → statement M
-is-open-spec = tie.close (tie.spec term-of-requires is-open-term-requires returns)
+is-open-spec =
+    tie.close
+    (tie.spec (λ c κs. search needs) is-open-term-requires returns)

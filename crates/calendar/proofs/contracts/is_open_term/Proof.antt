@@ -8,14 +8,8 @@ use borrow.Author.Needs.{needs}
 use Rattle.calendar.proofs.contracts.is_open_term.Statement.{statement}
 use Rattle.calendar.proofs.contracts.is_open_term.Tie as tie
 
-still-to-close-requires : tie.Need-still-to-close-requires
-still-to-close-requires c κs = search needs
-
 returns : tie.Need-returns
 returns c = sym (open-closed _ _ _ (sym (c .before .still-to-close .ensures) ∙ not-true _ (c .if1 .taken)))
-
-open-count-requires : tie.Need-open-count-requires
-open-count-requires c κs = search needs
 
 returns-2 : tie.Need-returns-2
 returns-2 c = sym (open-first _ _ _ (sym (c .before .before .before .still-to-close .ensures) ∙ not-false _ (c .before .before .if1 .left)) (rw (c .before .open-count .ensures) at (c .if2 .taken)))
@@ -36,10 +30,4 @@ returns-3 c =
 pub is-open-term-spec : {M : Type 1} → statement M
 is-open-term-spec =
     tie.close
-    (tie.spec
-    still-to-close-requires
-    returns
-    open-count-requires
-    returns-2
-    still-to-close-requires-2
-    returns-3)
+    (tie.spec (λ c κs. search needs) returns (λ c κs. search needs) returns-2 still-to-close-requires-2 returns-3)

@@ -2,11 +2,10 @@ use borrow.Author.Needs.{needs}
 use Rattle.calendar.proofs.contracts.kind_of.Statement.{statement}
 use Rattle.calendar.proofs.contracts.kind_of.Tie as tie
 
-term-of-requires : tie.Need-term-of-requires
-term-of-requires c κs = search needs
-
 returns : tie.Need-returns
 returns c = rw (c .term-of .ensures)
 
 pub kind-of-spec : {M : Type 1} → statement M
-kind-of-spec = tie.close (tie.spec term-of-requires returns)
+kind-of-spec =
+    tie.close
+    (tie.spec (λ c κs. search needs) returns)

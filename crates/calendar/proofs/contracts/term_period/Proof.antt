@@ -7,12 +7,6 @@ use borrow.Author.Needs.{needs}
 use Rattle.calendar.proofs.contracts.term_period.Statement.{statement}
 use Rattle.calendar.proofs.contracts.term_period.Tie as tie
 
-months-in-requires : tie.Need-months-in-requires
-months-in-requires c κs = search needs
-
-first-month-requires : tie.Need-first-month-requires
-first-month-requires c κs = search needs
-
 mul-month : tie.Need-mul-month
 mul-month c = rw (c .before .before .months-in .ensures) (omega arith)
 
@@ -34,11 +28,5 @@ returns c =
 pub term-period-spec : {M : Type 1} → statement M
 term-period-spec =
     tie.close
-    (tie.spec
-    months-in-requires
-    first-month-requires
-    mul-month
-    add-month
-    add-months-span
-    months-span-requires
+    (tie.spec (λ c κs. search needs) (λ c κs. search needs) mul-month add-month add-months-span months-span-requires
     returns)

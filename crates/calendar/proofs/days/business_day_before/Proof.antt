@@ -17,12 +17,6 @@ abbrev μ-loop : tie.MeasureT-loop
 loop-holds : tie.Need-loop-holds Inv-loop μ-loop
 loop-holds c = (omega arith, omega arith, λ y. refl)
 
-sub-x : tie.Need-sub-x Inv-loop μ-loop
-sub-x c = search needs
-
-is-business-day-requires : tie.Need-is-business-day-requires Inv-loop μ-loop
-is-business-day-requires c κs = search needs
-
 returns : tie.Need-returns Inv-loop μ-loop
 returns c =
     let is-business-day = c .before .before .is-business-day in
@@ -30,21 +24,12 @@ returns c =
     let loop = c .before .before .before .before .loop in
     λ y. sym (back-last _ _ _ (test .taken) (sym (is-business-day .ensures y) ∙ c .before .if1 .taken) (c .if2 .taken)) ∙ loop .inv .2 y
 
-sub-left : tie.Need-sub-left Inv-loop μ-loop
-sub-left c = search needs
-
-loop-less : tie.Need-loop-less Inv-loop μ-loop
-loop-less c = search needs
-
 loop-again : tie.Need-loop-again Inv-loop μ-loop
 loop-again c =
     let is-business-day = c .before .before .is-business-day in
     let test = c .before .before .before .loop-test in
     let loop = c .before .before .before .before .loop in
     (omega arith, omega arith, λ y. sym (back-more _ _ _ (test .taken) (sym (is-business-day .ensures y) ∙ c .before .if1 .taken) (c .if2 .left)) ∙ loop .inv .2 y)
-
-loop-less-2 : tie.Need-loop-less-2 Inv-loop μ-loop
-loop-less-2 c = search needs
 
 loop-again-2 : tie.Need-loop-again-2 Inv-loop μ-loop
 loop-again-2 c =
@@ -58,16 +43,5 @@ returns-2 c = λ y. sym (back-end _ _ _ (c .loop-test .left)) ∙ c .before .loo
 pub business-day-before-spec : {M : Type 1} → statement M
 business-day-before-spec =
     tie.close
-    (tie.spec
-    Inv-loop
-    μ-loop
-    loop-holds
-    sub-x
-    is-business-day-requires
-    returns
-    sub-left
-    loop-less
-    loop-again
-    loop-less-2
-    loop-again-2
-    returns-2)
+    (tie.spec Inv-loop μ-loop loop-holds (λ c. search needs) (λ c κs. search needs) returns (λ c. search needs)
+    (λ c. search needs) loop-again (λ c. search needs) loop-again-2 returns-2)

@@ -16,17 +16,8 @@ abbrev μ-loop : tie.MeasureT-loop
 loop-holds : tie.Need-loop-holds Inv-loop μ-loop
 loop-holds c = λ y. refl
 
-is-business-day-requires : tie.Need-is-business-day-requires Inv-loop μ-loop
-is-business-day-requires c κs = search needs
-
 returns : tie.Need-returns Inv-loop μ-loop
 returns c = λ y. sym (next-here _ _ _ (c .before .before .if1 .taken) (sym (c .before .is-business-day .ensures y) ∙ c .if2 .taken)) ∙ c .before .before .before .before .loop .inv y
-
-add-x : tie.Need-add-x Inv-loop μ-loop
-add-x c = search needs
-
-loop-less : tie.Need-loop-less Inv-loop μ-loop
-loop-less c = search needs
 
 loop-again : tie.Need-loop-again Inv-loop μ-loop
 loop-again c = λ y. next-more _ _ _ (c .before .before .if1 .taken) (sym (c .before .is-business-day .ensures y) ∙ c .if2 .left) ∙ c .before .before .before .before .loop .inv y
@@ -37,13 +28,5 @@ returns-2 c = λ y. sym (next-end _ _ _ (c .if1 .left)) ∙ c .before .before .l
 pub first-business-day-spec : {M : Type 1} → statement M
 first-business-day-spec =
     tie.close
-    (tie.spec
-    Inv-loop
-    μ-loop
-    loop-holds
-    is-business-day-requires
-    returns
-    add-x
-    loop-less
-    loop-again
-    returns-2)
+    (tie.spec Inv-loop μ-loop loop-holds (λ c κs. search needs) returns (λ c. search needs) (λ c. search needs)
+    loop-again returns-2)

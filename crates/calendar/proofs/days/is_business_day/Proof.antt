@@ -12,12 +12,11 @@ returns-2 : tie.Need-returns-2
 unfolding businessDay
 returns-2 c = λ y. search (eq-eqb, ne-eqb)
 
-is-holiday-requires : tie.Need-is-holiday-requires
-is-holiday-requires c κs = search needs
-
 returns-3 : tie.Need-returns-3
 unfolding businessDay
 returns-3 c = λ y. search (eq-eqb, ne-eqb, c .is-holiday .ensures)
 
 pub is-business-day-spec : {M : Type 1} → statement M
-is-business-day-spec = tie.close (tie.spec returns returns-2 is-holiday-requires returns-3)
+is-business-day-spec =
+    tie.close
+    (tie.spec returns returns-2 (λ c κs. search needs) returns-3)

@@ -16,21 +16,6 @@ Inv-loop holidays day found₀ i₀ found i = (i ≤ length holidays) × (found 
 abbrev μ-loop : tie.MeasureT-loop
 μ-loop holidays day found₀ i₀ found i = length holidays - i
 
-loop-holds : tie.Need-loop-holds Inv-loop μ-loop
-loop-holds c = search needs
-
-mul-found : tie.Need-mul-found Inv-loop μ-loop
-mul-found c = search needs
-
-shared-slice-read-found : tie.Need-shared-slice-read-found Inv-loop μ-loop
-shared-slice-read-found c = search needs
-
-add-i : tie.Need-add-i Inv-loop μ-loop
-add-i c = search needs
-
-loop-less : tie.Need-loop-less Inv-loop μ-loop
-loop-less c = search needs
-
 loop-again : tie.Need-loop-again Inv-loop μ-loop
 loop-again c =
     let test = c .before .before .loop-test in
@@ -44,13 +29,5 @@ returns c = any-end _ (c .before .before .args .holidays .now) 0 (c .before .loo
 pub is-holiday-spec : {M : Type 1} → statement M
 is-holiday-spec =
     tie.close
-    (tie.spec
-    Inv-loop
-    μ-loop
-    loop-holds
-    mul-found
-    shared-slice-read-found
-    add-i
-    loop-less
-    loop-again
-    returns)
+    (tie.spec Inv-loop μ-loop (λ c. search needs) (λ c. search needs) (λ c. search needs) (λ c. search needs)
+    (λ c. search needs) loop-again returns)

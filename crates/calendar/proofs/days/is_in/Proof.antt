@@ -7,4 +7,6 @@ unfolding inSpan
 returns c = λ k s. rw (s .starts, s .ends)
 
 pub is-in-spec : {M : Type 1} → statement M
-is-in-spec = tie.close (tie.spec returns)
+is-in-spec =
+    tie.close
+    (tie.spec returns)

@@ -4,9 +4,6 @@ use borrow.Author.Needs.{needs}
 use Rattle.calendar.proofs.days.span_of.Statement.{statement}
 use Rattle.calendar.proofs.days.span_of.Tie as tie
 
-first-month-requires : tie.Need-first-month-requires
-first-month-requires c κs = search needs
-
 add-months-span : tie.Need-add-months-span
 add-months-span c = rw (c .first-month .ensures) (omega arith)
 
@@ -21,4 +18,5 @@ returns c =
 
 pub span-of-spec : {M : Type 1} → statement M
 span-of-spec =
-    tie.close (tie.spec first-month-requires add-months-span months-span-requires returns)
+    tie.close
+    (tie.spec (λ c κs. search needs) add-months-span months-span-requires returns)

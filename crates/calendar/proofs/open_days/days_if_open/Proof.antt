@@ -6,14 +6,8 @@ use Rattle.calendar.proofs.OpenDays.{first-read, after-read}
 use Rattle.calendar.proofs.open_days.days_if_open.Statement.{statement}
 use Rattle.calendar.proofs.open_days.days_if_open.Tie as tie
 
-is-open-from-requires : tie.Need-is-open-from-requires
-is-open-from-requires c κs = search needs
-
 returns : tie.Need-returns
 returns c = λ k d e g. rw (sym (c .before .is-open-from .ensures k d e g) ∙ not-true _ (c .if1 .taken))
-
-months-in-requires : tie.Need-months-in-requires
-months-in-requires c κs = search needs
 
 mul-first : tie.Need-mul-first
 mul-first c = rw (c .before .months-in .ensures) (omega arith)
@@ -50,15 +44,5 @@ returns-2 c =
 pub days-if-open-spec : {M : Type 1} → statement M
 days-if-open-spec =
     tie.close
-    (tie.spec
-    is-open-from-requires
-    returns
-    months-in-requires
-    mul-first
-    add-result
-    mul-result
-    shared-slice-read-result
-    mul-result-2
-    shared-slice-read-result-2
-    sub-result
-    returns-2)
+    (tie.spec (λ c κs. search needs) returns (λ c κs. search needs) mul-first add-result mul-result
+    shared-slice-read-result mul-result-2 shared-slice-read-result-2 sub-result returns-2)

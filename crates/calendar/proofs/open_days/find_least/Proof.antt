@@ -9,15 +9,6 @@ use Rattle.calendar.proofs.OpenDays.{by-kind}
 use Rattle.calendar.proofs.open_days.find_least.Statement.{statement}
 use Rattle.calendar.proofs.open_days.find_least.Tie as tie
 
-least-first-day-requires : tie.Need-least-first-day-requires
-least-first-day-requires c κs = search needs
-
-least-first-day-requires-2 : tie.Need-least-first-day-requires-2
-least-first-day-requires-2 c κs = search needs
-
-least-first-day-requires-3 : tie.Need-least-first-day-requires-3
-least-first-day-requires-3 c κs = search needs
-
 returns : tie.Need-returns
 returns c =
     let a = c .before .before .before .before .args in
@@ -32,8 +23,4 @@ returns c =
 pub find-least-spec : {M : Type 1} → statement M
 find-least-spec =
     tie.close
-    (tie.spec
-    least-first-day-requires
-    least-first-day-requires-2
-    least-first-day-requires-3
-    returns)
+    (tie.spec (λ c κs. search needs) (λ c κs. search needs) (λ c κs. search needs) returns)

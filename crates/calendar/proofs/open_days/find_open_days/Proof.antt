@@ -6,32 +6,11 @@ use Rattle.calendar.proofs.OpenDays.{starts-made, starts-length, span-e
 use Rattle.calendar.proofs.open_days.find_open_days.Statement.{statement}
 use Rattle.calendar.proofs.open_days.find_open_days.Tie as tie
 
-first-month-requires : tie.Need-first-month-requires
-first-month-requires c κs = search needs
-
-slice-aggregate-read-starts : tie.Need-slice-aggregate-read-starts
-slice-aggregate-read-starts c = search needs
-
-read-starts-requires : tie.Need-read-starts-requires
-read-starts-requires c κs = search needs
-
-sub-t12 : tie.Need-sub-t12
-sub-t12 c = search needs
-
-mul-t13 : tie.Need-mul-t13
-mul-t13 c = search needs
-
-array-read-t9 : tie.Need-array-read-t9
-array-read-t9 c = search needs
-
 find-least-requires : tie.Need-find-least-requires
 find-least-requires c κs =
     let start = c .before .before .before .before .before .before in
     let k : Calendar = record { firstYear = start .args .first-year; holidays = start .args .holidays .now } in
     rw (starts-made k _ _ (c .before .read-starts .ensures) (c .before .before .before .first-month .ensures), span-end k) (span-most k (start .pre .0 .1))
-
-slice-aggregate-write-open-days : tie.Need-slice-aggregate-write-open-days
-slice-aggregate-write-open-days c = search needs
 
 write-open-days-requires : tie.Need-write-open-days-requires
 write-open-days-requires c κs =
@@ -39,9 +18,6 @@ write-open-days-requires c κs =
     let k : Calendar = record { firstYear = start .args .first-year; holidays = start .args .holidays .now } in
     rw (starts-made k _ _ (c .before .before .before .before .read-starts .ensures) (c .before .before .before .before .before .before .first-month .ensures))
     (starts-length k, none-earlier k, start .pre .1)
-
-same-length : tie.Need-same-length
-same-length c = search needs
 
 returns : tie.Need-returns
 returns c =
@@ -54,15 +30,6 @@ returns c =
 pub find-open-days-spec : {M : Type 1} → statement M
 find-open-days-spec =
     tie.close
-    (tie.spec
-    first-month-requires
-    slice-aggregate-read-starts
-    read-starts-requires
-    sub-t12
-    mul-t13
-    array-read-t9
-    find-least-requires
-    slice-aggregate-write-open-days
-    write-open-days-requires
-    same-length
-    returns)
+    (tie.spec (λ c κs. search needs) (λ c. search needs) (λ c κs. search needs) (λ c. search needs)
+    (λ c. search needs) (λ c. search needs) find-least-requires (λ c. search needs) write-open-days-requires
+    (λ c. search needs) returns)

@@ -9,9 +9,6 @@ use Rattle.calendar.proofs.OpenDays.{to-close-from, open-from}
 use Rattle.calendar.proofs.open_days.is_open_from.Statement.{statement}
 use Rattle.calendar.proofs.open_days.is_open_from.Tie as tie
 
-months-in-requires : tie.Need-months-in-requires
-months-in-requires c κs = search needs
-
 mul-if1 : tie.Need-mul-if1
 mul-if1 c = rw (c .months-in .ensures) (omega arith)
 
@@ -26,9 +23,6 @@ returns c =
     let start = c .before .before .before .before .before in
     let test = rw (c .before .before .before .months-in .ensures) at (c .if1 .taken) in
     λ k d e g. sym (open-closed k d (start .args .t) (to-close-from k (start .args .t) (start .pre .1) d _ g ∙ lt-leb _ _ (rw e at test)))
-
-open-count-requires : tie.Need-open-count-requires
-open-count-requires c κs = search needs
 
 returns-2 : tie.Need-returns-2
 returns-2 c =
@@ -67,15 +61,5 @@ returns-3 c =
 pub is-open-from-spec : {M : Type 1} → statement M
 is-open-from-spec =
     tie.close
-    (tie.spec
-    months-in-requires
-    mul-if1
-    mul-if1-2
-    shared-slice-read-if1
-    returns
-    open-count-requires
-    returns-2
-    mul-result
-    mul-result-2
-    shared-slice-read-result
-    returns-3)
+    (tie.spec (λ c κs. search needs) mul-if1 mul-if1-2 shared-slice-read-if1 returns (λ c κs. search needs) returns-2
+    mul-result mul-result-2 shared-slice-read-result returns-3)

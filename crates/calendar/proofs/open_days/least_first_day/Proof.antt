@@ -19,26 +19,11 @@ abbrev μ-loop : tie.MeasureT-loop
 loop-holds : tie.Need-loop-holds Inv-loop μ-loop
 loop-holds c = (omega arith, c .before .pre .0, λ y. omega (arith, none-counted (record { firstYear = y; holidays = c .before .args .holidays .now }) (c .before .args .day .0)))
 
-is-business-day-requires : tie.Need-is-business-day-requires Inv-loop μ-loop
-is-business-day-requires c κs = search needs
-
-add-t11 : tie.Need-add-t11 Inv-loop μ-loop
-add-t11 c = search needs
-
 returns : tie.Need-returns Inv-loop μ-loop
 returns c =
     let inv = c .before .before .before .before .before .loop .inv in
     let one : c .before .before .before .before .before .loop .left ≡ 1 = omega arith in
     λ y f h. last-counted _ _ _ _ f (inv .0) (rw one at (inv .2 y)) (sym (c .before .before .is-business-day .ensures y) ∙ c .before .if2 .taken)
-
-sub-left : tie.Need-sub-left Inv-loop μ-loop
-sub-left c = search needs
-
-add-x : tie.Need-add-x Inv-loop μ-loop
-add-x c = search needs
-
-loop-less : tie.Need-loop-less Inv-loop μ-loop
-loop-less c = search needs
 
 loop-again : tie.Need-loop-again Inv-loop μ-loop
 loop-again c =
@@ -50,9 +35,6 @@ loop-again c =
     (λ w. (omega arith, omega arith, λ y. omega (arith, rw (sym (day y) ∙ w .0 .left) at (one-more (calendar y) (a .day .0) (loop .x) (loop .inv .0)), loop .inv .2 y)))
     (c .if2 .came)
 
-add-t12 : tie.Need-add-t12 Inv-loop μ-loop
-add-t12 c = search needs
-
 returns-2 : tie.Need-returns-2 Inv-loop μ-loop
 returns-2 c =
     let loop = c .before .before .before .loop in
@@ -61,16 +43,5 @@ returns-2 c =
 pub least-first-day-spec : {M : Type 1} → statement M
 least-first-day-spec =
     tie.close
-    (tie.spec
-    Inv-loop
-    μ-loop
-    loop-holds
-    is-business-day-requires
-    add-t11
-    returns
-    sub-left
-    add-x
-    loop-less
-    loop-again
-    add-t12
-    returns-2)
+    (tie.spec Inv-loop μ-loop loop-holds (λ c κs. search needs) (λ c. search needs) returns (λ c. search needs)
+    (λ c. search needs) (λ c. search needs) loop-again (λ c. search needs) returns-2)

@@ -29,28 +29,10 @@ loop-holds : tie.Need-loop-holds Inv-loop μ-loop
 unfolding openDays
 loop-holds c = (omega arith, c .before .before .pre .2, λ k d e g. refl)
 
-term-of-requires : tie.Need-term-of-requires Inv-loop μ-loop
-term-of-requires c κs = search needs
-
-least-of-requires : tie.Need-least-of-requires Inv-loop μ-loop
-least-of-requires c κs = search needs
-
 days-if-open-requires : tie.Need-days-if-open-requires Inv-loop μ-loop
 days-if-open-requires c κs =
     let pre = c .before .before .before .before .before .before .pre in
     (pre .0, rw (c .before .term-of .ensures) (numbered _ (omega arith)), pre .1)
-
-mul-days : tie.Need-mul-days Inv-loop μ-loop
-mul-days c = search needs
-
-slice-write-days : tie.Need-slice-write-days Inv-loop μ-loop
-slice-write-days c = search needs
-
-add-contract : tie.Need-add-contract Inv-loop μ-loop
-add-contract c = search needs
-
-loop-less : tie.Need-loop-less Inv-loop μ-loop
-loop-less c = search needs
 
 loop-again : tie.Need-loop-again Inv-loop μ-loop
 loop-again c =
@@ -64,9 +46,6 @@ loop-again c =
           rw days (written-next (l .days) (l .contract) _ _ _ (omega arith) (rw (mapped-next contractCount (l .contract) f (omega arith)) at (l .inv .2 k d e g))),
     )
 
-same-length : tie.Need-same-length Inv-loop μ-loop
-same-length c = omega arith
-
 returns : tie.Need-returns Inv-loop μ-loop
 returns c =
     let l = c .before .loop in
@@ -75,17 +54,6 @@ returns c =
 pub write-open-days-spec : {M : Type 1} → statement M
 write-open-days-spec =
     tie.close
-    (tie.spec
-    Inv-loop
-    μ-loop
-    loop-holds
-    term-of-requires
-    least-of-requires
-    days-if-open-requires
-    mul-days
-    slice-write-days
-    add-contract
-    loop-less
-    loop-again
-    same-length
+    (tie.spec Inv-loop μ-loop loop-holds (λ c κs. search needs) (λ c κs. search needs) days-if-open-requires
+    (λ c. search needs) (λ c. search needs) (λ c. search needs) (λ c. search needs) loop-again (λ c. omega arith)
     returns)

@@ -8,15 +8,11 @@ returns : tie.Need-returns
 unfolding calendarSound
 returns c = search (le-leb, lt-leb)
 
-are-rising-requires : tie.Need-are-rising-requires
-are-rising-requires c κs = search needs
-
-are-in-requires : tie.Need-are-in-requires
-are-in-requires c κs = search needs
-
 returns-2 : tie.Need-returns-2
 unfolding calendarSound
 returns-2 c = rw (c .before .are-rising .ensures, c .are-in .ensures _ (c .before .before .before .before .pre .1)) (search (le-leb, lt-leb))
 
 pub is-calendar-sound-spec : {M : Type 1} → statement M
-is-calendar-sound-spec = tie.close (tie.spec returns are-rising-requires are-in-requires returns-2)
+is-calendar-sound-spec =
+    tie.close
+    (tie.spec returns (λ c κs. search needs) (λ c κs. search needs) returns-2)

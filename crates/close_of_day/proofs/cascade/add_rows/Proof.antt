@@ -11,8 +11,6 @@ use Rattle.arith.proofs.Writes.{front-next, front-end}
 use Rattle.close_of_day.proofs.Cascades.{zip-short, front-rest}
 use Rattle.close_of_day.proofs.cascade.add_rows.Statement.{statement}
 use Rattle.close_of_day.proofs.cascade.add_rows.Tie as tie
-use Rattle.close_of_day.proofs.cascade.add_rows.Reads as reads
-use Rattle.close_of_day.proofs.cascade.add_rows.Lts as lts
 
 abbrev Inv-loop : tie.InvT-loop
 Inv-loop child₀ parent i₀ child i = (i ≤ length child₀) × (length child ≡ length child₀) × (child ≡ take i (zipWith _+ℤ_ child₀ parent) ++ drop i child₀)
@@ -20,27 +18,9 @@ Inv-loop child₀ parent i₀ child i = (i ≤ length child₀) × (length child
 abbrev μ-loop : tie.MeasureT-loop
 μ-loop child₀ parent i₀ child i = length child₀ - i
 
--- src/cascade.rt:44:5
 loop-holds : tie.Need-loop-holds Inv-loop μ-loop
 loop-holds c = (omega arith, refl, refl)
 
--- src/cascade.rt:45:17
-mul-x : tie.Need-mul-x Inv-loop μ-loop
-mul-x c = search needs
-
--- src/cascade.rt:45:17
-slice-copy-out-x : tie.Need-slice-copy-out-x Inv-loop μ-loop
-slice-copy-out-x c = search needs
-
--- src/cascade.rt:46:17
-mul-y : tie.Need-mul-y Inv-loop μ-loop
-mul-y c = search needs
-
--- src/cascade.rt:46:17
-array-copy-out-y : tie.Need-array-copy-out-y Inv-loop μ-loop
-array-copy-out-y c = search needs
-
--- src/cascade.rt:47:20
 add-child : tie.Need-add-child Inv-loop μ-loop
 add-child c =
     let a = c .before .before .before .before .args in
@@ -50,23 +30,6 @@ add-child c =
     let e : getD (l .child) (l .i) (pos 0) ≡ getD (a .child .now) (l .i) (pos 0) = rw (l .inv .2) (front-rest (l .i) sums (a .child .now) (pos 0) (omega arith)) in
     add-ok (getD (l .child) (l .i) (pos 0)) (getD (a .t2) (l .i) (pos 0)) (rw e (c .before .before .before .before .pre .1 (l .i) (omega arith)))
 
--- src/cascade.rt:47:9
-mul-t7 : tie.Need-mul-t7 Inv-loop μ-loop
-mul-t7 c = search needs
-
--- src/cascade.rt:47:9
-slice-set-from-child : tie.Need-slice-set-from-child Inv-loop μ-loop
-slice-set-from-child c = search needs
-
--- src/cascade.rt:48:9
-add-i : tie.Need-add-i Inv-loop μ-loop
-add-i c = search needs
-
--- src/cascade.rt:44:5
-loop-less : tie.Need-loop-less Inv-loop μ-loop
-loop-less c = search needs
-
--- src/cascade.rt:44:5
 loop-again : tie.Need-loop-again Inv-loop μ-loop
 loop-again c =
     let pre = c .before .before .before .before .pre in
@@ -83,11 +46,6 @@ loop-again c =
       ap (set (l .child) (l .i)) here ∙ ap (λ r. set r (l .i) (getD sums (l .i) (pos 0))) (l .inv .2) ∙ front-next (l .i) sums (a .child .now) (pos 0) (omega arith) (omega arith),
     )
 
--- src/cascade.rt:38:1
-same-length : tie.Need-same-length Inv-loop μ-loop
-same-length c = search needs
-
--- src/cascade.rt:38:1
 returns : tie.Need-returns Inv-loop μ-loop
 returns c =
     let a = c .before .before .args in
@@ -98,19 +56,6 @@ returns c =
 pub add-rows-spec : {M : Type 1} → statement M
 add-rows-spec =
     tie.close
-    (tie.spec
-    Inv-loop
-    μ-loop
-    loop-holds
-    mul-x
-    slice-copy-out-x
-    mul-y
-    array-copy-out-y
-    add-child
-    mul-t7
-    slice-set-from-child
-    add-i
-    loop-less
-    loop-again
-    same-length
-    returns)
+    (tie.spec Inv-loop μ-loop loop-holds (λ c. search needs) (λ c. search needs) (λ c. search needs)
+    (λ c. search needs) add-child (λ c. search needs) (λ c. search needs) (λ c. search needs) (λ c. search needs)
+    loop-again (λ c. search needs) returns)

@@ -12,10 +12,6 @@ use Rattle.rules.proofs.Cascade.{rows-at}
 use Rattle.close_of_day.proofs.Cascades.{Adding, adding-next}
 use Rattle.close_of_day.proofs.cascade.add_to_children.Statement.{statement}
 use Rattle.close_of_day.proofs.cascade.add_to_children.Tie as tie
-use Rattle.close_of_day.proofs.cascade.add_to_children.Reads as reads
-use Rattle.close_of_day.proofs.cascade.add_to_children.Lts as lts
-use Rattle.close_of_day.proofs.cascade.add_to_child.Reads as add-to-child-reads
-use Rattle.close_of_day.proofs.cascade.rows_from.Reads as rows-from-reads
 
 abbrev Inv-loop : tie.InvT-loop
 Inv-loop rows₀ members contract first end at parent child₀ rows child = Adding members contract end (length rows₀) (addedTo members contract (from first (end - first)) rows₀) parent child rows
@@ -23,15 +19,9 @@ Inv-loop rows₀ members contract first end at parent child₀ rows child = Addi
 abbrev μ-loop : tie.MeasureT-loop
 μ-loop rows₀ members contract first end at parent child₀ rows child = end - child
 
--- src/cascade.rt:69:14
-mul-at : tie.Need-mul-at Inv-loop μ-loop
-mul-at c = search needs
-
--- src/cascade.rt:70:9
 rows-from-requires : tie.Need-rows-from-requires Inv-loop μ-loop
 rows-from-requires c κs = (omega arith, omega (arith, c .before .pre .0 .0 .long))
 
--- src/cascade.rt:72:5
 loop-holds : tie.Need-loop-holds Inv-loop μ-loop
 loop-holds c =
     let pre = c .before .before .pre in
@@ -51,7 +41,6 @@ loop-holds c =
       known = refl;
     }
 
--- src/cascade.rt:73:9
 add-to-child-requires : tie.Need-add-to-child-requires Inv-loop μ-loop
 add-to-child-requires c κs =
     let pre = c .before .before .before .before .before .pre in
@@ -60,15 +49,6 @@ add-to-child-requires c κs =
       λ m k. omega (arith, l .inv .parent-fit m k, l .inv .rest-fit (l .child) m (omega arith) (omega arith) k),
     )
 
--- src/cascade.rt:74:9
-add-child : tie.Need-add-child Inv-loop μ-loop
-add-child c = search needs
-
--- src/cascade.rt:72:5
-loop-less : tie.Need-loop-less Inv-loop μ-loop
-loop-less c = search needs
-
--- src/cascade.rt:72:5
 loop-again : tie.Need-loop-again Inv-loop μ-loop
 loop-again c =
     let pre = c .before .before .before .before .before .before .before .pre in
@@ -79,11 +59,9 @@ loop-again c =
     (adding-next (a .members) (a .contract) (a .end) (length (a .rows .now)) _ (rows-from .result) (omega arith) (omega arith) (pre .0 .0 .long) (l .child) (l .rows)
     (omega arith) (l .inv))
 
--- src/cascade.rt:64:1
 same-length : tie.Need-same-length Inv-loop μ-loop
 same-length c = c .before .loop .inv .same
 
--- src/cascade.rt:64:1
 returns : tie.Need-returns Inv-loop μ-loop
 unfolding addedTo
 returns c =
@@ -94,15 +72,5 @@ returns c =
 pub add-to-children-spec : {M : Type 1} → statement M
 add-to-children-spec =
     tie.close
-    (tie.spec
-    Inv-loop
-    μ-loop
-    mul-at
-    rows-from-requires
-    loop-holds
-    add-to-child-requires
-    add-child
-    loop-less
-    loop-again
-    same-length
-    returns)
+    (tie.spec Inv-loop μ-loop (λ c. search needs) rows-from-requires loop-holds add-to-child-requires
+    (λ c. search needs) (λ c. search needs) loop-again same-length returns)

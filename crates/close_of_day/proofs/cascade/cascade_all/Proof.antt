@@ -6,17 +6,12 @@ use Rattle.close_of_day.proofs.Cascades.{kind-fit-after, all-closed}
 use borrow.Author.Needs.{needs}
 use Rattle.close_of_day.proofs.cascade.cascade_all.Statement.{statement}
 use Rattle.close_of_day.proofs.cascade.cascade_all.Tie as tie
-use Rattle.close_of_day.proofs.cascade.cascade_all.Reads as reads
-use Rattle.close_of_day.proofs.cascade.cascade_all.Lts as lts
-use Rattle.close_of_day.proofs.cascade.cascade_kind.Reads as cascade-kind-reads
 
--- src/cascade.rt:134:5
 cascade-kind-requires : tie.Need-cascade-kind-requires
 cascade-kind-requires c κs =
     let fit = c .before .before .pre .0 in
     ((record { long = fit .long; within = λ x m u k. omega (arith, fit .within x m u k) }, omega arith), (omega arith, c .before .before .pre .2))
 
--- src/cascade.rt:135:5
 cascade-kind-requires-2 : tie.Need-cascade-kind-requires-2
 cascade-kind-requires-2 c κs =
     let pre = c .before .before .before .before .before .pre in
@@ -26,11 +21,6 @@ cascade-kind-requires-2 c κs =
       (omega arith, pre .2),
     )
 
--- src/cascade.rt:130:1
-same-length : tie.Need-same-length
-same-length c = search needs
-
--- src/cascade.rt:130:1
 returns : tie.Need-returns
 returns c =
     let a = c .before .before .before .before .before .before .before .args in
@@ -38,4 +28,5 @@ returns c =
 
 pub cascade-all-spec : {M : Type 1} → statement M
 cascade-all-spec =
-    tie.close (tie.spec cascade-kind-requires cascade-kind-requires-2 same-length returns)
+    tie.close
+    (tie.spec cascade-kind-requires cascade-kind-requires-2 (λ c. search needs) returns)

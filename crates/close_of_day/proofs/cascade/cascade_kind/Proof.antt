@@ -12,11 +12,6 @@ use Rattle.close_of_day.specs.Phases.{closes, mostRow}
 use Rattle.close_of_day.proofs.Cascades.{KindRun, kind-next, number-below, number-parent}
 use Rattle.close_of_day.proofs.cascade.cascade_kind.Statement.{statement}
 use Rattle.close_of_day.proofs.cascade.cascade_kind.Tie as tie
-use Rattle.close_of_day.proofs.cascade.cascade_kind.Reads as reads
-use Rattle.close_of_day.proofs.cascade.cascade_kind.Lts as lts
-use Rattle.close_of_day.proofs.cascade.cascade_closing.Reads as cascade-closing-reads
-use Rattle.close_of_day.proofs.contracts.contract_of.Reads as contract-of-reads
-use Rattle.close_of_day.proofs.contracts.contracts_in.Reads as contracts-in-reads
 
 abbrev Inv-loop : tie.InvT-loop
 Inv-loop rows₀ column members kind count i₀ rows i = KindRun members (length rows₀) (7 * mostRow) kind column (allCascaded members (kept (closes column) (contractsOf kind)) rows₀) i rows
@@ -24,21 +19,14 @@ Inv-loop rows₀ column members kind count i₀ rows i = KindRun members (length
 abbrev μ-loop : tie.MeasureT-loop
 μ-loop rows₀ column members kind count i₀ rows i = count - i
 
--- src/cascade.rt:120:9
-contracts-in-requires : tie.Need-contracts-in-requires Inv-loop μ-loop
-contracts-in-requires c κs = search needs
-
--- src/cascade.rt:122:5
 loop-holds : tie.Need-loop-holds Inv-loop μ-loop
 loop-holds c =
     let a = c .before .before .args in
     kind-start (a .members) (length (a .rows .now)) (7 * mostRow) (a .kind) (a .column .now) _ (omega arith) (omega arith) (a .rows .now) refl (c .before .before .pre .0 .0) refl
 
--- src/cascade.rt:123:24
 contract-of-requires : tie.Need-contract-of-requires Inv-loop μ-loop
 contract-of-requires c κs = omega (arith, c .before .before .contracts-in .ensures)
 
--- src/cascade.rt:124:56
 mul-cascade-closing : tie.Need-mul-cascade-closing Inv-loop μ-loop
 mul-cascade-closing c =
     let args = c .before .before .before .before .before .before .args in
@@ -46,7 +34,6 @@ mul-cascade-closing c =
     let loop = c .before .before .before .loop in
     let b = number-below (args .kind) (loop .i) (omega (arith, contracts-in .ensures)) in omega (arith, c .before .contract-of .ensures)
 
--- src/cascade.rt:124:56
 shared-slice-read-cascade-closing : tie.Need-shared-slice-read-cascade-closing Inv-loop μ-loop
 shared-slice-read-cascade-closing c =
     let args = c .before .before .before .before .before .before .before .args in
@@ -55,7 +42,6 @@ shared-slice-read-cascade-closing c =
     let contract-of = c .before .before .contract-of in
     let b = number-below (args .kind) (loop .i) (omega (arith, contracts-in .ensures)) in omega (arith, contract-of .ensures)
 
--- src/cascade.rt:124:9
 cascade-closing-requires : tie.Need-cascade-closing-requires Inv-loop μ-loop
 cascade-closing-requires c κs =
     let s = c .before .before .before .before .before .before .before .args .kind in
@@ -64,15 +50,6 @@ cascade-closing-requires c κs =
     rw (c .before .before .contract-of .ensures)
     ((record { long = l .inv .fit .long; within = λ x m u k. omega (arith, l .inv .fit .within x m u k) }, omega arith), (number-below s (l .i) h, number-parent s (l .i) (omega arith)))
 
--- src/cascade.rt:125:9
-add-i : tie.Need-add-i Inv-loop μ-loop
-add-i c = search needs
-
--- src/cascade.rt:122:5
-loop-less : tie.Need-loop-less Inv-loop μ-loop
-loop-less c = search needs
-
--- src/cascade.rt:122:5
 loop-again : tie.Need-loop-again Inv-loop μ-loop
 loop-again c =
     let a = c .before .before .before .before .before .before .before .before .before .args in
@@ -83,11 +60,9 @@ loop-again c =
     (kind-next (a .members) (length (a .rows .now)) (7 * mostRow) (a .kind) (a .column .now) _ (omega arith) (omega arith) (l .i) (l .rows) (omega (arith, contracts-in .ensures))
     (l .inv))
 
--- src/cascade.rt:115:1
 same-length : tie.Need-same-length Inv-loop μ-loop
 same-length c = c .before .loop .inv .same
 
--- src/cascade.rt:115:1
 returns : tie.Need-returns Inv-loop μ-loop
 returns c =
     let a = c .before .before .before .before .args in
@@ -99,17 +74,6 @@ returns c =
 pub cascade-kind-spec : {M : Type 1} → statement M
 cascade-kind-spec =
     tie.close
-    (tie.spec
-    Inv-loop
-    μ-loop
-    contracts-in-requires
-    loop-holds
-    contract-of-requires
-    mul-cascade-closing
-    shared-slice-read-cascade-closing
-    cascade-closing-requires
-    add-i
-    loop-less
-    loop-again
-    same-length
-    returns)
+    (tie.spec Inv-loop μ-loop (λ c κs. search needs) loop-holds contract-of-requires mul-cascade-closing
+    shared-slice-read-cascade-closing cascade-closing-requires (λ c. search needs) (λ c. search needs) loop-again
+    same-length returns)

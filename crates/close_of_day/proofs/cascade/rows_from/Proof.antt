@@ -9,8 +9,6 @@ use Rattle.arith.proofs.Signed.{back-mag}
 use Rattle.close_of_day.proofs.Cascades.{take-more}
 use Rattle.close_of_day.proofs.cascade.rows_from.Statement.{statement}
 use Rattle.close_of_day.proofs.cascade.rows_from.Tie as tie
-use Rattle.close_of_day.proofs.cascade.rows_from.Reads as reads
-use Rattle.close_of_day.proofs.cascade.rows_from.Lts as lts
 
 abbrev Inv-loop : tie.InvT-loop
 Inv-loop rows at members copied₀ i₀ copied i = (i ≤ members) × (length copied ≡ 32) × (take i copied ≡ take i (drop at rows))
@@ -18,39 +16,9 @@ Inv-loop rows at members copied₀ i₀ copied i = (i ≤ members) × (length co
 abbrev μ-loop : tie.MeasureT-loop
 μ-loop rows at members copied₀ i₀ copied i = members - i
 
--- src/cascade.rt:30:5
 loop-holds : tie.Need-loop-holds Inv-loop μ-loop
 loop-holds c = (omega arith, search needs, refl)
 
--- src/cascade.rt:31:22
-add-x : tie.Need-add-x Inv-loop μ-loop
-add-x c = search needs
-
--- src/cascade.rt:31:17
-mul-x : tie.Need-mul-x Inv-loop μ-loop
-mul-x c = search needs
-
--- src/cascade.rt:31:17
-shared-slice-copy-out-x : tie.Need-shared-slice-copy-out-x Inv-loop μ-loop
-shared-slice-copy-out-x c = search needs
-
--- src/cascade.rt:32:9
-mul-copied : tie.Need-mul-copied Inv-loop μ-loop
-mul-copied c = search needs
-
--- src/cascade.rt:32:9
-array-set-from-copied : tie.Need-array-set-from-copied Inv-loop μ-loop
-array-set-from-copied c = search needs
-
--- src/cascade.rt:33:9
-add-i : tie.Need-add-i Inv-loop μ-loop
-add-i c = search needs
-
--- src/cascade.rt:30:5
-loop-less : tie.Need-loop-less Inv-loop μ-loop
-loop-less c = search needs
-
--- src/cascade.rt:30:5
 loop-again : tie.Need-loop-again Inv-loop μ-loop
 loop-again c =
     let a = c .before .before .before .args in
@@ -62,7 +30,6 @@ loop-again c =
           (take-more (l .copied) s (l .i) (pos 0) (omega arith) (simp length-drop (omega arith)) (l .inv .2)),
     )
 
--- src/cascade.rt:24:1
 returns : tie.Need-returns Inv-loop μ-loop
 returns c =
     let l = c .before .loop in
@@ -72,16 +39,5 @@ returns c =
 pub rows-from-spec : {M : Type 1} → statement M
 rows-from-spec =
     tie.close
-    (tie.spec
-    Inv-loop
-    μ-loop
-    loop-holds
-    add-x
-    mul-x
-    shared-slice-copy-out-x
-    mul-copied
-    array-set-from-copied
-    add-i
-    loop-less
-    loop-again
-    returns)
+    (tie.spec Inv-loop μ-loop loop-holds (λ c. search needs) (λ c. search needs) (λ c. search needs)
+    (λ c. search needs) (λ c. search needs) (λ c. search needs) (λ c. search needs) loop-again returns)

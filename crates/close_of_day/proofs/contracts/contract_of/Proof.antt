@@ -2,75 +2,39 @@ use native.Mathlib.Omega.{arith}
 use borrow.Author.Needs.{needs}
 use Rattle.close_of_day.proofs.contracts.contract_of.Statement.{statement}
 use Rattle.close_of_day.proofs.contracts.contract_of.Tie as tie
-use Rattle.close_of_day.proofs.contracts.contract_of.Reads as reads
-use Rattle.close_of_day.proofs.contracts.contract_of.Lts as lts
 
--- src/contracts.rt:39:31
-enum-told : tie.Need-enum-told
-enum-told c = search needs
-
--- src/contracts.rt:39:31
 mul-result : tie.Need-mul-result
 mul-result c = let h = rw (c .enum-told .given .1) at (c .before .before .pre) in omega arith
 
--- src/contracts.rt:40:40
-enum-told-2 : tie.Need-enum-told-2
-enum-told-2 c = search needs
-
--- src/contracts.rt:40:34
 mul-result-2 : tie.Need-mul-result-2
 mul-result-2 c = let h = rw (c .enum-told2 .given .1) at (c .before .before .pre) in omega arith
 
--- src/contracts.rt:40:34
 add-result : tie.Need-add-result
 add-result c = let h = rw (c .enum-told2 .given .1) at (c .before .before .pre) in omega arith
 
--- src/contracts.rt:40:34
 add-result-2 : tie.Need-add-result-2
 add-result-2 c = let h = rw (c .enum-told2 .given .1) at (c .before .before .pre) in omega arith
 
--- src/contracts.rt:41:38
-enum-told-3 : tie.Need-enum-told-3
-enum-told-3 c = search needs
-
--- src/contracts.rt:41:32
 mul-result-3 : tie.Need-mul-result-3
 mul-result-3 c = let h = rw (c .enum-told3 .given .1) at (c .before .before .pre) in omega arith
 
--- src/contracts.rt:41:32
 add-result-3 : tie.Need-add-result-3
 add-result-3 c = let h = rw (c .enum-told3 .given .1) at (c .before .before .pre) in omega arith
 
--- src/contracts.rt:41:32
 add-result-4 : tie.Need-add-result-4
 add-result-4 c = let h = rw (c .enum-told3 .given .1) at (c .before .before .pre) in omega arith
 
--- src/contracts.rt:34:1
 returns : tie.Need-returns
 returns c = rw (c .enum-told .given .1)
 
--- src/contracts.rt:34:1
 returns-2 : tie.Need-returns-2
 returns-2 c = rw (c .enum-told2 .given .1)
 
--- src/contracts.rt:34:1
 returns-3 : tie.Need-returns-3
 returns-3 c = rw (c .enum-told3 .given .1)
 
 pub contract-of-spec : {M : Type 1} → statement M
 contract-of-spec =
     tie.close
-    (tie.spec
-    enum-told
-    mul-result
-    enum-told-2
-    mul-result-2
-    add-result
-    add-result-2
-    enum-told-3
-    mul-result-3
-    add-result-3
-    add-result-4
-    returns
-    returns-2
-    returns-3)
+    (tie.spec (λ c. search needs) mul-result (λ c. search needs) mul-result-2 add-result add-result-2
+    (λ c. search needs) mul-result-3 add-result-3 add-result-4 returns returns-2 returns-3)

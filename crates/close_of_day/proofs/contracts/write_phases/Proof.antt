@@ -10,10 +10,6 @@ use Rattle.close_of_day.specs.Phases.{phaseOf, phases}
 use Rattle.close_of_day.proofs.Phases.{phases-length, phases-at}
 use Rattle.close_of_day.proofs.contracts.write_phases.Statement.{statement}
 use Rattle.close_of_day.proofs.contracts.write_phases.Tie as tie
-use Rattle.close_of_day.proofs.contracts.write_phases.Reads as reads
-use Rattle.close_of_day.proofs.contracts.write_phases.Lts as lts
-use Rattle.calendar.proofs.closing_day.Reads as closing-day-reads
-use Rattle.close_of_day.proofs.contracts.phase_of.Reads as phase-of-reads
 
 abbrev Inv-loop : tie.InvT-loop
 Inv-loop first-year holidays day column₀ contract₀ column contract = (contract ≤ 102) × (length column ≡ 102)
@@ -22,35 +18,12 @@ Inv-loop first-year holidays day column₀ contract₀ column contract = (contra
 abbrev μ-loop : tie.MeasureT-loop
 μ-loop first-year holidays day column₀ contract₀ column contract = 102 - contract
 
--- src/contracts.rt:68:5
 loop-holds : tie.Need-loop-holds Inv-loop μ-loop
 loop-holds c = (omega arith, c .before .before .pre .1, refl)
 
--- src/contracts.rt:69:13
 closing-day-requires : tie.Need-closing-day-requires Inv-loop μ-loop
 closing-day-requires c κs = (c .before .before .before .before .pre .0, omega arith)
 
--- src/contracts.rt:70:28
-phase-of-requires : tie.Need-phase-of-requires Inv-loop μ-loop
-phase-of-requires c κs = search needs
-
--- src/contracts.rt:70:9
-mul-column : tie.Need-mul-column Inv-loop μ-loop
-mul-column c = search needs
-
--- src/contracts.rt:70:9
-slice-write-column : tie.Need-slice-write-column Inv-loop μ-loop
-slice-write-column c = search needs
-
--- src/contracts.rt:71:9
-add-contract : tie.Need-add-contract Inv-loop μ-loop
-add-contract c = search needs
-
--- src/contracts.rt:68:5
-loop-less : tie.Need-loop-less Inv-loop μ-loop
-loop-less c = search needs
-
--- src/contracts.rt:68:5
 loop-again : tie.Need-loop-again Inv-loop μ-loop
 loop-again c =
     let pre = c .before .before .before .before .before .before .pre in
@@ -65,11 +38,6 @@ loop-again c =
       rw (here, l .inv .2) (front-next (l .contract) (phases k d) (a .column .now) 0 (omega (arith, phases-length k d)) (omega (arith, pre .1))),
     )
 
--- src/contracts.rt:63:1
-same-length : tie.Need-same-length Inv-loop μ-loop
-same-length c = search needs
-
--- src/contracts.rt:63:1
 returns : tie.Need-returns Inv-loop μ-loop
 returns c =
     let a = c .before .before .before .before .args in
@@ -80,16 +48,5 @@ returns c =
 pub write-phases-spec : {M : Type 1} → statement M
 write-phases-spec =
     tie.close
-    (tie.spec
-    Inv-loop
-    μ-loop
-    loop-holds
-    closing-day-requires
-    phase-of-requires
-    mul-column
-    slice-write-column
-    add-contract
-    loop-less
-    loop-again
-    same-length
-    returns)
+    (tie.spec Inv-loop μ-loop loop-holds closing-day-requires (λ c κs. search needs) (λ c. search needs)
+    (λ c. search needs) (λ c. search needs) (λ c. search needs) loop-again (λ c. search needs) returns)

@@ -11,31 +11,16 @@ use Rattle.close_of_day.specs.Phases.{closes}
 use borrow.Author.Needs.{needs}
 use Rattle.close_of_day.proofs.orders.remove_closing.Statement.{statement}
 use Rattle.close_of_day.proofs.orders.remove_closing.Tie as tie
-use Rattle.close_of_day.proofs.orders.remove_closing.Reads as reads
-use Rattle.close_of_day.proofs.orders.remove_closing.Lts as lts
-use Rattle.close_of_day.proofs.orders.write_left.Reads as write-left-reads
-use Rattle.tables.proofs.keep_orders.Reads as keep-orders-reads
 
--- src/orders.rt:46:17
-slice-read-count : tie.Need-slice-read-count
-slice-read-count c = search needs
-
--- src/orders.rt:48:32
-array-borrow-prefix-left : tie.Need-array-borrow-prefix-left
-array-borrow-prefix-left c = search needs
-
--- src/orders.rt:48:32
 slice-aggregate-write-left : tie.Need-slice-aggregate-write-left
 slice-aggregate-write-left c = sym (length-take-le _ _ (c .before .before .before .before .before .before .pre .1 .most-orders))
 
--- src/orders.rt:48:5
 write-left-requires : tie.Need-write-left-requires
 write-left-requires c κs =
     let pre = c .before .before .before .before .before .before .pre in
     let a = c .before .before .before .before .before .before .args in
     (rw (length-take-le {A = ℕ} (getD (a .head .now) 7 0) (replicate 256 0) (pre .1 .most-orders)) (pre .1), pre .2)
 
--- src/orders.rt:49:49
 array-share-prefix-left : tie.Need-array-share-prefix-left
 array-share-prefix-left c =
     let pre = c .before .before .before .before .before .before .before .before .before .before .pre in
@@ -44,7 +29,6 @@ array-share-prefix-left c =
     let p : Order → Bool = λ o. closes (a .column .now) (o .contract) in
     column-long p (getD (a .head .now) 7 0) _ (replicate 256 0) (a .book .now) (pre .1 .most-orders) (write-left .ensures)
 
--- src/orders.rt:49:49
 slice-aggregate-keep-orders : tie.Need-slice-aggregate-keep-orders
 slice-aggregate-keep-orders c =
     let pre = c .before .before .before .before .before .before .before .before .before .before .before .pre in
@@ -53,7 +37,6 @@ slice-aggregate-keep-orders c =
     let p : Order → Bool = λ o. closes (a .column .now) (o .contract) in
     column-many p (getD (a .head .now) 7 0) _ (replicate 256 0) (a .book .now) (pre .1 .most-orders) (write-left .ensures)
 
--- src/orders.rt:49:5
 keep-orders-requires : tie.Need-keep-orders-requires
 keep-orders-requires c κs =
     let start = c .before .before .before .before .before .before .before .before .before .before .before in
@@ -65,15 +48,6 @@ keep-orders-requires c κs =
     let many = column-many p n (left .last .1 .1 .0) (replicate 256 0) (a .book .now) (reads .most-orders) (left .ensures) in
     ((start .pre .0, reads .long, reads .most-orders, rw (← many) (omega arith)), reads .most-side)
 
--- src/orders.rt:41:1
-same-length : tie.Need-same-length
-same-length c = search needs
-
--- src/orders.rt:41:1
-same-length-2 : tie.Need-same-length-2
-same-length-2 c = search needs
-
--- src/orders.rt:41:1
 returns : tie.Need-returns
 returns c =
     let pre = c .before .before .before .before .before .before .before .before .before .before .before .before .before .before .before .before .pre in
@@ -89,14 +63,6 @@ returns c =
 pub remove-closing-spec : {M : Type 1} → statement M
 remove-closing-spec =
     tie.close
-    (tie.spec
-    slice-read-count
-    array-borrow-prefix-left
-    slice-aggregate-write-left
-    write-left-requires
-    array-share-prefix-left
-    slice-aggregate-keep-orders
-    keep-orders-requires
-    same-length
-    same-length-2
+    (tie.spec (λ c. search needs) (λ c. search needs) slice-aggregate-write-left write-left-requires
+    array-share-prefix-left slice-aggregate-keep-orders keep-orders-requires (λ c. search needs) (λ c. search needs)
     returns)

@@ -13,10 +13,6 @@ use Rattle.tables.proofs.Left.{staying-length, staying-at}
 use Rattle.close_of_day.specs.Phases.{closes}
 use Rattle.close_of_day.proofs.orders.write_left.Statement.{statement}
 use Rattle.close_of_day.proofs.orders.write_left.Tie as tie
-use Rattle.close_of_day.proofs.orders.write_left.Reads as reads
-use Rattle.close_of_day.proofs.orders.write_left.Lts as lts
-use Rattle.close_of_day.proofs.orders.left_of.Reads as left-of-reads
-use Rattle.tables.proofs.order_at.Reads as order-at-reads
 
 abbrev Inv-loop : tie.InvT-loop
 Inv-loop book column left₀ i₀ left i = (length left ≡ length left₀) × (i ≤ length left₀) × (left ≡ take i (staying (λ o. closes column (o .contract)) (ordersIn (length left₀) book)) ++ drop i left₀)
@@ -24,46 +20,21 @@ Inv-loop book column left₀ i₀ left i = (length left ≡ length left₀) × (
 abbrev μ-loop : tie.MeasureT-loop
 μ-loop book column left₀ i₀ left i = length left₀ - i
 
--- src/orders.rt:33:5
 loop-holds : tie.Need-loop-holds Inv-loop μ-loop
 loop-holds c = (refl, omega arith, refl)
 
--- src/orders.rt:34:13
 order-at-requires : tie.Need-order-at-requires Inv-loop μ-loop
 order-at-requires c κs = (omega (arith, c .before .before .before .before .before .pre .0 .most-orders), c .before .before .before .before .before .pre .0 .long)
 
--- src/orders.rt:36:30
 mul-left-of : tie.Need-mul-left-of Inv-loop μ-loop
 mul-left-of c = omega (arith, ap (λ o. o .contract) (c .order-at .ensures), c .before .before .before .before .before .before .pre .0 .contract-below (c .before .before .loop .i) (omega arith))
 
--- src/orders.rt:36:30
 shared-slice-read-left-of : tie.Need-shared-slice-read-left-of Inv-loop μ-loop
 shared-slice-read-left-of c =
     let pre = c .before .before .before .before .before .before .before .pre in
     let loop = c .before .before .before .loop in
     omega (arith, ap (λ o. o .contract) (c .before .order-at .ensures), pre .0 .contract-below (loop .i) (omega arith))
 
--- src/orders.rt:36:19
-left-of-requires : tie.Need-left-of-requires Inv-loop μ-loop
-left-of-requires c κs = search needs
-
--- src/orders.rt:36:9
-mul-left : tie.Need-mul-left Inv-loop μ-loop
-mul-left c = search needs
-
--- src/orders.rt:36:9
-slice-write-left : tie.Need-slice-write-left Inv-loop μ-loop
-slice-write-left c = search needs
-
--- src/orders.rt:37:9
-add-i : tie.Need-add-i Inv-loop μ-loop
-add-i c = search needs
-
--- src/orders.rt:33:5
-loop-less : tie.Need-loop-less Inv-loop μ-loop
-loop-less c = search needs
-
--- src/orders.rt:33:5
 loop-again : tie.Need-loop-again Inv-loop μ-loop
 loop-again c =
     let a = c .before .before .before .before .before .before .before .before .args in
@@ -78,11 +49,6 @@ loop-again c =
       rw (here, l .inv .2) (front-next (l .i) all (a .left .now) 0 (omega (arith, staying-length p n (a .book .now))) (omega arith)),
     )
 
--- src/orders.rt:28:1
-same-length : tie.Need-same-length Inv-loop μ-loop
-same-length c = search needs
-
--- src/orders.rt:28:1
 returns : tie.Need-returns Inv-loop μ-loop
 returns c =
     let a = c .before .before .before .before .before .args in
@@ -94,18 +60,6 @@ returns c =
 pub write-left-spec : {M : Type 1} → statement M
 write-left-spec =
     tie.close
-    (tie.spec
-    Inv-loop
-    μ-loop
-    loop-holds
-    order-at-requires
-    mul-left-of
-    shared-slice-read-left-of
-    left-of-requires
-    mul-left
-    slice-write-left
-    add-i
-    loop-less
-    loop-again
-    same-length
-    returns)
+    (tie.spec Inv-loop μ-loop loop-holds order-at-requires mul-left-of shared-slice-read-left-of
+    (λ c κs. search needs) (λ c. search needs) (λ c. search needs) (λ c. search needs) (λ c. search needs) loop-again
+    (λ c. search needs) returns)

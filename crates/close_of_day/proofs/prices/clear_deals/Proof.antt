@@ -12,8 +12,6 @@ use Rattle.rules.specs.CloseOfDay.{withoutDeals}
 use Rattle.close_of_day.proofs.Blocks.{inside-written}
 use Rattle.close_of_day.proofs.prices.clear_deals.Statement.{statement}
 use Rattle.close_of_day.proofs.prices.clear_deals.Tie as tie
-use Rattle.close_of_day.proofs.prices.clear_deals.Reads as reads
-use Rattle.close_of_day.proofs.prices.clear_deals.Lts as lts
 
 abbrev Inv-loop : tie.InvT-loop
 Inv-loop prices₀ contract₀ prices contract = (contract ≤ 102) × (length prices ≡ length prices₀) × (prices ≡ inEachBlock 5 (over 3 (0 ∷ 0 ∷ [])) contract prices₀)
@@ -21,48 +19,13 @@ Inv-loop prices₀ contract₀ prices contract = (contract ≤ 102) × (length p
 abbrev μ-loop : tie.MeasureT-loop
 μ-loop prices₀ contract₀ prices contract = 102 - contract
 
--- src/prices.rt:120:5
 loop-holds : tie.Need-loop-holds Inv-loop μ-loop
 unfolding inEachBlock
 loop-holds c = (omega arith, refl, refl)
 
--- src/prices.rt:121:18
-mul-at : tie.Need-mul-at Inv-loop μ-loop
-mul-at c = search needs
-
--- src/prices.rt:122:16
-add-prices : tie.Need-add-prices Inv-loop μ-loop
-add-prices c = search needs
-
--- src/prices.rt:122:9
-mul-prices : tie.Need-mul-prices Inv-loop μ-loop
-mul-prices c = search needs
-
--- src/prices.rt:122:9
-slice-write-prices : tie.Need-slice-write-prices Inv-loop μ-loop
-slice-write-prices c = search needs
-
--- src/prices.rt:123:16
-add-prices-2 : tie.Need-add-prices-2 Inv-loop μ-loop
-add-prices-2 c = search needs
-
--- src/prices.rt:123:9
-mul-prices-2 : tie.Need-mul-prices-2 Inv-loop μ-loop
-mul-prices-2 c = search needs
-
--- src/prices.rt:123:9
 slice-write-prices-2 : tie.Need-slice-write-prices-2 Inv-loop μ-loop
 slice-write-prices-2 c = simp length-set (omega arith)
 
--- src/prices.rt:124:9
-add-contract : tie.Need-add-contract Inv-loop μ-loop
-add-contract c = search needs
-
--- src/prices.rt:120:5
-loop-less : tie.Need-loop-less Inv-loop μ-loop
-loop-less c = search needs
-
--- src/prices.rt:120:5
 loop-again : tie.Need-loop-again Inv-loop μ-loop
 loop-again c =
     let d = c .before .before .args .prices .now in
@@ -76,11 +39,9 @@ loop-again c =
       both ∙ rw (l .inv .2, add-one (l .contract)) (inside-written 5 3 none (omega arith) (l .contract) d (omega arith)),
     )
 
--- src/prices.rt:115:1
 same-length : tie.Need-same-length Inv-loop μ-loop
 same-length c = c .before .loop .inv .1
 
--- src/prices.rt:115:1
 returns : tie.Need-returns Inv-loop μ-loop
 unfolding withoutDeals
 returns c = let l = c .before .loop in let e : l .contract ≡ 102 = omega arith in rw e at (l .inv .2)
@@ -88,19 +49,6 @@ returns c = let l = c .before .loop in let e : l .contract ≡ 102 = omega arith
 pub clear-deals-spec : {M : Type 1} → statement M
 clear-deals-spec =
     tie.close
-    (tie.spec
-    Inv-loop
-    μ-loop
-    loop-holds
-    mul-at
-    add-prices
-    mul-prices
-    slice-write-prices
-    add-prices-2
-    mul-prices-2
-    slice-write-prices-2
-    add-contract
-    loop-less
-    loop-again
-    same-length
-    returns)
+    (tie.spec Inv-loop μ-loop loop-holds (λ c. search needs) (λ c. search needs) (λ c. search needs)
+    (λ c. search needs) (λ c. search needs) (λ c. search needs) slice-write-prices-2 (λ c. search needs)
+    (λ c. search needs) loop-again same-length returns)

@@ -19,12 +19,6 @@ use Rattle.close_of_day.proofs.Cascades.{number-below}
 use Rattle.close_of_day.proofs.Ggfs.{deals-if, open-next}
 use Rattle.close_of_day.proofs.prices.write_kind_ggfs.Statement.{statement}
 use Rattle.close_of_day.proofs.prices.write_kind_ggfs.Tie as tie
-use Rattle.close_of_day.proofs.prices.write_kind_ggfs.Reads as reads
-use Rattle.close_of_day.proofs.prices.write_kind_ggfs.Lts as lts
-use Rattle.close_of_day.proofs.contracts.contract_of.Reads as contract-of-reads
-use Rattle.close_of_day.proofs.contracts.contracts_in.Reads as contracts-in-reads
-use Rattle.close_of_day.proofs.prices.write_if_open.Reads as write-if-open-reads
-use Rattle.rules.proofs.contract.ContractKind.open_count.Reads as open-count-reads
 
 abbrev Inv-loop : tie.InvT-loop
 Inv-loop prices₀ column buys sells kind count more₀ i₀ prices more i = DealsFit prices × (length prices ≡ length prices₀) × (i ≤ sizeOf kind)
@@ -33,26 +27,15 @@ Inv-loop prices₀ column buys sells kind count more₀ i₀ prices more i = Dea
 abbrev μ-loop : tie.MeasureT-loop
 μ-loop prices₀ column buys sells kind count more₀ i₀ prices more i = count - i
 
--- src/prices.rt:95:9
-contracts-in-requires : tie.Need-contracts-in-requires Inv-loop μ-loop
-contracts-in-requires c κs = search needs
-
--- src/prices.rt:96:9
-open-count-requires : tie.Need-open-count-requires Inv-loop μ-loop
-open-count-requires c κs = search needs
-
--- src/prices.rt:98:5
 loop-holds : tie.Need-loop-holds Inv-loop μ-loop
 unfolding openIn
 loop-holds c =
     let kind = c .before .before .before .before .before .before .args .kind in
     (c .before .before .before .before .before .before .pre .0, refl, omega arith, rw (c .open-count .ensures, contracts-of kind, sub-zero (sizeOf kind)))
 
--- src/prices.rt:99:24
 contract-of-requires : tie.Need-contract-of-requires Inv-loop μ-loop
 contract-of-requires c κs = omega (arith, c .before .before .before .contracts-in .ensures)
 
--- src/prices.rt:100:67
 mul-write-if-open : tie.Need-mul-write-if-open Inv-loop μ-loop
 mul-write-if-open c =
     let args = c .before .before .before .before .before .before .before .before .before .before .args in
@@ -60,7 +43,6 @@ mul-write-if-open c =
     let loop = c .before .before .before .loop in
     let b = number-below (args .kind) (loop .i) (omega (arith, contracts-in .ensures)) in omega (arith, c .before .contract-of .ensures)
 
--- src/prices.rt:100:67
 shared-slice-read-write-if-open : tie.Need-shared-slice-read-write-if-open Inv-loop μ-loop
 shared-slice-read-write-if-open c =
     let args = c .before .before .before .before .before .before .before .before .before .before .before .args in
@@ -69,7 +51,6 @@ shared-slice-read-write-if-open c =
     let contract-of = c .before .before .contract-of in
     let b = number-below (args .kind) (loop .i) (omega (arith, contracts-in .ensures)) in omega (arith, contract-of .ensures)
 
--- src/prices.rt:100:9
 write-if-open-requires : tie.Need-write-if-open-requires Inv-loop μ-loop
 write-if-open-requires c κs =
     let pre = c .before .before .before .before .before .before .before .before .before .before .before .pre in
@@ -80,15 +61,6 @@ write-if-open-requires c κs =
     let b = number-below (args .kind) (loop .i) (omega (arith, contracts-in .ensures)) in
     (loop .inv .0, pre .1, pre .2, omega (arith, contract-of .ensures))
 
--- src/prices.rt:101:9
-add-i : tie.Need-add-i Inv-loop μ-loop
-add-i c = search needs
-
--- src/prices.rt:98:5
-loop-less : tie.Need-loop-less Inv-loop μ-loop
-loop-less c = search needs
-
--- src/prices.rt:98:5
 loop-again : tie.Need-loop-again Inv-loop μ-loop
 loop-again c =
     let a = c .before .before .before .before .before .before .before .before .before .before .before .before .before .before .args in
@@ -109,11 +81,9 @@ loop-again c =
           (open-next (a .buys .now) (a .sells .now) (l .prices) _ (waits (a .column .now)) (l .more) x rest known),
     )
 
--- src/prices.rt:91:1
 same-length : tie.Need-same-length Inv-loop μ-loop
 same-length c = c .before .loop .inv .1
 
--- src/prices.rt:91:1
 returns : tie.Need-returns Inv-loop μ-loop
 unfolding ggfsFrom kept
 returns c =
@@ -125,18 +95,6 @@ returns c =
 pub write-kind-ggfs-spec : {M : Type 1} → statement M
 write-kind-ggfs-spec =
     tie.close
-    (tie.spec
-    Inv-loop
-    μ-loop
-    contracts-in-requires
-    open-count-requires
-    loop-holds
-    contract-of-requires
-    mul-write-if-open
-    shared-slice-read-write-if-open
-    write-if-open-requires
-    add-i
-    loop-less
-    loop-again
-    same-length
-    returns)
+    (tie.spec Inv-loop μ-loop (λ c κs. search needs) (λ c κs. search needs) loop-holds contract-of-requires
+    mul-write-if-open shared-slice-read-write-if-open write-if-open-requires (λ c. search needs) (λ c. search needs)
+    loop-again same-length returns)

@@ -3,42 +3,28 @@ use Rattle.close_of_day.specs.Columns.{betterQuote}
 use borrow.Author.Needs.{needs}
 use Rattle.close_of_day.proofs.quotes.better_quote.Statement.{statement}
 use Rattle.close_of_day.proofs.quotes.better_quote.Tie as tie
-use Rattle.close_of_day.proofs.quotes.better_quote.Reads as reads
-use Rattle.close_of_day.proofs.quotes.better_quote.Lts as lts
 
--- src/quotes.rt:47:9
 returns : tie.Need-returns
 unfolding betterQuote
 returns c = rw (eq-eqb _ _ (c .if1 .taken))
 
--- src/quotes.rt:51:16
-enum-told : tie.Need-enum-told
-enum-told c = search needs
-
--- src/quotes.rt:52:17
 returns-2 : tie.Need-returns-2
 unfolding betterQuote
 returns-2 c = rw (c .before .enum-told .given .1, ne-eqb _ _ (c .before .before .before .if1 .left), lt-ltb _ _ (c .if2 .taken))
 
--- src/quotes.rt:57:16
-enum-told-2 : tie.Need-enum-told-2
-enum-told-2 c = search needs
-
--- src/quotes.rt:58:17
 returns-3 : tie.Need-returns-3
 unfolding betterQuote
 returns-3 c = rw (c .before .enum-told2 .given .1, ne-eqb _ _ (c .before .before .before .if1 .left), lt-ltb _ _ (c .if3 .taken))
 
--- src/quotes.rt:43:1
 returns-4 : tie.Need-returns-4
 unfolding betterQuote
 returns-4 c = rw (c .before .enum-told .given .1, ne-eqb _ _ (c .before .before .before .if1 .left), le-ltb _ _ (c .if2 .left))
 
--- src/quotes.rt:43:1
 returns-5 : tie.Need-returns-5
 unfolding betterQuote
 returns-5 c = rw (c .before .enum-told2 .given .1, ne-eqb _ _ (c .before .before .before .if1 .left), le-ltb _ _ (c .if3 .left))
 
 pub better-quote-spec : {M : Type 1} → statement M
 better-quote-spec =
-    tie.close (tie.spec returns enum-told returns-2 enum-told-2 returns-3 returns-4 returns-5)
+    tie.close
+    (tie.spec returns (λ c. search needs) returns-2 (λ c. search needs) returns-3 returns-4 returns-5)

@@ -13,10 +13,6 @@ use Rattle.close_of_day.specs.Columns.{bestPrice}
 use Rattle.close_of_day.proofs.BestPrices.{quotes-next, quotes-none, all-from-place}
 use Rattle.close_of_day.proofs.quotes.write_quotes.Statement.{statement}
 use Rattle.close_of_day.proofs.quotes.write_quotes.Tie as tie
-use Rattle.close_of_day.proofs.quotes.write_quotes.Reads as reads
-use Rattle.close_of_day.proofs.quotes.write_quotes.Lts as lts
-use Rattle.close_of_day.proofs.quotes.note_quote.Reads as note-quote-reads
-use Rattle.tables.proofs.order_at.Reads as order-at-reads
 
 abbrev Inv-loop : tie.InvT-loop
 Inv-loop book count side day time quotes₀ i₀ quotes i = (i ≤ count) × (length quotes ≡ 102)
@@ -25,7 +21,6 @@ Inv-loop book count side day time quotes₀ i₀ quotes i = (i ≤ count) × (le
 abbrev μ-loop : tie.MeasureT-loop
 μ-loop book count side day time quotes₀ i₀ quotes i = i
 
--- src/quotes.rt:82:5
 loop-holds : tie.Need-loop-holds Inv-loop μ-loop
 loop-holds c =
     let pre = c .before .before .pre in
@@ -36,26 +31,15 @@ loop-holds c =
       λ x h. rw (pre .1, getD-replicate {A = ℕ} 102 x 0 0 h, from-end n n (omega arith)) (sym (quotes-none (a .day .0) (a .time) (a .side) x)),
     )
 
--- src/quotes.rt:83:9
-sub-i : tie.Need-sub-i Inv-loop μ-loop
-sub-i c = search needs
-
--- src/quotes.rt:84:13
 order-at-requires : tie.Need-order-at-requires Inv-loop μ-loop
 order-at-requires c κs = (omega (arith, c .before .before .before .before .pre .0 .most-orders), c .before .before .before .before .pre .0 .long)
 
--- src/quotes.rt:85:9
 note-quote-requires : tie.Need-note-quote-requires Inv-loop μ-loop
 note-quote-requires c κs =
     let l = c .before .before .before .loop in
     let fit = c .before .before .before .before .before .before .pre .0 in
     rw (c .before .order-at .ensures) (fit .most-time (l .i - 1) (omega arith), omega (arith, fit .contract-below (l .i - 1) (omega arith)))
 
--- src/quotes.rt:82:5
-loop-less : tie.Need-loop-less Inv-loop μ-loop
-loop-less c = search needs
-
--- src/quotes.rt:82:5
 loop-again : tie.Need-loop-again Inv-loop μ-loop
 loop-again c =
     let pre = c .before .before .before .before .before .before .before .before .before .pre in
@@ -77,11 +61,6 @@ loop-again c =
           (omega (arith, fit .contract-below i (omega arith))) (l .inv .2) x h),
     )
 
--- src/quotes.rt:77:1
-same-length : tie.Need-same-length Inv-loop μ-loop
-same-length c = search needs
-
--- src/quotes.rt:77:1
 returns : tie.Need-returns Inv-loop μ-loop
 returns c =
     let a = c .before .before .before .before .args in
@@ -92,14 +71,5 @@ returns c =
 pub write-quotes-spec : {M : Type 1} → statement M
 write-quotes-spec =
     tie.close
-    (tie.spec
-    Inv-loop
-    μ-loop
-    loop-holds
-    sub-i
-    order-at-requires
-    note-quote-requires
-    loop-less
-    loop-again
-    same-length
-    returns)
+    (tie.spec Inv-loop μ-loop loop-holds (λ c. search needs) order-at-requires note-quote-requires (λ c. search needs)
+    loop-again (λ c. search needs) returns)

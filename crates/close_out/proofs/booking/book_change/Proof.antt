@@ -11,9 +11,6 @@ returns c = let a = c .before .before .args in
     let none = same-none (a .contract) (a .price .0) (a .member) (a .gain) (a .loss) (c .if1 .taken) in
     (rw none (omega arith), λ t. rw none (sym (each-none (a .i) _)))
 
-sub-t16 : tie.Need-sub-t16
-sub-t16 c = search needs
-
 book-line-requires : tie.Need-book-line-requires
 book-line-requires c κs =
     let pre = c .before .before .before .before .before .before .before .pre in
@@ -25,21 +22,6 @@ book-line-requires c κs =
       ),
       ((f .lots-fit, f .value-fit), (pre .1 .0, f .lines-long)),
     )
-
-add-result : tie.Need-add-result
-add-result c = search needs
-
-same-length : tie.Need-same-length
-same-length c = search needs
-
-same-length-2 : tie.Need-same-length-2
-same-length-2 c = search needs
-
-same-length-3 : tie.Need-same-length-3
-same-length-3 c = search needs
-
-same-length-4 : tie.Need-same-length-4
-same-length-4 c = search needs
 
 returns-2 : tie.Need-returns-2
 returns-2 c = let a = c .before .before .before .before .before .before .before .before .before .before .before .before .before .args in
@@ -58,21 +40,6 @@ book-line-requires-2 c κs =
       ((f .lots-fit, f .value-fit), (pre .1 .0, f .lines-long)),
     )
 
-add-result-2 : tie.Need-add-result-2
-add-result-2 c = search needs
-
-same-length-5 : tie.Need-same-length-5
-same-length-5 c = search needs
-
-same-length-6 : tie.Need-same-length-6
-same-length-6 c = search needs
-
-same-length-7 : tie.Need-same-length-7
-same-length-7 c = search needs
-
-same-length-8 : tie.Need-same-length-8
-same-length-8 c = search needs
-
 returns-3 : tie.Need-returns-3
 returns-3 c =
     let a = c .before .before .before .before .before .before .before .before .before .before .before .before .before .args in
@@ -86,20 +53,6 @@ returns-3 c =
 pub book-change-spec : {M : Type 1} → statement M
 book-change-spec =
     tie.close
-    (tie.spec
-    returns
-    sub-t16
-    book-line-requires
-    add-result
-    same-length
-    same-length-2
-    same-length-3
-    same-length-4
-    returns-2
-    book-line-requires-2
-    add-result-2
-    same-length-5
-    same-length-6
-    same-length-7
-    same-length-8
-    returns-3)
+    (tie.spec returns (λ c. search needs) book-line-requires (λ c. search needs) (λ c. search needs)
+    (λ c. search needs) (λ c. search needs) (λ c. search needs) returns-2 book-line-requires-2 (λ c. search needs)
+    (λ c. search needs) (λ c. search needs) (λ c. search needs) (λ c. search needs) returns-3)

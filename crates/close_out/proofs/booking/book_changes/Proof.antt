@@ -22,15 +22,6 @@ loop-holds c =
     let pre = c .before .before .before .pre in
     (record { within = omega arith; few = omega arith; members = pre .1 .1 .0; takes = pre .0; count = refl; same = λ t. refl }, refl, refl, refl, refl)
 
-mul-book-change : tie.Need-mul-book-change Inv-loop μ-loop
-mul-book-change c = search needs
-
-shared-slice-read-book-change : tie.Need-shared-slice-read-book-change Inv-loop μ-loop
-shared-slice-read-book-change c = search needs
-
-mul-book-change-2 : tie.Need-mul-book-change-2 Inv-loop μ-loop
-mul-book-change-2 c = search needs
-
 shared-slice-read-book-change-2 : tie.Need-shared-slice-read-book-change-2 Inv-loop μ-loop
 shared-slice-read-book-change-2 c = omega (arith, c .before .before .before .before .before .before .before .before .before .before .before .pre .1 .1 .1)
 
@@ -43,12 +34,6 @@ book-change-requires c κs =
     let g = sum-next (a .gains .now) (l .member) (loop-test .taken) in
     let s = sum-next (a .losses .now) (l .member) (omega (arith, pre .1 .1 .1)) in
     (less-room _ _ (omega arith) (l .inv .0 .takes), (omega (arith, l .inv .0 .few, pre .1 .0 .0), pre .1 .0 .1, pre .1 .0 .2, omega (arith, l .inv .0 .members)))
-
-add-member : tie.Need-add-member Inv-loop μ-loop
-add-member c = search needs
-
-loop-less : tie.Need-loop-less Inv-loop μ-loop
-loop-less c = search needs
 
 loop-again : tie.Need-loop-again Inv-loop μ-loop
 loop-again c =
@@ -87,20 +72,6 @@ returns c = let a = c .before .before .before .before .before .args in
 pub book-changes-spec : {M : Type 1} → statement M
 book-changes-spec =
     tie.close
-    (tie.spec
-    Inv-loop
-    μ-loop
-    loop-holds
-    mul-book-change
-    shared-slice-read-book-change
-    mul-book-change-2
-    shared-slice-read-book-change-2
-    book-change-requires
-    add-member
-    loop-less
-    loop-again
-    same-length
-    same-length-2
-    same-length-3
-    same-length-4
-    returns)
+    (tie.spec Inv-loop μ-loop loop-holds (λ c. search needs) (λ c. search needs) (λ c. search needs)
+    shared-slice-read-book-change-2 book-change-requires (λ c. search needs) (λ c. search needs) loop-again
+    same-length same-length-2 same-length-3 same-length-4 returns)

@@ -13,4 +13,6 @@ returns-2 : tie.Need-returns-2
 returns-2 c = positive-read (c .before .args .net) (c .before .fits .net) (c .if1 .left)
 
 pub long-lots-spec : {M : Type 1} → statement M
-long-lots-spec = tie.close (tie.spec cast-result returns returns-2)
+long-lots-spec =
+    tie.close
+    (tie.spec cast-result returns returns-2)

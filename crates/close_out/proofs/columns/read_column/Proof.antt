@@ -23,44 +23,8 @@ Inv-loop part head lots contract column₀ row i₀ column i = (i ≤ length col
 abbrev μ-loop : tie.MeasureT-loop
 μ-loop part head lots contract column₀ row i₀ column i = length column₀ - i
 
-mul-row : tie.Need-mul-row Inv-loop μ-loop
-mul-row c = search needs
-
 loop-holds : tie.Need-loop-holds Inv-loop μ-loop
 loop-holds c = (omega arith, refl, rw (sub-zero (length (c .before .before .args .column .now))))
-
-add-marked : tie.Need-add-marked Inv-loop μ-loop
-add-marked c = search needs
-
-mul-marked : tie.Need-mul-marked Inv-loop μ-loop
-mul-marked c = search needs
-
-shared-slice-read-marked : tie.Need-shared-slice-read-marked Inv-loop μ-loop
-shared-slice-read-marked c = search needs
-
-add-lots-in : tie.Need-add-lots-in Inv-loop μ-loop
-add-lots-in c = search needs
-
-mul-lots-in : tie.Need-mul-lots-in Inv-loop μ-loop
-mul-lots-in c = search needs
-
-shared-slice-copy-out-lots-in : tie.Need-shared-slice-copy-out-lots-in Inv-loop μ-loop
-shared-slice-copy-out-lots-in c = search needs
-
-lots-in-requires : tie.Need-lots-in-requires Inv-loop μ-loop
-lots-in-requires c κs = search needs
-
-mul-column : tie.Need-mul-column Inv-loop μ-loop
-mul-column c = search needs
-
-slice-write-column : tie.Need-slice-write-column Inv-loop μ-loop
-slice-write-column c = search needs
-
-add-i : tie.Need-add-i Inv-loop μ-loop
-add-i c = search needs
-
-loop-less : tie.Need-loop-less Inv-loop μ-loop
-loop-less c = search needs
 
 loop-again : tie.Need-loop-again Inv-loop μ-loop
 loop-again c =
@@ -74,9 +38,6 @@ loop-again c =
       rw e (written-next (l .column) (l .i) _ _ _ (omega arith) (rw (mapped-next (length (a .column .now)) (l .i) f (omega arith)) at (l .inv .2))),
     )
 
-same-length : tie.Need-same-length Inv-loop μ-loop
-same-length c = omega arith
-
 returns : tie.Need-returns Inv-loop μ-loop
 unfolding columnOf
 returns c =
@@ -87,22 +48,7 @@ returns c =
 pub read-column-spec : {M : Type 1} → statement M
 read-column-spec =
     tie.close
-    (tie.spec
-    Inv-loop
-    μ-loop
-    mul-row
-    loop-holds
-    add-marked
-    mul-marked
-    shared-slice-read-marked
-    add-lots-in
-    mul-lots-in
-    shared-slice-copy-out-lots-in
-    lots-in-requires
-    mul-column
-    slice-write-column
-    add-i
-    loop-less
-    loop-again
-    same-length
+    (tie.spec Inv-loop μ-loop (λ c. search needs) loop-holds (λ c. search needs) (λ c. search needs)
+    (λ c. search needs) (λ c. search needs) (λ c. search needs) (λ c. search needs) (λ c κs. search needs)
+    (λ c. search needs) (λ c. search needs) (λ c. search needs) (λ c. search needs) loop-again (λ c. omega arith)
     returns)

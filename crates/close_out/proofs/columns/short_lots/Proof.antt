@@ -19,4 +19,6 @@ returns-2 : tie.Need-returns-2
 returns-2 c = sym (dn-above (c .before .args .net) (c .before .fits .net) (c .if1 .left))
 
 pub short-lots-spec : {M : Type 1} → statement M
-short-lots-spec = tie.close (tie.spec sub-size cast-result add-result returns returns-2)
+short-lots-spec =
+    tie.close
+    (tie.spec sub-size cast-result add-result returns returns-2)

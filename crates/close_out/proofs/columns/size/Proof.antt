@@ -7,12 +7,6 @@ use Rattle.arith.proofs.Negatives.{size-parts, size-most}
 use Rattle.close_out.proofs.columns.size.Statement.{statement}
 use Rattle.close_out.proofs.columns.size.Tie as tie
 
-long-lots-requires : tie.Need-long-lots-requires
-long-lots-requires c κs = search needs
-
-short-lots-requires : tie.Need-short-lots-requires
-short-lots-requires c κs = search needs
-
 add-result : tie.Need-add-result
 add-result c =
     let fits = c .before .before .fits in
@@ -26,4 +20,6 @@ returns c =
     let f = fits .net in omega (arith, size-parts (args .net), c .before .long-lots .ensures ∙ ap up (toZ-ofZ f), c .short-lots .ensures ∙ ap dn (toZ-ofZ f))
 
 pub size-spec : {M : Type 1} → statement M
-size-spec = tie.close (tie.spec long-lots-requires short-lots-requires add-result returns)
+size-spec =
+    tie.close
+    (tie.spec (λ c κs. search needs) (λ c κs. search needs) add-result returns)

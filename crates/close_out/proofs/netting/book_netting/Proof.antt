@@ -29,40 +29,9 @@ net-columns-requires c κs =
     let pre = c .before .before .before .before .before .before .before .before .before .before .before .pre in
     (pre .0, (pre .1, (simp length-take (omega (arith, pre .0 .head-fit .most-members, pre .1 .2)), simp length-take (omega (arith, pre .0 .head-fit .most-members, pre .1 .2)))))
 
-same-length : tie.Need-same-length
-same-length c = search needs
-
-same-length-2 : tie.Need-same-length-2
-same-length-2 c = search needs
-
-same-length-3 : tie.Need-same-length-3
-same-length-3 c = search needs
-
-same-length-4 : tie.Need-same-length-4
-same-length-4 c = search needs
-
-same-length-5 : tie.Need-same-length-5
-same-length-5 c = search needs
-
-same-length-6 : tie.Need-same-length-6
-same-length-6 c = search needs
-
-returns : tie.Need-returns
-returns c = search needs
-
 pub book-netting-spec : {M : Type 1} → statement M
 book-netting-spec =
     tie.close
-    (tie.spec
-    array-borrow-prefix-given-longs
-    slice-aggregate-net-columns
-    array-borrow-prefix-given-shorts
-    slice-aggregate-net-columns-2
-    net-columns-requires
-    same-length
-    same-length-2
-    same-length-3
-    same-length-4
-    same-length-5
-    same-length-6
-    returns)
+    (tie.spec array-borrow-prefix-given-longs slice-aggregate-net-columns array-borrow-prefix-given-shorts
+    slice-aggregate-net-columns-2 net-columns-requires (λ c. search needs) (λ c. search needs) (λ c. search needs)
+    (λ c. search needs) (λ c. search needs) (λ c. search needs) (λ c. search needs))

@@ -37,30 +37,6 @@ subtract-requires-2 c κs =
     let give-up2 = earlier-still .before .give-up2 in
     given-fits _ _ _ (give-up2 .ensures)
 
-same-length : tie.Need-same-length
-same-length c = search needs
-
-same-length-2 : tie.Need-same-length-2
-same-length-2 c = search needs
-
-same-length-3 : tie.Need-same-length-3
-same-length-3 c = search needs
-
-same-length-4 : tie.Need-same-length-4
-same-length-4 c = search needs
-
-same-length-5 : tie.Need-same-length-5
-same-length-5 c = search needs
-
-same-length-6 : tie.Need-same-length-6
-same-length-6 c = search needs
-
-same-length-7 : tie.Need-same-length-7
-same-length-7 c = search needs
-
-same-length-8 : tie.Need-same-length-8
-same-length-8 c = search needs
-
 returns : tie.Need-returns
 returns c =
     let earlier = c .before .before .before .before .before .before .before .before .before .before in
@@ -84,18 +60,6 @@ returns c =
 pub net-columns-spec : {M : Type 1} → statement M
 net-columns-spec =
     tie.close
-    (tie.spec
-    give-up-requires
-    give-up-requires-2
-    book-changes-requires
-    subtract-requires
-    subtract-requires-2
-    same-length
-    same-length-2
-    same-length-3
-    same-length-4
-    same-length-5
-    same-length-6
-    same-length-7
-    same-length-8
-    returns)
+    (tie.spec give-up-requires give-up-requires-2 book-changes-requires subtract-requires subtract-requires-2
+    (λ c. search needs) (λ c. search needs) (λ c. search needs) (λ c. search needs) (λ c. search needs)
+    (λ c. search needs) (λ c. search needs) (λ c. search needs) returns)

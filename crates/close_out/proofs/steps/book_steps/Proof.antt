@@ -22,24 +22,6 @@ book-changes-requires c κs =
     second-requires (a .contract) (a .price .0) (a .netted) (a .left) (a .longs .now) (a .shorts .now) (a .weights .now) (pre .0 .1) (pre .0 .2) _ _ _ _ (pre .0 .0) (pre .1)
     _ _ _ _ _ _ _ (n .0) (n .1 .0) (n .1 .1 .0) (n .1 .1 .1)
 
-same-length : tie.Need-same-length
-same-length c = search needs
-
-same-length-2 : tie.Need-same-length-2
-same-length-2 c = search needs
-
-same-length-3 : tie.Need-same-length-3
-same-length-3 c = search needs
-
-same-length-4 : tie.Need-same-length-4
-same-length-4 c = search needs
-
-same-length-5 : tie.Need-same-length-5
-same-length-5 c = search needs
-
-same-length-6 : tie.Need-same-length-6
-same-length-6 c = search needs
-
 returns : tie.Need-returns
 returns c =
     let earlier = c .before .before .before .before .before .before .before .before .before .before in
@@ -80,24 +62,6 @@ book-takers-requires c κs =
     takers-requires (a .contract) (a .price .0) (a .netted) (a .left) (a .longs .now) (a .shorts .now) (a .weights .now) (pre .0 .1) (pre .0 .2) _ _ _ _ (pre .0 .0) (pre .1)
     _ _ _ _ _ _ _ (n .0) (n .1 .0) (n .1 .1 .0) (n .1 .1 .1) _ _ _ _ _ (b .0) (b .1) (omega (arith, if1 .left))
 
-same-length-7 : tie.Need-same-length-7
-same-length-7 c = search needs
-
-same-length-8 : tie.Need-same-length-8
-same-length-8 c = search needs
-
-same-length-9 : tie.Need-same-length-9
-same-length-9 c = search needs
-
-same-length-10 : tie.Need-same-length-10
-same-length-10 c = search needs
-
-same-length-11 : tie.Need-same-length-11
-same-length-11 c = search needs
-
-same-length-12 : tie.Need-same-length-12
-same-length-12 c = search needs
-
 returns-2 : tie.Need-returns-2
 returns-2 c =
     let earlier = c .before .before .before .before .before .before .before .before .before .before in
@@ -121,22 +85,7 @@ returns-2 c =
 pub book-steps-spec : {M : Type 1} → statement M
 book-steps-spec =
     tie.close
-    (tie.spec
-    book-netting-requires
-    book-changes-requires
-    same-length
-    same-length-2
-    same-length-3
-    same-length-4
-    same-length-5
-    same-length-6
-    returns
-    sum-of-requires
-    book-takers-requires
-    same-length-7
-    same-length-8
-    same-length-9
-    same-length-10
-    same-length-11
-    same-length-12
-    returns-2)
+    (tie.spec book-netting-requires book-changes-requires (λ c. search needs) (λ c. search needs) (λ c. search needs)
+    (λ c. search needs) (λ c. search needs) (λ c. search needs) returns sum-of-requires book-takers-requires
+    (λ c. search needs) (λ c. search needs) (λ c. search needs) (λ c. search needs) (λ c. search needs)
+    (λ c. search needs) returns-2)

@@ -28,21 +28,6 @@ book-changes-requires c κs =
     let none : length (a .nothing .now) ≡ n = ap length (pre .1 .1 .1) ∙ length-replicate n 0 in
     (less-room _ _ (omega (arith, d, z)) (pre .0 .0), ((omega (arith, wide, pre .1 .0 .2, pre .1 .0 .3), pre .1 .0 .0, pre .1 .0 .1), (wide, none ∙ sym wide)))
 
-same-length : tie.Need-same-length
-same-length c = search needs
-
-same-length-2 : tie.Need-same-length-2
-same-length-2 c = search needs
-
-same-length-3 : tie.Need-same-length-3
-same-length-3 c = search needs
-
-same-length-4 : tie.Need-same-length-4
-same-length-4 c = search needs
-
-same-length-5 : tie.Need-same-length-5
-same-length-5 c = search needs
-
 returns : tie.Need-returns
 returns c =
     let pre = c .before .before .before .before .before .before .before .before .before .before .before .before .before .before .before .before .before .before .before .before .pre in
@@ -66,21 +51,6 @@ book-changes-requires-2 c κs =
     let none : length (a .nothing .now) ≡ n = ap length (pre .1 .1 .1) ∙ length-replicate n 0 in
     (less-room _ _ (omega (arith, d, z)) (pre .0 .0), ((omega (arith, none, pre .1 .0 .2, pre .1 .0 .3), pre .1 .0 .0, pre .1 .0 .1), (none, wide ∙ sym none)))
 
-same-length-6 : tie.Need-same-length-6
-same-length-6 c = search needs
-
-same-length-7 : tie.Need-same-length-7
-same-length-7 c = search needs
-
-same-length-8 : tie.Need-same-length-8
-same-length-8 c = search needs
-
-same-length-9 : tie.Need-same-length-9
-same-length-9 c = search needs
-
-same-length-10 : tie.Need-same-length-10
-same-length-10 c = search needs
-
 returns-2 : tie.Need-returns-2
 returns-2 c =
     let pre = c .before .before .before .before .before .before .before .before .before .before .before .before .before .before .before .before .before .before .before .before .pre in
@@ -95,19 +65,6 @@ returns-2 c =
 pub deal-columns-spec : {M : Type 1} → statement M
 deal-columns-spec =
     tie.close
-    (tie.spec
-    deal-out-requires
-    book-changes-requires
-    same-length
-    same-length-2
-    same-length-3
-    same-length-4
-    same-length-5
-    returns
-    book-changes-requires-2
-    same-length-6
-    same-length-7
-    same-length-8
-    same-length-9
-    same-length-10
-    returns-2)
+    (tie.spec deal-out-requires book-changes-requires (λ c. search needs) (λ c. search needs) (λ c. search needs)
+    (λ c. search needs) (λ c. search needs) returns book-changes-requires-2 (λ c. search needs) (λ c. search needs)
+    (λ c. search needs) (λ c. search needs) (λ c. search needs) returns-2)

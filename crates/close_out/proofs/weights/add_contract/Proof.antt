@@ -24,23 +24,8 @@ Inv-loop lots contract days sums₀ row i₀ sums i = (i ≤ length sums₀) × 
 abbrev μ-loop : tie.MeasureT-loop
 μ-loop lots contract days sums₀ row i₀ sums i = length sums₀ - i
 
-mul-row : tie.Need-mul-row Inv-loop μ-loop
-mul-row c = search needs
-
 loop-holds : tie.Need-loop-holds Inv-loop μ-loop
 loop-holds c = (omega arith, refl, refl, rw (sub-zero (length (c .before .args .sums .now))))
-
-add-size : tie.Need-add-size Inv-loop μ-loop
-add-size c = search needs
-
-mul-size : tie.Need-mul-size Inv-loop μ-loop
-mul-size c = search needs
-
-shared-slice-copy-out-size : tie.Need-shared-slice-copy-out-size Inv-loop μ-loop
-shared-slice-copy-out-size c = search needs
-
-size-requires : tie.Need-size-requires Inv-loop μ-loop
-size-requires c κs = search needs
 
 mul-more : tie.Need-mul-more Inv-loop μ-loop
 mul-more c =
@@ -50,12 +35,6 @@ mul-more c =
     let e : c .size .result ≡ natAbs net = c .size .ensures ∙ ap natAbs (back-mag net (c .before .size-arg .given)) in
     omega (arith, mul-le-mul (start .pre .0 .1) (rw (← e) at (start .pre .0 .2 .within (start .args .contract) (l .i) (start .pre .0 .0) (omega arith))))
 
-mul-sums : tie.Need-mul-sums Inv-loop μ-loop
-mul-sums c = search needs
-
-slice-read-sums : tie.Need-slice-read-sums Inv-loop μ-loop
-slice-read-sums c = search needs
-
 add-sums : tie.Need-add-sums Inv-loop μ-loop
 add-sums c =
     let start = c .before .before .before .before .before .before in
@@ -64,18 +43,6 @@ add-sums c =
     let e : c .before .size .result ≡ natAbs net = c .before .size .ensures ∙ ap natAbs (back-mag net (c .before .before .size-arg .given)) in
     let sum : getD (l .sums) (l .i) 0 ≤ start .args .contract * (mostDays * mostLotsRun) = rw (still-at (l .sums) (start .args .sums .now) (l .i) (l .inv .2)) (start .pre .1 (l .i)) in
     omega (arith, mul-le-mul (start .pre .0 .1) (rw (← e) at (start .pre .0 .2 .within (start .args .contract) (l .i) (start .pre .0 .0) (omega arith))))
-
-mul-sums-2 : tie.Need-mul-sums-2 Inv-loop μ-loop
-mul-sums-2 c = search needs
-
-slice-write-sums : tie.Need-slice-write-sums Inv-loop μ-loop
-slice-write-sums c = search needs
-
-add-i : tie.Need-add-i Inv-loop μ-loop
-add-i c = search needs
-
-loop-less : tie.Need-loop-less Inv-loop μ-loop
-loop-less c = search needs
 
 loop-again : tie.Need-loop-again Inv-loop μ-loop
 loop-again c =
@@ -91,32 +58,13 @@ loop-again c =
           (written-next (l .sums) (l .i) (f (l .i)) _ _ (omega arith) (rw (mapped-next (length (a .sums .now)) (l .i) f (omega arith)) at (l .inv .3))),
     )
 
-same-length : tie.Need-same-length Inv-loop μ-loop
-same-length c = omega arith
-
 returns : tie.Need-returns Inv-loop μ-loop
 returns c = written-end (c .before .loop .sums) (c .before .loop .i) _ _ (omega arith) (mapped-end _ (c .before .loop .i) _ (omega arith)) (c .before .loop .inv .3)
 
 pub add-contract-spec : {M : Type 1} → statement M
 add-contract-spec =
     tie.close
-    (tie.spec
-    Inv-loop
-    μ-loop
-    mul-row
-    loop-holds
-    add-size
-    mul-size
-    shared-slice-copy-out-size
-    size-requires
-    mul-more
-    mul-sums
-    slice-read-sums
-    add-sums
-    mul-sums-2
-    slice-write-sums
-    add-i
-    loop-less
-    loop-again
-    same-length
+    (tie.spec Inv-loop μ-loop (λ c. search needs) loop-holds (λ c. search needs) (λ c. search needs)
+    (λ c. search needs) (λ c κs. search needs) mul-more (λ c. search needs) (λ c. search needs) add-sums
+    (λ c. search needs) (λ c. search needs) (λ c. search needs) (λ c. search needs) loop-again (λ c. omega arith)
     returns)

@@ -24,12 +24,6 @@ loop-holds c =
     let start = c .before .before in
     (omega arith, refl, start .pre .1 .2 ∙ sums-start (start .args .days .now) (start .args .lots .now) (length (start .args .sums .now)))
 
-mul-add-if-open : tie.Need-mul-add-if-open Inv-loop μ-loop
-mul-add-if-open c = search needs
-
-shared-slice-read-add-if-open : tie.Need-shared-slice-read-add-if-open Inv-loop μ-loop
-shared-slice-read-add-if-open c = search needs
-
 add-if-open-requires : tie.Need-add-if-open-requires Inv-loop μ-loop
 add-if-open-requires c κs =
     let start = c .before .before .before .before .before .before in
@@ -40,12 +34,6 @@ add-if-open-requires c κs =
       λ m. rw (l .inv .2) (sums-most (a .days .now) (a .lots .now) (length (a .sums .now)) (l .contract) (start .pre .0 .1) (start .pre .1 .0) (omega arith) m),
     )
 
-add-contract : tie.Need-add-contract Inv-loop μ-loop
-add-contract c = search needs
-
-loop-less : tie.Need-loop-less Inv-loop μ-loop
-loop-less c = search needs
-
 loop-again : tie.Need-loop-again Inv-loop μ-loop
 loop-again c =
     let a = c .before .before .before .before .before .before .before .before .before .args in
@@ -53,9 +41,6 @@ loop-again c =
     let added = rw (l .inv .1) at (c .before .before .add-if-open .ensures) in
     let next = sums-next (a .days .now) (a .lots .now) (length (a .sums .now)) (l .contract) (l .sums) _ (l .inv .2) added in
     (omega arith, ap length next ∙ mapped-length _ 0 (length (a .sums .now)), next)
-
-same-length : tie.Need-same-length Inv-loop μ-loop
-same-length c = search needs
 
 returns : tie.Need-returns Inv-loop μ-loop
 returns c =
@@ -66,15 +51,5 @@ returns c =
 pub add-contracts-spec : {M : Type 1} → statement M
 add-contracts-spec =
     tie.close
-    (tie.spec
-    Inv-loop
-    μ-loop
-    loop-holds
-    mul-add-if-open
-    shared-slice-read-add-if-open
-    add-if-open-requires
-    add-contract
-    loop-less
-    loop-again
-    same-length
-    returns)
+    (tie.spec Inv-loop μ-loop loop-holds (λ c. search needs) (λ c. search needs) add-if-open-requires
+    (λ c. search needs) (λ c. search needs) loop-again (λ c. search needs) returns)

@@ -13,12 +13,6 @@ use Rattle.close_out.proofs.ColumnFits.{column-fits, days-column, weigh
 use Rattle.close_out.proofs.weights.find_weights.Statement.{statement}
 use Rattle.close_out.proofs.weights.find_weights.Tie as tie
 
-read-column-requires : tie.Need-read-column-requires
-read-column-requires c κs = search needs
-
-mul-if1 : tie.Need-mul-if1
-mul-if1 c = search needs
-
 sum-of-requires : tie.Need-sum-of-requires
 sum-of-requires c κs =
     let pre = c .before .before .before .before .before .before .before .pre in
@@ -37,9 +31,6 @@ mul-if1-2 c =
     rw (c .sum-of .ensures, read-column .ensures blank []) (sum-fits _ (column-fits t (pre .0 .0 .most-members) (pre .0 .1) Others (a .e .contract) (pre .1 .0))) in
     omega (arith, mul-le-mul (pre .1 .1) most)
 
-same-length : tie.Need-same-length
-same-length c = search needs
-
 returns : tie.Need-returns
 returns c =
     let pre = c .before .before .before .before .before .before .before .before .before .pre in
@@ -51,12 +42,6 @@ returns c =
           r t v ∙ weights-here u (a .e) (a .left) k (rw (← r t v, ← c .before .sum-of .ensures) (c .if1 .taken)),
       rw (r blank []) (column-fits s (pre .0 .0 .most-members) (pre .0 .1) Others (a .e .contract) (pre .1 .0)),
     )
-
-weigh-by-days-requires : tie.Need-weigh-by-days-requires
-weigh-by-days-requires c κs = search needs
-
-same-length-2 : tie.Need-same-length-2
-same-length-2 c = search needs
 
 returns-2 : tie.Need-returns-2
 returns-2 c =
@@ -77,13 +62,5 @@ returns-2 c =
 pub find-weights-spec : {M : Type 1} → statement M
 find-weights-spec =
     tie.close
-    (tie.spec
-    read-column-requires
-    mul-if1
-    sum-of-requires
-    mul-if1-2
-    same-length
-    returns
-    weigh-by-days-requires
-    same-length-2
-    returns-2)
+    (tie.spec (λ c κs. search needs) (λ c. search needs) sum-of-requires mul-if1-2 (λ c. search needs) returns
+    (λ c κs. search needs) (λ c. search needs) returns-2)

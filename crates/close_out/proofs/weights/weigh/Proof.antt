@@ -27,12 +27,6 @@ write-weights-requires c κs =
     let e = ap length (start .pre .0 .3) ∙ length-replicate _ _ in
     (start .pre .0 .0, ap length (c .before .before .before .before .add-contracts .ensures) ∙ mapped-length _ 0 _ ∙ e, start .pre .0 .2)
 
-same-length : tie.Need-same-length
-same-length c = search needs
-
-same-length-2 : tie.Need-same-length-2
-same-length-2 c = search needs
-
 returns : tie.Need-returns
 returns c =
     let start = c .before .before .before .before .before .before .before .before .before .before .before .before .before in
@@ -46,4 +40,4 @@ returns c =
 pub weigh-spec : {M : Type 1} → statement M
 weigh-spec =
     tie.close
-    (tie.spec add-contracts-requires write-weights-requires same-length same-length-2 returns)
+    (tie.spec add-contracts-requires write-weights-requires (λ c. search needs) (λ c. search needs) returns)

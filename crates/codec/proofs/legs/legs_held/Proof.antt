@@ -5,20 +5,11 @@ use borrow.Author.Needs.{needs}
 use Rattle.codec.proofs.legs.legs_held.Statement.{statement}
 use Rattle.codec.proofs.legs.legs_held.Tie as tie
 
-u8-or-zero-requires : tie.Need-u8-or-zero-requires
-u8-or-zero-requires c κs = search needs
-
 returns : tie.Need-returns
 returns c = held-other _ (λ e. c .if1 .taken (c .before .u8-or-zero .ensures .0 ∙ e))
 
-u8-or-zero-requires-2 : tie.Need-u8-or-zero-requires-2
-u8-or-zero-requires-2 c κs = search needs
-
 returns-2 : tie.Need-returns-2
 returns-2 c = held-many _ (rw (c .before .u8-or-zero2 .ensures .0) at (c .if2 .taken))
-
-record-length-requires : tie.Need-record-length-requires
-record-length-requires c κs = search needs
 
 returns-3 : tie.Need-returns-3
 unfolding recordLength
@@ -37,11 +28,5 @@ returns-4 c =
 pub legs-held-spec : {M : Type 1} → statement M
 legs-held-spec =
     tie.close
-    (tie.spec
-    u8-or-zero-requires
-    returns
-    u8-or-zero-requires-2
-    returns-2
-    record-length-requires
-    returns-3
+    (tie.spec (λ c κs. search needs) returns (λ c κs. search needs) returns-2 (λ c κs. search needs) returns-3
     returns-4)

@@ -21,9 +21,6 @@ Inv-loop bytes count orders₀ lots₀ prices₀ i₀ orders lots prices i = (i 
 abbrev μ-loop : tie.MeasureT-loop
 μ-loop bytes count orders₀ lots₀ prices₀ i₀ orders lots prices i = count - i
 
-legs-held-requires : tie.Need-legs-held-requires Inv-loop μ-loop
-legs-held-requires c κs = search needs
-
 loop-holds : tie.Need-loop-holds Inv-loop μ-loop
 unfolding padded from
 loop-holds c = (omega arith, refl, refl, refl)
@@ -33,30 +30,6 @@ leg-place-requires c κs = omega (arith, c .before .before .legs-held .ensures .
 
 leg-at-requires : tie.Need-leg-at-requires Inv-loop μ-loop
 leg-at-requires c κs = rw (c .leg-place .ensures) (omega (arith, c .before .before .before .legs-held .ensures .inside))
-
-mul-orders : tie.Need-mul-orders Inv-loop μ-loop
-mul-orders c = search needs
-
-array-write-orders : tie.Need-array-write-orders Inv-loop μ-loop
-array-write-orders c = search needs
-
-mul-lots : tie.Need-mul-lots Inv-loop μ-loop
-mul-lots c = search needs
-
-array-write-lots : tie.Need-array-write-lots Inv-loop μ-loop
-array-write-lots c = search needs
-
-mul-prices : tie.Need-mul-prices Inv-loop μ-loop
-mul-prices c = search needs
-
-array-write-prices : tie.Need-array-write-prices Inv-loop μ-loop
-array-write-prices c = search needs
-
-add-i : tie.Need-add-i Inv-loop μ-loop
-add-i c = search needs
-
-loop-less : tie.Need-loop-less Inv-loop μ-loop
-loop-less c = search needs
 
 loop-again : tie.Need-loop-again Inv-loop μ-loop
 loop-again c =
@@ -80,20 +53,6 @@ returns c =
 pub read-legs-spec : {M : Type 1} → statement M
 read-legs-spec =
     tie.close
-    (tie.spec
-    Inv-loop
-    μ-loop
-    legs-held-requires
-    loop-holds
-    leg-place-requires
-    leg-at-requires
-    mul-orders
-    array-write-orders
-    mul-lots
-    array-write-lots
-    mul-prices
-    array-write-prices
-    add-i
-    loop-less
-    loop-again
-    returns)
+    (tie.spec Inv-loop μ-loop (λ c κs. search needs) loop-holds leg-place-requires leg-at-requires (λ c. search needs)
+    (λ c. search needs) (λ c. search needs) (λ c. search needs) (λ c. search needs) (λ c. search needs)
+    (λ c. search needs) (λ c. search needs) loop-again returns)

@@ -5,12 +5,6 @@ use borrow.Author.Needs.{needs}
 use Rattle.codec.proofs.lengths.record_length.Statement.{statement}
 use Rattle.codec.proofs.lengths.record_length.Tie as tie
 
-mul-result : tie.Need-mul-result
-mul-result c = search needs
-
-add-result : tie.Need-add-result
-add-result c = search needs
-
 returns : tie.Need-returns
 unfolding recordLength
 returns c = rw (c .match .keys1) refl
@@ -47,14 +41,5 @@ returns-8 c =
 pub record-length-spec : {M : Type 1} → statement M
 record-length-spec =
     tie.close
-    (tie.spec
-    mul-result
-    add-result
-    returns
-    returns-2
-    returns-3
-    returns-4
-    returns-5
-    returns-6
-    returns-7
-    returns-8)
+    (tie.spec (λ c. search needs) (λ c. search needs) returns returns-2 returns-3 returns-4 returns-5 returns-6
+    returns-7 returns-8)

@@ -8,15 +8,6 @@ use borrow.Author.Needs.{needs}
 use Rattle.codec.proofs.read.fields_of.Statement.{statement}
 use Rattle.codec.proofs.read.fields_of.Tie as tie
 
-u8-or-zero-requires : tie.Need-u8-or-zero-requires
-u8-or-zero-requires c κs = search needs
-
-u8-or-zero-requires-2 : tie.Need-u8-or-zero-requires-2
-u8-or-zero-requires-2 c κs = search needs
-
-record-length-requires : tie.Need-record-length-requires
-record-length-requires c κs = search needs
-
 returns : tie.Need-returns
 returns c = fields-cut _ (c .before .before .before .u8-or-zero .ensures .0) (c .before .before .u8-or-zero2 .ensures .0) (c .before .record-length .ensures) (c .if1 .taken)
 
@@ -149,21 +140,6 @@ returns-9 c =
 pub fields-of-spec : {M : Type 1} → statement M
 fields-of-spec =
     tie.close
-    (tie.spec
-    u8-or-zero-requires
-    u8-or-zero-requires-2
-    record-length-requires
-    returns
-    submit-of-requires
-    cancellation-of-requires
-    new-day-limits-of-requires
-    close-out-of-requires
-    u32-at-requires
-    returns-2
-    returns-3
-    returns-4
-    returns-5
-    returns-6
-    returns-7
-    returns-8
-    returns-9)
+    (tie.spec (λ c κs. search needs) (λ c κs. search needs) (λ c κs. search needs) returns submit-of-requires
+    cancellation-of-requires new-day-limits-of-requires close-out-of-requires u32-at-requires returns-2 returns-3
+    returns-4 returns-5 returns-6 returns-7 returns-8 returns-9)

@@ -6,18 +6,6 @@ use borrow.Author.Needs.{needs}
 use Rattle.codec.proofs.read.is_sound_as_read.Statement.{statement}
 use Rattle.codec.proofs.read.is_sound_as_read.Tie as tie
 
-kind-number-requires : tie.Need-kind-number-requires
-kind-number-requires c κs = search needs
-
-leg-count-requires : tie.Need-leg-count-requires
-leg-count-requires c κs = search needs
-
-read-legs-requires : tie.Need-read-legs-requires
-read-legs-requires c κs = search needs
-
-is-proposal-sound-requires : tie.Need-is-proposal-sound-requires
-is-proposal-sound-requires c κs = search needs
-
 returns : tie.Need-returns
 returns c =
     let leg-count = c .before .before .leg-count in
@@ -31,9 +19,6 @@ returns c =
     judged-proposal n (a .event) (legs .result) (sym (kind-number .ensures .0) ∙ test1 .taken) (leg-count .ensures) (c .is-proposal-sound .ensures n)
     ∙ (ap (λ l. eventSound n (a .event) (legRows (legCount (a .event)) l)) (legs .ensures) ∙ rows-judged n (a .bytes .now) (a .event) (start .pre))
 
-is-legless-sound-requires : tie.Need-is-legless-sound-requires
-is-legless-sound-requires c κs = search needs
-
 returns-2 : tie.Need-returns-2
 returns-2 c =
     let start = c .before .before .before .before in
@@ -45,11 +30,5 @@ returns-2 c =
 pub is-sound-as-read-spec : {M : Type 1} → statement M
 is-sound-as-read-spec =
     tie.close
-    (tie.spec
-    kind-number-requires
-    leg-count-requires
-    read-legs-requires
-    is-proposal-sound-requires
-    returns
-    is-legless-sound-requires
-    returns-2)
+    (tie.spec (λ c κs. search needs) (λ c κs. search needs) (λ c κs. search needs) (λ c κs. search needs) returns
+    (λ c κs. search needs) returns-2)

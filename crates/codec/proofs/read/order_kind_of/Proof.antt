@@ -12,4 +12,6 @@ returns-3 : tie.Need-returns-3
 returns-3 c = search tests
 
 pub order-kind-of-spec : {M : Type 1} → statement M
-order-kind-of-spec = tie.close (tie.spec returns returns-2 returns-3)
+order-kind-of-spec =
+    tie.close
+    (tie.spec returns returns-2 returns-3)

@@ -5,23 +5,11 @@ use borrow.Author.Needs.{needs}
 use Rattle.codec.proofs.read.read_record.Statement.{statement}
 use Rattle.codec.proofs.read.read_record.Tie as tie
 
-is-member-count-sound-requires : tie.Need-is-member-count-sound-requires
-is-member-count-sound-requires c κs = search needs
-
 returns : tie.Need-returns
 returns c = read-none _ _ (asked-false (c .before .is-member-count-sound .ensures) (c .if1 .taken))
 
-fields-of-requires : tie.Need-fields-of-requires
-fields-of-requires c κs = search needs
-
-enum-known-event : tie.Need-enum-known-event
-enum-known-event c = search needs
-
 is-sound-as-read-requires : tie.Need-is-sound-as-read-requires
 is-sound-as-read-requires c κs = sym (c .before .before .before .fields-of .ensures) ∙ c .before .event .given .1
-
-enum-told : tie.Need-enum-told
-enum-told c = search needs
 
 returns-2 : tie.Need-returns-2
 returns-2 c =
@@ -43,13 +31,5 @@ returns-4 c =
 pub read-record-spec : {M : Type 1} → statement M
 read-record-spec =
     tie.close
-    (tie.spec
-    is-member-count-sound-requires
-    returns
-    fields-of-requires
-    enum-known-event
-    is-sound-as-read-requires
-    enum-told
-    returns-2
-    returns-3
-    returns-4)
+    (tie.spec (λ c κs. search needs) returns (λ c κs. search needs) (λ c. search needs) is-sound-as-read-requires
+    (λ c. search needs) returns-2 returns-3 returns-4)

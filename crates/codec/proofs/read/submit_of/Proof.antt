@@ -5,38 +5,11 @@ use borrow.Author.Needs.{needs}
 use Rattle.codec.proofs.read.submit_of.Statement.{statement}
 use Rattle.codec.proofs.read.submit_of.Tie as tie
 
-u8-at-requires : tie.Need-u8-at-requires
-u8-at-requires c κs = search needs
-
-u8-at-requires-2 : tie.Need-u8-at-requires-2
-u8-at-requires-2 c κs = search needs
-
 returns : tie.Need-returns
 returns c = submit-side (c .before .before .before .before .args .bytes .now) (rw (c .before .before .u8-at .ensures .0) at (c .if1 .taken))
 
 returns-2 : tie.Need-returns-2
 returns-2 c = submit-order-kind (c .before .before .before .before .before .args .bytes .now) (rw (c .before .before .u8-at2 .ensures .0) at (c .if2 .taken))
-
-u32-at-requires : tie.Need-u32-at-requires
-u32-at-requires c κs = search needs
-
-u8-at-requires-3 : tie.Need-u8-at-requires-3
-u8-at-requires-3 c κs = search needs
-
-u8-at-requires-4 : tie.Need-u8-at-requires-4
-u8-at-requires-4 c κs = search needs
-
-side-of-requires : tie.Need-side-of-requires
-side-of-requires c κs = search needs
-
-order-kind-of-requires : tie.Need-order-kind-of-requires
-order-kind-of-requires c κs = search needs
-
-u32-at-requires-2 : tie.Need-u32-at-requires-2
-u32-at-requires-2 c κs = search needs
-
-u16-at-requires : tie.Need-u16-at-requires
-u16-at-requires c κs = search needs
 
 returns-3 : tie.Need-returns-3
 returns-3 c =
@@ -58,16 +31,6 @@ returns-3 c =
 pub submit-of-spec : {M : Type 1} → statement M
 submit-of-spec =
     tie.close
-    (tie.spec
-    u8-at-requires
-    u8-at-requires-2
-    returns
-    returns-2
-    u32-at-requires
-    u8-at-requires-3
-    u8-at-requires-4
-    side-of-requires
-    order-kind-of-requires
-    u32-at-requires-2
-    u16-at-requires
-    returns-3)
+    (tie.spec (λ c κs. search needs) (λ c κs. search needs) returns returns-2 (λ c κs. search needs)
+    (λ c κs. search needs) (λ c κs. search needs) (λ c κs. search needs) (λ c κs. search needs) (λ c κs. search needs)
+    (λ c κs. search needs) returns-3)

@@ -8,4 +8,6 @@ unfolding eventSound
 returns c = search and-true
 
 pub are-day-limits-sound-spec : {M : Type 1} → statement M
-are-day-limits-sound-spec = tie.close (tie.spec returns)
+are-day-limits-sound-spec =
+    tie.close
+    (tie.spec returns)

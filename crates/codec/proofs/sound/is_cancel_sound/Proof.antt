@@ -8,4 +8,6 @@ unfolding eventSound
 returns c = search and-true
 
 pub is-cancel-sound-spec : {M : Type 1} → statement M
-is-cancel-sound-spec = tie.close (tie.spec returns)
+is-cancel-sound-spec =
+    tie.close
+    (tie.spec returns)

@@ -8,4 +8,6 @@ unfolding eventSound
 returns c = search and-true
 
 pub is-close-out-sound-spec : {M : Type 1} → statement M
-is-close-out-sound-spec = tie.close (tie.spec returns)
+is-close-out-sound-spec =
+    tie.close
+    (tie.spec returns)

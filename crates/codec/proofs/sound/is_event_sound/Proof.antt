@@ -4,22 +4,10 @@ use borrow.Author.Needs.{needs}
 use Rattle.codec.proofs.sound.is_event_sound.Statement.{statement}
 use Rattle.codec.proofs.sound.is_event_sound.Tie as tie
 
-kind-number-requires : tie.Need-kind-number-requires
-kind-number-requires c κs = search needs
-
-leg-count-requires : tie.Need-leg-count-requires
-leg-count-requires c κs = search needs
-
-is-proposal-sound-requires : tie.Need-is-proposal-sound-requires
-is-proposal-sound-requires c κs = search needs
-
 returns : tie.Need-returns
 returns c =
     let a = c .before .before .before .before .args in
     judged-proposal _ (a .event) (a .legs) (sym (c .before .before .before .kind-number .ensures .0) ∙ c .before .before .if1 .taken) (c .before .leg-count .ensures) (c .is-proposal-sound .ensures _)
-
-is-legless-sound-requires : tie.Need-is-legless-sound-requires
-is-legless-sound-requires c κs = search needs
 
 returns-2 : tie.Need-returns-2
 returns-2 c =
@@ -30,10 +18,5 @@ returns-2 c =
 pub is-event-sound-spec : {M : Type 1} → statement M
 is-event-sound-spec =
     tie.close
-    (tie.spec
-    kind-number-requires
-    leg-count-requires
-    is-proposal-sound-requires
-    returns
-    is-legless-sound-requires
+    (tie.spec (λ c κs. search needs) (λ c κs. search needs) (λ c κs. search needs) returns (λ c κs. search needs)
     returns-2)

@@ -10,11 +10,10 @@ returns c = λ n. sym (few-legs n _ _ (c .if1 .taken))
 returns-2 : tie.Need-returns-2
 returns-2 c = λ n. sym (proposal-many n _ _ (c .if2 .taken))
 
-are-legs-sound-requires : tie.Need-are-legs-sound-requires
-are-legs-sound-requires c κs = search needs
-
 returns-3 : tie.Need-returns-3
 returns-3 c = λ n. c .are-legs-sound .ensures ∙ sym (proposal-judged n _ _ (c .before .before .if1 .left) (c .before .if2 .left))
 
 pub is-proposal-sound-spec : {M : Type 1} → statement M
-is-proposal-sound-spec = tie.close (tie.spec returns returns-2 are-legs-sound-requires returns-3)
+is-proposal-sound-spec =
+    tie.close
+    (tie.spec returns returns-2 (λ c κs. search needs) returns-3)

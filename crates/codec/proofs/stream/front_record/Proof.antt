@@ -8,15 +8,6 @@ returns : tie.Need-returns
 unfolding frontOf
 returns c = search tests
 
-u8-or-zero-requires : tie.Need-u8-or-zero-requires
-u8-or-zero-requires c κs = search needs
-
-u8-or-zero-requires-2 : tie.Need-u8-or-zero-requires-2
-u8-or-zero-requires-2 c κs = search needs
-
-record-length-requires : tie.Need-record-length-requires
-record-length-requires c κs = search needs
-
 returns-2 : tie.Need-returns-2
 unfolding frontOf
 returns-2 c = rw (← c .before .before .before .u8-or-zero .ensures .0, ← c .before .before .u8-or-zero2 .ensures .0, ← c .before .record-length .ensures) (search tests)
@@ -32,11 +23,5 @@ returns-4 c = rw (← c .before .before .before .before .u8-or-zero .ensures .0,
 pub front-record-spec : {M : Type 1} → statement M
 front-record-spec =
     tie.close
-    (tie.spec
-    returns
-    u8-or-zero-requires
-    u8-or-zero-requires-2
-    record-length-requires
-    returns-2
-    returns-3
+    (tie.spec returns (λ c κs. search needs) (λ c κs. search needs) (λ c κs. search needs) returns-2 returns-3
     returns-4)

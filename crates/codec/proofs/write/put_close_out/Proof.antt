@@ -7,15 +7,6 @@ use borrow.Author.Needs.{needs}
 use Rattle.codec.proofs.write.put_close_out.Statement.{statement}
 use Rattle.codec.proofs.write.put_close_out.Tie as tie
 
-put-u8-requires : tie.Need-put-u8-requires
-put-u8-requires c κs = search needs
-
-put-u16-requires : tie.Need-put-u16-requires
-put-u16-requires c κs = search needs
-
-same-length : tie.Need-same-length
-same-length c = search needs
-
 returns : tie.Need-returns
 unfolding fieldBytes u16Bytes
 returns c =
@@ -23,4 +14,6 @@ returns c =
     over-next 1 _ _ _ _ _ _ (c .before .before .before .before .before .before .put-u8 .ensures) (c .before .before .put-u16 .ensures) refl (omega arith)
 
 pub put-close-out-spec : {M : Type 1} → statement M
-put-close-out-spec = tie.close (tie.spec put-u8-requires put-u16-requires same-length returns)
+put-close-out-spec =
+    tie.close
+    (tie.spec (λ c κs. search needs) (λ c κs. search needs) (λ c. search needs) returns)

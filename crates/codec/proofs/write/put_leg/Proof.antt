@@ -6,24 +6,6 @@ use borrow.Author.Needs.{needs}
 use Rattle.codec.proofs.write.put_leg.Statement.{statement}
 use Rattle.codec.proofs.write.put_leg.Tie as tie
 
-put-u32-requires : tie.Need-put-u32-requires
-put-u32-requires c κs = search needs
-
-add-put-u16 : tie.Need-add-put-u16
-add-put-u16 c = search needs
-
-put-u16-requires : tie.Need-put-u16-requires
-put-u16-requires c κs = search needs
-
-add-put-u32 : tie.Need-add-put-u32
-add-put-u32 c = search needs
-
-put-u32-requires-2 : tie.Need-put-u32-requires-2
-put-u32-requires-2 c κs = search needs
-
-same-length : tie.Need-same-length
-same-length c = search needs
-
 returns : tie.Need-returns
 unfolding u16Bytes u32Bytes
 returns c =
@@ -37,11 +19,5 @@ returns c =
 pub put-leg-spec : {M : Type 1} → statement M
 put-leg-spec =
     tie.close
-    (tie.spec
-    put-u32-requires
-    add-put-u16
-    put-u16-requires
-    add-put-u32
-    put-u32-requires-2
-    same-length
-    returns)
+    (tie.spec (λ c κs. search needs) (λ c. search needs) (λ c κs. search needs) (λ c. search needs)
+    (λ c κs. search needs) (λ c. search needs) returns)

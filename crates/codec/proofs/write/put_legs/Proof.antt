@@ -21,20 +21,8 @@ abbrev μ-loop : tie.MeasureT-loop
 loop-holds : tie.Need-loop-holds Inv-loop μ-loop
 loop-holds c = (omega arith, refl, blocks-none legBytes 10 leg-wide (legRow (c .before .args .legs)) 2 _)
 
-leg-place-requires : tie.Need-leg-place-requires Inv-loop μ-loop
-leg-place-requires c κs = search needs
-
-leg-of-requires : tie.Need-leg-of-requires Inv-loop μ-loop
-leg-of-requires c κs = search needs
-
 put-leg-requires : tie.Need-put-leg-requires Inv-loop μ-loop
 put-leg-requires c κs = rw (c .before .leg-place .ensures) (omega arith)
-
-add-i : tie.Need-add-i Inv-loop μ-loop
-add-i c = search needs
-
-loop-less : tie.Need-loop-less Inv-loop μ-loop
-loop-less c = search needs
 
 loop-again : tie.Need-loop-again Inv-loop μ-loop
 loop-again c =
@@ -49,9 +37,6 @@ loop-again c =
     let leg = leg-of .ensures in
     (omega arith, omega arith, blocks-next legBytes 10 leg-wide (legRow (start .args .legs)) 2 (l .i) _ _ _ _ leg (l .inv .2) put (omega arith))
 
-same-length : tie.Need-same-length Inv-loop μ-loop
-same-length c = search needs
-
 returns : tie.Need-returns Inv-loop μ-loop
 unfolding legRows
 returns c =
@@ -62,15 +47,5 @@ returns c =
 pub put-legs-spec : {M : Type 1} → statement M
 put-legs-spec =
     tie.close
-    (tie.spec
-    Inv-loop
-    μ-loop
-    loop-holds
-    leg-place-requires
-    leg-of-requires
-    put-leg-requires
-    add-i
-    loop-less
-    loop-again
-    same-length
-    returns)
+    (tie.spec Inv-loop μ-loop loop-holds (λ c κs. search needs) (λ c κs. search needs) put-leg-requires
+    (λ c. search needs) (λ c. search needs) loop-again (λ c. search needs) returns)

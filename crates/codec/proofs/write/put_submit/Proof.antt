@@ -7,36 +7,6 @@ use borrow.Author.Needs.{needs}
 use Rattle.codec.proofs.write.put_submit.Statement.{statement}
 use Rattle.codec.proofs.write.put_submit.Tie as tie
 
-put-u32-requires : tie.Need-put-u32-requires
-put-u32-requires c κs = search needs
-
-put-u8-requires : tie.Need-put-u8-requires
-put-u8-requires c κs = search needs
-
-put-u8-requires-2 : tie.Need-put-u8-requires-2
-put-u8-requires-2 c κs = search needs
-
-side-number-requires : tie.Need-side-number-requires
-side-number-requires c κs = search needs
-
-put-u8-requires-3 : tie.Need-put-u8-requires-3
-put-u8-requires-3 c κs = search needs
-
-order-kind-number-requires : tie.Need-order-kind-number-requires
-order-kind-number-requires c κs = search needs
-
-put-u8-requires-4 : tie.Need-put-u8-requires-4
-put-u8-requires-4 c κs = search needs
-
-put-u32-requires-2 : tie.Need-put-u32-requires-2
-put-u32-requires-2 c κs = search needs
-
-put-u16-requires : tie.Need-put-u16-requires
-put-u16-requires c κs = search needs
-
-same-length : tie.Need-same-length
-same-length c = search needs
-
 returns : tie.Need-returns
 unfolding fieldBytes u16Bytes u32Bytes
 returns c =
@@ -63,15 +33,6 @@ returns c =
 pub put-submit-spec : {M : Type 1} → statement M
 put-submit-spec =
     tie.close
-    (tie.spec
-    put-u32-requires
-    put-u8-requires
-    put-u8-requires-2
-    side-number-requires
-    put-u8-requires-3
-    order-kind-number-requires
-    put-u8-requires-4
-    put-u32-requires-2
-    put-u16-requires
-    same-length
-    returns)
+    (tie.spec (λ c κs. search needs) (λ c κs. search needs) (λ c κs. search needs) (λ c κs. search needs)
+    (λ c κs. search needs) (λ c κs. search needs) (λ c κs. search needs) (λ c κs. search needs) (λ c κs. search needs)
+    (λ c. search needs) returns)

@@ -8,25 +8,13 @@ use borrow.Author.Needs.{needs}
 use Rattle.codec.proofs.write.write_record.Statement.{statement}
 use Rattle.codec.proofs.write.write_record.Tie as tie
 
-is-member-count-sound-requires : tie.Need-is-member-count-sound-requires
-is-member-count-sound-requires c κs = search needs
-
 returns : tie.Need-returns
 returns c = write-few _ _ _ _ (asked-false (c .before .is-member-count-sound .ensures) (c .if1 .taken))
-
-is-event-sound-requires : tie.Need-is-event-sound-requires
-is-event-sound-requires c κs = search needs
 
 returns-2 : tie.Need-returns-2
 returns-2 c =
     let few = asked-true (c .before .before .before .is-member-count-sound .ensures) (c .before .before .if1 .left) in
     write-unsound _ _ _ _ few (asked-false (c .before .is-event-sound .ensures) (c .if2 .taken))
-
-kind-number-requires : tie.Need-kind-number-requires
-kind-number-requires c κs = search needs
-
-leg-count-requires : tie.Need-leg-count-requires
-leg-count-requires c κs = search needs
 
 record-length-requires : tie.Need-record-length-requires
 record-length-requires c κs =
@@ -67,9 +55,6 @@ put-fields-requires c κs =
     let sized = rw (kind-number .ensures .0, leg-count .ensures) at (record-length .ensures) in
     (omega (arith, sized), one-byte _ few _ _ (asked-true (is-event-sound .ensures) (if2 .left)))
 
-same-length : tie.Need-same-length
-same-length c = search needs
-
 returns-4 : tie.Need-returns-4
 returns-4 c =
     let a = c .before .before .before .before .before .before .before .before .before .before .before .before .before .before .before .before .before .args in
@@ -93,16 +78,6 @@ returns-4 c =
 pub write-record-spec : {M : Type 1} → statement M
 write-record-spec =
     tie.close
-    (tie.spec
-    is-member-count-sound-requires
-    returns
-    is-event-sound-requires
-    returns-2
-    kind-number-requires
-    leg-count-requires
-    record-length-requires
-    returns-3
-    put-u8-requires
-    put-fields-requires
-    same-length
+    (tie.spec (λ c κs. search needs) returns (λ c κs. search needs) returns-2 (λ c κs. search needs)
+    (λ c κs. search needs) record-length-requires returns-3 put-u8-requires put-fields-requires (λ c. search needs)
     returns-4)

@@ -29,24 +29,12 @@ loop-holds : tie.Need-loop-holds Inv-loop μ-loop
 unfolding placesSound
 loop-holds c = let a = c .before .args in (omega arith, omega arith, rw (sub-zero (a .count)), rw (sub-zero (a .count)))
 
-mul-at : tie.Need-mul-at Inv-loop μ-loop
-mul-at c = search needs
-
-mul-number : tie.Need-mul-number Inv-loop μ-loop
-mul-number c = search needs
-
-shared-slice-read-number : tie.Need-shared-slice-read-number Inv-loop μ-loop
-shared-slice-read-number c = search needs
-
 returns : tie.Need-returns Inv-loop μ-loop
 returns c =
     let a = c .before .before .before .before .before .args in
     let l = c .before .before .before .loop in
     let sound = placeSound (a .accepted) (a .members) (a .span .start .0) (a .span .end .0) (a .book .now) in
     rw (each-stop sound (a .count) (l .i) (ltb (l .sides) 2) _ (l .inv .2) (c .before .before .loop-test .taken) (rw (le-ltb _ _ (c .if1 .taken))))
-
-is-rest-sound-requires : tie.Need-is-rest-sound-requires Inv-loop μ-loop
-is-rest-sound-requires c κs = search needs
 
 returns-2 : tie.Need-returns-2 Inv-loop μ-loop
 returns-2 c =
@@ -57,27 +45,6 @@ returns-2 c =
     let sound = placeSound (a .accepted) (a .members) (a .span .start .0) (a .span .end .0) (a .book .now) in
     rw (each-stop sound (a .count) (l .i) (ltb (l .sides) 2) _ (l .inv .2) (loop-test .taken)
     (rw (lt-ltb _ _ (if1 .left), asked-false (c .before .is-rest-sound .ensures) (c .if2 .taken))))
-
-add-sides : tie.Need-add-sides Inv-loop μ-loop
-add-sides c = search needs
-
-mul-sides : tie.Need-mul-sides Inv-loop μ-loop
-mul-sides c = search needs
-
-shared-slice-read-sides : tie.Need-shared-slice-read-sides Inv-loop μ-loop
-shared-slice-read-sides c = search needs
-
-wrapping-sub-u64-requires : tie.Need-wrapping-sub-u64-requires Inv-loop μ-loop
-wrapping-sub-u64-requires c κs = search needs
-
-add-least : tie.Need-add-least Inv-loop μ-loop
-add-least c = search needs
-
-add-i : tie.Need-add-i Inv-loop μ-loop
-add-i c = search needs
-
-loop-less : tie.Need-loop-less Inv-loop μ-loop
-loop-less c = search needs
 
 loop-again : tie.Need-loop-again Inv-loop μ-loop
 loop-again c =
@@ -117,9 +84,6 @@ returns-4 c =
     let rise = rises-end f (a .count) (l .i) (l .least) (ltb (l .falls) (2 ^ 63)) _ (l .inv .3) (c .before .before .loop-test .left) in
     rw (sym all, lt-ltb _ _ (c .before .if3 .left), rises-distinct 0 (map f (from 0 (a .count))) (sym rise ∙ lt-ltb _ _ (c .if4 .taken)))
 
-is-none-repeated-requires : tie.Need-is-none-repeated-requires Inv-loop μ-loop
-is-none-repeated-requires c κs = search needs
-
 returns-5 : tie.Need-returns-5 Inv-loop μ-loop
 returns-5 c =
     let a = c .before .before .before .before .before .before .args in
@@ -131,25 +95,7 @@ returns-5 c =
 pub are-orders-sound-spec : {M : Type 1} → statement M
 are-orders-sound-spec =
     tie.close
-    (tie.spec
-    Inv-loop
-    μ-loop
-    loop-holds
-    mul-at
-    mul-number
-    shared-slice-read-number
-    returns
-    is-rest-sound-requires
-    returns-2
-    add-sides
-    mul-sides
-    shared-slice-read-sides
-    wrapping-sub-u64-requires
-    add-least
-    add-i
-    loop-less
-    loop-again
-    returns-3
-    returns-4
-    is-none-repeated-requires
-    returns-5)
+    (tie.spec Inv-loop μ-loop loop-holds (λ c. search needs) (λ c. search needs) (λ c. search needs) returns
+    (λ c κs. search needs) returns-2 (λ c. search needs) (λ c. search needs) (λ c. search needs)
+    (λ c κs. search needs) (λ c. search needs) (λ c. search needs) (λ c. search needs) loop-again returns-3 returns-4
+    (λ c κs. search needs) returns-5)

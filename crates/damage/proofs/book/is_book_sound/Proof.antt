@@ -6,15 +6,6 @@ use borrow.Author.Needs.{needs}
 use Rattle.damage.proofs.book.is_book_sound.Statement.{statement}
 use Rattle.damage.proofs.book.is_book_sound.Tie as tie
 
-shared-slice-read-count : tie.Need-shared-slice-read-count
-shared-slice-read-count c = search needs
-
-shared-slice-read-are-orders-sound : tie.Need-shared-slice-read-are-orders-sound
-shared-slice-read-are-orders-sound c = search needs
-
-shared-slice-read-are-orders-sound-2 : tie.Need-shared-slice-read-are-orders-sound-2
-shared-slice-read-are-orders-sound-2 c = search needs
-
 are-orders-sound-requires : tie.Need-are-orders-sound-requires
 are-orders-sound-requires c κs =
     let pre = c .before .before .before .before .before .pre in
@@ -29,9 +20,4 @@ returns c =
 pub is-book-sound-spec : {M : Type 1} → statement M
 is-book-sound-spec =
     tie.close
-    (tie.spec
-    shared-slice-read-count
-    shared-slice-read-are-orders-sound
-    shared-slice-read-are-orders-sound-2
-    are-orders-sound-requires
-    returns)
+    (tie.spec (λ c. search needs) (λ c. search needs) (λ c. search needs) are-orders-sound-requires returns)

@@ -26,39 +26,6 @@ abbrev μ-loop : tie.MeasureT-loop
 loop-holds : tie.Need-loop-holds Inv-loop μ-loop
 loop-holds c = (omega arith, λ p l v b n. each-start (memberSound (lent (c .args .head .now) p l v b n)) (c .args .members))
 
-add-ok : tie.Need-add-ok Inv-loop μ-loop
-add-ok c = search needs
-
-mul-ok : tie.Need-mul-ok Inv-loop μ-loop
-mul-ok c = search needs
-
-shared-slice-read-ok : tie.Need-shared-slice-read-ok Inv-loop μ-loop
-shared-slice-read-ok c = search needs
-
-add-ok-2 : tie.Need-add-ok-2 Inv-loop μ-loop
-add-ok-2 c = search needs
-
-mul-ok-2 : tie.Need-mul-ok-2 Inv-loop μ-loop
-mul-ok-2 c = search needs
-
-shared-slice-read-ok-2 : tie.Need-shared-slice-read-ok-2 Inv-loop μ-loop
-shared-slice-read-ok-2 c = search needs
-
-add-ok-3 : tie.Need-add-ok-3 Inv-loop μ-loop
-add-ok-3 c = search needs
-
-mul-ok-3 : tie.Need-mul-ok-3 Inv-loop μ-loop
-mul-ok-3 c = search needs
-
-shared-slice-read-ok-3 : tie.Need-shared-slice-read-ok-3 Inv-loop μ-loop
-shared-slice-read-ok-3 c = search needs
-
-add-m : tie.Need-add-m Inv-loop μ-loop
-add-m c = search needs
-
-loop-less : tie.Need-loop-less Inv-loop μ-loop
-loop-less c = search needs
-
 loop-again : tie.Need-loop-again Inv-loop μ-loop
 unfolding memberSound
 loop-again c =
@@ -83,20 +50,6 @@ returns c =
 pub are-members-sound-spec : {M : Type 1} → statement M
 are-members-sound-spec =
     tie.close
-    (tie.spec
-    Inv-loop
-    μ-loop
-    loop-holds
-    add-ok
-    mul-ok
-    shared-slice-read-ok
-    add-ok-2
-    mul-ok-2
-    shared-slice-read-ok-2
-    add-ok-3
-    mul-ok-3
-    shared-slice-read-ok-3
-    add-m
-    loop-less
-    loop-again
-    returns)
+    (tie.spec Inv-loop μ-loop loop-holds (λ c. search needs) (λ c. search needs) (λ c. search needs)
+    (λ c. search needs) (λ c. search needs) (λ c. search needs) (λ c. search needs) (λ c. search needs)
+    (λ c. search needs) (λ c. search needs) (λ c. search needs) loop-again returns)

@@ -16,30 +16,9 @@ use Rattle.arith.proofs.Tests.{asked-true, asked-false}
 use Rattle.damage.proofs.head.is_head_sound.Statement.{statement}
 use Rattle.damage.proofs.head.is_head_sound.Tie as tie
 
-shared-slice-read-members : tie.Need-shared-slice-read-members
-shared-slice-read-members c = search needs
-
-shared-slice-read-count : tie.Need-shared-slice-read-count
-shared-slice-read-count c = search needs
-
 returns : tie.Need-returns
 unfolding headSound allOf
 returns c = λ p l v b n. rw (lt-leb _ _ (c .if1 .taken))
-
-add-end : tie.Need-add-end
-add-end c = search needs
-
-sub-holidays : tie.Need-sub-holidays
-sub-holidays c = search needs
-
-part-holidays-start : tie.Need-part-holidays-start
-part-holidays-start c = search needs
-
-part-holidays-end : tie.Need-part-holidays-end
-part-holidays-end c = search needs
-
-shared-slice-read-is-calendar-sound : tie.Need-shared-slice-read-is-calendar-sound
-shared-slice-read-is-calendar-sound c = search needs
 
 is-calendar-sound-requires : tie.Need-is-calendar-sound-requires
 is-calendar-sound-requires c κs = (c .before .before .before .before .before .before .pre .1, c .before .before .before .before .before .before .pre .2 _)
@@ -77,27 +56,6 @@ returns-4 c =
       lt-leb (getD h 1 0) 32 (c .if4 .taken),
     )
 
-shared-slice-read-counts : tie.Need-shared-slice-read-counts
-shared-slice-read-counts c = search needs
-
-is-day-sound-requires : tie.Need-is-day-sound-requires
-is-day-sound-requires c κs = search needs
-
-shared-slice-read-counts-2 : tie.Need-shared-slice-read-counts-2
-shared-slice-read-counts-2 c = search needs
-
-shared-slice-read-counts-3 : tie.Need-shared-slice-read-counts-3
-shared-slice-read-counts-3 c = search needs
-
-shared-slice-read-counts-4 : tie.Need-shared-slice-read-counts-4
-shared-slice-read-counts-4 c = search needs
-
-shared-slice-read-counts-5 : tie.Need-shared-slice-read-counts-5
-shared-slice-read-counts-5 c = search needs
-
-are-members-sound-requires : tie.Need-are-members-sound-requires
-are-members-sound-requires c κs = search needs
-
 returns-5 : tie.Need-returns-5
 unfolding headSound
 returns-5 c =
@@ -123,24 +81,7 @@ returns-5 c =
 pub is-head-sound-spec : {M : Type 1} → statement M
 is-head-sound-spec =
     tie.close
-    (tie.spec
-    shared-slice-read-members
-    shared-slice-read-count
-    returns
-    add-end
-    sub-holidays
-    part-holidays-start
-    part-holidays-end
-    shared-slice-read-is-calendar-sound
-    is-calendar-sound-requires
-    returns-2
-    returns-3
-    returns-4
-    shared-slice-read-counts
-    is-day-sound-requires
-    shared-slice-read-counts-2
-    shared-slice-read-counts-3
-    shared-slice-read-counts-4
-    shared-slice-read-counts-5
-    are-members-sound-requires
-    returns-5)
+    (tie.spec (λ c. search needs) (λ c. search needs) returns (λ c. search needs) (λ c. search needs)
+    (λ c. search needs) (λ c. search needs) (λ c. search needs) is-calendar-sound-requires returns-2 returns-3
+    returns-4 (λ c. search needs) (λ c κs. search needs) (λ c. search needs) (λ c. search needs) (λ c. search needs)
+    (λ c. search needs) (λ c κs. search needs) returns-5)

@@ -24,4 +24,6 @@ unfolding ledgerShort
 returns-5 c = λ n. search tests
 
 pub is-ledger-short-spec : {M : Type 1} → statement M
-is-ledger-short-spec = tie.close (tie.spec returns returns-2 returns-3 returns-4 returns-5)
+is-ledger-short-spec =
+    tie.close
+    (tie.spec returns returns-2 returns-3 returns-4 returns-5)

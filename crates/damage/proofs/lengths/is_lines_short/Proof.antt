@@ -8,4 +8,6 @@ unfolding linesShort
 returns c = λ h p l v b. refl
 
 pub is-lines-short-spec : {M : Type 1} → statement M
-is-lines-short-spec = tie.close (tie.spec returns)
+is-lines-short-spec =
+    tie.close
+    (tie.spec returns)

@@ -20,24 +20,6 @@ abbrev μ-loop : tie.MeasureT-loop
 loop-holds : tie.Need-loop-holds Inv-loop μ-loop
 loop-holds c = (omega arith, refl)
 
-mul-at : tie.Need-mul-at Inv-loop μ-loop
-mul-at c = search needs
-
-add-end : tie.Need-add-end Inv-loop μ-loop
-add-end c = search needs
-
-mul-is-contract-sound : tie.Need-mul-is-contract-sound Inv-loop μ-loop
-mul-is-contract-sound c = search needs
-
-sub-is-contract-sound : tie.Need-sub-is-contract-sound Inv-loop μ-loop
-sub-is-contract-sound c = search needs
-
-part-is-contract-sound-start : tie.Need-part-is-contract-sound-start Inv-loop μ-loop
-part-is-contract-sound-start c = search needs
-
-part-is-contract-sound-end : tie.Need-part-is-contract-sound-end Inv-loop μ-loop
-part-is-contract-sound-end c = search needs
-
 is-contract-sound-requires : tie.Need-is-contract-sound-requires Inv-loop μ-loop
 is-contract-sound-requires c κs = (simp (length-take, length-drop) (omega arith), omega arith)
 
@@ -49,12 +31,6 @@ returns c =
     let cut : l .contract * 5 + 5 - l .contract * 5 ≡ 5 = omega arith in
     stop-block 5 (contractPricesSound (a .run)) 102 (a .prices .now) (l .contract) (everyBlock 5 (contractPricesSound (a .run)) 102 (a .prices .now)) (l .inv .1) (loop-test .taken)
     (asked-false (rw cut at (c .before .is-contract-sound .ensures)) (c .if1 .taken))
-
-add-contract : tie.Need-add-contract Inv-loop μ-loop
-add-contract c = search needs
-
-loop-less : tie.Need-loop-less Inv-loop μ-loop
-loop-less c = search needs
 
 loop-again : tie.Need-loop-again Inv-loop μ-loop
 loop-again c =
@@ -77,19 +53,6 @@ returns-2 c =
 pub are-prices-sound-spec : {M : Type 1} → statement M
 are-prices-sound-spec =
     tie.close
-    (tie.spec
-    Inv-loop
-    μ-loop
-    loop-holds
-    mul-at
-    add-end
-    mul-is-contract-sound
-    sub-is-contract-sound
-    part-is-contract-sound-start
-    part-is-contract-sound-end
-    is-contract-sound-requires
-    returns
-    add-contract
-    loop-less
-    loop-again
-    returns-2)
+    (tie.spec Inv-loop μ-loop loop-holds (λ c. search needs) (λ c. search needs) (λ c. search needs)
+    (λ c. search needs) (λ c. search needs) (λ c. search needs) is-contract-sound-requires returns (λ c. search needs)
+    (λ c. search needs) loop-again returns-2)

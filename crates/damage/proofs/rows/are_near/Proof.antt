@@ -11,16 +11,10 @@ use Rattle.damage.proofs.rows.are_near.Tie as tie
 slice-aggregate-or-of : tie.Need-slice-aggregate-or-of
 slice-aggregate-or-of c = sym (length-take-le 3264 (c .before .before .args .rows .now) (omega arith))
 
-or-of-requires : tie.Need-or-of-requires
-or-of-requires c κs = search needs
-
 returns : tie.Need-returns
 returns c =
     let a = c .before .before .before .args in
     λ k h. rw (h .1, c .before .before .if1 .taken) (c .or-of .ensures k (h .0, ap (λ w. w / 2) (h .1)) ∙ row-whole (inWindow (2 ^ k)) (a .rows .now))
-
-or-of-columns-requires : tie.Need-or-of-columns-requires
-or-of-columns-requires c κs = search needs
 
 returns-2 : tie.Need-returns-2
 returns-2 c =
@@ -29,4 +23,4 @@ returns-2 c =
 pub are-near-spec : {M : Type 1} → statement M
 are-near-spec =
     tie.close
-    (tie.spec slice-aggregate-or-of or-of-requires returns or-of-columns-requires returns-2)
+    (tie.spec slice-aggregate-or-of (λ c κs. search needs) returns (λ c κs. search needs) returns-2)

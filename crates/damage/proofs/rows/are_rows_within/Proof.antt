@@ -4,20 +4,11 @@ use borrow.Author.Needs.{needs}
 use Rattle.damage.proofs.rows.are_rows_within.Statement.{statement}
 use Rattle.damage.proofs.rows.are_rows_within.Tie as tie
 
-width-within-requires : tie.Need-width-within-requires
-width-within-requires c κs = search needs
-
-are-near-requires : tie.Need-are-near-requires
-are-near-requires c κs = search needs
-
 returns : tie.Need-returns
 returns c =
     let a = c .before .before .before .args in
     let w = c .before .before .width-within .ensures in
     row-within (c .before .before .width-within .result) (a .bound) (a .members) (a .rows .now) (w .2) (sym (c .before .are-near .ensures (w .0) (w .1)) ∙ c .if1 .taken)
-
-is-each-within-requires : tie.Need-is-each-within-requires
-is-each-within-requires c κs = search needs
 
 returns-2 : tie.Need-returns-2
 returns-2 c = c .is-each-within .ensures
@@ -25,4 +16,4 @@ returns-2 c = c .is-each-within .ensures
 pub are-rows-within-spec : {M : Type 1} → statement M
 are-rows-within-spec =
     tie.close
-    (tie.spec width-within-requires are-near-requires returns is-each-within-requires returns-2)
+    (tie.spec (λ c κs. search needs) (λ c κs. search needs) returns (λ c κs. search needs) returns-2)

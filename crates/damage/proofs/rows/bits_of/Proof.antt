@@ -36,4 +36,5 @@ returns-2 c =
 
 pub bits-of-spec : {M : Type 1} → statement M
 bits-of-spec =
-    tie.close (tie.spec cast-result sub-result cast-result-2 sub-result-2 returns returns-2)
+    tie.close
+    (tie.spec cast-result sub-result cast-result-2 sub-result-2 returns returns-2)

@@ -24,33 +24,6 @@ loop-holds : tie.Need-loop-holds Inv-loop μ-loop
 unfolding everyRow
 loop-holds c = (omega arith, refl)
 
-mul-at : tie.Need-mul-at Inv-loop μ-loop
-mul-at c = search needs
-
-add-end : tie.Need-add-end Inv-loop μ-loop
-add-end c = search needs
-
-mul-are-within : tie.Need-mul-are-within Inv-loop μ-loop
-mul-are-within c = search needs
-
-sub-are-within : tie.Need-sub-are-within Inv-loop μ-loop
-sub-are-within c = search needs
-
-part-are-within-start : tie.Need-part-are-within-start Inv-loop μ-loop
-part-are-within-start c = search needs
-
-part-are-within-end : tie.Need-part-are-within-end Inv-loop μ-loop
-part-are-within-end c = search needs
-
-are-within-requires : tie.Need-are-within-requires Inv-loop μ-loop
-are-within-requires c κs = search needs
-
-add-contract : tie.Need-add-contract Inv-loop μ-loop
-add-contract c = search needs
-
-loop-less : tie.Need-loop-less Inv-loop μ-loop
-loop-less c = search needs
-
 loop-again : tie.Need-loop-again Inv-loop μ-loop
 loop-again c =
     let a = c .before .before .before .before .args in
@@ -72,18 +45,6 @@ returns c =
 pub is-each-within-spec : {M : Type 1} → statement M
 is-each-within-spec =
     tie.close
-    (tie.spec
-    Inv-loop
-    μ-loop
-    loop-holds
-    mul-at
-    add-end
-    mul-are-within
-    sub-are-within
-    part-are-within-start
-    part-are-within-end
-    are-within-requires
-    add-contract
-    loop-less
-    loop-again
-    returns)
+    (tie.spec Inv-loop μ-loop loop-holds (λ c. search needs) (λ c. search needs) (λ c. search needs)
+    (λ c. search needs) (λ c. search needs) (λ c. search needs) (λ c κs. search needs) (λ c. search needs)
+    (λ c. search needs) loop-again returns)

@@ -28,4 +28,6 @@ returns-2 c =
     rw (toZ-ofZ s, below-is x (s .sfits) below, ← below-abs x below)
 
 pub is-within-spec : {M : Type 1} → statement M
-is-within-spec = tie.close (tie.spec cast-result returns sub-result cast-result-2 returns-2)
+is-within-spec =
+    tie.close
+    (tie.spec cast-result returns sub-result cast-result-2 returns-2)

@@ -20,18 +20,6 @@ abbrev μ-loop : tie.MeasureT-loop
 loop-holds : tie.Need-loop-holds Inv-loop μ-loop
 loop-holds c = (omega arith, λ k h. rw (none-below k) (sym (row-none (inWindow (2 ^ k)) (c .args .rows .now))))
 
-add-loop : tie.Need-add-loop Inv-loop μ-loop
-add-loop c = search needs
-
-or-of-pair-requires : tie.Need-or-of-pair-requires Inv-loop μ-loop
-or-of-pair-requires c κs = search needs
-
-add-member : tie.Need-add-member Inv-loop μ-loop
-add-member c = search needs
-
-loop-less : tie.Need-loop-less Inv-loop μ-loop
-loop-less c = search needs
-
 loop-again : tie.Need-loop-again Inv-loop μ-loop
 loop-again c =
     let a = c .before .before .before .args in
@@ -39,9 +27,6 @@ loop-again c =
       omega arith,
       λ k h. rw (or-below k (l .seen) (c .or-of-pair .result), c .or-of-pair .ensures k h, l .inv .1 k h) (sym (row-two-more k (l .member) (a .rows .now))),
     )
-
-or-of-column-requires : tie.Need-or-of-column-requires Inv-loop μ-loop
-or-of-column-requires c κs = search needs
 
 returns : tie.Need-returns Inv-loop μ-loop
 returns c =
@@ -59,15 +44,5 @@ returns-2 c =
 pub or-of-columns-spec : {M : Type 1} → statement M
 or-of-columns-spec =
     tie.close
-    (tie.spec
-    Inv-loop
-    μ-loop
-    loop-holds
-    add-loop
-    or-of-pair-requires
-    add-member
-    loop-less
-    loop-again
-    or-of-column-requires
-    returns
-    returns-2)
+    (tie.spec Inv-loop μ-loop loop-holds (λ c. search needs) (λ c κs. search needs) (λ c. search needs)
+    (λ c. search needs) loop-again (λ c κs. search needs) returns returns-2)

@@ -5,12 +5,6 @@ use borrow.Author.Needs.{needs}
 use Rattle.damage.proofs.rows.raised.Statement.{statement}
 use Rattle.damage.proofs.rows.raised.Tie as tie
 
-bits-of-requires : tie.Need-bits-of-requires
-bits-of-requires c κs = search needs
-
-wrapping-add-u64-requires : tie.Need-wrapping-add-u64-requires
-wrapping-add-u64-requires c κs = search needs
-
 returns : tie.Need-returns
 returns c =
     let x = c .before .before .args .x in
@@ -18,4 +12,6 @@ returns c =
     rw bits at (c .wrapping-add-u64 .ensures)
 
 pub raised-spec : {M : Type 1} → statement M
-raised-spec = tie.close (tie.spec bits-of-requires wrapping-add-u64-requires returns)
+raised-spec =
+    tie.close
+    (tie.spec (λ c κs. search needs) (λ c κs. search needs) returns)

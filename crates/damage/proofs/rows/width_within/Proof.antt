@@ -11,9 +11,6 @@ use Rattle.damage.proofs.rows.width_within.Tie as tie
 sub-result : tie.Need-sub-result
 sub-result c = leading-le 64 (c .args .bound)
 
-cast-result : tie.Need-cast-result
-cast-result c = search needs
-
 shl-result : tie.Need-shl-result
 shl-result c = omega (arith, digits (c .args .bound) (c .pre) .0)
 
@@ -26,4 +23,6 @@ returns c =
     (64 - leadingZeros 64 b, (told .0, whole), rw whole (told .1))
 
 pub width-within-spec : {M : Type 1} → statement M
-width-within-spec = tie.close (tie.spec sub-result cast-result shl-result returns)
+width-within-spec =
+    tie.close
+    (tie.spec sub-result (λ c. search needs) shl-result returns)

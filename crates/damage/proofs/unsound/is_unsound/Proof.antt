@@ -44,14 +44,8 @@ long-at c = long-enough (short-left c) (long c)
 gives : (c : tie.Else4) → SoundHead (head-left c)
 gives c = head-gives (head-left c) (head-good c)
 
-is-ledger-short-requires : tie.Need-is-ledger-short-requires
-is-ledger-short-requires c κs = search needs
-
 returns : tie.Need-returns
 returns c = ledger-short (of (c .before .before .before .before .before)) (sym (c .before .is-ledger-short .ensures (c .before .before .before .before .before .args .lines .now)) ∙ c .if1 .taken)
-
-is-lines-short-requires : tie.Need-is-lines-short-requires
-is-lines-short-requires c κs = search needs
 
 returns-2 : tie.Need-returns-2
 returns-2 c =
@@ -60,9 +54,6 @@ returns-2 c =
 
 shared-slice-read-first-year : tie.Need-shared-slice-read-first-year
 shared-slice-read-first-year c = omega (arith, long-at (c .before .before .before) .head)
-
-is-first-year-sound-requires : tie.Need-is-first-year-sound-requires
-is-first-year-sound-requires c κs = search needs
 
 returns-3 : tie.Need-returns-3
 returns-3 c = year-fails (of (c .before .before .before .before .before .before .before .before .before .before)) (asked-false (c .before .is-first-year-sound .ensures) (c .if3 .taken))
@@ -146,25 +137,7 @@ returns-8 c =
 pub is-unsound-spec : {M : Type 1} → statement M
 is-unsound-spec =
     tie.close
-    (tie.spec
-    is-ledger-short-requires
-    returns
-    is-lines-short-requires
-    returns-2
-    shared-slice-read-first-year
-    is-first-year-sound-requires
-    returns-3
-    span-of-requires
-    is-head-sound-requires
-    returns-4
-    shared-slice-read-members
-    shared-slice-read-run
-    are-prices-sound-requires
-    returns-5
-    are-rows-within-requires
-    returns-6
-    mul-are-rows-within
-    are-rows-within-requires-2
-    returns-7
-    is-book-sound-requires
-    returns-8)
+    (tie.spec (λ c κs. search needs) returns (λ c κs. search needs) returns-2 shared-slice-read-first-year
+    (λ c κs. search needs) returns-3 span-of-requires is-head-sound-requires returns-4 shared-slice-read-members
+    shared-slice-read-run are-prices-sound-requires returns-5 are-rows-within-requires returns-6 mul-are-rows-within
+    are-rows-within-requires-2 returns-7 is-book-sound-requires returns-8)

@@ -19,29 +19,8 @@ abbrev μ-loop : tie.MeasureT-loop
 loop-holds : tie.Need-loop-holds Inv-loop μ-loop
 loop-holds c = (omega arith, c .before .before .pre, refl)
 
-mul-smaller : tie.Need-mul-smaller Inv-loop μ-loop
-mul-smaller c = search needs
-
-shared-slice-read-smaller : tie.Need-shared-slice-read-smaller Inv-loop μ-loop
-shared-slice-read-smaller c = search needs
-
-smaller-requires : tie.Need-smaller-requires Inv-loop μ-loop
-smaller-requires c κs = search needs
-
-mul-given : tie.Need-mul-given Inv-loop μ-loop
-mul-given c = search needs
-
-slice-write-given : tie.Need-slice-write-given Inv-loop μ-loop
-slice-write-given c = search needs
-
 sub-left : tie.Need-sub-left Inv-loop μ-loop
 sub-left c = omega (arith, c .smaller .ensures)
-
-add-i : tie.Need-add-i Inv-loop μ-loop
-add-i c = search needs
-
-loop-less : tie.Need-loop-less Inv-loop μ-loop
-loop-less c = search needs
 
 loop-again : tie.Need-loop-again Inv-loop μ-loop
 loop-again c = let a = c .before .before .before .before .before .before .args in
@@ -53,9 +32,6 @@ loop-again c = let a = c .before .before .before .before .before .before .args i
           (written-next (l .given) (l .i) _ _ _ (omega arith) (rw rest at (l .inv .2))),
     )
 
-same-length : tie.Need-same-length Inv-loop μ-loop
-same-length c = omega arith
-
 returns : tie.Need-returns Inv-loop μ-loop
 returns c = let l = c .before .loop in
     written-end (l .given) (l .i) _ _ (omega arith) (given-end (l .left) _ (l .i) (c .loop-test .left)) (l .inv .2)
@@ -63,18 +39,6 @@ returns c = let l = c .before .loop in
 pub give-up-spec : {M : Type 1} → statement M
 give-up-spec =
     tie.close
-    (tie.spec
-    Inv-loop
-    μ-loop
-    loop-holds
-    mul-smaller
-    shared-slice-read-smaller
-    smaller-requires
-    mul-given
-    slice-write-given
-    sub-left
-    add-i
-    loop-less
-    loop-again
-    same-length
-    returns)
+    (tie.spec Inv-loop μ-loop loop-holds (λ c. search needs) (λ c. search needs) (λ c κs. search needs)
+    (λ c. search needs) (λ c. search needs) sub-left (λ c. search needs) (λ c. search needs) loop-again
+    (λ c. omega arith) returns)

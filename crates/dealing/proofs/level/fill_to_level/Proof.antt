@@ -19,35 +19,11 @@ loop-holds : tie.Need-loop-holds Inv-loop μ-loop
 unfolding atLevel
 loop-holds c = (omega arith, c .before .before .pre, refl)
 
-mul-smaller : tie.Need-mul-smaller Inv-loop μ-loop
-mul-smaller c = search needs
-
-shared-slice-read-smaller : tie.Need-shared-slice-read-smaller Inv-loop μ-loop
-shared-slice-read-smaller c = search needs
-
-smaller-requires : tie.Need-smaller-requires Inv-loop μ-loop
-smaller-requires c κs = search needs
-
-mul-received : tie.Need-mul-received Inv-loop μ-loop
-mul-received c = search needs
-
-slice-write-received : tie.Need-slice-write-received Inv-loop μ-loop
-slice-write-received c = search needs
-
-add-i : tie.Need-add-i Inv-loop μ-loop
-add-i c = search needs
-
-loop-less : tie.Need-loop-less Inv-loop μ-loop
-loop-less c = search needs
-
 loop-again : tie.Need-loop-again Inv-loop μ-loop
 loop-again c = let a = c .before .before .before .before .before .before .args in
     let l = c .before .before .before .loop in
     let rest = map-next (a .minima .now) (l .i) (min (a .level)) 0 (c .before .before .loop-test .taken) in
     (omega arith, simp length-set (l .inv .1), rw (c .smaller .ensures) (written-next (l .received) (l .i) _ _ _ (omega arith) (rw rest at (l .inv .2))))
-
-same-length : tie.Need-same-length Inv-loop μ-loop
-same-length c = omega arith
 
 returns : tie.Need-returns Inv-loop μ-loop
 returns c = let l = c .before .loop in
@@ -56,17 +32,6 @@ returns c = let l = c .before .loop in
 pub fill-to-level-spec : {M : Type 1} → statement M
 fill-to-level-spec =
     tie.close
-    (tie.spec
-    Inv-loop
-    μ-loop
-    loop-holds
-    mul-smaller
-    shared-slice-read-smaller
-    smaller-requires
-    mul-received
-    slice-write-received
-    add-i
-    loop-less
-    loop-again
-    same-length
+    (tie.spec Inv-loop μ-loop loop-holds (λ c. search needs) (λ c. search needs) (λ c κs. search needs)
+    (λ c. search needs) (λ c. search needs) (λ c. search needs) (λ c. search needs) loop-again (λ c. omega arith)
     returns)

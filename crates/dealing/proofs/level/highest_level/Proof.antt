@@ -17,26 +17,8 @@ abbrev μ-loop : tie.MeasureT-loop
 loop-holds : tie.Need-loop-holds Inv-loop μ-loop
 loop-holds c = (omega arith, omega arith, omega (arith, level-zero (c .before .args .minima .now)), λ h. absurd (omega arith))
 
-sub-middle : tie.Need-sub-middle Inv-loop μ-loop
-sub-middle c = search needs
-
-sub-middle-2 : tie.Need-sub-middle-2 Inv-loop μ-loop
-sub-middle-2 c = search needs
-
-lots-at-level-requires : tie.Need-lots-at-level-requires Inv-loop μ-loop
-lots-at-level-requires c κs = search needs
-
-loop-less : tie.Need-loop-less Inv-loop μ-loop
-loop-less c = search needs
-
 loop-again : tie.Need-loop-again Inv-loop μ-loop
 loop-again c = (omega arith, omega arith, rw (← c .before .lots-at-level .ensures) (c .if1 .taken), c .before .before .before .loop .inv .3)
-
-sub-high : tie.Need-sub-high Inv-loop μ-loop
-sub-high c = search needs
-
-loop-less-2 : tie.Need-loop-less-2 Inv-loop μ-loop
-loop-less-2 c = search needs
 
 loop-again-2 : tie.Need-loop-again-2 Inv-loop μ-loop
 loop-again-2 c = let l = c .before .before .before .loop in
@@ -52,16 +34,5 @@ returns c = let l = c .before .loop in
 pub highest-level-spec : {M : Type 1} → statement M
 highest-level-spec =
     tie.close
-    (tie.spec
-    Inv-loop
-    μ-loop
-    loop-holds
-    sub-middle
-    sub-middle-2
-    lots-at-level-requires
-    loop-less
-    loop-again
-    sub-high
-    loop-less-2
-    loop-again-2
-    returns)
+    (tie.spec Inv-loop μ-loop loop-holds (λ c. search needs) (λ c. search needs) (λ c κs. search needs)
+    (λ c. search needs) loop-again (λ c. search needs) (λ c. search needs) loop-again-2 returns)

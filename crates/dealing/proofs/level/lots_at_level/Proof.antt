@@ -22,23 +22,8 @@ loop-holds : tie.Need-loop-holds Inv-loop μ-loop
 unfolding atLevel
 loop-holds c = (omega arith, omega arith, omega (arith, sum-map (min (c .before .args .level)) (c .before .args .minima .now)))
 
-mul-smaller : tie.Need-mul-smaller Inv-loop μ-loop
-mul-smaller c = search needs
-
-shared-slice-read-smaller : tie.Need-shared-slice-read-smaller Inv-loop μ-loop
-shared-slice-read-smaller c = search needs
-
-smaller-requires : tie.Need-smaller-requires Inv-loop μ-loop
-smaller-requires c κs = search needs
-
 add-sum : tie.Need-add-sum Inv-loop μ-loop
 add-sum c = omega (arith, c .smaller .ensures)
-
-add-i : tie.Need-add-i Inv-loop μ-loop
-add-i c = search needs
-
-loop-less : tie.Need-loop-less Inv-loop μ-loop
-loop-less c = search needs
 
 loop-again : tie.Need-loop-again Inv-loop μ-loop
 loop-again c =
@@ -56,15 +41,5 @@ returns c = omega (arith, total-end (c .before .before .before .args .minima .no
 pub lots-at-level-spec : {M : Type 1} → statement M
 lots-at-level-spec =
     tie.close
-    (tie.spec
-    Inv-loop
-    μ-loop
-    loop-holds
-    mul-smaller
-    shared-slice-read-smaller
-    smaller-requires
-    add-sum
-    add-i
-    loop-less
-    loop-again
-    returns)
+    (tie.spec Inv-loop μ-loop loop-holds (λ c. search needs) (λ c. search needs) (λ c κs. search needs) add-sum
+    (λ c. search needs) (λ c. search needs) loop-again returns)

@@ -25,12 +25,6 @@ loop-holds : tie.Need-loop-holds Inv-loop μ-loop
 unfolding minimums
 loop-holds c = (omega arith, c .before .before .before .pre .0 .2, rw (c .sum-of .ensures))
 
-mul-minimum : tie.Need-mul-minimum Inv-loop μ-loop
-mul-minimum c = search needs
-
-shared-slice-read-minimum : tie.Need-shared-slice-read-minimum Inv-loop μ-loop
-shared-slice-read-minimum c = search needs
-
 mul-minimum-2 : tie.Need-mul-minimum-2 Inv-loop μ-loop
 mul-minimum-2 c =
     let start = c .before .before .before .before .before .before in
@@ -55,27 +49,12 @@ add-minimum c =
 div-minimum : tie.Need-div-minimum Inv-loop μ-loop
 div-minimum c = omega (arith, c .before .before .before .sum-of .ensures)
 
-mul-minima : tie.Need-mul-minima Inv-loop μ-loop
-mul-minima c = search needs
-
-slice-write-minima : tie.Need-slice-write-minima Inv-loop μ-loop
-slice-write-minima c = search needs
-
-add-i : tie.Need-add-i Inv-loop μ-loop
-add-i c = search needs
-
-loop-less : tie.Need-loop-less Inv-loop μ-loop
-loop-less c = search needs
-
 loop-again : tie.Need-loop-again Inv-loop μ-loop
 unfolding minimum
 loop-again c = let a = c .before .before .before .before .before .before .args in
     let l = c .before .before .loop in
     let rest = map-next (a .weights .now) (l .i) (minimum (a .lots) (c .before .before .before .sum-of .result)) 0 (c .before .loop-test .taken) in
     (omega arith, simp length-set (l .inv .1), written-next (l .minima) (l .i) _ _ _ (omega arith) (rw rest at (l .inv .2)))
-
-same-length : tie.Need-same-length Inv-loop μ-loop
-same-length c = omega arith
 
 returns : tie.Need-returns Inv-loop μ-loop
 returns c =
@@ -86,21 +65,6 @@ returns c =
 pub find-minimums-spec : {M : Type 1} → statement M
 find-minimums-spec =
     tie.close
-    (tie.spec
-    Inv-loop
-    μ-loop
-    sum-of-requires
-    loop-holds
-    mul-minimum
-    shared-slice-read-minimum
-    mul-minimum-2
-    sub-minimum
-    add-minimum
-    div-minimum
-    mul-minima
-    slice-write-minima
-    add-i
-    loop-less
-    loop-again
-    same-length
-    returns)
+    (tie.spec Inv-loop μ-loop sum-of-requires loop-holds (λ c. search needs) (λ c. search needs) mul-minimum-2
+    sub-minimum add-minimum div-minimum (λ c. search needs) (λ c. search needs) (λ c. search needs)
+    (λ c. search needs) loop-again (λ c. omega arith) returns)

@@ -11,9 +11,6 @@ use Rattle.dealing.proofs.Dealt.{some-members, dealt-by-round}
 use Rattle.dealing.proofs.turns.deal_by_minimums.Statement.{statement}
 use Rattle.dealing.proofs.turns.deal_by_minimums.Tie as tie
 
-array-borrow-prefix-order : tie.Need-array-borrow-prefix-order
-array-borrow-prefix-order c = search needs
-
 slice-aggregate-put-in-order : tie.Need-slice-aggregate-put-in-order
 slice-aggregate-put-in-order c = simp length-take (omega arith)
 
@@ -67,9 +64,6 @@ take-turns-requires c κs =
           (order-below _ n 0 n (some-members _ (start .pre .0 .1)) (omega arith) i),
     )
 
-same-length : tie.Need-same-length
-same-length c = search needs
-
 returns : tie.Need-returns
 returns c =
     let start = c .before .before .before .before .before .before .before .before .before .before .before .before .before .before .before .before .before in
@@ -87,16 +81,6 @@ returns c =
 pub deal-by-minimums-spec : {M : Type 1} → statement M
 deal-by-minimums-spec =
     tie.close
-    (tie.spec
-    array-borrow-prefix-order
-    slice-aggregate-put-in-order
-    put-in-order-requires
-    highest-level-requires
-    lots-at-level-requires
-    sub-left
-    fill-to-level-requires
-    array-share-prefix-order
-    slice-aggregate-take-turns
-    take-turns-requires
-    same-length
-    returns)
+    (tie.spec (λ c. search needs) slice-aggregate-put-in-order put-in-order-requires highest-level-requires
+    lots-at-level-requires sub-left fill-to-level-requires array-share-prefix-order slice-aggregate-take-turns
+    take-turns-requires (λ c. search needs) returns)

@@ -7,9 +7,6 @@ use Rattle.rules.proofs.Minimums.{minimums-length}
 use Rattle.dealing.proofs.turns.deal_out.Statement.{statement}
 use Rattle.dealing.proofs.turns.deal_out.Tie as tie
 
-array-borrow-prefix-minima : tie.Need-array-borrow-prefix-minima
-array-borrow-prefix-minima c = search needs
-
 slice-aggregate-find-minimums : tie.Need-slice-aggregate-find-minimums
 slice-aggregate-find-minimums c = simp length-take (omega arith)
 
@@ -33,21 +30,8 @@ deal-by-minimums-requires c κs =
     let long : length (find-minimums .last .1 .1 .0) ≡ length (start .args .weights .now) = ap length (find-minimums .ensures) ∙ minimums-length _ _ in
     (start .pre .0, (start .pre .1, take-at (find-minimums .last .1 .1 .0) _ _ long ∙ find-minimums .ensures))
 
-same-length : tie.Need-same-length
-same-length c = search needs
-
-returns : tie.Need-returns
-returns c = search needs
-
 pub deal-out-spec : {M : Type 1} → statement M
 deal-out-spec =
     tie.close
-    (tie.spec
-    array-borrow-prefix-minima
-    slice-aggregate-find-minimums
-    find-minimums-requires
-    array-share-prefix-minima
-    slice-aggregate-deal-by-minimums
-    deal-by-minimums-requires
-    same-length
-    returns)
+    (tie.spec (λ c. search needs) slice-aggregate-find-minimums find-minimums-requires array-share-prefix-minima
+    slice-aggregate-deal-by-minimums deal-by-minimums-requires (λ c. search needs) (λ c. search needs))

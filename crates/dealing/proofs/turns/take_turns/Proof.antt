@@ -22,12 +22,6 @@ abbrev μ-loop : tie.MeasureT-loop
 loop-holds : tie.Need-loop-holds Inv-loop μ-loop
 loop-holds c = (omega arith, omega arith, refl)
 
-mul-member : tie.Need-mul-member Inv-loop μ-loop
-mul-member c = search needs
-
-shared-slice-read-member : tie.Need-shared-slice-read-member Inv-loop μ-loop
-shared-slice-read-member c = search needs
-
 mul-has : tie.Need-mul-has Inv-loop μ-loop
 mul-has c = omega (arith, c .before .before .before .pre .1 (c .before .before .loop .i))
 
@@ -56,20 +50,11 @@ slice-write-received c = omega (arith, c .before .before .before .before .before
 sub-left : tie.Need-sub-left Inv-loop μ-loop
 sub-left c = let some : 0 < c .before .before .before .before .before .loop .left = ltb-true _ _ (and-left _ _ (c .if1 .taken)) in omega arith
 
-add-i : tie.Need-add-i Inv-loop μ-loop
-add-i c = search needs
-
-loop-less : tie.Need-loop-less Inv-loop μ-loop
-loop-less c = search needs
-
 loop-again : tie.Need-loop-again Inv-loop μ-loop
 loop-again c = let l = c .before .before .before .before .before .loop in
     ⊎-elim
     (λ w. rw (w .1, w .2) (omega arith, simp length-set (l .inv .1), round-deals _ _ (l .received) (l .left) (l .i) (c .before .before .before .before .loop-test .taken) (w .0 .taken) ∙ l .inv .2))
     (λ w. rw (w .1, w .2) (omega arith, l .inv .1, round-passes _ _ (l .received) (l .left) (l .i) (c .before .before .before .before .loop-test .taken) (w .0 .left) ∙ l .inv .2)) (c .if1 .came)
-
-same-length : tie.Need-same-length Inv-loop μ-loop
-same-length c = omega arith
 
 returns : tie.Need-returns Inv-loop μ-loop
 returns c = sym (round-end _ _ _ (c .before .loop .i) (c .loop-test .left)) ∙ c .before .loop .inv .2
@@ -77,22 +62,6 @@ returns c = sym (round-end _ _ _ (c .before .loop .i) (c .loop-test .left)) ∙ 
 pub take-turns-spec : {M : Type 1} → statement M
 take-turns-spec =
     tie.close
-    (tie.spec
-    Inv-loop
-    μ-loop
-    loop-holds
-    mul-member
-    shared-slice-read-member
-    mul-has
-    slice-read-has
-    mul-if1
-    shared-slice-read-if1
-    add-received
-    mul-received
-    slice-write-received
-    sub-left
-    add-i
-    loop-less
-    loop-again
-    same-length
-    returns)
+    (tie.spec Inv-loop μ-loop loop-holds (λ c. search needs) (λ c. search needs) mul-has slice-read-has mul-if1
+    shared-slice-read-if1 add-received mul-received slice-write-received sub-left (λ c. search needs)
+    (λ c. search needs) loop-again (λ c. omega arith) returns)

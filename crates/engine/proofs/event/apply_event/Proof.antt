@@ -7,9 +7,6 @@ use borrow.Author.Needs.{needs}
 use Rattle.engine.proofs.event.apply_event.Statement.{statement}
 use Rattle.engine.proofs.event.apply_event.Tie as tie
 
-enum-known-event : tie.Need-enum-known-event
-enum-known-event c = search needs
-
 apply-requires : tie.Need-apply-requires
 apply-requires c κs =
     let pre = c .before .before .before .before .before .before .before .before .before .before .before .before .before .pre in
@@ -19,15 +16,6 @@ apply-requires c κs =
     let e = submission-fits (a .head .now) (a .bytes .now) _ (pre .1 ∙ ap Sound (event .given .1)) in
     ((f .head-fit, f .prices-fit, f .book-fit, e, f .lines-long), (f .lots-fit, f .value-fit))
 
-enum-known-event-2 : tie.Need-enum-known-event-2
-enum-known-event-2 c = search needs
-
-apply-requires-2 : tie.Need-apply-requires-2
-apply-requires-2 c κs = search needs
-
-enum-known-event-3 : tie.Need-enum-known-event-3
-enum-known-event-3 c = search needs
-
 apply-requires-3 : tie.Need-apply-requires-3
 apply-requires-3 c κs =
     let pre = c .before .before .before .before .before .before .before .before .before .pre in
@@ -36,17 +24,11 @@ apply-requires-3 c κs =
     let f = pre .0 in
     (f .head-fit, f .prices-fit .long, limits-contract (a .head .now) (a .bytes .now) _ (pre .1 ∙ ap Sound (event3 .given .1)))
 
-enum-known-event-4 : tie.Need-enum-known-event-4
-enum-known-event-4 c = search needs
-
 apply-legs-requires : tie.Need-apply-legs-requires
 apply-legs-requires c κs =
     let pre = c .before .before .before .before .before .before .before .before .before .before .before .before .before .pre in
     let event4 = c .before .before .before .before .before .before .before .event4 in
     (pre .0, pre .1 ∙ ap Sound (event4 .given .1))
-
-enum-known-event-5 : tie.Need-enum-known-event-5
-enum-known-event-5 c = search needs
 
 apply-requires-4 : tie.Need-apply-requires-4
 apply-requires-4 c κs =
@@ -55,9 +37,6 @@ apply-requires-4 c κs =
     let event5 = c .before .before .before .event5 in
     let f = pre .0 in
     (f .head-fit, f .book-fit, member-below (a .head .now) (a .bytes .now) _ (pre .1 ∙ ap Sound (event5 .given .1)))
-
-enum-known-event-6 : tie.Need-enum-known-event-6
-enum-known-event-6 c = search needs
 
 apply-requires-5 : tie.Need-apply-requires-5
 apply-requires-5 c κs =
@@ -71,30 +50,9 @@ apply-requires-5 c κs =
       (close-out-contract-below (a .head .now) (a .bytes .now) _ r, close-out-ratio (a .head .now) (a .bytes .now) _ r),
     )
 
-enum-known-event-7 : tie.Need-enum-known-event-7
-enum-known-event-7 c = search needs
-
 apply-requires-6 : tie.Need-apply-requires-6
 apply-requires-6 c κs = let f = c .before .before .before .before .before .before .before .before .before .before .before .before .pre .0 in
     ((f .head-fit, f .prices-fit, f .book-fit), (f .lots-fit, f .value-fit))
-
-same-length : tie.Need-same-length
-same-length c = search needs
-
-same-length-2 : tie.Need-same-length-2
-same-length-2 c = search needs
-
-same-length-3 : tie.Need-same-length-3
-same-length-3 c = search needs
-
-same-length-4 : tie.Need-same-length-4
-same-length-4 c = search needs
-
-same-length-5 : tie.Need-same-length-5
-same-length-5 c = search needs
-
-same-length-6 : tie.Need-same-length-6
-same-length-6 c = search needs
 
 returns : tie.Need-returns
 unfolding eventSpec
@@ -105,12 +63,6 @@ returns c =
     let apply = c .before .before .before .before .before .before .before .before .before .apply in
     rw (event .given .1) (apply .ensures (lent (a .head .now) (a .prices .now) (a .lots .now) (a .value .now) (a .book .now) (a .lines .now)))
 
-same-length-7 : tie.Need-same-length-7
-same-length-7 c = search needs
-
-same-length-8 : tie.Need-same-length-8
-same-length-8 c = search needs
-
 returns-2 : tie.Need-returns-2
 unfolding eventSpec
 returns-2 c =
@@ -118,12 +70,6 @@ returns-2 c =
     let event2 = c .before .before .before .before .before .before .before .before .event2 in
     let apply2 = c .before .before .before .before .apply2 in
     rw (event2 .given .1) (apply2 .ensures (lent (a .head .now) (a .prices .now) (a .lots .now) (a .value .now) (a .book .now) (a .lines .now)))
-
-same-length-9 : tie.Need-same-length-9
-same-length-9 c = search needs
-
-same-length-10 : tie.Need-same-length-10
-same-length-10 c = search needs
 
 returns-3 : tie.Need-returns-3
 unfolding eventSpec
@@ -133,36 +79,12 @@ returns-3 c =
     let apply3 = c .before .before .apply3 in
     rw (event3 .given .1) (apply3 .ensures (lent (a .head .now) (a .prices .now) (a .lots .now) (a .value .now) (a .book .now) (a .lines .now)))
 
-same-length-11 : tie.Need-same-length-11
-same-length-11 c = search needs
-
-same-length-12 : tie.Need-same-length-12
-same-length-12 c = search needs
-
-same-length-13 : tie.Need-same-length-13
-same-length-13 c = search needs
-
-same-length-14 : tie.Need-same-length-14
-same-length-14 c = search needs
-
-same-length-15 : tie.Need-same-length-15
-same-length-15 c = search needs
-
-same-length-16 : tie.Need-same-length-16
-same-length-16 c = search needs
-
 returns-4 : tie.Need-returns-4
 unfolding eventSpec
 returns-4 c =
     let event4 = c .before .before .before .before .before .before .before .before .before .before .before .before .before .before .before .event4 in
     let apply-legs = c .before .before .before .before .before .before .before .apply-legs in
     rw (event4 .given .1) (apply-legs .ensures)
-
-same-length-17 : tie.Need-same-length-17
-same-length-17 c = search needs
-
-same-length-18 : tie.Need-same-length-18
-same-length-18 c = search needs
 
 returns-5 : tie.Need-returns-5
 unfolding eventSpec
@@ -172,21 +94,6 @@ returns-5 c =
     let apply4 = c .before .before .before .before .apply4 in
     rw (event5 .given .1) (apply4 .ensures (lent (a .head .now) (a .prices .now) (a .lots .now) (a .value .now) (a .book .now) (a .lines .now)))
 
-same-length-19 : tie.Need-same-length-19
-same-length-19 c = search needs
-
-same-length-20 : tie.Need-same-length-20
-same-length-20 c = search needs
-
-same-length-21 : tie.Need-same-length-21
-same-length-21 c = search needs
-
-same-length-22 : tie.Need-same-length-22
-same-length-22 c = search needs
-
-same-length-23 : tie.Need-same-length-23
-same-length-23 c = search needs
-
 returns-6 : tie.Need-returns-6
 unfolding eventSpec
 returns-6 c =
@@ -194,21 +101,6 @@ returns-6 c =
     let event6 = c .before .before .before .before .before .before .before .before .before .before .before .before .event6 in
     let apply5 = c .before .before .before .before .before .apply5 in
     rw (event6 .given .1) (apply5 .ensures (lent (a .head .now) (a .prices .now) (a .lots .now) (a .value .now) (a .book .now) (a .lines .now)))
-
-same-length-24 : tie.Need-same-length-24
-same-length-24 c = search needs
-
-same-length-25 : tie.Need-same-length-25
-same-length-25 c = search needs
-
-same-length-26 : tie.Need-same-length-26
-same-length-26 c = search needs
-
-same-length-27 : tie.Need-same-length-27
-same-length-27 c = search needs
-
-same-length-28 : tie.Need-same-length-28
-same-length-28 c = search needs
 
 returns-7 : tie.Need-returns-7
 unfolding eventSpec
@@ -221,53 +113,12 @@ returns-7 c =
 pub apply-event-spec : {M : Type 1} → statement M
 apply-event-spec =
     tie.close
-    (tie.spec
-    enum-known-event
-    apply-requires
-    enum-known-event-2
-    apply-requires-2
-    enum-known-event-3
-    apply-requires-3
-    enum-known-event-4
-    apply-legs-requires
-    enum-known-event-5
-    apply-requires-4
-    enum-known-event-6
-    apply-requires-5
-    enum-known-event-7
-    apply-requires-6
-    same-length
-    same-length-2
-    same-length-3
-    same-length-4
-    same-length-5
-    same-length-6
-    returns
-    same-length-7
-    same-length-8
-    returns-2
-    same-length-9
-    same-length-10
-    returns-3
-    same-length-11
-    same-length-12
-    same-length-13
-    same-length-14
-    same-length-15
-    same-length-16
-    returns-4
-    same-length-17
-    same-length-18
-    returns-5
-    same-length-19
-    same-length-20
-    same-length-21
-    same-length-22
-    same-length-23
-    returns-6
-    same-length-24
-    same-length-25
-    same-length-26
-    same-length-27
-    same-length-28
-    returns-7)
+    (tie.spec (λ c. search needs) apply-requires (λ c. search needs) (λ c κs. search needs) (λ c. search needs)
+    apply-requires-3 (λ c. search needs) apply-legs-requires (λ c. search needs) apply-requires-4 (λ c. search needs)
+    apply-requires-5 (λ c. search needs) apply-requires-6 (λ c. search needs) (λ c. search needs) (λ c. search needs)
+    (λ c. search needs) (λ c. search needs) (λ c. search needs) returns (λ c. search needs) (λ c. search needs)
+    returns-2 (λ c. search needs) (λ c. search needs) returns-3 (λ c. search needs) (λ c. search needs)
+    (λ c. search needs) (λ c. search needs) (λ c. search needs) (λ c. search needs) returns-4 (λ c. search needs)
+    (λ c. search needs) returns-5 (λ c. search needs) (λ c. search needs) (λ c. search needs) (λ c. search needs)
+    (λ c. search needs) returns-6 (λ c. search needs) (λ c. search needs) (λ c. search needs) (λ c. search needs)
+    (λ c. search needs) returns-7)

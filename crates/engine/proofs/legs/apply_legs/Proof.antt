@@ -8,9 +8,6 @@ use borrow.Author.Needs.{needs}
 use Rattle.engine.proofs.legs.apply_legs.Statement.{statement}
 use Rattle.engine.proofs.legs.apply_legs.Tie as tie
 
-read-legs-requires : tie.Need-read-legs-requires
-read-legs-requires c κs = search needs
-
 array-share-prefix-orders : tie.Need-array-share-prefix-orders
 array-share-prefix-orders c =
     let pre = c .before .before .before .before .before .before .before .before .before .before .before .before .before .pre in
@@ -63,21 +60,6 @@ apply-requires c κs =
       ((f .lots-fit, f .value-fit), legs-fit (getD (a .head .now) 1 0) (a .count) (a .bytes .now) (read-legs .result) (read-legs .ensures) (pre .1)),
     )
 
-same-length : tie.Need-same-length
-same-length c = search needs
-
-same-length-2 : tie.Need-same-length-2
-same-length-2 c = search needs
-
-same-length-3 : tie.Need-same-length-3
-same-length-3 c = search needs
-
-same-length-4 : tie.Need-same-length-4
-same-length-4 c = search needs
-
-same-length-5 : tie.Need-same-length-5
-same-length-5 c = search needs
-
 returns : tie.Need-returns
 returns c =
     let earlier = c .before .before .before .before .before .before .before .before .before .before in
@@ -91,18 +73,6 @@ returns c =
 pub apply-legs-spec : {M : Type 1} → statement M
 apply-legs-spec =
     tie.close
-    (tie.spec
-    read-legs-requires
-    array-share-prefix-orders
-    slice-aggregate-apply
-    array-share-prefix-leg-lots
-    slice-aggregate-apply-2
-    array-share-prefix-leg-prices
-    slice-aggregate-apply-3
-    apply-requires
-    same-length
-    same-length-2
-    same-length-3
-    same-length-4
-    same-length-5
-    returns)
+    (tie.spec (λ c κs. search needs) array-share-prefix-orders slice-aggregate-apply array-share-prefix-leg-lots
+    slice-aggregate-apply-2 array-share-prefix-leg-prices slice-aggregate-apply-3 apply-requires (λ c. search needs)
+    (λ c. search needs) (λ c. search needs) (λ c. search needs) (λ c. search needs) returns)

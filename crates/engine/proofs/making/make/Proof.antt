@@ -18,39 +18,9 @@ sound-at c =
     let read-header = c .before .before .before .read-header in
     read-well (args .bytes .now) (read-header .result) (read-header .ensures) (c .if2 .left)
 
-is-ledger-short-requires : tie.Need-is-ledger-short-requires
-is-ledger-short-requires c κs = search needs
-
-same-length : tie.Need-same-length
-same-length c = search needs
-
-same-length-2 : tie.Need-same-length-2
-same-length-2 c = search needs
-
-same-length-3 : tie.Need-same-length-3
-same-length-3 c = search needs
-
-same-length-4 : tie.Need-same-length-4
-same-length-4 c = search needs
-
 returns : tie.Need-returns
 unfolding makeSpec
 returns c = λ n. rw (sym (c .before .is-ledger-short .ensures n) ∙ c .if1 .taken)
-
-read-header-requires : tie.Need-read-header-requires
-read-header-requires c κs = search needs
-
-same-length-5 : tie.Need-same-length-5
-same-length-5 c = search needs
-
-same-length-6 : tie.Need-same-length-6
-same-length-6 c = search needs
-
-same-length-7 : tie.Need-same-length-7
-same-length-7 c = search needs
-
-same-length-8 : tie.Need-same-length-8
-same-length-8 c = search needs
 
 returns-2 : tie.Need-returns-2
 unfolding makeSpec
@@ -106,18 +76,6 @@ write-fresh-requires c κs =
     let w = lengths (lent (a .head .now) (a .prices .now) (a .lots .now) (a .value .now) (a .book .now) []) (sym (is-ledger-short .ensures []) ∙ if1 .left) in
     ((w .head-length, w .prices-length, w .lots-length, w .value-length), (holiday-most s r e b, limit-most s r e b))
 
-same-length-9 : tie.Need-same-length-9
-same-length-9 c = search needs
-
-same-length-10 : tie.Need-same-length-10
-same-length-10 c = search needs
-
-same-length-11 : tie.Need-same-length-11
-same-length-11 c = search needs
-
-same-length-12 : tie.Need-same-length-12
-same-length-12 c = search needs
-
 returns-3 : tie.Need-returns-3
 unfolding makeSpec
 returns-3 c =
@@ -137,26 +95,8 @@ returns-3 c =
 pub make-spec : {M : Type 1} → statement M
 make-spec =
     tie.close
-    (tie.spec
-    is-ledger-short-requires
-    same-length
-    same-length-2
-    same-length-3
-    same-length-4
-    returns
-    read-header-requires
-    same-length-5
-    same-length-6
-    same-length-7
-    same-length-8
-    returns-2
-    array-share-prefix-holidays
-    slice-aggregate-write-fresh
-    array-share-prefix-limits
-    slice-aggregate-write-fresh-2
-    write-fresh-requires
-    same-length-9
-    same-length-10
-    same-length-11
-    same-length-12
-    returns-3)
+    (tie.spec (λ c κs. search needs) (λ c. search needs) (λ c. search needs) (λ c. search needs) (λ c. search needs)
+    returns (λ c κs. search needs) (λ c. search needs) (λ c. search needs) (λ c. search needs) (λ c. search needs)
+    returns-2 array-share-prefix-holidays slice-aggregate-write-fresh array-share-prefix-limits
+    slice-aggregate-write-fresh-2 write-fresh-requires (λ c. search needs) (λ c. search needs) (λ c. search needs)
+    (λ c. search needs) returns-3)

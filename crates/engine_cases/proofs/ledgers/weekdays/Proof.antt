@@ -9,33 +9,8 @@ Inv-loop first end list₀ day₀ list day = first ≤ day
 abbrev μ-loop : tie.MeasureT-loop
 μ-loop first end list₀ day₀ list day = end - day
 
-loop-holds : tie.Need-loop-holds Inv-loop μ-loop
-loop-holds c = search needs
-
-with-weekday-requires : tie.Need-with-weekday-requires Inv-loop μ-loop
-with-weekday-requires c κs = search needs
-
-add-day : tie.Need-add-day Inv-loop μ-loop
-add-day c = search needs
-
-loop-less : tie.Need-loop-less Inv-loop μ-loop
-loop-less c = search needs
-
-loop-again : tie.Need-loop-again Inv-loop μ-loop
-loop-again c = search needs
-
-returns : tie.Need-returns Inv-loop μ-loop
-returns c = search needs
-
 pub weekdays-spec : {M : Type 1} → statement M
 weekdays-spec =
     tie.close
-    (tie.spec
-    Inv-loop
-    μ-loop
-    loop-holds
-    with-weekday-requires
-    add-day
-    loop-less
-    loop-again
-    returns)
+    (tie.spec Inv-loop μ-loop (λ c. search needs) (λ c κs. search needs) (λ c. search needs) (λ c. search needs)
+    (λ c. search needs) (λ c. search needs))

@@ -7,30 +7,6 @@ use borrow.Author.Needs.{needs}
 use Rattle.fields.proofs.event.event_in.Statement.{statement}
 use Rattle.fields.proofs.event.event_in.Tie as tie
 
-shared-slice-read-kind : tie.Need-shared-slice-read-kind
-shared-slice-read-kind c = search needs
-
-submit-in-requires : tie.Need-submit-in-requires
-submit-in-requires c κs = search needs
-
-cancellation-in-requires : tie.Need-cancellation-in-requires
-cancellation-in-requires c κs = search needs
-
-new-day-limits-in-requires : tie.Need-new-day-limits-in-requires
-new-day-limits-in-requires c κs = search needs
-
-proposal-in-requires : tie.Need-proposal-in-requires
-proposal-in-requires c κs = search needs
-
-shared-slice-read-t11 : tie.Need-shared-slice-read-t11
-shared-slice-read-t11 c = search needs
-
-close-out-in-requires : tie.Need-close-out-in-requires
-close-out-in-requires c κs = search needs
-
-shared-slice-read-t16 : tie.Need-shared-slice-read-t16
-shared-slice-read-t16 c = search needs
-
 returns : tie.Need-returns
 unfolding eventByKind
 returns c = c .submit-in .ensures ∙ by-kind (c .before .before .before .before .args .row .now) 1 (c .before .match .keys1)
@@ -67,20 +43,6 @@ returns-8 c =
 pub event-in-spec : {M : Type 1} → statement M
 event-in-spec =
     tie.close
-    (tie.spec
-    shared-slice-read-kind
-    submit-in-requires
-    cancellation-in-requires
-    new-day-limits-in-requires
-    proposal-in-requires
-    shared-slice-read-t11
-    close-out-in-requires
-    shared-slice-read-t16
-    returns
-    returns-2
-    returns-3
-    returns-4
-    returns-5
-    returns-6
-    returns-7
-    returns-8)
+    (tie.spec (λ c. search needs) (λ c κs. search needs) (λ c κs. search needs) (λ c κs. search needs)
+    (λ c κs. search needs) (λ c. search needs) (λ c κs. search needs) (λ c. search needs) returns returns-2 returns-3
+    returns-4 returns-5 returns-6 returns-7 returns-8)

@@ -25,39 +25,6 @@ loop-holds : tie.Need-loop-holds Inv-loop μ-loop
 unfolding padded from
 loop-holds c = (omega arith, refl, refl, refl)
 
-mul-leg-in : tie.Need-mul-leg-in Inv-loop μ-loop
-mul-leg-in c = search needs
-
-add-leg-in : tie.Need-add-leg-in Inv-loop μ-loop
-add-leg-in c = search needs
-
-leg-in-requires : tie.Need-leg-in-requires Inv-loop μ-loop
-leg-in-requires c κs = search needs
-
-mul-orders : tie.Need-mul-orders Inv-loop μ-loop
-mul-orders c = search needs
-
-array-write-orders : tie.Need-array-write-orders Inv-loop μ-loop
-array-write-orders c = search needs
-
-mul-lots : tie.Need-mul-lots Inv-loop μ-loop
-mul-lots c = search needs
-
-array-write-lots : tie.Need-array-write-lots Inv-loop μ-loop
-array-write-lots c = search needs
-
-mul-prices : tie.Need-mul-prices Inv-loop μ-loop
-mul-prices c = search needs
-
-array-write-prices : tie.Need-array-write-prices Inv-loop μ-loop
-array-write-prices c = search needs
-
-add-i : tie.Need-add-i Inv-loop μ-loop
-add-i c = search needs
-
-loop-less : tie.Need-loop-less Inv-loop μ-loop
-loop-less c = search needs
-
 loop-again : tie.Need-loop-again Inv-loop μ-loop
 loop-again c =
     let l = c .before .before .loop in
@@ -79,20 +46,6 @@ returns c =
 pub legs-in-spec : {M : Type 1} → statement M
 legs-in-spec =
     tie.close
-    (tie.spec
-    Inv-loop
-    μ-loop
-    loop-holds
-    mul-leg-in
-    add-leg-in
-    leg-in-requires
-    mul-orders
-    array-write-orders
-    mul-lots
-    array-write-lots
-    mul-prices
-    array-write-prices
-    add-i
-    loop-less
-    loop-again
-    returns)
+    (tie.spec Inv-loop μ-loop loop-holds (λ c. search needs) (λ c. search needs) (λ c κs. search needs)
+    (λ c. search needs) (λ c. search needs) (λ c. search needs) (λ c. search needs) (λ c. search needs)
+    (λ c. search needs) (λ c. search needs) (λ c. search needs) loop-again returns)

@@ -3,9 +3,6 @@ use borrow.Author.Needs.{needs}
 use Rattle.fields.proofs.event.proposal_in.Statement.{statement}
 use Rattle.fields.proofs.event.proposal_in.Tie as tie
 
-shared-slice-read-count : tie.Need-shared-slice-read-count
-shared-slice-read-count c = search needs
-
 returns : tie.Need-returns
 returns c = search tests
 
@@ -13,4 +10,6 @@ returns-2 : tie.Need-returns-2
 returns-2 c = search tests
 
 pub proposal-in-spec : {M : Type 1} → statement M
-proposal-in-spec = tie.close (tie.spec shared-slice-read-count returns returns-2)
+proposal-in-spec =
+    tie.close
+    (tie.spec (λ c. search needs) returns returns-2)

@@ -9,9 +9,6 @@ use borrow.Author.Needs.{needs}
 use Rattle.fields.proofs.headers.put_header.Statement.{statement}
 use Rattle.fields.proofs.headers.put_header.Tie as tie
 
-slice-write-row : tie.Need-slice-write-row
-slice-write-row c = search needs
-
 slice-write-row-2 : tie.Need-slice-write-row-2
 slice-write-row-2 c = simp length-set (omega arith)
 
@@ -46,12 +43,5 @@ returns c =
 pub put-header-spec : {M : Type 1} → statement M
 put-header-spec =
     tie.close
-    (tie.spec
-    slice-write-row
-    slice-write-row-2
-    slice-write-row-3
-    slice-write-row-4
-    put-list-requires
-    put-list-requires-2
-    same-length
-    returns)
+    (tie.spec (λ c. search needs) slice-write-row-2 slice-write-row-3 slice-write-row-4 put-list-requires
+    put-list-requires-2 same-length returns)

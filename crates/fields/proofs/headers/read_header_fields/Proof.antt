@@ -11,9 +11,6 @@ use Rattle.fields.proofs.headers.read_header_fields.Tie as tie
 returns : tie.Need-returns
 returns c = let a = c .before .before .before .args in read-header-short (a .bytes .now) (a .row .now) (c .if1 .taken)
 
-read-header-requires : tie.Need-read-header-requires
-read-header-requires c κs = search needs
-
 returns-2 : tie.Need-returns-2
 returns-2 c =
     let a = c .before .before .before .before .before .before .before .args in
@@ -56,9 +53,6 @@ put-header-requires c κs =
     let begun = read-well s (reading .result) (reading .ensures) (test2 .left) in
     (test1 .left, holiday-most s (reading .result) (reading .ensures) begun, limit-most s (reading .result) (reading .ensures) begun)
 
-same-length : tie.Need-same-length
-same-length c = search needs
-
 returns-3 : tie.Need-returns-3
 returns-3 c =
     let start = c .before .before .before .before .before .before .before .before .before .before .before .before .before .before .before in
@@ -76,14 +70,5 @@ returns-3 c =
 pub read-header-fields-spec : {M : Type 1} → statement M
 read-header-fields-spec =
     tie.close
-    (tie.spec
-    returns
-    read-header-requires
-    returns-2
-    array-share-prefix-holidays
-    slice-aggregate-put-header
-    array-share-prefix-limits
-    slice-aggregate-put-header-2
-    put-header-requires
-    same-length
-    returns-3)
+    (tie.spec returns (λ c κs. search needs) returns-2 array-share-prefix-holidays slice-aggregate-put-header
+    array-share-prefix-limits slice-aggregate-put-header-2 put-header-requires (λ c. search needs) returns-3)

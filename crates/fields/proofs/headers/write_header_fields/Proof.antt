@@ -6,26 +6,11 @@ use Rattle.fields.proofs.headers.write_header_fields.Tie as tie
 returns : tie.Need-returns
 returns c = let a = c .before .before .before .args in write-header-row-short (a .row .now) (a .out .now) (c .if1 .taken)
 
-shared-slice-read-if2 : tie.Need-shared-slice-read-if2
-shared-slice-read-if2 c = search needs
-
 returns-2 : tie.Need-returns-2
 returns-2 c = let a = c .before .before .before .before .before .args in write-many-members (a .row .now) (a .out .now) (c .before .before .if1 .left) (c .if2 .taken)
 
-shared-slice-read-if3 : tie.Need-shared-slice-read-if3
-shared-slice-read-if3 c = search needs
-
 returns-3 : tie.Need-returns-3
 returns-3 c = let a = c .before .before .before .before .before .before .before .args in write-many-holidays (a .row .now) (a .out .now) (c .before .before .before .before .if1 .left) (c .if3 .taken)
-
-header-in-requires : tie.Need-header-in-requires
-header-in-requires c κs = search needs
-
-write-header-requires : tie.Need-write-header-requires
-write-header-requires c κs = search needs
-
-same-length : tie.Need-same-length
-same-length c = search needs
 
 returns-4 : tie.Need-returns-4
 returns-4 c =
@@ -38,13 +23,5 @@ returns-4 c =
 pub write-header-fields-spec : {M : Type 1} → statement M
 write-header-fields-spec =
     tie.close
-    (tie.spec
-    returns
-    shared-slice-read-if2
-    returns-2
-    shared-slice-read-if3
-    returns-3
-    header-in-requires
-    write-header-requires
-    same-length
-    returns-4)
+    (tie.spec returns (λ c. search needs) returns-2 (λ c. search needs) returns-3 (λ c κs. search needs)
+    (λ c κs. search needs) (λ c. search needs) returns-4)

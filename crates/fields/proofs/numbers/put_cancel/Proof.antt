@@ -8,9 +8,6 @@ use borrow.Author.Needs.{needs}
 use Rattle.fields.proofs.numbers.put_cancel.Statement.{statement}
 use Rattle.fields.proofs.numbers.put_cancel.Tie as tie
 
-slice-write-row : tie.Need-slice-write-row
-slice-write-row c = search needs
-
 slice-write-row-2 : tie.Need-slice-write-row-2
 slice-write-row-2 c = simp length-set (omega arith)
 
@@ -20,9 +17,6 @@ slice-write-row-3 c = simp length-set (omega arith)
 slice-write-row-4 : tie.Need-slice-write-row-4
 slice-write-row-4 c = simp length-set (omega arith)
 
-same-length : tie.Need-same-length
-same-length c = search needs
-
 returns : tie.Need-returns
 unfolding numbersOf
 returns c = let a = c .args in stored-numbers (Cancel (a .e)) [] (a .row .now) (omega arith)
@@ -30,10 +24,4 @@ returns c = let a = c .args in stored-numbers (Cancel (a .e)) [] (a .row .now) (
 pub put-cancel-spec : {M : Type 1} → statement M
 put-cancel-spec =
     tie.close
-    (tie.spec
-    slice-write-row
-    slice-write-row-2
-    slice-write-row-3
-    slice-write-row-4
-    same-length
-    returns)
+    (tie.spec (λ c. search needs) slice-write-row-2 slice-write-row-3 slice-write-row-4 (λ c. search needs) returns)

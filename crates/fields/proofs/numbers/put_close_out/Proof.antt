@@ -8,17 +8,11 @@ use borrow.Author.Needs.{needs}
 use Rattle.fields.proofs.numbers.put_close_out.Statement.{statement}
 use Rattle.fields.proofs.numbers.put_close_out.Tie as tie
 
-slice-write-row : tie.Need-slice-write-row
-slice-write-row c = search needs
-
 slice-write-row-2 : tie.Need-slice-write-row-2
 slice-write-row-2 c = simp length-set (omega arith)
 
 slice-write-row-3 : tie.Need-slice-write-row-3
 slice-write-row-3 c = simp length-set (omega arith)
-
-same-length : tie.Need-same-length
-same-length c = search needs
 
 returns : tie.Need-returns
 unfolding numbersOf
@@ -26,4 +20,5 @@ returns c = let a = c .args in stored-numbers (CloseOut (a .e)) [] (a .row .now)
 
 pub put-close-out-spec : {M : Type 1} → statement M
 put-close-out-spec =
-    tie.close (tie.spec slice-write-row slice-write-row-2 slice-write-row-3 same-length returns)
+    tie.close
+    (tie.spec (λ c. search needs) slice-write-row-2 slice-write-row-3 (λ c. search needs) returns)

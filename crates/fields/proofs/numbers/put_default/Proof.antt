@@ -8,18 +8,14 @@ use borrow.Author.Needs.{needs}
 use Rattle.fields.proofs.numbers.put_default.Statement.{statement}
 use Rattle.fields.proofs.numbers.put_default.Tie as tie
 
-slice-write-row : tie.Need-slice-write-row
-slice-write-row c = search needs
-
 slice-write-row-2 : tie.Need-slice-write-row-2
 slice-write-row-2 c = simp length-set (omega arith)
-
-same-length : tie.Need-same-length
-same-length c = search needs
 
 returns : tie.Need-returns
 unfolding numbersOf
 returns c = let a = c .args in stored-numbers (Default (a .member)) [] (a .row .now) (omega arith)
 
 pub put-default-spec : {M : Type 1} → statement M
-put-default-spec = tie.close (tie.spec slice-write-row slice-write-row-2 same-length returns)
+put-default-spec =
+    tie.close
+    (tie.spec (λ c. search needs) slice-write-row-2 (λ c. search needs) returns)

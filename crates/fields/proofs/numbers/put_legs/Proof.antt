@@ -20,24 +20,6 @@ abbrev μ-loop : tie.MeasureT-loop
 loop-holds : tie.Need-loop-holds Inv-loop μ-loop
 loop-holds c = (omega arith, refl, blocks-none legNumbers 3 (λ g. refl) (legRow (c .before .args .legs)) 2 _)
 
-mul-put-leg : tie.Need-mul-put-leg Inv-loop μ-loop
-mul-put-leg c = search needs
-
-add-put-leg : tie.Need-add-put-leg Inv-loop μ-loop
-add-put-leg c = search needs
-
-leg-of-requires : tie.Need-leg-of-requires Inv-loop μ-loop
-leg-of-requires c κs = search needs
-
-put-leg-requires : tie.Need-put-leg-requires Inv-loop μ-loop
-put-leg-requires c κs = search needs
-
-add-i : tie.Need-add-i Inv-loop μ-loop
-add-i c = search needs
-
-loop-less : tie.Need-loop-less Inv-loop μ-loop
-loop-less c = search needs
-
 loop-again : tie.Need-loop-again Inv-loop μ-loop
 loop-again c =
     let loop = c .before .before .before .before .before .before .loop in
@@ -46,9 +28,6 @@ loop-again c =
     let put-leg = c .before .before .put-leg in
     let l = loop in
     (omega arith, omega arith, blocks-next legNumbers 3 (λ g. refl) (legRow (start .args .legs)) 2 (l .i) _ _ _ _ (leg-of .ensures) (l .inv .2) (put-leg .ensures) (omega arith))
-
-same-length : tie.Need-same-length Inv-loop μ-loop
-same-length c = search needs
 
 returns : tie.Need-returns Inv-loop μ-loop
 unfolding legRows
@@ -60,16 +39,5 @@ returns c =
 pub put-legs-spec : {M : Type 1} → statement M
 put-legs-spec =
     tie.close
-    (tie.spec
-    Inv-loop
-    μ-loop
-    loop-holds
-    mul-put-leg
-    add-put-leg
-    leg-of-requires
-    put-leg-requires
-    add-i
-    loop-less
-    loop-again
-    same-length
-    returns)
+    (tie.spec Inv-loop μ-loop loop-holds (λ c. search needs) (λ c. search needs) (λ c κs. search needs)
+    (λ c κs. search needs) (λ c. search needs) (λ c. search needs) loop-again (λ c. search needs) returns)

@@ -9,20 +9,11 @@ use borrow.Author.Needs.{needs}
 use Rattle.fields.proofs.numbers.put_proposal.Statement.{statement}
 use Rattle.fields.proofs.numbers.put_proposal.Tie as tie
 
-slice-write-row : tie.Need-slice-write-row
-slice-write-row c = search needs
-
 slice-write-row-2 : tie.Need-slice-write-row-2
 slice-write-row-2 c = simp length-set (omega arith)
 
 put-legs-requires : tie.Need-put-legs-requires
 put-legs-requires c κs = simp length-set (omega arith)
-
-mul-result : tie.Need-mul-result
-mul-result c = search needs
-
-add-result : tie.Need-add-result
-add-result c = search needs
 
 same-length : tie.Need-same-length
 same-length c = let a = c .before .before .before .before .before .args in omega (arith, length-sets (a .row .now) 0 (4 ∷ a .count ∷ []))
@@ -35,11 +26,5 @@ returns c =
 pub put-proposal-spec : {M : Type 1} → statement M
 put-proposal-spec =
     tie.close
-    (tie.spec
-    slice-write-row
-    slice-write-row-2
-    put-legs-requires
-    mul-result
-    add-result
-    same-length
-    returns)
+    (tie.spec (λ c. search needs) slice-write-row-2 put-legs-requires (λ c. search needs) (λ c. search needs)
+    same-length returns)

@@ -8,9 +8,6 @@ use borrow.Author.Needs.{needs}
 use Rattle.fields.proofs.numbers.put_submit.Statement.{statement}
 use Rattle.fields.proofs.numbers.put_submit.Tie as tie
 
-slice-write-row : tie.Need-slice-write-row
-slice-write-row c = search needs
-
 slice-write-row-2 : tie.Need-slice-write-row-2
 slice-write-row-2 c = simp length-set (omega arith)
 
@@ -20,14 +17,8 @@ slice-write-row-3 c = simp length-set (omega arith)
 slice-write-row-4 : tie.Need-slice-write-row-4
 slice-write-row-4 c = simp length-set (omega arith)
 
-side-number-requires : tie.Need-side-number-requires
-side-number-requires c κs = search needs
-
 slice-write-row-5 : tie.Need-slice-write-row-5
 slice-write-row-5 c = simp length-set (omega arith)
-
-order-kind-number-requires : tie.Need-order-kind-number-requires
-order-kind-number-requires c κs = search needs
 
 slice-write-row-6 : tie.Need-slice-write-row-6
 slice-write-row-6 c = simp length-set (omega arith)
@@ -38,9 +29,6 @@ slice-write-row-7 c = simp length-set (omega arith)
 slice-write-row-8 : tie.Need-slice-write-row-8
 slice-write-row-8 c = simp length-set (omega arith)
 
-same-length : tie.Need-same-length
-same-length c = search needs
-
 returns : tie.Need-returns
 unfolding numbersOf
 returns c =
@@ -50,16 +38,6 @@ returns c =
 pub put-submit-spec : {M : Type 1} → statement M
 put-submit-spec =
     tie.close
-    (tie.spec
-    slice-write-row
-    slice-write-row-2
-    slice-write-row-3
-    slice-write-row-4
-    side-number-requires
-    slice-write-row-5
-    order-kind-number-requires
-    slice-write-row-6
-    slice-write-row-7
-    slice-write-row-8
-    same-length
+    (tie.spec (λ c. search needs) slice-write-row-2 slice-write-row-3 slice-write-row-4 (λ c κs. search needs)
+    slice-write-row-5 (λ c κs. search needs) slice-write-row-6 slice-write-row-7 slice-write-row-8 (λ c. search needs)
     returns)

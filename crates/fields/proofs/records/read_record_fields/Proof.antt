@@ -6,15 +6,6 @@ use Rattle.fields.proofs.records.read_record_fields.Tie as tie
 returns : tie.Need-returns
 returns c = let a = c .before .before .before .args in read-short (a .members) (a .bytes .now) (a .row .now) (c .if1 .taken)
 
-read-record-requires : tie.Need-read-record-requires
-read-record-requires c κs = search needs
-
-enum-known-event : tie.Need-enum-known-event
-enum-known-event c = search needs
-
-read-legs-requires : tie.Need-read-legs-requires
-read-legs-requires c κs = search needs
-
 put-event-requires : tie.Need-put-event-requires
 put-event-requires c κs =
     let start = c .before .before .before .before .before .before .before .before .before in
@@ -23,12 +14,6 @@ put-event-requires c κs =
     let event = c .before .before .before .event in
     let a = start .args in
     (test1 .left, few-read (a .members) (a .bytes .now) (a .row .now) (read-record .ensures) (event .given .1))
-
-enum-told : tie.Need-enum-told
-enum-told c = search needs
-
-same-length : tie.Need-same-length
-same-length c = search needs
 
 returns-2 : tie.Need-returns-2
 returns-2 c =
@@ -49,13 +34,5 @@ returns-3 c =
 pub read-record-fields-spec : {M : Type 1} → statement M
 read-record-fields-spec =
     tie.close
-    (tie.spec
-    returns
-    read-record-requires
-    enum-known-event
-    read-legs-requires
-    put-event-requires
-    enum-told
-    same-length
-    returns-2
-    returns-3)
+    (tie.spec returns (λ c κs. search needs) (λ c. search needs) (λ c κs. search needs) put-event-requires
+    (λ c. search needs) (λ c. search needs) returns-2 returns-3)

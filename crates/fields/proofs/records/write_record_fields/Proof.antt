@@ -6,15 +6,6 @@ use Rattle.fields.proofs.records.write_record_fields.Tie as tie
 returns : tie.Need-returns
 returns c = let a = c .before .before .before .args in write-short (a .members) (a .row .now) (a .out .now) (c .if1 .taken)
 
-event-in-requires : tie.Need-event-in-requires
-event-in-requires c κs = search needs
-
-enum-known-event : tie.Need-enum-known-event
-enum-known-event c = search needs
-
-leg-count-requires : tie.Need-leg-count-requires
-leg-count-requires c κs = search needs
-
 legs-in-requires : tie.Need-legs-in-requires
 legs-in-requires c κs =
     let start = c .before .before .before .before .before .before .before .before in
@@ -23,15 +14,6 @@ legs-in-requires c κs =
     let event = c .before .before .event in
     let a = start .args in
     (test1 .left, rw (c .leg-count .ensures) (few-in (a .members) (a .row .now) (a .out .now) (event-in .ensures) (event .given .1)))
-
-write-record-requires : tie.Need-write-record-requires
-write-record-requires c κs = search needs
-
-enum-told : tie.Need-enum-told
-enum-told c = search needs
-
-same-length : tie.Need-same-length
-same-length c = search needs
 
 returns-2 : tie.Need-returns-2
 returns-2 c =
@@ -53,14 +35,5 @@ returns-3 c =
 pub write-record-fields-spec : {M : Type 1} → statement M
 write-record-fields-spec =
     tie.close
-    (tie.spec
-    returns
-    event-in-requires
-    enum-known-event
-    leg-count-requires
-    legs-in-requires
-    write-record-requires
-    enum-told
-    same-length
-    returns-2
-    returns-3)
+    (tie.spec returns (λ c κs. search needs) (λ c. search needs) (λ c κs. search needs) legs-in-requires
+    (λ c κs. search needs) (λ c. search needs) (λ c. search needs) returns-2 returns-3)

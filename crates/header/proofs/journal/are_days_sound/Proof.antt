@@ -10,9 +10,6 @@ use borrow.Author.Needs.{needs}
 use Rattle.header.proofs.journal.are_days_sound.Statement.{statement}
 use Rattle.header.proofs.journal.are_days_sound.Tie as tie
 
-is-first-year-sound-requires : tie.Need-is-first-year-sound-requires
-is-first-year-sound-requires c κs = search needs
-
 returns : tie.Need-returns
 returns c =
     let a = c .before .before .args in
@@ -22,23 +19,14 @@ returns c =
 span-of-requires : tie.Need-span-of-requires
 span-of-requires c κs = first-year-holds _ (asked-true (c .before .is-first-year-sound .ensures) (c .if1 .left))
 
-array-share-prefix-list : tie.Need-array-share-prefix-list
-array-share-prefix-list c = search needs
-
 slice-aggregate-is-calendar-sound : tie.Need-slice-aggregate-is-calendar-sound
 slice-aggregate-is-calendar-sound c = sym (length-take-le _ _ (omega (arith, c .before .before .before .before .good .1 .0 .1 .0 .1)))
 
 is-calendar-sound-requires : tie.Need-is-calendar-sound-requires
 is-calendar-sound-requires c κs = (first-year-holds _ (asked-true (c .before .before .before .is-first-year-sound .ensures) (c .before .before .if1 .left)), c .before .span-of .ensures _)
 
-array-share-prefix-list-2 : tie.Need-array-share-prefix-list-2
-array-share-prefix-list-2 c = search needs
-
 slice-aggregate-is-day-sound : tie.Need-slice-aggregate-is-day-sound
 slice-aggregate-is-day-sound c = sym (length-take-le _ _ (omega (arith, c .before .before .before .before .before .before .good .1 .0 .1 .0 .1)))
-
-is-day-sound-requires : tie.Need-is-day-sound-requires
-is-day-sound-requires c κs = search needs
 
 returns-2 : tie.Need-returns-2
 returns-2 c =
@@ -50,14 +38,5 @@ returns-2 c =
 pub are-days-sound-spec : {M : Type 1} → statement M
 are-days-sound-spec =
     tie.close
-    (tie.spec
-    is-first-year-sound-requires
-    returns
-    span-of-requires
-    array-share-prefix-list
-    slice-aggregate-is-calendar-sound
-    is-calendar-sound-requires
-    array-share-prefix-list-2
-    slice-aggregate-is-day-sound
-    is-day-sound-requires
-    returns-2)
+    (tie.spec (λ c κs. search needs) returns span-of-requires (λ c. search needs) slice-aggregate-is-calendar-sound
+    is-calendar-sound-requires (λ c. search needs) slice-aggregate-is-day-sound (λ c κs. search needs) returns-2)

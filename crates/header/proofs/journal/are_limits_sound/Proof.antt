@@ -22,18 +22,6 @@ loop-holds : tie.Need-loop-holds Inv-loop μ-loop
 unfolding firsts
 loop-holds c = (omega arith, run-start limitSound _ _)
 
-mul-ok : tie.Need-mul-ok Inv-loop μ-loop
-mul-ok c = search needs
-
-array-read-ok : tie.Need-array-read-ok Inv-loop μ-loop
-array-read-ok c = search needs
-
-add-i : tie.Need-add-i Inv-loop μ-loop
-add-i c = search needs
-
-loop-less : tie.Need-loop-less Inv-loop μ-loop
-loop-less c = search needs
-
 loop-again : tie.Need-loop-again Inv-loop μ-loop
 loop-again c = let l = c .before .loop in (omega arith, run-passed limitSound (λ j. getD (c .before .before .args .t1) j 0) _ (l .i) (l .ok) (l .inv .1) (c .loop-test .taken))
 
@@ -43,4 +31,5 @@ returns c = let l = c .before .loop in run-end limitSound (λ j. getD (c .before
 pub are-limits-sound-spec : {M : Type 1} → statement M
 are-limits-sound-spec =
     tie.close
-    (tie.spec Inv-loop μ-loop loop-holds mul-ok array-read-ok add-i loop-less loop-again returns)
+    (tie.spec Inv-loop μ-loop loop-holds (λ c. search needs) (λ c. search needs) (λ c. search needs)
+    (λ c. search needs) loop-again returns)

@@ -15,14 +15,8 @@ returns c =
     let h = c .before .before .args .h in
     sym (holidays-many (headerFrom h) (rw (length-firsts _ (h .holidays)) (c .if1 .taken)))
 
-is-member-count-sound-requires : tie.Need-is-member-count-sound-requires
-is-member-count-sound-requires c κs = search needs
-
 returns-2 : tie.Need-returns-2
 returns-2 c = sym (members-wrong (headerFrom (c .before .before .before .before .args .h)) (asked-false (c .before .is-member-count-sound .ensures) (c .if2 .taken)))
-
-are-days-sound-requires : tie.Need-are-days-sound-requires
-are-days-sound-requires c κs = search needs
 
 are-limits-sound-requires : tie.Need-are-limits-sound-requires
 are-limits-sound-requires c κs =
@@ -41,10 +35,4 @@ returns-3 c =
 pub is-header-sound-spec : {M : Type 1} → statement M
 is-header-sound-spec =
     tie.close
-    (tie.spec
-    returns
-    is-member-count-sound-requires
-    returns-2
-    are-days-sound-requires
-    are-limits-sound-requires
-    returns-3)
+    (tie.spec returns (λ c κs. search needs) returns-2 (λ c κs. search needs) are-limits-sound-requires returns-3)

@@ -9,15 +9,10 @@ use Rattle.header.proofs.reader.begins_with_letters.Tie as tie
 slice-aggregate-same : tie.Need-slice-aggregate-same
 slice-aggregate-same c = sym (length-take-le 5 (c .before .before .args .bytes .now) (omega arith))
 
-slice-aggregate-same-2 : tie.Need-slice-aggregate-same-2
-slice-aggregate-same-2 c = search needs
-
-same-requires : tie.Need-same-requires
-same-requires c κs = search needs
-
 returns : tie.Need-returns
 returns c = same-bytes _ _ _ (c .same .ensures .0) (c .same .ensures .1)
 
 pub begins-with-letters-spec : {M : Type 1} → statement M
 begins-with-letters-spec =
-    tie.close (tie.spec slice-aggregate-same slice-aggregate-same-2 same-requires returns)
+    tie.close
+    (tie.spec slice-aggregate-same (λ c. search needs) (λ c κs. search needs) returns)

@@ -6,21 +6,9 @@ use Rattle.header.proofs.Headers.{length-u16s}
 use Rattle.header.proofs.reader.fields_at.Statement.{statement}
 use Rattle.header.proofs.reader.fields_at.Tie as tie
 
-u16-at-requires : tie.Need-u16-at-requires
-u16-at-requires c κs = search needs
-
-u16-at-requires-2 : tie.Need-u16-at-requires-2
-u16-at-requires-2 c κs = search needs
-
 holidays-at-requires : tie.Need-holidays-at-requires
 unfolding headerLength
 holidays-at-requires c κs = omega arith
-
-mul-limits-at : tie.Need-mul-limits-at
-mul-limits-at c = search needs
-
-add-limits-at : tie.Need-add-limits-at
-add-limits-at c = search needs
 
 limits-at-requires : tie.Need-limits-at-requires
 unfolding headerLength
@@ -37,11 +25,5 @@ returns c =
 pub fields-at-spec : {M : Type 1} → statement M
 fields-at-spec =
     tie.close
-    (tie.spec
-    u16-at-requires
-    u16-at-requires-2
-    holidays-at-requires
-    mul-limits-at
-    add-limits-at
-    limits-at-requires
-    returns)
+    (tie.spec (λ c κs. search needs) (λ c κs. search needs) holidays-at-requires (λ c. search needs)
+    (λ c. search needs) limits-at-requires returns)

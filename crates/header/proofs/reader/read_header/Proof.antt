@@ -8,53 +8,17 @@ use Rattle.arith.proofs.Tests.{asked-true, asked-false}
 use Rattle.header.proofs.reader.read_header.Statement.{statement}
 use Rattle.header.proofs.reader.read_header.Tie as tie
 
-unsound-requires : tie.Need-unsound-requires
-unsound-requires c κs = search needs
-
 returns : tie.Need-returns
 returns c = c .unsound .ensures ∙ reading-unsound _ (begins-short _ (c .before .if1 .taken))
-
-begins-with-letters-requires : tie.Need-begins-with-letters-requires
-begins-with-letters-requires c κs = search needs
-
-unsound-requires-2 : tie.Need-unsound-requires-2
-unsound-requires-2 c κs = search needs
 
 returns-2 : tie.Need-returns-2
 returns-2 c = c .unsound2 .ensures ∙ reading-unsound _ (begins-other _ (asked-false (c .before .before .begins-with-letters .ensures) (c .before .if2 .taken)))
 
-u8-at-requires : tie.Need-u8-at-requires
-u8-at-requires c κs = search needs
-
-u8-at-requires-2 : tie.Need-u8-at-requires-2
-u8-at-requires-2 c κs = search needs
-
-unsound-requires-3 : tie.Need-unsound-requires-3
-unsound-requires-3 c κs = search needs
-
 returns-3 : tie.Need-returns-3
 returns-3 c = c .unsound3 .ensures ∙ reading-unsound _ (begins-members (c .before .before .before .before .before .before .before .before .args .bytes .now) (omega arith))
 
-unsound-requires-4 : tie.Need-unsound-requires-4
-unsound-requires-4 c κs = search needs
-
 returns-4 : tie.Need-returns-4
 returns-4 c = c .unsound4 .ensures ∙ reading-unsound _ (begins-holidays (c .before .before .before .before .before .before .before .before .before .args .bytes .now) (omega arith))
-
-mul-n : tie.Need-mul-n
-mul-n c = search needs
-
-add-n : tie.Need-add-n
-add-n c = search needs
-
-mul-n-2 : tie.Need-mul-n-2
-mul-n-2 c = search needs
-
-add-n-2 : tie.Need-add-n-2
-add-n-2 c = search needs
-
-unsound-requires-5 : tie.Need-unsound-requires-5
-unsound-requires-5 c κs = search needs
 
 returns-5 : tie.Need-returns-5
 unfolding headerLength
@@ -63,12 +27,6 @@ returns-5 c = c .unsound5 .ensures ∙ reading-unsound _ (begins-cut (c .before 
 fields-at-requires : tie.Need-fields-at-requires
 unfolding headerLength
 fields-at-requires c κs = omega arith
-
-is-header-sound-requires : tie.Need-is-header-sound-requires
-is-header-sound-requires c κs = search needs
-
-unsound-requires-6 : tie.Need-unsound-requires-6
-unsound-requires-6 c κs = search needs
 
 returns-6 : tie.Need-returns-6
 unfolding headerLength
@@ -98,26 +56,7 @@ returns-7 c =
 pub read-header-spec : {M : Type 1} → statement M
 read-header-spec =
     tie.close
-    (tie.spec
-    unsound-requires
-    returns
-    begins-with-letters-requires
-    unsound-requires-2
-    returns-2
-    u8-at-requires
-    u8-at-requires-2
-    unsound-requires-3
-    returns-3
-    unsound-requires-4
-    returns-4
-    mul-n
-    add-n
-    mul-n-2
-    add-n-2
-    unsound-requires-5
-    returns-5
-    fields-at-requires
-    is-header-sound-requires
-    unsound-requires-6
-    returns-6
-    returns-7)
+    (tie.spec (λ c κs. search needs) returns (λ c κs. search needs) (λ c κs. search needs) returns-2
+    (λ c κs. search needs) (λ c κs. search needs) (λ c κs. search needs) returns-3 (λ c κs. search needs) returns-4
+    (λ c. search needs) (λ c. search needs) (λ c. search needs) (λ c. search needs) (λ c κs. search needs) returns-5
+    fields-at-requires (λ c κs. search needs) (λ c κs. search needs) returns-6 returns-7)

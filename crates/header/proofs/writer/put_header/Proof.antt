@@ -7,36 +7,6 @@ use Rattle.arith.proofs.Beside.{over-then}
 use Rattle.header.proofs.writer.put_header.Statement.{statement}
 use Rattle.header.proofs.writer.put_header.Tie as tie
 
-put-letters-requires : tie.Need-put-letters-requires
-put-letters-requires c κs = search needs
-
-put-u16-requires : tie.Need-put-u16-requires
-put-u16-requires c κs = search needs
-
-put-u16-requires-2 : tie.Need-put-u16-requires-2
-put-u16-requires-2 c κs = search needs
-
-put-u8-requires : tie.Need-put-u8-requires
-put-u8-requires c κs = search needs
-
-put-u8-requires-2 : tie.Need-put-u8-requires-2
-put-u8-requires-2 c κs = search needs
-
-put-holidays-requires : tie.Need-put-holidays-requires
-put-holidays-requires c κs = search needs
-
-mul-put-limits : tie.Need-mul-put-limits
-mul-put-limits c = search needs
-
-add-put-limits : tie.Need-add-put-limits
-add-put-limits c = search needs
-
-put-limits-requires : tie.Need-put-limits-requires
-put-limits-requires c κs = search needs
-
-same-length : tie.Need-same-length
-same-length c = search needs
-
 returns : tie.Need-returns
 unfolding headerBytes u16Bytes
 returns c =
@@ -62,15 +32,6 @@ returns c =
 pub put-header-spec : {M : Type 1} → statement M
 put-header-spec =
     tie.close
-    (tie.spec
-    put-letters-requires
-    put-u16-requires
-    put-u16-requires-2
-    put-u8-requires
-    put-u8-requires-2
-    put-holidays-requires
-    mul-put-limits
-    add-put-limits
-    put-limits-requires
-    same-length
-    returns)
+    (tie.spec (λ c κs. search needs) (λ c κs. search needs) (λ c κs. search needs) (λ c κs. search needs)
+    (λ c κs. search needs) (λ c κs. search needs) (λ c. search needs) (λ c. search needs) (λ c κs. search needs)
+    (λ c. search needs) returns)

@@ -21,36 +21,12 @@ abbrev μ-loop : tie.MeasureT-loop
 loop-holds : tie.Need-loop-holds Inv-loop μ-loop
 loop-holds c = (omega arith, refl, blocks-none u16Bytes 2 u16-wide (λ j. getD (c .before .args .t2) j 0) 11 _)
 
-mul-put-u16 : tie.Need-mul-put-u16 Inv-loop μ-loop
-mul-put-u16 c = search needs
-
-add-put-u16 : tie.Need-add-put-u16 Inv-loop μ-loop
-add-put-u16 c = search needs
-
-mul-put-u16-2 : tie.Need-mul-put-u16-2 Inv-loop μ-loop
-mul-put-u16-2 c = search needs
-
-array-read-put-u16 : tie.Need-array-read-put-u16 Inv-loop μ-loop
-array-read-put-u16 c = search needs
-
-put-u16-requires : tie.Need-put-u16-requires Inv-loop μ-loop
-put-u16-requires c κs = search needs
-
-add-i : tie.Need-add-i Inv-loop μ-loop
-add-i c = search needs
-
-loop-less : tie.Need-loop-less Inv-loop μ-loop
-loop-less c = search needs
-
 loop-again : tie.Need-loop-again Inv-loop μ-loop
 loop-again c =
     let put-u16 = c .before .before .put-u16 in
     let loop = c .before .before .before .before .before .loop in
     let start = c .before .before .before .before .before .before .before in
     (omega arith, omega arith, blocks-next u16Bytes 2 u16-wide (λ j. getD (start .args .t2) j 0) 11 (loop .i) _ _ _ _ refl (loop .inv .2) (put-u16 .ensures) (omega arith))
-
-same-length : tie.Need-same-length Inv-loop μ-loop
-same-length c = search needs
 
 returns : tie.Need-returns Inv-loop μ-loop
 unfolding firsts
@@ -59,17 +35,6 @@ returns c = let all : c .before .loop .i ≡ c .before .before .before .args .co
 pub put-holidays-spec : {M : Type 1} → statement M
 put-holidays-spec =
     tie.close
-    (tie.spec
-    Inv-loop
-    μ-loop
-    loop-holds
-    mul-put-u16
-    add-put-u16
-    mul-put-u16-2
-    array-read-put-u16
-    put-u16-requires
-    add-i
-    loop-less
-    loop-again
-    same-length
+    (tie.spec Inv-loop μ-loop loop-holds (λ c. search needs) (λ c. search needs) (λ c. search needs)
+    (λ c. search needs) (λ c κs. search needs) (λ c. search needs) (λ c. search needs) loop-again (λ c. search needs)
     returns)

@@ -5,54 +5,6 @@ use Rattle.arith.proofs.Beside.{over-then}
 use Rattle.header.proofs.writer.put_letters.Statement.{statement}
 use Rattle.header.proofs.writer.put_letters.Tie as tie
 
-array-read-wide : tie.Need-array-read-wide
-array-read-wide c = search needs
-
-wide-requires : tie.Need-wide-requires
-wide-requires c κs = search needs
-
-put-u8-requires : tie.Need-put-u8-requires
-put-u8-requires c κs = search needs
-
-array-read-wide-2 : tie.Need-array-read-wide-2
-array-read-wide-2 c = search needs
-
-wide-requires-2 : tie.Need-wide-requires-2
-wide-requires-2 c κs = search needs
-
-put-u8-requires-2 : tie.Need-put-u8-requires-2
-put-u8-requires-2 c κs = search needs
-
-array-read-wide-3 : tie.Need-array-read-wide-3
-array-read-wide-3 c = search needs
-
-wide-requires-3 : tie.Need-wide-requires-3
-wide-requires-3 c κs = search needs
-
-put-u8-requires-3 : tie.Need-put-u8-requires-3
-put-u8-requires-3 c κs = search needs
-
-array-read-wide-4 : tie.Need-array-read-wide-4
-array-read-wide-4 c = search needs
-
-wide-requires-4 : tie.Need-wide-requires-4
-wide-requires-4 c κs = search needs
-
-put-u8-requires-4 : tie.Need-put-u8-requires-4
-put-u8-requires-4 c κs = search needs
-
-array-read-wide-5 : tie.Need-array-read-wide-5
-array-read-wide-5 c = search needs
-
-wide-requires-5 : tie.Need-wide-requires-5
-wide-requires-5 c κs = search needs
-
-put-u8-requires-5 : tie.Need-put-u8-requires-5
-put-u8-requires-5 c κs = search needs
-
-same-length : tie.Need-same-length
-same-length c = search needs
-
 returns : tie.Need-returns
 returns c =
     let earlier = c .before .before .before .before .before .before .before .before .before .before in
@@ -69,21 +21,7 @@ returns c =
 pub put-letters-spec : {M : Type 1} → statement M
 put-letters-spec =
     tie.close
-    (tie.spec
-    array-read-wide
-    wide-requires
-    put-u8-requires
-    array-read-wide-2
-    wide-requires-2
-    put-u8-requires-2
-    array-read-wide-3
-    wide-requires-3
-    put-u8-requires-3
-    array-read-wide-4
-    wide-requires-4
-    put-u8-requires-4
-    array-read-wide-5
-    wide-requires-5
-    put-u8-requires-5
-    same-length
-    returns)
+    (tie.spec (λ c. search needs) (λ c κs. search needs) (λ c κs. search needs) (λ c. search needs)
+    (λ c κs. search needs) (λ c κs. search needs) (λ c. search needs) (λ c κs. search needs) (λ c κs. search needs)
+    (λ c. search needs) (λ c κs. search needs) (λ c κs. search needs) (λ c. search needs) (λ c κs. search needs)
+    (λ c κs. search needs) (λ c. search needs) returns)

@@ -21,36 +21,12 @@ abbrev μ-loop : tie.MeasureT-loop
 loop-holds : tie.Need-loop-holds Inv-loop μ-loop
 loop-holds c = (omega arith, refl, blocks-none u32Bytes 4 u32-wide (λ j. getD (c .before .args .t3) j 0) (c .before .args .at) _)
 
-mul-put-u32 : tie.Need-mul-put-u32 Inv-loop μ-loop
-mul-put-u32 c = search needs
-
-add-put-u32 : tie.Need-add-put-u32 Inv-loop μ-loop
-add-put-u32 c = search needs
-
-mul-put-u32-2 : tie.Need-mul-put-u32-2 Inv-loop μ-loop
-mul-put-u32-2 c = search needs
-
-array-read-put-u32 : tie.Need-array-read-put-u32 Inv-loop μ-loop
-array-read-put-u32 c = search needs
-
-put-u32-requires : tie.Need-put-u32-requires Inv-loop μ-loop
-put-u32-requires c κs = search needs
-
-add-i : tie.Need-add-i Inv-loop μ-loop
-add-i c = search needs
-
-loop-less : tie.Need-loop-less Inv-loop μ-loop
-loop-less c = search needs
-
 loop-again : tie.Need-loop-again Inv-loop μ-loop
 loop-again c =
     let put-u32 = c .before .before .put-u32 in
     let loop = c .before .before .before .before .before .loop in
     let start = c .before .before .before .before .before .before .before in
     (omega arith, omega arith, blocks-next u32Bytes 4 u32-wide (λ j. getD (start .args .t3) j 0) (start .args .at) (loop .i) _ _ _ _ refl (loop .inv .2) (put-u32 .ensures) (omega arith))
-
-same-length : tie.Need-same-length Inv-loop μ-loop
-same-length c = search needs
 
 returns : tie.Need-returns Inv-loop μ-loop
 unfolding firsts
@@ -59,17 +35,6 @@ returns c = let all : c .before .loop .i ≡ c .before .before .before .args .co
 pub put-limits-spec : {M : Type 1} → statement M
 put-limits-spec =
     tie.close
-    (tie.spec
-    Inv-loop
-    μ-loop
-    loop-holds
-    mul-put-u32
-    add-put-u32
-    mul-put-u32-2
-    array-read-put-u32
-    put-u32-requires
-    add-i
-    loop-less
-    loop-again
-    same-length
+    (tie.spec Inv-loop μ-loop loop-holds (λ c. search needs) (λ c. search needs) (λ c. search needs)
+    (λ c. search needs) (λ c κs. search needs) (λ c. search needs) (λ c. search needs) loop-again (λ c. search needs)
     returns)

@@ -6,9 +6,6 @@ use Rattle.arith.proofs.Tests.{asked-true, asked-false}
 use Rattle.header.proofs.writer.write_header.Statement.{statement}
 use Rattle.header.proofs.writer.write_header.Tie as tie
 
-is-header-sound-requires : tie.Need-is-header-sound-requires
-is-header-sound-requires c κs = search needs
-
 returns : tie.Need-returns
 returns c = write-header-unsound _ _ (asked-false (c .before .is-header-sound .ensures) (c .if1 .taken))
 
@@ -42,9 +39,6 @@ put-header-requires c κs =
     let start = c .before .before .before .before .before .before .before in
     omega (arith, holidays-fit (start .args .h) (asked-true (is-header-sound .ensures) (test1 .left)), members-fit (start .args .h) (asked-true (is-header-sound .ensures) (test1 .left)))
 
-same-length : tie.Need-same-length
-same-length c = search needs
-
 returns-3 : tie.Need-returns-3
 returns-3 c =
     let put-header = c .before .before .put-header in
@@ -57,14 +51,5 @@ returns-3 c =
 pub write-header-spec : {M : Type 1} → statement M
 write-header-spec =
     tie.close
-    (tie.spec
-    is-header-sound-requires
-    returns
-    mul-n
-    add-n
-    mul-n-2
-    add-n-2
-    returns-2
-    put-header-requires
-    same-length
-    returns-3)
+    (tie.spec (λ c κs. search needs) returns mul-n add-n mul-n-2 add-n-2 returns-2 put-header-requires
+    (λ c. search needs) returns-3)

@@ -3,14 +3,10 @@ use borrow.Author.Needs.{needs}
 use Rattle.host.proofs.bytes.ledger_front_record.Statement.{statement}
 use Rattle.host.proofs.bytes.ledger_front_record.Tie as tie
 
-front-record-requires : tie.Need-front-record-requires
-front-record-requires c κs = search needs
-
-told-front-requires : tie.Need-told-front-requires
-told-front-requires c κs = search needs
-
 returns : tie.Need-returns
 returns c = rw (← c .before .front-record .ensures, c .told-front .ensures .0, c .told-front .ensures .1) refl
 
 pub ledger-front-record-spec : {M : Type 1} → statement M
-ledger-front-record-spec = tie.close (tie.spec front-record-requires told-front-requires returns)
+ledger-front-record-spec =
+    tie.close
+    (tie.spec (λ c κs. search needs) (λ c κs. search needs) returns)

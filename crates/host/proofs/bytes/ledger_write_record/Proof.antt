@@ -3,18 +3,10 @@ use borrow.Author.Needs.{needs}
 use Rattle.host.proofs.bytes.ledger_write_record.Statement.{statement}
 use Rattle.host.proofs.bytes.ledger_write_record.Tie as tie
 
-write-record-fields-requires : tie.Need-write-record-fields-requires
-write-record-fields-requires c κs = search needs
-
-told-of-requires : tie.Need-told-of-requires
-told-of-requires c κs = search needs
-
-same-length : tie.Need-same-length
-same-length c = search needs
-
 returns : tie.Need-returns
 returns c = answered _ (c .before .before .before .write-record-fields .ensures) (c .told-of .ensures .0) (c .told-of .ensures .1)
 
 pub ledger-write-record-spec : {M : Type 1} → statement M
 ledger-write-record-spec =
-    tie.close (tie.spec write-record-fields-requires told-of-requires same-length returns)
+    tie.close
+    (tie.spec (λ c κs. search needs) (λ c κs. search needs) (λ c. search needs) returns)

@@ -24,9 +24,6 @@ abbrev μ-loop : tie.MeasureT-loop
 μ-loop input₀ output₀ head₀ prices₀ lots₀ value₀ book₀ lines₀ place₀ turns₀ t13 input output head prices lots value book lines place turns =
     70368744177664 - turns
 
-first-place-requires : tie.Need-first-place-requires Inv-loop μ-loop
-first-place-requires c κs = search needs
-
 loop-holds : tie.Need-loop-holds Inv-loop μ-loop
 loop-holds c = (c .first-place .ensures .0, omega (arith, c .first-place .ensures .1), omega arith, refl, refl, refl, refl, refl, refl, refl, refl)
 
@@ -59,12 +56,6 @@ turn-requires c κs = (
     c .before .before .before .before .before .before .before .before .before .before .before .before .before .before .before .before .pre .3,
   ),
 )
-
-enum-known-next : tie.Need-enum-known-next Inv-loop μ-loop
-enum-known-next c = search needs
-
-enum-known-ending : tie.Need-enum-known-ending Inv-loop μ-loop
-enum-known-ending c = search needs
 
 same-length : tie.Need-same-length Inv-loop μ-loop
 same-length c =
@@ -162,12 +153,6 @@ same-length-8 c =
       loop .inv .10,
     )
 
-returns : tie.Need-returns Inv-loop μ-loop
-returns c = search needs
-
-add-turns : tie.Need-add-turns Inv-loop μ-loop
-add-turns c = omega arith
-
 loop-less : tie.Need-loop-less Inv-loop μ-loop
 loop-less c =
     let earlier = c .before .before .before .before .before .before .before .before .before .before in
@@ -214,12 +199,6 @@ loop-again c =
       ),
     )
 
-slice-aggregate-write-all : tie.Need-slice-aggregate-write-all Inv-loop μ-loop
-slice-aggregate-write-all c = search needs
-
-write-all-requires : tie.Need-write-all-requires Inv-loop μ-loop
-write-all-requires c κs = search needs
-
 same-length-9 : tie.Need-same-length-9 Inv-loop μ-loop
 same-length-9 c = omega (arith, c .before .before .before .loop .inv .3)
 
@@ -244,40 +223,11 @@ same-length-15 c = omega (arith, c .before .before .before .loop .inv .9)
 same-length-16 : tie.Need-same-length-16 Inv-loop μ-loop
 same-length-16 c = omega (arith, c .before .before .before .loop .inv .10)
 
-returns-2 : tie.Need-returns-2 Inv-loop μ-loop
-returns-2 c = search needs
-
 pub run-turns-spec : {M : Type 1} → statement M
 run-turns-spec =
     tie.close
-    (tie.spec
-    Inv-loop
-    μ-loop
-    first-place-requires
-    loop-holds
-    turn-requires
-    enum-known-next
-    enum-known-ending
-    same-length
-    same-length-2
-    same-length-3
-    same-length-4
-    same-length-5
-    same-length-6
-    same-length-7
-    same-length-8
-    returns
-    add-turns
-    loop-less
-    loop-again
-    slice-aggregate-write-all
-    write-all-requires
-    same-length-9
-    same-length-10
-    same-length-11
-    same-length-12
-    same-length-13
-    same-length-14
-    same-length-15
-    same-length-16
-    returns-2)
+    (tie.spec Inv-loop μ-loop (λ c κs. search needs) loop-holds turn-requires (λ c. search needs) (λ c. search needs)
+    same-length same-length-2 same-length-3 same-length-4 same-length-5 same-length-6 same-length-7 same-length-8
+    (λ c. search needs) (λ c. omega arith) loop-less loop-again (λ c. search needs) (λ c κs. search needs)
+    same-length-9 same-length-10 same-length-11 same-length-12 same-length-13 same-length-14 same-length-15
+    same-length-16 (λ c. search needs))

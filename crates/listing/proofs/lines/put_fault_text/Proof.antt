@@ -7,21 +7,6 @@ use borrow.Author.Needs.{needs}
 use Rattle.listing.proofs.lines.put_fault_text.Statement.{statement}
 use Rattle.listing.proofs.lines.put_fault_text.Tie as tie
 
-slice-aggregate-put-bytes : tie.Need-slice-aggregate-put-bytes
-slice-aggregate-put-bytes c = search needs
-
-put-bytes-requires : tie.Need-put-bytes-requires
-put-bytes-requires c κs = search needs
-
-put-field-requires : tie.Need-put-field-requires
-put-field-requires c κs = search needs
-
-put-byte-requires : tie.Need-put-byte-requires
-put-byte-requires c κs = search needs
-
-name-of-requires : tie.Need-name-of-requires
-name-of-requires c κs = search needs
-
 put-word-requires : tie.Need-put-word-requires
 put-word-requires c κs = (
   omega (
@@ -44,9 +29,6 @@ put-reason-requires c κs = omega (
   c .before .before .before .before .before .before .before .before .put-byte .ensures .after,
   c .before .before .before .put-word .ensures .short,
 )
-
-same-length : tie.Need-same-length
-same-length c = search needs
 
 returns : tie.Need-returns
 unfolding faultText
@@ -80,13 +62,5 @@ returns c =
 pub put-fault-text-spec : {M : Type 1} → statement M
 put-fault-text-spec =
     tie.close
-    (tie.spec
-    slice-aggregate-put-bytes
-    put-bytes-requires
-    put-field-requires
-    put-byte-requires
-    name-of-requires
-    put-word-requires
-    put-reason-requires
-    same-length
-    returns)
+    (tie.spec (λ c. search needs) (λ c κs. search needs) (λ c κs. search needs) (λ c κs. search needs)
+    (λ c κs. search needs) put-word-requires put-reason-requires (λ c. search needs) returns)

@@ -17,14 +17,8 @@ abbrev μ-loop : tie.MeasureT-loop
 loop-holds : tie.Need-loop-holds Inv-loop μ-loop
 loop-holds c = going-start _ _ _ _ _ (omega arith)
 
-field-at-requires : tie.Need-field-at-requires Inv-loop μ-loop
-field-at-requires c κs = omega arith
-
 verdict-of-requires : tie.Need-verdict-of-requires Inv-loop μ-loop
 verdict-of-requires c κs = (c .before .before .loop .inv .inside, omega arith)
-
-does-pass-requires : tie.Need-does-pass-requires Inv-loop μ-loop
-does-pass-requires c κs = search needs
 
 put-fault-requires : tie.Need-put-fault-requires Inv-loop μ-loop
 put-fault-requires c κs = (
@@ -43,9 +37,6 @@ returns c =
     (asked-false (c .before .before .before .before .before .does-pass .ensures) (c .before .before .before .before .if1 .taken)) in
     going-fault _ _ _ _ _ (c .before .before .before .before .before .before .before .before .before .loop .inv) _ (omega arith)
     (c .before .before .before .before .before .before .before .field-at .ensures) _ e (omega arith) (omega arith) (c .before .before .put-fault .ensures)
-
-size-of-requires : tie.Need-size-of-requires Inv-loop μ-loop
-size-of-requires c κs = search needs
 
 number-at-requires : tie.Need-number-at-requires Inv-loop μ-loop
 number-at-requires c κs = omega (arith, c .before .before .before .before .before .before .before .loop .inv .inside)
@@ -68,12 +59,6 @@ add-place c = omega (
   c .before .before .before .before .before .before .before .before .before .before .before .loop .inv .inside,
 )
 
-add-i : tie.Need-add-i Inv-loop μ-loop
-add-i c = omega arith
-
-loop-less : tie.Need-loop-less Inv-loop μ-loop
-loop-less c = omega arith
-
 loop-again : tie.Need-loop-again Inv-loop μ-loop
 loop-again c =
     let e = rw (c .before .before .before .before .before .before .before .before .verdict-of .ensures) at
@@ -92,22 +77,6 @@ returns-2 c = going-end _ _ _ _ _ (c .before .loop .inv) _ (omega arith) (omega 
 pub put-fields-spec : {M : Type 1} → statement M
 put-fields-spec =
     tie.close
-    (tie.spec
-    Inv-loop
-    μ-loop
-    loop-holds
-    field-at-requires
-    verdict-of-requires
-    does-pass-requires
-    put-fault-requires
-    same-length
-    returns
-    size-of-requires
-    number-at-requires
-    put-quantity-requires
-    add-place
-    add-i
-    loop-less
-    loop-again
-    same-length-2
-    returns-2)
+    (tie.spec Inv-loop μ-loop loop-holds (λ c κs. omega arith) verdict-of-requires (λ c κs. search needs)
+    put-fault-requires same-length returns (λ c κs. search needs) number-at-requires put-quantity-requires add-place
+    (λ c. omega arith) (λ c. omega arith) loop-again same-length-2 returns-2)

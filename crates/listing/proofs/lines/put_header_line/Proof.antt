@@ -7,26 +7,11 @@ use borrow.Author.Needs.{needs}
 use Rattle.listing.proofs.lines.put_header_line.Statement.{statement}
 use Rattle.listing.proofs.lines.put_header_line.Tie as tie
 
-u8-or-zero-requires : tie.Need-u8-or-zero-requires
-u8-or-zero-requires c κs = search needs
-
-u8-or-zero-requires-2 : tie.Need-u8-or-zero-requires-2
-u8-or-zero-requires-2 c κs = search needs
-
-add-count : tie.Need-add-count
-add-count c = search needs
-
-add-count-2 : tie.Need-add-count-2
-add-count-2 c = search needs
-
 put-fields-requires : tie.Need-put-fields-requires
 put-fields-requires c κs = ((sym (header-length _ _), omega arith, omega arith), (omega arith, omega arith, omega arith))
 
 put-byte-requires : tie.Need-put-byte-requires
 put-byte-requires c κs = omega (arith, c .before .before .before .put-fields .ensures .written .short, c .before .before .before .put-fields .kept .1)
-
-same-length : tie.Need-same-length
-same-length c = search needs
 
 returns : tie.Need-returns
 unfolding headerLine
@@ -45,12 +30,5 @@ returns c =
 pub put-header-line-spec : {M : Type 1} → statement M
 put-header-line-spec =
     tie.close
-    (tie.spec
-    u8-or-zero-requires
-    u8-or-zero-requires-2
-    add-count
-    add-count-2
-    put-fields-requires
-    put-byte-requires
-    same-length
-    returns)
+    (tie.spec (λ c κs. search needs) (λ c κs. search needs) (λ c. search needs) (λ c. search needs)
+    put-fields-requires put-byte-requires (λ c. search needs) returns)

@@ -6,24 +6,6 @@ use borrow.Author.Needs.{needs}
 use Rattle.listing.proofs.lines.put_hint.Statement.{statement}
 use Rattle.listing.proofs.lines.put_hint.Tie as tie
 
-other-way-round-requires : tie.Need-other-way-round-requires
-other-way-round-requires c κs = search needs
-
-is-within-requires : tie.Need-is-within-requires
-is-within-requires c κs = search needs
-
-slice-aggregate-put-bytes : tie.Need-slice-aggregate-put-bytes
-slice-aggregate-put-bytes c = search needs
-
-put-bytes-requires : tie.Need-put-bytes-requires
-put-bytes-requires c κs = search needs
-
-put-field-requires : tie.Need-put-field-requires
-put-field-requires c κs = search needs
-
-same-length : tie.Need-same-length
-same-length c = search needs
-
 returns : tie.Need-returns
 unfolding hint
 returns c = rw (
@@ -41,12 +23,5 @@ returns-2 c = rw (← (c .before .before .other-way-round .ensures .0), ← (c .
 pub put-hint-spec : {M : Type 1} → statement M
 put-hint-spec =
     tie.close
-    (tie.spec
-    other-way-round-requires
-    is-within-requires
-    slice-aggregate-put-bytes
-    put-bytes-requires
-    put-field-requires
-    same-length
-    returns
-    returns-2)
+    (tie.spec (λ c κs. search needs) (λ c κs. search needs) (λ c. search needs) (λ c κs. search needs)
+    (λ c κs. search needs) (λ c. search needs) returns returns-2)

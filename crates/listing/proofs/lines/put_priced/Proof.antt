@@ -5,22 +5,11 @@ use borrow.Author.Needs.{needs}
 use Rattle.listing.proofs.lines.put_priced.Statement.{statement}
 use Rattle.listing.proofs.lines.put_priced.Tie as tie
 
-name-of-requires : tie.Need-name-of-requires
-name-of-requires c κs = search needs
-
-put-word-requires : tie.Need-put-word-requires
-put-word-requires c κs = search needs
-
-put-price-requires : tie.Need-put-price-requires
-put-price-requires c κs = search needs
-
-same-length : tie.Need-same-length
-same-length c = search needs
-
 returns : tie.Need-returns
 returns c = within-room 48 _ (next (worded (c .before .before .before .before .before .before .before .name-of .ensures)
     (c .before .before .before .before .before .before .put-word .ensures)) (c .before .before .put-price .ensures) (omega arith)) refl (omega arith)
 
 pub put-priced-spec : {M : Type 1} → statement M
 put-priced-spec =
-    tie.close (tie.spec name-of-requires put-word-requires put-price-requires same-length returns)
+    tie.close
+    (tie.spec (λ c κs. search needs) (λ c κs. search needs) (λ c κs. search needs) (λ c. search needs) returns)

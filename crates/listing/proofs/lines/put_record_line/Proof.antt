@@ -8,18 +8,6 @@ use borrow.Author.Needs.{needs}
 use Rattle.listing.proofs.lines.put_record_line.Statement.{statement}
 use Rattle.listing.proofs.lines.put_record_line.Tie as tie
 
-u8-or-zero-requires : tie.Need-u8-or-zero-requires
-u8-or-zero-requires c κs = search needs
-
-u8-or-zero-requires-2 : tie.Need-u8-or-zero-requires-2
-u8-or-zero-requires-2 c κs = search needs
-
-count-of-kind-requires : tie.Need-count-of-kind-requires
-count-of-kind-requires c κs = search needs
-
-add-count : tie.Need-add-count
-add-count c = search needs
-
 put-decimal-requires : tie.Need-put-decimal-requires
 put-decimal-requires c κs = decimal-room _ _ _ (c .before .before .before .before .before .before .fits .number .fits) (omega arith)
 
@@ -34,9 +22,6 @@ put-byte-requires c κs =
     let w = digits _ (c .before .before .before .before .before .before .before .before .before .before .before .before .before .before .fits .number .fits)
     (c .before .before .before .before .before .before .before .put-decimal .ensures) in
     omega (arith, w .short, c .before .before .before .put-fields .ensures .written .short, c .before .before .before .put-fields .kept .1)
-
-same-length : tie.Need-same-length
-same-length c = search needs
 
 returns : tie.Need-returns
 unfolding recordLine
@@ -59,13 +44,5 @@ returns c =
 pub put-record-line-spec : {M : Type 1} → statement M
 put-record-line-spec =
     tie.close
-    (tie.spec
-    u8-or-zero-requires
-    u8-or-zero-requires-2
-    count-of-kind-requires
-    add-count
-    put-decimal-requires
-    put-fields-requires
-    put-byte-requires
-    same-length
-    returns)
+    (tie.spec (λ c κs. search needs) (λ c κs. search needs) (λ c κs. search needs) (λ c. search needs)
+    put-decimal-requires put-fields-requires put-byte-requires (λ c. search needs) returns)

@@ -7,27 +7,6 @@ use borrow.Author.Needs.{needs}
 use Rattle.listing.proofs.names.kind_word.Statement.{statement}
 use Rattle.listing.proofs.names.kind_word.Tie as tie
 
-spelled-requires : tie.Need-spelled-requires
-spelled-requires c κs = search needs
-
-spelled-requires-2 : tie.Need-spelled-requires-2
-spelled-requires-2 c κs = search needs
-
-spelled-requires-3 : tie.Need-spelled-requires-3
-spelled-requires-3 c κs = search needs
-
-spelled-requires-4 : tie.Need-spelled-requires-4
-spelled-requires-4 c κs = search needs
-
-spelled-requires-5 : tie.Need-spelled-requires-5
-spelled-requires-5 c κs = search needs
-
-spelled-requires-6 : tie.Need-spelled-requires-6
-spelled-requires-6 c κs = search needs
-
-spelled-requires-7 : tie.Need-spelled-requires-7
-spelled-requires-7 c κs = search needs
-
 returns : tie.Need-returns
 unfolding kindWord
 returns c = as-word _ (c .spelled .ensures) (rw (c .before .before .before .match .keys1) refl) (omega arith) refl
@@ -69,18 +48,6 @@ returns-7 c =
 pub kind-word-spec : {M : Type 1} → statement M
 kind-word-spec =
     tie.close
-    (tie.spec
-    spelled-requires
-    spelled-requires-2
-    spelled-requires-3
-    spelled-requires-4
-    spelled-requires-5
-    spelled-requires-6
-    spelled-requires-7
-    returns
-    returns-2
-    returns-3
-    returns-4
-    returns-5
-    returns-6
-    returns-7)
+    (tie.spec (λ c κs. search needs) (λ c κs. search needs) (λ c κs. search needs) (λ c κs. search needs)
+    (λ c κs. search needs) (λ c κs. search needs) (λ c κs. search needs) returns returns-2 returns-3 returns-4
+    returns-5 returns-6 returns-7)

@@ -7,15 +7,6 @@ use borrow.Author.Needs.{needs}
 use Rattle.listing.proofs.names.order_kind_word.Statement.{statement}
 use Rattle.listing.proofs.names.order_kind_word.Tie as tie
 
-spelled-requires : tie.Need-spelled-requires
-spelled-requires c κs = search needs
-
-spelled-requires-2 : tie.Need-spelled-requires-2
-spelled-requires-2 c κs = search needs
-
-spelled-requires-3 : tie.Need-spelled-requires-3
-spelled-requires-3 c κs = search needs
-
 returns : tie.Need-returns
 unfolding orderKindWord
 returns c = as-word _ (c .spelled .ensures) (rw (c .before .before .before .match .keys1) refl) (omega arith) refl
@@ -33,4 +24,4 @@ returns-3 c =
 pub order-kind-word-spec : {M : Type 1} → statement M
 order-kind-word-spec =
     tie.close
-    (tie.spec spelled-requires spelled-requires-2 spelled-requires-3 returns returns-2 returns-3)
+    (tie.spec (λ c κs. search needs) (λ c κs. search needs) (λ c κs. search needs) returns returns-2 returns-3)

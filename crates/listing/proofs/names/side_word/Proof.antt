@@ -7,12 +7,6 @@ use borrow.Author.Needs.{needs}
 use Rattle.listing.proofs.names.side_word.Statement.{statement}
 use Rattle.listing.proofs.names.side_word.Tie as tie
 
-spelled-requires : tie.Need-spelled-requires
-spelled-requires c κs = search needs
-
-spelled-requires-2 : tie.Need-spelled-requires-2
-spelled-requires-2 c κs = search needs
-
 returns : tie.Need-returns
 unfolding sideWord
 returns c = as-word _ (c .spelled .ensures) (rw (c .before .before .before .match .keys1) refl) (omega arith) refl
@@ -22,4 +16,6 @@ unfolding sideWord
 returns-2 c = as-word _ (c .spelled2 .ensures) (rw (ne-eqb _ _ (c .before .before .before .match .rest .1)) refl) (omega arith) refl
 
 pub side-word-spec : {M : Type 1} → statement M
-side-word-spec = tie.close (tie.spec spelled-requires spelled-requires-2 returns returns-2)
+side-word-spec =
+    tie.close
+    (tie.spec (λ c κs. search needs) (λ c κs. search needs) returns returns-2)

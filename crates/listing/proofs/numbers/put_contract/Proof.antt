@@ -9,18 +9,6 @@ use borrow.Author.Needs.{needs}
 use Rattle.listing.proofs.numbers.put_contract.Statement.{statement}
 use Rattle.listing.proofs.numbers.put_contract.Tie as tie
 
-term-of-requires : tie.Need-term-of-requires
-term-of-requires c κs = search needs
-
-put-field-requires : tie.Need-put-field-requires
-put-field-requires c κs = search needs
-
-slice-aggregate-put-bytes : tie.Need-slice-aggregate-put-bytes
-slice-aggregate-put-bytes c = search needs
-
-put-bytes-requires : tie.Need-put-bytes-requires
-put-bytes-requires c κs = search needs
-
 put-term-requires : tie.Need-put-term-requires
 put-term-requires c κs =
     let e = term-small (c .before .before .before .before .before .before .before .before .before .before .before .before .args .contract) in
@@ -28,12 +16,6 @@ put-term-requires c κs =
     (c .before .before .before .before .before .before .before .before .before .before .before .before .args .contract) .index = rw
     (c .before .before .before .before .before .before .before .before .before .before .term-of .ensures) refl in
     (omega (arith, c .before .before .before .put-bytes .ensures .after), omega arith, omega (arith, e, t))
-
-put-byte-requires : tie.Need-put-byte-requires
-put-byte-requires c κs = search needs
-
-same-length : tie.Need-same-length
-same-length c = search needs
 
 returns : tie.Need-returns
 unfolding contractText
@@ -48,12 +30,5 @@ returns c =
 pub put-contract-spec : {M : Type 1} → statement M
 put-contract-spec =
     tie.close
-    (tie.spec
-    term-of-requires
-    put-field-requires
-    slice-aggregate-put-bytes
-    put-bytes-requires
-    put-term-requires
-    put-byte-requires
-    same-length
-    returns)
+    (tie.spec (λ c κs. search needs) (λ c κs. search needs) (λ c. search needs) (λ c κs. search needs)
+    put-term-requires (λ c κs. search needs) (λ c. search needs) returns)

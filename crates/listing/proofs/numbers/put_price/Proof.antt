@@ -7,18 +7,6 @@ use borrow.Author.Needs.{needs}
 use Rattle.listing.proofs.numbers.put_price.Statement.{statement}
 use Rattle.listing.proofs.numbers.put_price.Tie as tie
 
-put-field-requires : tie.Need-put-field-requires
-put-field-requires c κs = search needs
-
-put-byte-requires : tie.Need-put-byte-requires
-put-byte-requires c κs = search needs
-
-put-two-digits-requires : tie.Need-put-two-digits-requires
-put-two-digits-requires c κs = search needs
-
-same-length : tie.Need-same-length
-same-length c = search needs
-
 returns : tie.Need-returns
 unfolding priceText
 returns c =
@@ -29,4 +17,4 @@ returns c =
 pub put-price-spec : {M : Type 1} → statement M
 put-price-spec =
     tie.close
-    (tie.spec put-field-requires put-byte-requires put-two-digits-requires same-length returns)
+    (tie.spec (λ c κs. search needs) (λ c κs. search needs) (λ c κs. search needs) (λ c. search needs) returns)

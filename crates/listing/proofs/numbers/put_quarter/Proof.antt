@@ -6,27 +6,6 @@ use borrow.Author.Needs.{needs}
 use Rattle.listing.proofs.numbers.put_quarter.Statement.{statement}
 use Rattle.listing.proofs.numbers.put_quarter.Tie as tie
 
-add-quarter : tie.Need-add-quarter
-add-quarter c = search needs
-
-put-byte-requires : tie.Need-put-byte-requires
-put-byte-requires c κs = search needs
-
-put-byte-requires-2 : tie.Need-put-byte-requires-2
-put-byte-requires-2 c κs = search needs
-
-cast-put-byte : tie.Need-cast-put-byte
-cast-put-byte c = search needs
-
-add-put-byte : tie.Need-add-put-byte
-add-put-byte c = search needs
-
-put-byte-requires-3 : tie.Need-put-byte-requires-3
-put-byte-requires-3 c κs = search needs
-
-same-length : tie.Need-same-length
-same-length c = search needs
-
 returns : tie.Need-returns
 unfolding quarterText
 returns c =
@@ -37,12 +16,5 @@ returns c =
 pub put-quarter-spec : {M : Type 1} → statement M
 put-quarter-spec =
     tie.close
-    (tie.spec
-    add-quarter
-    put-byte-requires
-    put-byte-requires-2
-    cast-put-byte
-    add-put-byte
-    put-byte-requires-3
-    same-length
-    returns)
+    (tie.spec (λ c. search needs) (λ c κs. search needs) (λ c κs. search needs) (λ c. search needs)
+    (λ c. search needs) (λ c κs. search needs) (λ c. search needs) returns)

@@ -6,20 +6,8 @@ use borrow.Author.Needs.{needs}
 use Rattle.listing.proofs.numbers.put_term.Statement.{statement}
 use Rattle.listing.proofs.numbers.put_term.Tie as tie
 
-enum-told : tie.Need-enum-told
-enum-told c = search needs
-
-add-put-decimal : tie.Need-add-put-decimal
-add-put-decimal c = search needs
-
 put-decimal-requires : tie.Need-put-decimal-requires
 put-decimal-requires c κs = decimal-room _ _ _ (omega arith) (omega arith)
-
-enum-told-2 : tie.Need-enum-told-2
-enum-told-2 c = search needs
-
-add-put-decimal-2 : tie.Need-add-put-decimal-2
-add-put-decimal-2 c = search needs
 
 put-decimal-requires-2 : tie.Need-put-decimal-requires-2
 put-decimal-requires-2 c κs = decimal-room _ _ _ (omega arith) (omega arith)
@@ -27,36 +15,21 @@ put-decimal-requires-2 c κs = decimal-room _ _ _ (omega arith) (omega arith)
 put-quarter-requires : tie.Need-put-quarter-requires
 put-quarter-requires c κs = let w = digits _ (omega arith) (c .before .before .before .put-decimal2 .ensures) in omega (arith, w .short)
 
-enum-told-3 : tie.Need-enum-told-3
-enum-told-3 c = search needs
-
-add-put-decimal-3 : tie.Need-add-put-decimal-3
-add-put-decimal-3 c = search needs
-
 put-decimal-requires-3 : tie.Need-put-decimal-requires-3
 put-decimal-requires-3 c κs = decimal-room _ _ _ (omega arith) (omega arith)
 
 put-month-requires : tie.Need-put-month-requires
 put-month-requires c κs = let w = digits _ (omega arith) (c .before .before .before .put-decimal3 .ensures) in omega (arith, w .short)
 
-same-length : tie.Need-same-length
-same-length c = search needs
-
 returns : tie.Need-returns
 unfolding termName
 returns c = rw (c .before .before .before .before .enum-told .given .1) (within-room 23 _ (digits _ (omega arith) (c .before .before .put-decimal .ensures)) refl (omega arith))
-
-same-length-2 : tie.Need-same-length-2
-same-length-2 c = search needs
 
 returns-2 : tie.Need-returns-2
 unfolding termName
 returns-2 c = rw (c .before .before .before .before .before .before .before .before .enum-told2 .given .1)
     (within-room 23 _ (next (digits _ (omega arith) (c .before .before .before .before .before .before .put-decimal2 .ensures)) (c .before .before .put-quarter .ensures)
     (omega arith)) refl (omega arith))
-
-same-length-3 : tie.Need-same-length-3
-same-length-3 c = search needs
 
 returns-3 : tie.Need-returns-3
 unfolding termName
@@ -67,21 +40,6 @@ returns-3 c = rw (c .before .before .before .before .before .before .before .bef
 pub put-term-spec : {M : Type 1} → statement M
 put-term-spec =
     tie.close
-    (tie.spec
-    enum-told
-    add-put-decimal
-    put-decimal-requires
-    enum-told-2
-    add-put-decimal-2
-    put-decimal-requires-2
-    put-quarter-requires
-    enum-told-3
-    add-put-decimal-3
-    put-decimal-requires-3
-    put-month-requires
-    same-length
-    returns
-    same-length-2
-    returns-2
-    same-length-3
-    returns-3)
+    (tie.spec (λ c. search needs) (λ c. search needs) put-decimal-requires (λ c. search needs) (λ c. search needs)
+    put-decimal-requires-2 put-quarter-requires (λ c. search needs) (λ c. search needs) put-decimal-requires-3
+    put-month-requires (λ c. search needs) returns (λ c. search needs) returns-2 (λ c. search needs) returns-3)

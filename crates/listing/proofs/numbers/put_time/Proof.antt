@@ -7,27 +7,6 @@ use borrow.Author.Needs.{needs}
 use Rattle.listing.proofs.numbers.put_time.Statement.{statement}
 use Rattle.listing.proofs.numbers.put_time.Tie as tie
 
-put-byte-requires : tie.Need-put-byte-requires
-put-byte-requires c κs = search needs
-
-put-two-digits-requires : tie.Need-put-two-digits-requires
-put-two-digits-requires c κs = search needs
-
-put-byte-requires-2 : tie.Need-put-byte-requires-2
-put-byte-requires-2 c κs = search needs
-
-put-two-digits-requires-2 : tie.Need-put-two-digits-requires-2
-put-two-digits-requires-2 c κs = search needs
-
-put-byte-requires-3 : tie.Need-put-byte-requires-3
-put-byte-requires-3 c κs = search needs
-
-put-two-digits-requires-3 : tie.Need-put-two-digits-requires-3
-put-two-digits-requires-3 c κs = search needs
-
-same-length : tie.Need-same-length
-same-length c = search needs
-
 returns : tie.Need-returns
 unfolding timeText
 returns c =
@@ -44,12 +23,5 @@ returns c =
 pub put-time-spec : {M : Type 1} → statement M
 put-time-spec =
     tie.close
-    (tie.spec
-    put-byte-requires
-    put-two-digits-requires
-    put-byte-requires-2
-    put-two-digits-requires-2
-    put-byte-requires-3
-    put-two-digits-requires-3
-    same-length
-    returns)
+    (tie.spec (λ c κs. search needs) (λ c κs. search needs) (λ c κs. search needs) (λ c κs. search needs)
+    (λ c κs. search needs) (λ c κs. search needs) (λ c. search needs) returns)

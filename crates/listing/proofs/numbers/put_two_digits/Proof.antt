@@ -6,27 +6,6 @@ use borrow.Author.Needs.{needs}
 use Rattle.listing.proofs.numbers.put_two_digits.Statement.{statement}
 use Rattle.listing.proofs.numbers.put_two_digits.Tie as tie
 
-cast-put-byte : tie.Need-cast-put-byte
-cast-put-byte c = search needs
-
-add-put-byte : tie.Need-add-put-byte
-add-put-byte c = search needs
-
-put-byte-requires : tie.Need-put-byte-requires
-put-byte-requires c κs = search needs
-
-cast-put-byte-2 : tie.Need-cast-put-byte-2
-cast-put-byte-2 c = search needs
-
-add-put-byte-2 : tie.Need-add-put-byte-2
-add-put-byte-2 c = search needs
-
-put-byte-requires-2 : tie.Need-put-byte-requires-2
-put-byte-requires-2 c κs = search needs
-
-same-length : tie.Need-same-length
-same-length c = search needs
-
 returns : tie.Need-returns
 unfolding twoDigits
 returns c = within-room 2 _ (next (exactly 1 _ (c .before .before .before .before .before .before .put-byte .ensures) refl) (exactly 1 _ (c .before .before .put-byte2 .ensures) refl)
@@ -35,12 +14,5 @@ returns c = within-room 2 _ (next (exactly 1 _ (c .before .before .before .befor
 pub put-two-digits-spec : {M : Type 1} → statement M
 put-two-digits-spec =
     tie.close
-    (tie.spec
-    cast-put-byte
-    add-put-byte
-    put-byte-requires
-    cast-put-byte-2
-    add-put-byte-2
-    put-byte-requires-2
-    same-length
-    returns)
+    (tie.spec (λ c. search needs) (λ c. search needs) (λ c κs. search needs) (λ c. search needs) (λ c. search needs)
+    (λ c κs. search needs) (λ c. search needs) returns)

@@ -6,18 +6,12 @@ use borrow.Author.Needs.{needs}
 use Rattle.listing.proofs.numbers.put_word.Statement.{statement}
 use Rattle.listing.proofs.numbers.put_word.Tie as tie
 
-array-share-prefix-letters : tie.Need-array-share-prefix-letters
-array-share-prefix-letters c = search needs
-
 slice-aggregate-put-bytes : tie.Need-slice-aggregate-put-bytes
 slice-aggregate-put-bytes c = sym (length-take-le (c .before .before .before .before .args .word .length) (c .before .before .before .before .args .word .letters) (omega arith))
 
 put-bytes-requires : tie.Need-put-bytes-requires
 put-bytes-requires c κs = let e = length-take-le (c .before .before .before .before .args .word .length) (c .before .before .before .before .args .word .letters) (omega arith) in omega
     (arith, e)
-
-same-length : tie.Need-same-length
-same-length c = search needs
 
 returns : tie.Need-returns
 returns c =
@@ -28,9 +22,4 @@ returns c =
 pub put-word-spec : {M : Type 1} → statement M
 put-word-spec =
     tie.close
-    (tie.spec
-    array-share-prefix-letters
-    slice-aggregate-put-bytes
-    put-bytes-requires
-    same-length
-    returns)
+    (tie.spec (λ c. search needs) slice-aggregate-put-bytes put-bytes-requires (λ c. search needs) returns)

@@ -8,18 +8,6 @@ use borrow.Author.Needs.{needs}
 use Rattle.listing.proofs.pieces.next_piece.Statement.{statement}
 use Rattle.listing.proofs.pieces.next_piece.Tie as tie
 
-front-record-requires : tie.Need-front-record-requires
-front-record-requires c κs = search needs
-
-enum-known-n : tie.Need-enum-known-n
-enum-known-n c = search needs
-
-enum-told : tie.Need-enum-told
-enum-told c = search needs
-
-enum-told-2 : tie.Need-enum-told-2
-enum-told-2 c = search needs
-
 returns : tie.Need-returns
 unfolding pieceOf
 returns c = (
@@ -77,13 +65,5 @@ returns-5 c =
 pub next-piece-spec : {M : Type 1} → statement M
 next-piece-spec =
     tie.close
-    (tie.spec
-    front-record-requires
-    enum-known-n
-    enum-told
-    enum-told-2
-    returns
-    returns-2
-    returns-3
-    returns-4
-    returns-5)
+    (tie.spec (λ c κs. search needs) (λ c. search needs) (λ c. search needs) (λ c. search needs) returns returns-2
+    returns-3 returns-4 returns-5)

@@ -8,4 +8,6 @@ unfolding within
 returns c = refl
 
 pub is-within-spec : {M : Type 1} → statement M
-is-within-spec = tie.close (tie.spec returns)
+is-within-spec =
+    tie.close
+    (tie.spec returns)

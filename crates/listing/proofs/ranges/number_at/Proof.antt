@@ -6,22 +6,13 @@ use borrow.Author.Needs.{needs}
 use Rattle.listing.proofs.ranges.number_at.Statement.{statement}
 use Rattle.listing.proofs.ranges.number_at.Tie as tie
 
-u8-or-zero-requires : tie.Need-u8-or-zero-requires
-u8-or-zero-requires c κs = search needs
-
 returns : tie.Need-returns
 unfolding numberAt
 returns c = (c .u8-or-zero .ensures .0 ∙ rw (c .before .if1 .taken) refl, omega arith)
 
-u16-or-zero-requires : tie.Need-u16-or-zero-requires
-u16-or-zero-requires c κs = search needs
-
 returns-2 : tie.Need-returns-2
 unfolding numberAt
 returns-2 c = (c .u16-or-zero .ensures .0 ∙ rw (c .before .if2 .taken) refl, omega arith)
-
-u32-or-zero-requires : tie.Need-u32-or-zero-requires
-u32-or-zero-requires c κs = search needs
 
 returns-3 : tie.Need-returns-3
 unfolding numberAt
@@ -30,10 +21,4 @@ returns-3 c = (c .u32-or-zero .ensures .0 ∙ rw (ne-eqb _ _ (c .before .before 
 pub number-at-spec : {M : Type 1} → statement M
 number-at-spec =
     tie.close
-    (tie.spec
-    u8-or-zero-requires
-    returns
-    u16-or-zero-requires
-    returns-2
-    u32-or-zero-requires
-    returns-3)
+    (tie.spec (λ c κs. search needs) returns (λ c κs. search needs) returns-2 (λ c κs. search needs) returns-3)

@@ -11,33 +11,9 @@ returns : tie.Need-returns
 unfolding otherWayRound
 returns c = (rw (c .if1 .taken) refl, λ h. h)
 
-mul-result : tie.Need-mul-result
-mul-result c = search needs
-
-add-result : tie.Need-add-result
-add-result c = search needs
-
 returns-2 : tie.Need-returns-2
 unfolding otherWayRound u16At
 returns-2 c = (rw (c .if2 .taken) refl, λ h. omega arith)
-
-mul-result-2 : tie.Need-mul-result-2
-mul-result-2 c = search needs
-
-add-result-2 : tie.Need-add-result-2
-add-result-2 c = search needs
-
-mul-result-3 : tie.Need-mul-result-3
-mul-result-3 c = search needs
-
-mul-result-4 : tie.Need-mul-result-4
-mul-result-4 c = search needs
-
-add-result-3 : tie.Need-add-result-3
-add-result-3 c = search needs
-
-add-result-4 : tie.Need-add-result-4
-add-result-4 c = search needs
 
 returns-3 : tie.Need-returns-3
 unfolding otherWayRound u16At u32At
@@ -46,15 +22,5 @@ returns-3 c = (rw (ne-eqb _ _ (c .before .if1 .left), ne-eqb _ _ (c .if2 .left))
 pub other-way-round-spec : {M : Type 1} → statement M
 other-way-round-spec =
     tie.close
-    (tie.spec
-    returns
-    mul-result
-    add-result
-    returns-2
-    mul-result-2
-    add-result-2
-    mul-result-3
-    mul-result-4
-    add-result-3
-    add-result-4
-    returns-3)
+    (tie.spec returns (λ c. search needs) (λ c. search needs) returns-2 (λ c. search needs) (λ c. search needs)
+    (λ c. search needs) (λ c. search needs) (λ c. search needs) (λ c. search needs) returns-3)

@@ -8,12 +8,6 @@ use borrow.Author.Needs.{needs}
 use Rattle.listing.proofs.ranges.span_range.Statement.{statement}
 use Rattle.listing.proofs.ranges.span_range.Tie as tie
 
-is-first-year-sound-requires : tie.Need-is-first-year-sound-requires
-is-first-year-sound-requires c κs = search needs
-
-range-requires : tie.Need-range-requires
-range-requires c κs = search needs
-
 returns : tie.Need-returns
 unfolding spanRange
 returns c = c .range .ensures ∙ rw (asked-false (c .before .before .is-first-year-sound .ensures) (c .before .if1 .taken)) refl
@@ -23,9 +17,6 @@ span-of-requires c κs = let e = asked-true (c .before .is-first-year-sound .ens
 
 sub-range : tie.Need-sub-range
 sub-range c = omega (arith, c .before .span-of .ensures [] .ends, some-day (spanOf (c .before .before .before .before .args .first-year)))
-
-range-requires-2 : tie.Need-range-requires-2
-range-requires-2 c κs = search needs
 
 returns-2 : tie.Need-returns-2
 unfolding spanRange
@@ -39,11 +30,5 @@ returns-2 c = c .range2 .ensures ∙ rw (
 pub span-range-spec : {M : Type 1} → statement M
 span-range-spec =
     tie.close
-    (tie.spec
-    is-first-year-sound-requires
-    range-requires
-    returns
-    span-of-requires
-    sub-range
-    range-requires-2
+    (tie.spec (λ c κs. search needs) (λ c κs. search needs) returns span-of-requires sub-range (λ c κs. search needs)
     returns-2)

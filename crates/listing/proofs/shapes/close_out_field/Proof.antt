@@ -4,9 +4,6 @@ use borrow.Author.Needs.{needs}
 use Rattle.listing.proofs.shapes.close_out_field.Statement.{statement}
 use Rattle.listing.proofs.shapes.close_out_field.Tie as tie
 
-returns : tie.Need-returns
-returns c = search needs
-
 returns-2 : tie.Need-returns-2
 returns-2 c =
     let r = c .match .rest in
@@ -14,4 +11,6 @@ returns-2 c =
     rw e refl
 
 pub close-out-field-spec : {M : Type 1} → statement M
-close-out-field-spec = tie.close (tie.spec returns returns-2)
+close-out-field-spec =
+    tie.close
+    (tie.spec (λ c. search needs) returns-2)

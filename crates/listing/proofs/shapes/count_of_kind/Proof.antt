@@ -6,12 +6,6 @@ use borrow.Author.Needs.{needs}
 use Rattle.listing.proofs.shapes.count_of_kind.Statement.{statement}
 use Rattle.listing.proofs.shapes.count_of_kind.Tie as tie
 
-mul-result : tie.Need-mul-result
-mul-result c = search needs
-
-add-result : tie.Need-add-result
-add-result c = search needs
-
 returns : tie.Need-returns
 unfolding fieldsOfKind
 returns c = (rw (c .match .keys1) refl, omega arith)
@@ -48,14 +42,5 @@ returns-8 c =
 pub count-of-kind-spec : {M : Type 1} → statement M
 count-of-kind-spec =
     tie.close
-    (tie.spec
-    mul-result
-    add-result
-    returns
-    returns-2
-    returns-3
-    returns-4
-    returns-5
-    returns-6
-    returns-7
-    returns-8)
+    (tie.spec (λ c. search needs) (λ c. search needs) returns returns-2 returns-3 returns-4 returns-5 returns-6
+    returns-7 returns-8)

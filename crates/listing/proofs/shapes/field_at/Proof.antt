@@ -8,18 +8,6 @@ use borrow.Author.Needs.{needs}
 use Rattle.listing.proofs.shapes.field_at.Statement.{statement}
 use Rattle.listing.proofs.shapes.field_at.Tie as tie
 
-enum-known-shape : tie.Need-enum-known-shape
-enum-known-shape c = search needs
-
-header-field-requires : tie.Need-header-field-requires
-header-field-requires c κs = search needs
-
-enum-known-shape-2 : tie.Need-enum-known-shape-2
-enum-known-shape-2 c = search needs
-
-sub-field-of-kind : tie.Need-sub-field-of-kind
-sub-field-of-kind c = search needs
-
 field-of-kind-requires : tie.Need-field-of-kind-requires
 unfolding fieldsOf
 field-of-kind-requires c κs = omega (arith, rw (c .before .before .shape2 .given .1) at (c .before .before .before .before .pre))
@@ -38,12 +26,5 @@ returns-3 c = rw (c .before .before .before .shape2 .given .1) (after-first Kind
 pub field-at-spec : {M : Type 1} → statement M
 field-at-spec =
     tie.close
-    (tie.spec
-    enum-known-shape
-    header-field-requires
-    enum-known-shape-2
-    sub-field-of-kind
-    field-of-kind-requires
-    returns
-    returns-2
-    returns-3)
+    (tie.spec (λ c. search needs) (λ c κs. search needs) (λ c. search needs) (λ c. search needs)
+    field-of-kind-requires returns returns-2 returns-3)

@@ -57,16 +57,5 @@ returns-7 c =
 pub field-of-kind-spec : {M : Type 1} → statement M
 field-of-kind-spec =
     tie.close
-    (tie.spec
-    submit-field-requires
-    cancel-field-requires
-    day-limits-field-requires
-    proposal-field-requires
-    close-out-field-requires
-    returns
-    returns-2
-    returns-3
-    returns-4
-    returns-5
-    returns-6
-    returns-7)
+    (tie.spec submit-field-requires cancel-field-requires day-limits-field-requires proposal-field-requires
+    close-out-field-requires returns returns-2 returns-3 returns-4 returns-5 returns-6 returns-7)

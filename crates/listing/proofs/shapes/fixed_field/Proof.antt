@@ -5,29 +5,11 @@ use borrow.Author.Needs.{needs}
 use Rattle.listing.proofs.shapes.fixed_field.Statement.{statement}
 use Rattle.listing.proofs.shapes.fixed_field.Tie as tie
 
-returns : tie.Need-returns
-returns c = search needs
-
-returns-2 : tie.Need-returns-2
-returns-2 c = search needs
-
 returns-3 : tie.Need-returns-3
 returns-3 c =
     let r = c .match .rest in
     let e : c .before .before .args .i ≡ 2 = omega (arith, r .0 .1, r .1) in
     rw e refl
-
-returns-4 : tie.Need-returns-4
-returns-4 c = search needs
-
-returns-5 : tie.Need-returns-5
-returns-5 c = search needs
-
-returns-6 : tie.Need-returns-6
-returns-6 c = search needs
-
-returns-7 : tie.Need-returns-7
-returns-7 c = search needs
 
 returns-8 : tie.Need-returns-8
 returns-8 c =
@@ -37,4 +19,5 @@ returns-8 c =
 pub fixed-field-spec : {M : Type 1} → statement M
 fixed-field-spec =
     tie.close
-    (tie.spec returns returns-2 returns-3 returns-4 returns-5 returns-6 returns-7 returns-8)
+    (tie.spec (λ c. search needs) (λ c. search needs) returns-3 (λ c. search needs) (λ c. search needs)
+    (λ c. search needs) (λ c. search needs) returns-8)

@@ -4,9 +4,6 @@ use borrow.Author.Needs.{needs}
 use Rattle.listing.proofs.shapes.header_field.Statement.{statement}
 use Rattle.listing.proofs.shapes.header_field.Tie as tie
 
-fixed-field-requires : tie.Need-fixed-field-requires
-fixed-field-requires c κs = search needs
-
 returns : tie.Need-returns
 returns c = λ members h. fixed-at _ members _ (c .before .if1 .taken) (c .fixed-field .ensures)
 
@@ -17,4 +14,6 @@ returns-3 : tie.Need-returns-3
 returns-3 c = λ members h. past-fixed _ members _ (c .before .if1 .left) (limit-at _ members _ (c .if2 .left) (omega (arith, h, header-length (c .before .before .args .holidays) members)))
 
 pub header-field-spec : {M : Type 1} → statement M
-header-field-spec = tie.close (tie.spec fixed-field-requires returns returns-2 returns-3)
+header-field-spec =
+    tie.close
+    (tie.spec (λ c κs. search needs) returns returns-2 returns-3)

@@ -5,12 +5,6 @@ use borrow.Author.Needs.{needs}
 use Rattle.listing.proofs.shapes.proposal_field.Statement.{statement}
 use Rattle.listing.proofs.shapes.proposal_field.Tie as tie
 
-returns : tie.Need-returns
-returns c = search needs
-
-sub-match : tie.Need-sub-match
-sub-match c = search needs
-
 returns-2 : tie.Need-returns-2
 returns-2 c = proposal-at _ _ 0 (c .before .if1 .left) (c .before .before .pre) (c .match .keys1) refl
 
@@ -23,4 +17,6 @@ returns-4 c =
     proposal-at _ _ 2 (c .before .if1 .left) (c .before .before .pre) (omega arith) refl
 
 pub proposal-field-spec : {M : Type 1} → statement M
-proposal-field-spec = tie.close (tie.spec returns sub-match returns-2 returns-3 returns-4)
+proposal-field-spec =
+    tie.close
+    (tie.spec (λ c. search needs) (λ c. search needs) returns-2 returns-3 returns-4)

@@ -7,9 +7,6 @@ use borrow.Author.Needs.{needs}
 use Rattle.listing_program.proofs.shell.list_from.Statement.{statement}
 use Rattle.listing_program.proofs.shell.list_from.Tie as tie
 
-slice-reshare-prefix-put-header-line : tie.Need-slice-reshare-prefix-put-header-line
-slice-reshare-prefix-put-header-line c = search needs
-
 slice-aggregate-put-header-line : tie.Need-slice-aggregate-put-header-line
 slice-aggregate-put-header-line c = sym (length-take-le _ _ (omega arith))
 
@@ -17,26 +14,8 @@ put-header-line-requires : tie.Need-put-header-line-requires
 put-header-line-requires c κs = let e = length-take-le (c .before .before .before .before .args .end) (c .before .before .before .before .args .input .now) (omega arith) in
     (omega arith, omega (arith, e))
 
-finish-requires : tie.Need-finish-requires
-finish-requires c κs = search needs
-
-same-length : tie.Need-same-length
-same-length c = search needs
-
-same-length-2 : tie.Need-same-length-2
-same-length-2 c = search needs
-
-returns : tie.Need-returns
-returns c = search needs
-
-slice-reshare-prefix-ledger-of : tie.Need-slice-reshare-prefix-ledger-of
-slice-reshare-prefix-ledger-of c = search needs
-
 slice-aggregate-ledger-of : tie.Need-slice-aggregate-ledger-of
 slice-aggregate-ledger-of c = sym (length-take-le _ _ (omega arith))
-
-ledger-of-requires : tie.Need-ledger-of-requires
-ledger-of-requires c κs = search needs
 
 list-records-requires : tie.Need-list-records-requires
 list-records-requires c κs =
@@ -61,30 +40,9 @@ list-records-requires c κs =
       omega arith,
     )
 
-same-length-3 : tie.Need-same-length-3
-same-length-3 c = search needs
-
-same-length-4 : tie.Need-same-length-4
-same-length-4 c = search needs
-
-returns-2 : tie.Need-returns-2
-returns-2 c = search needs
-
 pub list-from-spec : {M : Type 1} → statement M
 list-from-spec =
     tie.close
-    (tie.spec
-    slice-reshare-prefix-put-header-line
-    slice-aggregate-put-header-line
-    put-header-line-requires
-    finish-requires
-    same-length
-    same-length-2
-    returns
-    slice-reshare-prefix-ledger-of
-    slice-aggregate-ledger-of
-    ledger-of-requires
-    list-records-requires
-    same-length-3
-    same-length-4
-    returns-2)
+    (tie.spec (λ c. search needs) slice-aggregate-put-header-line put-header-line-requires (λ c κs. search needs)
+    (λ c. search needs) (λ c. search needs) (λ c. search needs) (λ c. search needs) slice-aggregate-ledger-of
+    (λ c κs. search needs) list-records-requires (λ c. search needs) (λ c. search needs) (λ c. search needs))

@@ -25,55 +25,12 @@ turn-requires c κs = (
   c .before .before .before .loop .inv .3,
 )
 
-enum-known-next : tie.Need-enum-known-next Inv-loop μ-loop
-enum-known-next c = search needs
-
-enum-known-ending : tie.Need-enum-known-ending Inv-loop μ-loop
-enum-known-ending c = search needs
-
-same-length : tie.Need-same-length Inv-loop μ-loop
-same-length c = omega arith
-
-same-length-2 : tie.Need-same-length-2 Inv-loop μ-loop
-same-length-2 c = omega arith
-
-returns : tie.Need-returns Inv-loop μ-loop
-returns c = search needs
-
-add-turns : tie.Need-add-turns Inv-loop μ-loop
-add-turns c = omega arith
-
-loop-less : tie.Need-loop-less Inv-loop μ-loop
-loop-less c = omega arith
-
 loop-again : tie.Need-loop-again Inv-loop μ-loop
 loop-again c = let n = rw (c .before .next .given .1) at (c .before .before .before .before .before .before .before .turn .ensures) in (n .0, omega (arith, n .1), omega arith, omega arith)
-
-same-length-3 : tie.Need-same-length-3 Inv-loop μ-loop
-same-length-3 c = omega arith
-
-same-length-4 : tie.Need-same-length-4 Inv-loop μ-loop
-same-length-4 c = omega arith
-
-returns-2 : tie.Need-returns-2 Inv-loop μ-loop
-returns-2 c = search needs
 
 pub list-records-spec : {M : Type 1} → statement M
 list-records-spec =
     tie.close
-    (tie.spec
-    Inv-loop
-    μ-loop
-    loop-holds
-    turn-requires
-    enum-known-next
-    enum-known-ending
-    same-length
-    same-length-2
-    returns
-    add-turns
-    loop-less
-    loop-again
-    same-length-3
-    same-length-4
-    returns-2)
+    (tie.spec Inv-loop μ-loop loop-holds turn-requires (λ c. search needs) (λ c. search needs) (λ c. omega arith)
+    (λ c. omega arith) (λ c. search needs) (λ c. omega arith) (λ c. omega arith) loop-again (λ c. omega arith)
+    (λ c. omega arith) (λ c. search needs))

@@ -4,9 +4,6 @@ use borrow.Author.Needs.{needs}
 use Rattle.matching.proofs.columns.best_place.Statement.{statement}
 use Rattle.matching.proofs.columns.best_place.Tie as tie
 
-lowest-of-block-requires : tie.Need-lowest-of-block-requires
-lowest-of-block-requires c κs = search needs
-
 returns : tie.Need-returns
 returns c = record { low = c .before .lowest-of-block .result; lowest = c .before .lowest-of-block .ensures; told = rw (lt-ltb _ noRank (c .if1 .taken)) }
 
@@ -14,4 +11,6 @@ returns-2 : tie.Need-returns-2
 returns-2 c = record { low = c .before .lowest-of-block .result; lowest = c .before .lowest-of-block .ensures; told = rw (le-ltb _ noRank (c .if1 .left)) }
 
 pub best-place-spec : {M : Type 1} → statement M
-best-place-spec = tie.close (tie.spec lowest-of-block-requires returns returns-2)
+best-place-spec =
+    tie.close
+    (tie.spec (λ c κs. search needs) returns returns-2)

@@ -6,12 +6,6 @@ use borrow.Author.Needs.{needs}
 use Rattle.matching.proofs.columns.rank_at.Statement.{statement}
 use Rattle.matching.proofs.columns.rank_at.Tie as tie
 
-does-oppose-requires : tie.Need-does-oppose-requires
-does-oppose-requires c κs = search needs
-
-rank-of-requires : tie.Need-rank-of-requires
-rank-of-requires c κs = search needs
-
 mul-result : tie.Need-mul-result
 mul-result c =
     let start = c .before .before .before in
@@ -36,4 +30,4 @@ returns-2 c = rw (← (c .before .does-oppose .ensures), c .if1 .left)
 pub rank-at-spec : {M : Type 1} → statement M
 rank-at-spec =
     tie.close
-    (tie.spec does-oppose-requires rank-of-requires mul-result add-result returns returns-2)
+    (tie.spec (λ c κs. search needs) (λ c κs. search needs) mul-result add-result returns returns-2)

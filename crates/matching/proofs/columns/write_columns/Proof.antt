@@ -24,31 +24,13 @@ abbrev μ-loop : tie.MeasureT-loop
 loop-holds : tie.Need-loop-holds Inv-loop μ-loop
 loop-holds c = (refl, omega arith, refl, placed-start _ _ (c .before .before .before .pre .0 .1))
 
-order-at-requires : tie.Need-order-at-requires Inv-loop μ-loop
-order-at-requires c κs = search needs
-
 rank-at-requires : tie.Need-rank-at-requires Inv-loop μ-loop
 rank-at-requires c κs =
     let start = c .before .before .before .before .before .before in
     let f = start .pre .1 (c .before .before .loop .i) (omega arith) in rw (c .order-at .ensures) (f .0, f .1, omega arith)
 
-mul-ranks : tie.Need-mul-ranks Inv-loop μ-loop
-mul-ranks c = search needs
-
 slice-write-ranks : tie.Need-slice-write-ranks Inv-loop μ-loop
 slice-write-ranks c = omega (arith, c .before .before .before .loop .inv .3 .long)
-
-mul-left : tie.Need-mul-left Inv-loop μ-loop
-mul-left c = search needs
-
-slice-write-left : tie.Need-slice-write-left Inv-loop μ-loop
-slice-write-left c = search needs
-
-add-i : tie.Need-add-i Inv-loop μ-loop
-add-i c = search needs
-
-loop-less : tie.Need-loop-less Inv-loop μ-loop
-loop-less c = search needs
 
 loop-again : tie.Need-loop-again Inv-loop μ-loop
 loop-again c =
@@ -68,9 +50,6 @@ loop-again c =
       rw (lots, l .inv .2) (front-next (l .i) (map lotsOf os) (a .left .now) 0 (omega (arith, length-map os lotsOf, orders-length (a .book .now) n)) h),
       placed-next _ _ _ _ (omega (arith, ranks-length (a .o) (map lotsOf os) os (length-map os lotsOf), orders-length (a .book .now) n)) (omega arith) (l .inv .3) rank,
     )
-
-same-length : tie.Need-same-length Inv-loop μ-loop
-same-length c = search needs
 
 same-length-2 : tie.Need-same-length-2 Inv-loop μ-loop
 same-length-2 c =
@@ -92,19 +71,6 @@ returns c =
 pub write-columns-spec : {M : Type 1} → statement M
 write-columns-spec =
     tie.close
-    (tie.spec
-    Inv-loop
-    μ-loop
-    loop-holds
-    order-at-requires
-    rank-at-requires
-    mul-ranks
-    slice-write-ranks
-    mul-left
-    slice-write-left
-    add-i
-    loop-less
-    loop-again
-    same-length
-    same-length-2
-    returns)
+    (tie.spec Inv-loop μ-loop loop-holds (λ c κs. search needs) rank-at-requires (λ c. search needs) slice-write-ranks
+    (λ c. search needs) (λ c. search needs) (λ c. search needs) (λ c. search needs) loop-again (λ c. search needs)
+    same-length-2 returns)

@@ -17,32 +17,11 @@ abbrev μ-loop : tie.MeasureT-loop
 loop-holds : tie.Need-loop-holds Inv-loop μ-loop
 loop-holds c = (refl, omega arith, λ c h. absurd (omega arith))
 
-mul-lowest-of-block : tie.Need-mul-lowest-of-block Inv-loop μ-loop
-mul-lowest-of-block c = search needs
-
-lowest-of-block-requires : tie.Need-lowest-of-block-requires Inv-loop μ-loop
-lowest-of-block-requires c κs = search needs
-
-mul-lows : tie.Need-mul-lows Inv-loop μ-loop
-mul-lows c = search needs
-
-slice-write-lows : tie.Need-slice-write-lows Inv-loop μ-loop
-slice-write-lows c = search needs
-
-add-b : tie.Need-add-b Inv-loop μ-loop
-add-b c = search needs
-
-loop-less : tie.Need-loop-less Inv-loop μ-loop
-loop-less c = search needs
-
 loop-again : tie.Need-loop-again Inv-loop μ-loop
 loop-again c =
     let ranks = c .before .before .before .before .before .args .ranks .now in
     let l = c .before .before .loop in
     (length-set (l .lows) (l .b) _ ∙ l .inv .0, omega arith, lows-next ranks (l .lows) (l .b) _ (omega arith) (l .inv .2) (c .lowest-of-block .ensures))
-
-same-length : tie.Need-same-length Inv-loop μ-loop
-same-length c = search needs
 
 returns : tie.Need-returns Inv-loop μ-loop
 returns c =
@@ -52,16 +31,5 @@ returns c =
 pub write-lows-spec : {M : Type 1} → statement M
 write-lows-spec =
     tie.close
-    (tie.spec
-    Inv-loop
-    μ-loop
-    loop-holds
-    mul-lowest-of-block
-    lowest-of-block-requires
-    mul-lows
-    slice-write-lows
-    add-b
-    loop-less
-    loop-again
-    same-length
-    returns)
+    (tie.spec Inv-loop μ-loop loop-holds (λ c. search needs) (λ c κs. search needs) (λ c. search needs)
+    (λ c. search needs) (λ c. search needs) (λ c. search needs) loop-again (λ c. search needs) returns)

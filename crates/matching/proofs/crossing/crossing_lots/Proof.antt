@@ -3,12 +3,6 @@ use borrow.Author.Needs.{needs}
 use Rattle.matching.proofs.crossing.crossing_lots.Statement.{statement}
 use Rattle.matching.proofs.crossing.crossing_lots.Tie as tie
 
-does-oppose-requires : tie.Need-does-oppose-requires
-does-oppose-requires c κs = search needs
-
-does-meet-requires : tie.Need-does-meet-requires
-does-meet-requires c κs = search needs
-
 returns : tie.Need-returns
 unfolding crossingLots
 returns c = rw (← (c .before .before .does-oppose .ensures), ← (c .before .does-meet .ensures), c .if1 .taken)
@@ -18,4 +12,6 @@ unfolding crossingLots
 returns-2 c = rw (← (c .before .before .does-oppose .ensures), ← (c .before .does-meet .ensures), c .if1 .left)
 
 pub crossing-lots-spec : {M : Type 1} → statement M
-crossing-lots-spec = tie.close (tie.spec does-oppose-requires does-meet-requires returns returns-2)
+crossing-lots-spec =
+    tie.close
+    (tie.spec (λ c κs. search needs) (λ c κs. search needs) returns returns-2)

@@ -15,12 +15,6 @@ abbrev μ-loop : tie.MeasureT-loop
 loop-holds : tie.Need-loop-holds Inv-loop μ-loop
 loop-holds c = (omega arith, measuring-start _ _)
 
-order-at-requires : tie.Need-order-at-requires Inv-loop μ-loop
-order-at-requires c κs = search needs
-
-found-in-requires : tie.Need-found-in-requires Inv-loop μ-loop
-found-in-requires c κs = search needs
-
 add-own : tie.Need-add-own Inv-loop μ-loop
 add-own c =
     let at-loop-test = c .before .before .before in
@@ -37,12 +31,6 @@ add-lots c =
     let start = at-loop .before .before in
     let m = measuring-next _ _ _ _ _ (at-loop .loop .inv .1) _ (at-order-at .order-at .ensures) (start .pre .1 _ (at-loop-test .loop-test .taken)) _ _ (c .before .before .found-in .ensures) in
     omega (arith, m .crossing-few)
-
-add-i : tie.Need-add-i Inv-loop μ-loop
-add-i c = search needs
-
-loop-less : tie.Need-loop-less Inv-loop μ-loop
-loop-less c = search needs
 
 loop-again : tie.Need-loop-again Inv-loop μ-loop
 loop-again c =
@@ -61,15 +49,5 @@ returns c =
 pub measure-spec : {M : Type 1} → statement M
 measure-spec =
     tie.close
-    (tie.spec
-    Inv-loop
-    μ-loop
-    loop-holds
-    order-at-requires
-    found-in-requires
-    add-own
-    add-lots
-    add-i
-    loop-less
-    loop-again
-    returns)
+    (tie.spec Inv-loop μ-loop loop-holds (λ c κs. search needs) (λ c κs. search needs) add-own add-lots
+    (λ c. search needs) (λ c. search needs) loop-again returns)

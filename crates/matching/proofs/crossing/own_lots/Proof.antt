@@ -3,9 +3,6 @@ use borrow.Author.Needs.{needs}
 use Rattle.matching.proofs.crossing.own_lots.Statement.{statement}
 use Rattle.matching.proofs.crossing.own_lots.Tie as tie
 
-is-same-side-requires : tie.Need-is-same-side-requires
-is-same-side-requires c κs = search needs
-
 returns : tie.Need-returns
 unfolding ownLots
 returns c = rw (← (c .before .is-same-side .ensures), c .if1 .taken)
@@ -15,4 +12,6 @@ unfolding ownLots
 returns-2 c = rw (← (c .before .is-same-side .ensures), c .if1 .left)
 
 pub own-lots-spec : {M : Type 1} → statement M
-own-lots-spec = tie.close (tie.spec is-same-side-requires returns returns-2)
+own-lots-spec =
+    tie.close
+    (tie.spec (λ c κs. search needs) returns returns-2)

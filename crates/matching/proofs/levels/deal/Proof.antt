@@ -7,39 +7,6 @@ use borrow.Author.Needs.{needs}
 use Rattle.matching.proofs.levels.deal.Statement.{statement}
 use Rattle.matching.proofs.levels.deal.Tie as tie
 
-order-at-requires : tie.Need-order-at-requires
-order-at-requires c κs = search needs
-
-mul-least : tie.Need-mul-least
-mul-least c = search needs
-
-slice-read-least : tie.Need-slice-read-least
-slice-read-least c = search needs
-
-least-requires : tie.Need-least-requires
-least-requires c κs = search needs
-
-use-lots-requires : tie.Need-use-lots-requires
-use-lots-requires c κs = search needs
-
-put-deal-requires : tie.Need-put-deal-requires
-put-deal-requires c κs = search needs
-
-sub-result : tie.Need-sub-result
-sub-result c = search needs
-
-same-length : tie.Need-same-length
-same-length c = search needs
-
-same-length-2 : tie.Need-same-length-2
-same-length-2 c = search needs
-
-same-length-3 : tie.Need-same-length-3
-same-length-3 c = search needs
-
-same-length-4 : tie.Need-same-length-4
-same-length-4 c = search needs
-
 returns : tie.Need-returns
 returns c =
     let at-use-lots = c .before .before .before .before .before .before .before .before .before .before in
@@ -63,16 +30,6 @@ returns c =
 pub deal-spec : {M : Type 1} → statement M
 deal-spec =
     tie.close
-    (tie.spec
-    order-at-requires
-    mul-least
-    slice-read-least
-    least-requires
-    use-lots-requires
-    put-deal-requires
-    sub-result
-    same-length
-    same-length-2
-    same-length-3
-    same-length-4
-    returns)
+    (tie.spec (λ c κs. search needs) (λ c. search needs) (λ c. search needs) (λ c κs. search needs)
+    (λ c κs. search needs) (λ c κs. search needs) (λ c. search needs) (λ c. search needs) (λ c. search needs)
+    (λ c. search needs) (λ c. search needs) returns)

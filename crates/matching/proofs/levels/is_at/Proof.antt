@@ -9,11 +9,10 @@ use Rattle.matching.proofs.levels.is_at.Tie as tie
 returns : tie.Need-returns
 returns c = λ f. never (sym f)
 
-order-at-requires : tie.Need-order-at-requires
-order-at-requires c κs = search needs
-
 returns-2 : tie.Need-returns-2
 returns-2 c = λ t. (omega (arith, c .before .before .if1 .left), ap (λ r. r .price .0) (sym (c .before .order-at .ensures)) ∙ eqb-true _ _ t)
 
 pub is-at-spec : {M : Type 1} → statement M
-is-at-spec = tie.close (tie.spec returns order-at-requires returns-2)
+is-at-spec =
+    tie.close
+    (tie.spec returns (λ c κs. search needs) returns-2)

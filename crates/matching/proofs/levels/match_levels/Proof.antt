@@ -34,9 +34,6 @@ levels-holds c =
 order-at-requires : tie.Need-order-at-requires Inv-orders μ-orders Inv-levels μ-levels
 order-at-requires c κs = let g = c .before .levels .inv .0 in omega (arith, g .most-orders, g .long)
 
-does-meet-requires : tie.Need-does-meet-requires Inv-orders μ-orders Inv-levels μ-levels
-does-meet-requires c κs = search needs
-
 orders-holds : tie.Need-orders-holds Inv-orders μ-orders Inv-levels μ-levels
 orders-holds c =
     let at-levels-test = c .before .before .before in
@@ -204,36 +201,8 @@ returns-3 c =
 pub match-levels-spec : {M : Type 1} → statement M
 match-levels-spec =
     tie.close
-    (tie.spec
-    Inv-orders
-    μ-orders
-    Inv-levels
-    μ-levels
-    best-place-requires
-    levels-holds
-    order-at-requires
-    does-meet-requires
-    orders-holds
-    deal-requires
-    add-k
-    best-place-requires-2
-    is-at-requires
-    levels-less
-    levels-again
-    orders-less
-    orders-again
-    same-length
-    same-length-2
-    same-length-3
-    same-length-4
-    returns
-    same-length-5
-    same-length-6
-    same-length-7
-    same-length-8
-    returns-2
-    same-length-9
-    same-length-10
-    same-length-11
-    same-length-12
+    (tie.spec Inv-orders μ-orders Inv-levels μ-levels best-place-requires levels-holds order-at-requires
+    (λ c κs. search needs) orders-holds deal-requires add-k best-place-requires-2 is-at-requires levels-less
+    levels-again orders-less orders-again same-length same-length-2 same-length-3 same-length-4 returns same-length-5
+    same-length-6 same-length-7 same-length-8 returns-2 same-length-9 same-length-10 same-length-11 same-length-12
     returns-3)

@@ -8,15 +8,11 @@ returns : tie.Need-returns
 unfolding opposes
 returns c = rw (ne-eqb _ _ (c .if1 .taken))
 
-other-side-requires : tie.Need-other-side-requires
-other-side-requires c κs = search needs
-
-is-same-side-requires : tie.Need-is-same-side-requires
-is-same-side-requires c κs = search needs
-
 returns-2 : tie.Need-returns-2
 unfolding opposes
 returns-2 c = rw (eq-eqb _ _ (c .before .before .if1 .left), c .is-same-side .ensures, c .before .other-side .ensures)
 
 pub does-oppose-spec : {M : Type 1} → statement M
-does-oppose-spec = tie.close (tie.spec returns other-side-requires is-same-side-requires returns-2)
+does-oppose-spec =
+    tie.close
+    (tie.spec returns (λ c κs. search needs) (λ c κs. search needs) returns-2)

@@ -2,20 +2,10 @@ use borrow.Author.Needs.{needs}
 use Rattle.matching.proofs.priority.price_rank.Statement.{statement}
 use Rattle.matching.proofs.priority.price_rank.Tie as tie
 
-enum-told : tie.Need-enum-told
-enum-told c = search needs
-
-sub-result : tie.Need-sub-result
-sub-result c = search needs
-
-enum-told-2 : tie.Need-enum-told-2
-enum-told-2 c = search needs
-
 returns : tie.Need-returns
 returns c = rw (c .enum-told .given .1)
 
-returns-2 : tie.Need-returns-2
-returns-2 c = search needs
-
 pub price-rank-spec : {M : Type 1} → statement M
-price-rank-spec = tie.close (tie.spec enum-told sub-result enum-told-2 returns returns-2)
+price-rank-spec =
+    tie.close
+    (tie.spec (λ c. search needs) (λ c. search needs) (λ c. search needs) returns (λ c. search needs))

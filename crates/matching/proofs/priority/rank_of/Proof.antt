@@ -8,9 +8,6 @@ use borrow.Author.Needs.{needs}
 use Rattle.matching.proofs.priority.rank_of.Statement.{statement}
 use Rattle.matching.proofs.priority.rank_of.Tie as tie
 
-price-rank-requires : tie.Need-price-rank-requires
-price-rank-requires c κs = search needs
-
 mul-result : tie.Need-mul-result
 mul-result c = omega (arith, c .price-rank .ensures, price-below (c .before .args .r) (c .before .pre))
 
@@ -22,4 +19,6 @@ unfolding rankOf
 returns c = ap (λ n. n * numbersEnd + c .before .before .args .r .number) (c .before .price-rank .ensures)
 
 pub rank-of-spec : {M : Type 1} → statement M
-rank-of-spec = tie.close (tie.spec price-rank-requires mul-result add-result returns)
+rank-of-spec =
+    tie.close
+    (tie.spec (λ c κs. search needs) mul-result add-result returns)

@@ -10,12 +10,6 @@ use borrow.Author.Needs.{needs}
 use Rattle.proposal.proofs.acceptable.is_acceptable.Statement.{statement}
 use Rattle.proposal.proofs.acceptable.is_acceptable.Tie as tie
 
-shared-slice-read-count : tie.Need-shared-slice-read-count
-shared-slice-read-count c = search needs
-
-are-found-requires : tie.Need-are-found-requires
-are-found-requires c κs = search needs
-
 returns : tie.Need-returns
 unfolding orders
 returns c =
@@ -23,9 +17,6 @@ returns c =
     let a = start .args in
     λ t. sym (acceptable-not (withHead (a .head .now) (withPrices (a .prices .now) (withBook (a .book .now) t))) (getD (a .head .now) 7 0) (a .book .now) (a .places .now)
     (a .orders .now) (a .leg-lots .now) (a .leg-prices .now) (start .pre .1 .0) refl (start .pre .1 .1) (sym (c .before .are-found .ensures) ∙ not-true _ (c .if1 .taken)))
-
-are-rising-requires : tie.Need-are-rising-requires
-are-rising-requires c κs = search needs
 
 do-two-occur-requires : tie.Need-do-two-occur-requires
 do-two-occur-requires c κs =
@@ -99,14 +90,5 @@ returns-2 c =
 pub is-acceptable-spec : {M : Type 1} → statement M
 is-acceptable-spec =
     tie.close
-    (tie.spec
-    shared-slice-read-count
-    are-found-requires
-    returns
-    are-rising-requires
-    do-two-occur-requires
-    do-two-occur-requires-2
-    are-within-requires
-    are-both-balanced-requires
-    is-priority-kept-requires
-    returns-2)
+    (tie.spec (λ c. search needs) (λ c κs. search needs) returns (λ c κs. search needs) do-two-occur-requires
+    do-two-occur-requires-2 are-within-requires are-both-balanced-requires is-priority-kept-requires returns-2)

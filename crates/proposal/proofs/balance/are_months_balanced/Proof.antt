@@ -21,15 +21,6 @@ loop-holds : tie.Need-loop-holds Inv-loop μ-loop
 unfolding balancedSums
 loop-holds c = (omega arith, refl)
 
-is-month-balanced-requires : tie.Need-is-month-balanced-requires Inv-loop μ-loop
-is-month-balanced-requires c κs = search needs
-
-add-month : tie.Need-add-month Inv-loop μ-loop
-add-month c = search needs
-
-loop-less : tie.Need-loop-less Inv-loop μ-loop
-loop-less c = search needs
-
 loop-again : tie.Need-loop-again Inv-loop μ-loop
 loop-again c = let a = c .before .before .before .before .args in let l = c .before .before .loop in (
   omega arith,
@@ -44,12 +35,5 @@ returns c = let a = c .before .before .before .args in let l = c .before .loop i
 pub are-months-balanced-spec : {M : Type 1} → statement M
 are-months-balanced-spec =
     tie.close
-    (tie.spec
-    Inv-loop
-    μ-loop
-    loop-holds
-    is-month-balanced-requires
-    add-month
-    loop-less
-    loop-again
+    (tie.spec Inv-loop μ-loop loop-holds (λ c κs. search needs) (λ c. search needs) (λ c. search needs) loop-again
     returns)

@@ -3,18 +3,6 @@ use borrow.Author.Needs.{needs}
 use Rattle.proposal.proofs.balance.sum_of_three.Statement.{statement}
 use Rattle.proposal.proofs.balance.sum_of_three.Tie as tie
 
-mul-result : tie.Need-mul-result
-mul-result c = search needs
-
-shared-slice-read-result : tie.Need-shared-slice-read-result
-shared-slice-read-result c = search needs
-
-mul-result-2 : tie.Need-mul-result-2
-mul-result-2 c = search needs
-
-shared-slice-read-result-2 : tie.Need-shared-slice-read-result-2
-shared-slice-read-result-2 c = search needs
-
 add-result : tie.Need-add-result
 add-result c = omega (
   arith,
@@ -22,30 +10,13 @@ add-result c = omega (
   c .before .before .pre .0 .most (c .before .before .args .quarter) (c .before .before .pre .2),
 )
 
-mul-result-3 : tie.Need-mul-result-3
-mul-result-3 c = search needs
-
-shared-slice-read-result-3 : tie.Need-shared-slice-read-result-3
-shared-slice-read-result-3 c = search needs
-
 add-result-2 : tie.Need-add-result-2
 add-result-2 c =
     let start = c .before .before .before in
     omega (arith, start .pre .0 .most (start .args .year) (start .pre .1), start .pre .0 .most (start .args .quarter) (start .pre .2), start .pre .0 .most (start .args .month) (start .pre .3))
 
-returns : tie.Need-returns
-returns c = search needs
-
 pub sum-of-three-spec : {M : Type 1} → statement M
 sum-of-three-spec =
     tie.close
-    (tie.spec
-    mul-result
-    shared-slice-read-result
-    mul-result-2
-    shared-slice-read-result-2
-    add-result
-    mul-result-3
-    shared-slice-read-result-3
-    add-result-2
-    returns)
+    (tie.spec (λ c. search needs) (λ c. search needs) (λ c. search needs) (λ c. search needs) add-result
+    (λ c. search needs) (λ c. search needs) add-result-2 (λ c. search needs))

@@ -20,12 +20,6 @@ loop-holds c =
     let start = c .before .before .before .before .before in
     (refl, omega arith, rw (start .pre .3) (sums-start (start .args .book .now) (start .args .places .now) (start .args .lots .now) (start .args .prices .now) (start .pre .2)))
 
-mul-order-at : tie.Need-mul-order-at Inv-loop μ-loop
-mul-order-at c = search needs
-
-shared-slice-read-order-at : tie.Need-shared-slice-read-order-at Inv-loop μ-loop
-shared-slice-read-order-at c = search needs
-
 order-at-requires : tie.Need-order-at-requires Inv-loop μ-loop
 order-at-requires c κs =
     let start = c .before .before .before .before .before .before .before .before in
@@ -36,20 +30,11 @@ side-place-requires c κs =
     let start = c .before .before .before .before .before .before .before .before .before in
     rw (c .order-at .ensures) (start .pre .1 .contract-below (c .before .before .before .loop .i) (c .before .before .loop-test .taken))
 
-mul-sum : tie.Need-mul-sum Inv-loop μ-loop
-mul-sum c = search needs
-
 slice-read-sum : tie.Need-slice-read-sum Inv-loop μ-loop
 slice-read-sum c = omega (arith, c .before .side-place .ensures .1, c .before .before .before .before .before .loop .inv .2 .long)
 
-mul-sum-2 : tie.Need-mul-sum-2 Inv-loop μ-loop
-mul-sum-2 c = search needs
-
 shared-slice-read-sum : tie.Need-shared-slice-read-sum Inv-loop μ-loop
 shared-slice-read-sum c = omega (arith, c .before .before .before .before .before .before .before .before .before .before .before .before .pre .2 .lots-length)
-
-mul-sum-3 : tie.Need-mul-sum-3 Inv-loop μ-loop
-mul-sum-3 c = search needs
 
 shared-slice-read-sum-2 : tie.Need-shared-slice-read-sum-2 Inv-loop μ-loop
 shared-slice-read-sum-2 c =
@@ -88,17 +73,8 @@ add-sum-2 c =
       most-sum (a .book .now) (a .places .now) (a .lots .now) (a .prices .now) (start .pre .2) (at-loop .loop .i) (at-side-place .side-place .result) (at-loop .loop .inv .1),
     )
 
-mul-sums : tie.Need-mul-sums Inv-loop μ-loop
-mul-sums c = search needs
-
 slice-write-sums : tie.Need-slice-write-sums Inv-loop μ-loop
 slice-write-sums c = omega (arith, c .before .before .before .side-place .ensures .1, c .before .before .before .before .before .before .before .loop .inv .2 .long)
-
-add-i : tie.Need-add-i Inv-loop μ-loop
-add-i c = search needs
-
-loop-less : tie.Need-loop-less Inv-loop μ-loop
-loop-less c = search needs
 
 loop-again : tie.Need-loop-again Inv-loop μ-loop
 unfolding amountAt
@@ -113,9 +89,6 @@ loop-again c =
           (at-side-place .side-place .ensures .0 ∙ ap sidePlaceOf (c .before .before .before .before .order-at .ensures)) (at-side-place .side-place .ensures .1),
     )
 
-same-length : tie.Need-same-length Inv-loop μ-loop
-same-length c = search needs
-
 returns : tie.Need-returns Inv-loop μ-loop
 returns c = let a = c .before .before .before .before .before .before .before .args in
     let same : c .before .loop .i ≡ length (a .places .now) = omega arith in rw (← same) (c .before .loop .inv .2)
@@ -123,27 +96,7 @@ returns c = let a = c .before .before .before .before .before .before .before .a
 pub write-sums-spec : {M : Type 1} → statement M
 write-sums-spec =
     tie.close
-    (tie.spec
-    Inv-loop
-    μ-loop
-    loop-holds
-    mul-order-at
-    shared-slice-read-order-at
-    order-at-requires
-    side-place-requires
-    mul-sum
-    slice-read-sum
-    mul-sum-2
-    shared-slice-read-sum
-    mul-sum-3
-    shared-slice-read-sum-2
-    add-sum
-    mul-sum-4
-    add-sum-2
-    mul-sums
-    slice-write-sums
-    add-i
-    loop-less
-    loop-again
-    same-length
-    returns)
+    (tie.spec Inv-loop μ-loop loop-holds (λ c. search needs) (λ c. search needs) order-at-requires side-place-requires
+    (λ c. search needs) slice-read-sum (λ c. search needs) shared-slice-read-sum (λ c. search needs)
+    shared-slice-read-sum-2 add-sum mul-sum-4 add-sum-2 (λ c. search needs) slice-write-sums (λ c. search needs)
+    (λ c. search needs) loop-again (λ c. search needs) returns)

@@ -28,28 +28,10 @@ loop-holds c = let a = c .before .before .before .before .before .args in (
   refl,
 )
 
-mul-order-at : tie.Need-mul-order-at Inv-loop μ-loop
-mul-order-at c = search needs
-
-shared-slice-read-order-at : tie.Need-shared-slice-read-order-at Inv-loop μ-loop
-shared-slice-read-order-at c = search needs
-
 order-at-requires : tie.Need-order-at-requires Inv-loop μ-loop
 order-at-requires c κs =
     let start = c .before .before .before .before .before .before .before .before in
     (omega (arith, start .pre .0 .1 .below (c .before .before .loop .i) (c .before .loop-test .taken), start .pre .1 .head-fit .most-orders), start .pre .0 .0 .long)
-
-mul-t13 : tie.Need-mul-t13 Inv-loop μ-loop
-mul-t13 c = search needs
-
-shared-slice-read-t18 : tie.Need-shared-slice-read-t18 Inv-loop μ-loop
-shared-slice-read-t18 c = search needs
-
-mul-t16 : tie.Need-mul-t16 Inv-loop μ-loop
-mul-t16 c = search needs
-
-shared-slice-read-t21 : tie.Need-shared-slice-read-t21 Inv-loop μ-loop
-shared-slice-read-t21 c = search needs
 
 book-line-requires : tie.Need-book-line-requires Inv-loop μ-loop
 book-line-requires c κs =
@@ -69,9 +51,6 @@ add-i c =
     let at-loop-test = c .before .before .before .before .before .before .before .before .before .before .before .before .before .before in
     let start = at-loop-test .before .before .before .before .before .before .before in
     omega (arith, at-loop-test .loop-test .taken, start .pre .0 .2 .most-legs)
-
-loop-less : tie.Need-loop-less Inv-loop μ-loop
-loop-less c = search needs
 
 loop-again : tie.Need-loop-again Inv-loop μ-loop
 loop-again c =
@@ -94,18 +73,6 @@ loop-again c =
       kept .1 .1 .1 .0 ∙ l .inv .5,
     )
 
-same-length : tie.Need-same-length Inv-loop μ-loop
-same-length c = search needs
-
-same-length-2 : tie.Need-same-length-2 Inv-loop μ-loop
-same-length-2 c = search needs
-
-same-length-3 : tie.Need-same-length-3 Inv-loop μ-loop
-same-length-3 c = search needs
-
-same-length-4 : tie.Need-same-length-4 Inv-loop μ-loop
-same-length-4 c = search needs
-
 returns : tie.Need-returns Inv-loop μ-loop
 returns c = let a = c .before .before .before .before .before .before .before .args in let l = c .before .loop in
     let same : l .i ≡ length (a .places .now) = omega (arith, c .loop-test .left, l .inv .0) in
@@ -116,23 +83,6 @@ returns c = let a = c .before .before .before .before .before .before .before .a
 pub book-legs-spec : {M : Type 1} → statement M
 book-legs-spec =
     tie.close
-    (tie.spec
-    Inv-loop
-    μ-loop
-    loop-holds
-    mul-order-at
-    shared-slice-read-order-at
-    order-at-requires
-    mul-t13
-    shared-slice-read-t18
-    mul-t16
-    shared-slice-read-t21
-    book-line-requires
-    add-i
-    loop-less
-    loop-again
-    same-length
-    same-length-2
-    same-length-3
-    same-length-4
-    returns)
+    (tie.spec Inv-loop μ-loop loop-holds (λ c. search needs) (λ c. search needs) order-at-requires (λ c. search needs)
+    (λ c. search needs) (λ c. search needs) (λ c. search needs) book-line-requires add-i (λ c. search needs)
+    loop-again (λ c. search needs) (λ c. search needs) (λ c. search needs) (λ c. search needs) returns)

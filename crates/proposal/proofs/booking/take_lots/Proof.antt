@@ -18,12 +18,6 @@ loop-holds : tie.Need-loop-holds Inv-loop μ-loop
 unfolding leftAfter
 loop-holds c = (omega arith, refl, refl)
 
-mul-place : tie.Need-mul-place Inv-loop μ-loop
-mul-place c = search needs
-
-shared-slice-read-place : tie.Need-shared-slice-read-place Inv-loop μ-loop
-shared-slice-read-place c = search needs
-
 mul-less : tie.Need-mul-less Inv-loop μ-loop
 mul-less c =
     let start = c .before .before .before .before .before .before in
@@ -33,15 +27,6 @@ slice-read-less : tie.Need-slice-read-less Inv-loop μ-loop
 slice-read-less c =
     let start = c .before .before .before .before .before .before .before in
     let l = c .before .before .before .loop in omega (arith, start .pre .1 .below (l .i) (c .before .before .loop-test .taken), start .pre .0, l .inv .1)
-
-mul-less-2 : tie.Need-mul-less-2 Inv-loop μ-loop
-mul-less-2 c = search needs
-
-shared-slice-read-less : tie.Need-shared-slice-read-less Inv-loop μ-loop
-shared-slice-read-less c = search needs
-
-less-requires : tie.Need-less-requires Inv-loop μ-loop
-less-requires c κs = search needs
 
 mul-left : tie.Need-mul-left Inv-loop μ-loop
 mul-left c =
@@ -55,12 +40,6 @@ slice-write-left c =
     let start = at-loop .before .before .before .before in
     let l = at-loop .loop in omega (arith, start .pre .1 .below (l .i) (c .before .before .before .before .loop-test .taken), start .pre .0, l .inv .1)
 
-add-i : tie.Need-add-i Inv-loop μ-loop
-add-i c = search needs
-
-loop-less : tie.Need-loop-less Inv-loop μ-loop
-loop-less c = search needs
-
 loop-again : tie.Need-loop-again Inv-loop μ-loop
 loop-again c =
     let at-loop = c .before .before .before .before .before in
@@ -72,9 +51,6 @@ loop-again c =
       after-next (a .places .now) (a .lots .now) (l .i) (a .left .now) (l .left) _ (l .inv .2) (c .less .ensures),
     )
 
-same-length : tie.Need-same-length Inv-loop μ-loop
-same-length c = search needs
-
 returns : tie.Need-returns Inv-loop μ-loop
 returns c = let a = c .before .before .before .before .before .args in let l = c .before .loop in let same : l .i ≡ length (a .places .now) = omega (arith, c .loop-test .left, l .inv .0) in
     l .inv .2 ∙ ap (λ n. leftAfter (a .places .now) (a .lots .now) n (a .left .now)) same
@@ -82,21 +58,6 @@ returns c = let a = c .before .before .before .before .before .args in let l = c
 pub take-lots-spec : {M : Type 1} → statement M
 take-lots-spec =
     tie.close
-    (tie.spec
-    Inv-loop
-    μ-loop
-    loop-holds
-    mul-place
-    shared-slice-read-place
-    mul-less
-    slice-read-less
-    mul-less-2
-    shared-slice-read-less
-    less-requires
-    mul-left
-    slice-write-left
-    add-i
-    loop-less
-    loop-again
-    same-length
-    returns)
+    (tie.spec Inv-loop μ-loop loop-holds (λ c. search needs) (λ c. search needs) mul-less slice-read-less
+    (λ c. search needs) (λ c. search needs) (λ c κs. search needs) mul-left slice-write-left (λ c. search needs)
+    (λ c. search needs) loop-again (λ c. search needs) returns)

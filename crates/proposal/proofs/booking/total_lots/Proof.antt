@@ -18,21 +18,9 @@ loop-holds : tie.Need-loop-holds Inv-loop μ-loop
 unfolding total from
 loop-holds c = (omega arith, omega arith, refl)
 
-mul-sum : tie.Need-mul-sum Inv-loop μ-loop
-mul-sum c = search needs
-
-shared-slice-read-sum : tie.Need-shared-slice-read-sum Inv-loop μ-loop
-shared-slice-read-sum c = search needs
-
 add-sum : tie.Need-add-sum Inv-loop μ-loop
 add-sum c = let l = c .before .before .loop in
     omega (arith, c .before .before .before .pre .most-lots (l .i) (c .before .loop-test .taken), c .before .before .before .pre .most-legs, c .before .loop-test .taken, l .inv .1)
-
-add-i : tie.Need-add-i Inv-loop μ-loop
-add-i c = search needs
-
-loop-less : tie.Need-loop-less Inv-loop μ-loop
-loop-less c = search needs
 
 loop-again : tie.Need-loop-again Inv-loop μ-loop
 loop-again c = let a = c .before .before .before .args in let l = c .before .before .loop in (
@@ -48,14 +36,5 @@ returns c = let a = c .before .before .args in let l = c .before .loop in let sa
 pub total-lots-spec : {M : Type 1} → statement M
 total-lots-spec =
     tie.close
-    (tie.spec
-    Inv-loop
-    μ-loop
-    loop-holds
-    mul-sum
-    shared-slice-read-sum
-    add-sum
-    add-i
-    loop-less
-    loop-again
-    returns)
+    (tie.spec Inv-loop μ-loop loop-holds (λ c. search needs) (λ c. search needs) add-sum (λ c. search needs)
+    (λ c. search needs) loop-again returns)

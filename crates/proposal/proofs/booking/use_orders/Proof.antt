@@ -11,12 +11,6 @@ use borrow.Author.Needs.{needs}
 use Rattle.proposal.proofs.booking.use_orders.Statement.{statement}
 use Rattle.proposal.proofs.booking.use_orders.Tie as tie
 
-slice-read-count : tie.Need-slice-read-count
-slice-read-count c = search needs
-
-array-borrow-prefix-left : tie.Need-array-borrow-prefix-left
-array-borrow-prefix-left c = search needs
-
 slice-aggregate-write-left : tie.Need-slice-aggregate-write-left
 slice-aggregate-write-left c = sym (length-take-le _ _ (c .before .before .before .before .before .before .before .pre .1))
 
@@ -49,12 +43,6 @@ keep-orders-requires c κs =
     let many = left-many (a .places .now) (a .lots .now) (length (a .places .now)) n _ (replicate 256 0) (a .book .now) (p .1) (left .ensures) in
     ((p .0, p .2, p .1, rw (← many) (omega arith)), p .5)
 
-same-length : tie.Need-same-length
-same-length c = search needs
-
-same-length-2 : tie.Need-same-length-2
-same-length-2 c = search needs
-
 returns : tie.Need-returns
 returns c =
     let at-write-left = c .before .before .before .before .before .before .before .before .before in
@@ -67,14 +55,6 @@ returns c =
 pub use-orders-spec : {M : Type 1} → statement M
 use-orders-spec =
     tie.close
-    (tie.spec
-    slice-read-count
-    array-borrow-prefix-left
-    slice-aggregate-write-left
-    write-left-requires
-    array-share-prefix-left
-    slice-aggregate-keep-orders
-    keep-orders-requires
-    same-length
-    same-length-2
+    (tie.spec (λ c. search needs) (λ c. search needs) slice-aggregate-write-left write-left-requires
+    array-share-prefix-left slice-aggregate-keep-orders keep-orders-requires (λ c. search needs) (λ c. search needs)
     returns)

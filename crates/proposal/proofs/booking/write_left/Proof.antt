@@ -8,18 +8,12 @@ use borrow.Author.Needs.{needs}
 use Rattle.proposal.proofs.booking.write_left.Statement.{statement}
 use Rattle.proposal.proofs.booking.write_left.Tie as tie
 
-write-lots-requires : tie.Need-write-lots-requires
-write-lots-requires c κs = search needs
-
 take-lots-requires : tie.Need-take-lots-requires
 take-lots-requires c κs =
     let start = c .before .before .before .before .before .before .before .before .before in
     let a = start .args in
     let same = ap length (c .before .before .before .write-lots .ensures) ∙ lots-length (length (a .left .now)) (a .book .now) in
     (omega (arith, same, start .pre .0), subst (λ n. PlacesFit n (a .places .now)) (sym same) (start .pre .2), start .pre .3)
-
-same-length : tie.Need-same-length
-same-length c = search needs
 
 returns : tie.Need-returns
 returns c =
@@ -28,4 +22,6 @@ returns c =
     let a = start .args in c .before .before .take-lots .ensures ∙ ap (leftAfter (a .places .now) (a .lots .now) (length (a .places .now))) (at-write-lots .write-lots .ensures)
 
 pub write-left-spec : {M : Type 1} → statement M
-write-left-spec = tie.close (tie.spec write-lots-requires take-lots-requires same-length returns)
+write-left-spec =
+    tie.close
+    (tie.spec (λ c κs. search needs) take-lots-requires (λ c. search needs) returns)

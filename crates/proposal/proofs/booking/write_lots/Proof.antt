@@ -19,21 +19,6 @@ abbrev μ-loop : tie.MeasureT-loop
 loop-holds : tie.Need-loop-holds Inv-loop μ-loop
 loop-holds c = (refl, omega arith, refl)
 
-order-at-requires : tie.Need-order-at-requires Inv-loop μ-loop
-order-at-requires c κs = search needs
-
-mul-left : tie.Need-mul-left Inv-loop μ-loop
-mul-left c = search needs
-
-slice-write-left : tie.Need-slice-write-left Inv-loop μ-loop
-slice-write-left c = search needs
-
-add-i : tie.Need-add-i Inv-loop μ-loop
-add-i c = search needs
-
-loop-less : tie.Need-loop-less Inv-loop μ-loop
-loop-less c = search needs
-
 loop-again : tie.Need-loop-again Inv-loop μ-loop
 loop-again c = let a = c .before .before .before .before .before .args in let l = c .before .before .loop in
     let n = length (a .left .now) in
@@ -46,9 +31,6 @@ loop-again c = let a = c .before .before .before .before .before .args in let l 
           (omega (arith, c .before .loop-test .taken, l .inv .0))),
     )
 
-same-length : tie.Need-same-length Inv-loop μ-loop
-same-length c = search needs
-
 returns : tie.Need-returns Inv-loop μ-loop
 returns c = let a = c .before .before .before .before .args in let l = c .before .loop in
     let n = length (a .left .now) in
@@ -57,15 +39,5 @@ returns c = let a = c .before .before .before .before .args in let l = c .before
 pub write-lots-spec : {M : Type 1} → statement M
 write-lots-spec =
     tie.close
-    (tie.spec
-    Inv-loop
-    μ-loop
-    loop-holds
-    order-at-requires
-    mul-left
-    slice-write-left
-    add-i
-    loop-less
-    loop-again
-    same-length
-    returns)
+    (tie.spec Inv-loop μ-loop loop-holds (λ c κs. search needs) (λ c. search needs) (λ c. search needs)
+    (λ c. search needs) (λ c. search needs) loop-again (λ c. search needs) returns)

@@ -8,12 +8,6 @@ use borrow.Author.Needs.{needs}
 use Rattle.proposal.proofs.columns.are_columns_acceptable.Statement.{statement}
 use Rattle.proposal.proofs.columns.are_columns_acceptable.Tie as tie
 
-shared-slice-read-count : tie.Need-shared-slice-read-count
-shared-slice-read-count c = search needs
-
-array-borrow-prefix-places : tie.Need-array-borrow-prefix-places
-array-borrow-prefix-places c = search needs
-
 slice-aggregate-write-places : tie.Need-slice-aggregate-write-places
 slice-aggregate-write-places c =
     let start = c .before .before .before .before .before .before .before .before in
@@ -44,18 +38,8 @@ is-acceptable-requires c κs =
     let front = places-front (orderCountIn (a .head .now)) (a .book .now) (a .orders .now) _ (replicate 12 0) written (start .pre .1 .most-legs) in
     (start .pre .0, (start .pre .1, front))
 
-returns : tie.Need-returns
-returns c = search needs
-
 pub are-columns-acceptable-spec : {M : Type 1} → statement M
 are-columns-acceptable-spec =
     tie.close
-    (tie.spec
-    shared-slice-read-count
-    array-borrow-prefix-places
-    slice-aggregate-write-places
-    write-places-requires
-    array-share-prefix-places
-    slice-aggregate-is-acceptable
-    is-acceptable-requires
-    returns)
+    (tie.spec (λ c. search needs) (λ c. search needs) slice-aggregate-write-places write-places-requires
+    array-share-prefix-places slice-aggregate-is-acceptable is-acceptable-requires (λ c. search needs))

@@ -31,12 +31,6 @@ leg-at-requires : tie.Need-leg-at-requires Inv-loop μ-loop
 leg-at-requires c κs = let fit = c .before .before .before .before .before .before .before .before .pre .1 in let h = c .loop-test .taken in
     (omega (arith, h, fit .1), omega (arith, h, fit .1, fit .0 .lots-length), omega (arith, h, fit .1, fit .0 .prices-length))
 
-mul-order-at : tie.Need-mul-order-at Inv-loop μ-loop
-mul-order-at c = search needs
-
-shared-slice-read-order-at : tie.Need-shared-slice-read-order-at Inv-loop μ-loop
-shared-slice-read-order-at c = search needs
-
 order-at-requires : tie.Need-order-at-requires Inv-loop μ-loop
 order-at-requires c κs =
     let start = c .before .before .before .before .before .before .before .before .before .before in
@@ -54,9 +48,6 @@ add-i c =
     let at-loop-test = c .before .before .before .before .before .before in
     let start = at-loop-test .before .before .before .before .before .before .before .before in
     omega (arith, at-loop-test .loop-test .taken, start .pre .1 .1, start .pre .1 .0 .most-legs)
-
-loop-less : tie.Need-loop-less Inv-loop μ-loop
-loop-less c = search needs
 
 loop-again : tie.Need-loop-again Inv-loop μ-loop
 loop-again c =
@@ -85,16 +76,5 @@ returns c =
 pub are-within-spec : {M : Type 1} → statement M
 are-within-spec =
     tie.close
-    (tie.spec
-    Inv-loop
-    μ-loop
-    loop-holds
-    leg-at-requires
-    mul-order-at
-    shared-slice-read-order-at
-    order-at-requires
-    is-price-allowed-requires
-    add-i
-    loop-less
-    loop-again
-    returns)
+    (tie.spec Inv-loop μ-loop loop-holds leg-at-requires (λ c. search needs) (λ c. search needs) order-at-requires
+    is-price-allowed-requires add-i (λ c. search needs) loop-again returns)

@@ -17,9 +17,6 @@ Inv-loop book places field first found₀ i₀ found i = (i ≤ length places)
 abbrev μ-loop : tie.MeasureT-loop
 μ-loop book places field first found₀ i₀ found i = length places - i
 
-shared-slice-read-first : tie.Need-shared-slice-read-first Inv-loop μ-loop
-shared-slice-read-first c = omega arith
-
 mul-first : tie.Need-mul-first Inv-loop μ-loop
 mul-first c = omega (arith, c .before .pre .3 .below 0 (omega arith))
 
@@ -38,9 +35,6 @@ loop-holds c = (omega arith, refl)
 mul-found : tie.Need-mul-found Inv-loop μ-loop
 mul-found c = omega (arith, c .before .before .before .before .pre .3 .below (c .before .loop .i) (c .loop-test .taken))
 
-shared-slice-read-found : tie.Need-shared-slice-read-found Inv-loop μ-loop
-shared-slice-read-found c = search needs
-
 mul-found-2 : tie.Need-mul-found-2 Inv-loop μ-loop
 mul-found-2 c = omega (arith, c .before .before .before .before .before .pre .3 .below (c .before .before .loop .i) (c .before .loop-test .taken))
 
@@ -53,12 +47,6 @@ mul-found-3 c = omega (arith, c .before .before .before .before .before .pre .3 
 shared-slice-read-found-2 : tie.Need-shared-slice-read-found-2 Inv-loop μ-loop
 shared-slice-read-found-2 c = omega (arith, c .before .before .before .before .before .before .pre .3 .below (c .before .before .before .loop .i) (c .before .before .loop-test .taken))
 
-add-i : tie.Need-add-i Inv-loop μ-loop
-add-i c = search needs
-
-loop-less : tie.Need-loop-less Inv-loop μ-loop
-loop-less c = search needs
-
 loop-again : tie.Need-loop-again Inv-loop μ-loop
 loop-again c = let a = c .before .before .before .before .before .before .args in let l = c .before .before .before .loop in
     (omega arith, any-next _ (a .places .now) 0 (l .i) (l .found) (l .inv .1) (c .before .before .loop-test .taken))
@@ -69,22 +57,6 @@ returns c = let a = c .before .before .before .before .args in let l = c .before
 pub do-two-occur-spec : {M : Type 1} → statement M
 do-two-occur-spec =
     tie.close
-    (tie.spec
-    Inv-loop
-    μ-loop
-    shared-slice-read-first
-    mul-first
-    add-first
-    mul-first-2
-    shared-slice-read-first-2
-    loop-holds
-    mul-found
-    shared-slice-read-found
-    mul-found-2
-    add-found
-    mul-found-3
-    shared-slice-read-found-2
-    add-i
-    loop-less
-    loop-again
-    returns)
+    (tie.spec Inv-loop μ-loop (λ c. omega arith) mul-first add-first mul-first-2 shared-slice-read-first-2 loop-holds
+    mul-found (λ c. search needs) mul-found-2 add-found mul-found-3 shared-slice-read-found-2 (λ c. search needs)
+    (λ c. search needs) loop-again returns)

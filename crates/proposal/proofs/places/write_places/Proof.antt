@@ -20,27 +20,6 @@ abbrev μ-loop : tie.MeasureT-loop
 loop-holds : tie.Need-loop-holds Inv-loop μ-loop
 loop-holds c = (refl, omega arith, refl)
 
-mul-place-of : tie.Need-mul-place-of Inv-loop μ-loop
-mul-place-of c = search needs
-
-shared-slice-read-place-of : tie.Need-shared-slice-read-place-of Inv-loop μ-loop
-shared-slice-read-place-of c = search needs
-
-place-of-requires : tie.Need-place-of-requires Inv-loop μ-loop
-place-of-requires c κs = search needs
-
-mul-places : tie.Need-mul-places Inv-loop μ-loop
-mul-places c = search needs
-
-slice-write-places : tie.Need-slice-write-places Inv-loop μ-loop
-slice-write-places c = search needs
-
-add-i : tie.Need-add-i Inv-loop μ-loop
-add-i c = search needs
-
-loop-less : tie.Need-loop-less Inv-loop μ-loop
-loop-less c = search needs
-
 loop-again : tie.Need-loop-again Inv-loop μ-loop
 loop-again c = let a = c .before .before .before .before .before .before .before .args in let l = c .before .before .before .loop in
     let all = map (λ n. placeOf n (ordersIn (a .count) (a .book .now))) (a .orders .now) in
@@ -51,9 +30,6 @@ loop-again c = let a = c .before .before .before .before .before .before .before
           (front-next (l .i) all (a .places .now) 0 (omega (arith, length-map (a .orders .now) (λ n. placeOf n (ordersIn (a .count) (a .book .now))))) (omega arith)),
     )
 
-same-length : tie.Need-same-length Inv-loop μ-loop
-same-length c = search needs
-
 returns : tie.Need-returns Inv-loop μ-loop
 returns c = let a = c .before .before .before .before .before .args in let l = c .before .loop in
     let all = map (λ n. placeOf n (ordersIn (a .count) (a .book .now))) (a .orders .now) in
@@ -62,17 +38,6 @@ returns c = let a = c .before .before .before .before .before .args in let l = c
 pub write-places-spec : {M : Type 1} → statement M
 write-places-spec =
     tie.close
-    (tie.spec
-    Inv-loop
-    μ-loop
-    loop-holds
-    mul-place-of
-    shared-slice-read-place-of
-    place-of-requires
-    mul-places
-    slice-write-places
-    add-i
-    loop-less
-    loop-again
-    same-length
+    (tie.spec Inv-loop μ-loop loop-holds (λ c. search needs) (λ c. search needs) (λ c κs. search needs)
+    (λ c. search needs) (λ c. search needs) (λ c. search needs) (λ c. search needs) loop-again (λ c. search needs)
     returns)

@@ -35,12 +35,6 @@ is-kept-requires c κs =
       rw (c .order-at .ensures) (fit .ranked (c .before .before .loop .i) (c .before .loop-test .taken)),
     )
 
-add-i : tie.Need-add-i Inv-loop μ-loop
-add-i c = search needs
-
-loop-less : tie.Need-loop-less Inv-loop μ-loop
-loop-less c = search needs
-
 loop-again : tie.Need-loop-again Inv-loop μ-loop
 loop-again c =
     let at-loop = c .before .before .before in
@@ -59,13 +53,5 @@ returns c = let a = c .before .before .before .before .before .before .args in
 pub are-kept-spec : {M : Type 1} → statement M
 are-kept-spec =
     tie.close
-    (tie.spec
-    Inv-loop
-    μ-loop
-    loop-holds
-    order-at-requires
-    is-kept-requires
-    add-i
-    loop-less
-    loop-again
-    returns)
+    (tie.spec Inv-loop μ-loop loop-holds order-at-requires is-kept-requires (λ c. search needs) (λ c. search needs)
+    loop-again returns)

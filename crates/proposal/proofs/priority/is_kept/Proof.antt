@@ -4,27 +4,12 @@ use borrow.Author.Needs.{needs}
 use Rattle.proposal.proofs.priority.is_kept.Statement.{statement}
 use Rattle.proposal.proofs.priority.is_kept.Tie as tie
 
-side-place-requires : tie.Need-side-place-requires
-side-place-requires c κs = search needs
-
-mul-if1 : tie.Need-mul-if1
-mul-if1 c = search needs
-
-shared-slice-read-if1 : tie.Need-shared-slice-read-if1
-shared-slice-read-if1 c = search needs
-
-rank-of-requires : tie.Need-rank-of-requires
-rank-of-requires c κs = search needs
-
 returns : tie.Need-returns
 returns c =
     let at-side-place = c .before .before .before in
     let start = at-side-place .before .before .before .before in
     let a = start .args in kept-behind (a .lasts .now) (a .orders .now) (a .lots .now) (a .o) (at-side-place .side-place .result) (c .before .rank-of .result)
     (at-side-place .side-place .ensures .0) (c .before .rank-of .ensures) (c .if1 .taken)
-
-is-full-leg-requires : tie.Need-is-full-leg-requires
-is-full-leg-requires c κs = search needs
 
 returns-2 : tie.Need-returns-2
 returns-2 c =
@@ -37,11 +22,5 @@ returns-2 c =
 pub is-kept-spec : {M : Type 1} → statement M
 is-kept-spec =
     tie.close
-    (tie.spec
-    side-place-requires
-    mul-if1
-    shared-slice-read-if1
-    rank-of-requires
-    returns
-    is-full-leg-requires
-    returns-2)
+    (tie.spec (λ c κs. search needs) (λ c. search needs) (λ c. search needs) (λ c κs. search needs) returns
+    (λ c κs. search needs) returns-2)

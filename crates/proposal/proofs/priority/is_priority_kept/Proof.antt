@@ -4,16 +4,10 @@ use borrow.Author.Needs.{needs}
 use Rattle.proposal.proofs.priority.is_priority_kept.Statement.{statement}
 use Rattle.proposal.proofs.priority.is_priority_kept.Tie as tie
 
-slice-aggregate-write-last-ranks : tie.Need-slice-aggregate-write-last-ranks
-slice-aggregate-write-last-ranks c = search needs
-
 write-last-ranks-requires : tie.Need-write-last-ranks-requires
 write-last-ranks-requires c κs =
     let start = c .before .before .before .before .before in
     let a = start .args in (legs-ranked (a .count) (a .book .now) (a .places .now) (start .pre .0) (start .pre .1), refl)
-
-slice-aggregate-are-kept : tie.Need-slice-aggregate-are-kept
-slice-aggregate-are-kept c = search needs
 
 are-kept-requires : tie.Need-are-kept-requires
 are-kept-requires c κs =
@@ -30,9 +24,4 @@ returns c =
 pub is-priority-kept-spec : {M : Type 1} → statement M
 is-priority-kept-spec =
     tie.close
-    (tie.spec
-    slice-aggregate-write-last-ranks
-    write-last-ranks-requires
-    slice-aggregate-are-kept
-    are-kept-requires
-    returns)
+    (tie.spec (λ c. search needs) write-last-ranks-requires (λ c. search needs) are-kept-requires returns)

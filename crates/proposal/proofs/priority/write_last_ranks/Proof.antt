@@ -18,12 +18,6 @@ abbrev μ-loop : tie.MeasureT-loop
 loop-holds : tie.Need-loop-holds Inv-loop μ-loop
 loop-holds c = (refl, omega arith, rw (c .before .before .before .pre .1) (lasts-start (c .before .before .before .args .book .now) (c .before .before .before .args .places .now)))
 
-mul-order-at : tie.Need-mul-order-at Inv-loop μ-loop
-mul-order-at c = search needs
-
-shared-slice-read-order-at : tie.Need-shared-slice-read-order-at Inv-loop μ-loop
-shared-slice-read-order-at c = search needs
-
 order-at-requires : tie.Need-order-at-requires Inv-loop μ-loop
 order-at-requires c κs =
     let start = c .before .before .before .before .before .before in
@@ -32,9 +26,6 @@ order-at-requires c κs =
 side-place-requires : tie.Need-side-place-requires Inv-loop μ-loop
 side-place-requires c κs = rw (c .order-at .ensures)
     (c .before .before .before .before .before .before .before .pre .0 .contract-below (c .before .before .before .loop .i) (c .before .before .loop-test .taken))
-
-mul-greatest : tie.Need-mul-greatest Inv-loop μ-loop
-mul-greatest c = search needs
 
 slice-read-greatest : tie.Need-slice-read-greatest Inv-loop μ-loop
 slice-read-greatest c = omega (arith, c .before .side-place .ensures .1, c .before .before .before .before .before .loop .inv .2 .long)
@@ -45,20 +36,8 @@ rank-of-requires c κs =
     let start = at-loop .before .before .before .before in
     rw (c .before .before .order-at .ensures) (start .pre .0 .ranked (at-loop .loop .i) (c .before .before .before .before .loop-test .taken))
 
-greatest-requires : tie.Need-greatest-requires Inv-loop μ-loop
-greatest-requires c κs = search needs
-
-mul-lasts : tie.Need-mul-lasts Inv-loop μ-loop
-mul-lasts c = search needs
-
 slice-write-lasts : tie.Need-slice-write-lasts Inv-loop μ-loop
 slice-write-lasts c = omega (arith, c .before .before .before .side-place .ensures .1, c .before .before .before .before .before .before .before .loop .inv .2 .long)
-
-add-i : tie.Need-add-i Inv-loop μ-loop
-add-i c = search needs
-
-loop-less : tie.Need-loop-less Inv-loop μ-loop
-loop-less c = search needs
 
 loop-again : tie.Need-loop-again Inv-loop μ-loop
 loop-again c =
@@ -76,9 +55,6 @@ loop-again c =
           (at-side-place .side-place .ensures .0 ∙ ap sidePlaceOf read) (at-side-place .side-place .ensures .1) (c .before .rank-of .ensures ∙ ap rankOf read)),
     )
 
-same-length : tie.Need-same-length Inv-loop μ-loop
-same-length c = search needs
-
 returns : tie.Need-returns Inv-loop μ-loop
 returns c = lasts-end (c .before .before .before .before .before .args .book .now) (c .before .before .before .before .before .args .places .now)
     (c .before .loop .i) _ (c .before .loop .inv .2) (c .loop-test .left)
@@ -86,22 +62,6 @@ returns c = lasts-end (c .before .before .before .before .before .args .book .no
 pub write-last-ranks-spec : {M : Type 1} → statement M
 write-last-ranks-spec =
     tie.close
-    (tie.spec
-    Inv-loop
-    μ-loop
-    loop-holds
-    mul-order-at
-    shared-slice-read-order-at
-    order-at-requires
-    side-place-requires
-    mul-greatest
-    slice-read-greatest
-    rank-of-requires
-    greatest-requires
-    mul-lasts
-    slice-write-lasts
-    add-i
-    loop-less
-    loop-again
-    same-length
-    returns)
+    (tie.spec Inv-loop μ-loop loop-holds (λ c. search needs) (λ c. search needs) order-at-requires side-place-requires
+    (λ c. search needs) slice-read-greatest rank-of-requires (λ c κs. search needs) (λ c. search needs)
+    slice-write-lasts (λ c. search needs) (λ c. search needs) loop-again (λ c. search needs) returns)

@@ -33,9 +33,6 @@ sizes c =
 few-at : (c : tie.Else1) → c .before .before .before .before .before .args .count ≤ mostLegs
 few-at c = let a = c .before .before .before .before .before .args in few 0 (a .count) (a .columns) (sound-at c 0)
 
-is-proposal-sound-requires : tie.Need-is-proposal-sound-requires
-is-proposal-sound-requires c κs = search needs
-
 returns : tie.Need-returns
 returns c t =
     let a = c .before .before .before .before .before .args in
@@ -93,14 +90,6 @@ returns-2 c t =
 pub is-proposal-acceptable-spec : {M : Type 1} → statement M
 is-proposal-acceptable-spec =
     tie.close
-    (tie.spec
-    is-proposal-sound-requires
-    returns
-    array-share-prefix-orders
-    slice-aggregate-are-columns-acceptable
-    array-share-prefix-leg-lots
-    slice-aggregate-are-columns-acceptable-2
-    array-share-prefix-leg-prices
-    slice-aggregate-are-columns-acceptable-3
-    are-columns-acceptable-requires
-    returns-2)
+    (tie.spec (λ c κs. search needs) returns array-share-prefix-orders slice-aggregate-are-columns-acceptable
+    array-share-prefix-leg-lots slice-aggregate-are-columns-acceptable-2 array-share-prefix-leg-prices
+    slice-aggregate-are-columns-acceptable-3 are-columns-acceptable-requires returns-2)

@@ -9,4 +9,6 @@ unfolding legColumns padded
 returns c = refl
 
 pub no-legs-spec : {M : Type 1} → statement M
-no-legs-spec = tie.close (tie.spec returns)
+no-legs-spec =
+    tie.close
+    (tie.spec returns)

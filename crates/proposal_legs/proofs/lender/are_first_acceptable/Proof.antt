@@ -11,11 +11,7 @@ returns c t =
     let a = c .before .before .before .before .args in
     too-many (withHead (a .head .now) (withPrices (a .prices .now) (withBook (a .book .now) t))) (a .count) (take (a .count) (a .legs)) (omega (arith, c .if1 .taken))
 
-are-lent-acceptable-requires : tie.Need-are-lent-acceptable-requires
-are-lent-acceptable-requires c κs = search needs
-
-returns-2 : tie.Need-returns-2
-returns-2 c = search needs
-
 pub are-first-acceptable-spec : {M : Type 1} → statement M
-are-first-acceptable-spec = tie.close (tie.spec returns are-lent-acceptable-requires returns-2)
+are-first-acceptable-spec =
+    tie.close
+    (tie.spec returns (λ c κs. search needs) (λ c. search needs))

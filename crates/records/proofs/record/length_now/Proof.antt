@@ -3,18 +3,6 @@ use borrow.Author.Needs.{needs}
 use Rattle.records.proofs.record.length_now.Statement.{statement}
 use Rattle.records.proofs.record.length_now.Tie as tie
 
-front-record-requires : tie.Need-front-record-requires
-front-record-requires c κs = search needs
-
-enum-known-n : tie.Need-enum-known-n
-enum-known-n c = search needs
-
-enum-told : tie.Need-enum-told
-enum-told c = search needs
-
-enum-told-2 : tie.Need-enum-told-2
-enum-told-2 c = search needs
-
 returns : tie.Need-returns
 unfolding lengthByNow
 returns c = rw (← c .before .before .before .front-record .ensures, c .before .n .given .1)
@@ -34,12 +22,5 @@ returns-4 c = rw (← c .before .before .before .front-record .ensures, c .befor
 pub length-now-spec : {M : Type 1} → statement M
 length-now-spec =
     tie.close
-    (tie.spec
-    front-record-requires
-    enum-known-n
-    enum-told
-    enum-told-2
-    returns
-    returns-2
-    returns-3
-    returns-4)
+    (tie.spec (λ c κs. search needs) (λ c. search needs) (λ c. search needs) (λ c. search needs) returns returns-2
+    returns-3 returns-4)

@@ -12,12 +12,11 @@ returns-2 : tie.Need-returns-2
 unfolding readyLength
 returns-2 c = rw (c .before .if1 .left, lt-ltb _ _ (c .if2 .taken))
 
-length-now-requires : tie.Need-length-now-requires
-length-now-requires c κs = search needs
-
 returns-3 : tie.Need-returns-3
 unfolding readyLength
 returns-3 c = rw (c .before .before .if1 .left, le-ltb _ _ (c .before .if2 .left)) (c .length-now .ensures)
 
 pub ready-length-spec : {M : Type 1} → statement M
-ready-length-spec = tie.close (tie.spec returns returns-2 length-now-requires returns-3)
+ready-length-spec =
+    tie.close
+    (tie.spec returns returns-2 (λ c κs. search needs) returns-3)

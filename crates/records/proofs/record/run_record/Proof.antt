@@ -4,12 +4,6 @@ use borrow.Author.Needs.{needs}
 use Rattle.records.proofs.record.run_record.Statement.{statement}
 use Rattle.records.proofs.record.run_record.Tie as tie
 
-apply-requires : tie.Need-apply-requires
-apply-requires c κs = search needs
-
-told-of-requires : tie.Need-told-of-requires
-told-of-requires c κs = search needs
-
 put-deals-requires : tie.Need-put-deals-requires
 put-deals-requires c κs =
     let earlier = c .before .before .before .before .before .before .before .before .before .before in
@@ -32,27 +26,6 @@ put-deals-requires c κs =
       ),
     )
 
-same-length : tie.Need-same-length
-same-length c = search needs
-
-same-length-2 : tie.Need-same-length-2
-same-length-2 c = search needs
-
-same-length-3 : tie.Need-same-length-3
-same-length-3 c = search needs
-
-same-length-4 : tie.Need-same-length-4
-same-length-4 c = search needs
-
-same-length-5 : tie.Need-same-length-5
-same-length-5 c = search needs
-
-same-length-6 : tie.Need-same-length-6
-same-length-6 c = search needs
-
-same-length-7 : tie.Need-same-length-7
-same-length-7 c = search needs
-
 returns : tie.Need-returns
 returns c =
     let few = few-lines _ _ _ _ _ _
@@ -65,30 +38,6 @@ returns c =
     (c .before .before .before .before .before .before .before .told-of .ensures .1) (c .before .before .before .before .before .if1 .taken) few
     (c .before .before .put-deals .ensures)
 
-put-refusal-requires : tie.Need-put-refusal-requires
-put-refusal-requires c κs = search needs
-
-same-length-8 : tie.Need-same-length-8
-same-length-8 c = search needs
-
-same-length-9 : tie.Need-same-length-9
-same-length-9 c = search needs
-
-same-length-10 : tie.Need-same-length-10
-same-length-10 c = search needs
-
-same-length-11 : tie.Need-same-length-11
-same-length-11 c = search needs
-
-same-length-12 : tie.Need-same-length-12
-same-length-12 c = search needs
-
-same-length-13 : tie.Need-same-length-13
-same-length-13 c = search needs
-
-same-length-14 : tie.Need-same-length-14
-same-length-14 c = search needs
-
 returns-2 : tie.Need-returns-2
 returns-2 c =
     printed-refusal _ _ _ _ _ _ _ _ _ _
@@ -100,24 +49,7 @@ returns-2 c =
 pub run-record-spec : {M : Type 1} → statement M
 run-record-spec =
     tie.close
-    (tie.spec
-    apply-requires
-    told-of-requires
-    put-deals-requires
-    same-length
-    same-length-2
-    same-length-3
-    same-length-4
-    same-length-5
-    same-length-6
-    same-length-7
-    returns
-    put-refusal-requires
-    same-length-8
-    same-length-9
-    same-length-10
-    same-length-11
-    same-length-12
-    same-length-13
-    same-length-14
-    returns-2)
+    (tie.spec (λ c κs. search needs) (λ c κs. search needs) put-deals-requires (λ c. search needs) (λ c. search needs)
+    (λ c. search needs) (λ c. search needs) (λ c. search needs) (λ c. search needs) (λ c. search needs) returns
+    (λ c κs. search needs) (λ c. search needs) (λ c. search needs) (λ c. search needs) (λ c. search needs)
+    (λ c. search needs) (λ c. search needs) (λ c. search needs) returns-2)

@@ -22,12 +22,6 @@ abbrev μ-loop : tie.MeasureT-loop
 μ-loop counted-before accepted-before bytes is-last out₀ filled head₀ prices₀ lots₀ value₀ book₀ lines₀ place₀ end₀ counted₀ accepted₀ is-stopped₀ n₀ out head prices lots value book lines place end counted accepted is-stopped n =
     length bytes - place
 
-sub-ready-length : tie.Need-sub-ready-length Inv-loop μ-loop
-sub-ready-length c = search needs
-
-ready-length-requires : tie.Need-ready-length-requires Inv-loop μ-loop
-ready-length-requires c κs = search needs
-
 loop-holds : tie.Need-loop-holds Inv-loop μ-loop
 loop-holds c = (
   runs-start _ _ _ _ _ _ _ (c .before .before .before .before .before .before .pre .0) (c .before .before .before .before .before .before .pre .2),
@@ -42,9 +36,6 @@ add-next c =
 
 add-counted : tie.Need-add-counted Inv-loop μ-loop
 add-counted c = omega (arith, c .before .loop .inv .0 .few, c .before .loop .inv .0 .inside, c .before .before .before .before .before .before .before .before .pre .1)
-
-sub-run-record : tie.Need-sub-run-record Inv-loop μ-loop
-sub-run-record c = omega arith
 
 part-run-record-start : tie.Need-part-run-record-start Inv-loop μ-loop
 part-run-record-start c =
@@ -155,9 +146,6 @@ sub-ready-length-3 c =
           (omega (arith, w .within, w .same)),
     )
 
-ready-length-requires-2 : tie.Need-ready-length-requires-2 Inv-loop μ-loop
-ready-length-requires-2 c κs = search needs
-
 loop-less : tie.Need-loop-less Inv-loop μ-loop
 loop-less c =
     let earlier = c .before .before .before .before .before .before .before .before .before .before in
@@ -213,12 +201,6 @@ loop-again c =
 sub-room : tie.Need-sub-room Inv-loop μ-loop
 sub-room c = omega (arith, c .before .loop .inv .0 .within, c .before .loop .inv .0 .same)
 
-stage-after-requires : tie.Need-stage-after-requires Inv-loop μ-loop
-stage-after-requires c κs = search needs
-
-wants-after-requires : tie.Need-wants-after-requires Inv-loop μ-loop
-wants-after-requires c κs = search needs
-
 same-length : tie.Need-same-length Inv-loop μ-loop
 same-length c = omega (arith, c .before .before .before .loop .inv .0 .same)
 
@@ -249,34 +231,8 @@ returns c =
 pub run-records-spec : {M : Type 1} → statement M
 run-records-spec =
     tie.close
-    (tie.spec
-    Inv-loop
-    μ-loop
-    sub-ready-length
-    ready-length-requires
-    loop-holds
-    add-next
-    add-counted
-    sub-run-record
-    part-run-record-start
-    part-run-record-end
-    run-record-requires
-    add-accepted
-    sub-ready-length-2
-    part-ready-length-start
-    part-ready-length-end
-    sub-ready-length-3
-    ready-length-requires-2
-    loop-less
-    loop-again
-    sub-room
-    stage-after-requires
-    wants-after-requires
-    same-length
-    same-length-2
-    same-length-3
-    same-length-4
-    same-length-5
-    same-length-6
-    same-length-7
-    returns)
+    (tie.spec Inv-loop μ-loop (λ c. search needs) (λ c κs. search needs) loop-holds add-next add-counted
+    (λ c. omega arith) part-run-record-start part-run-record-end run-record-requires add-accepted sub-ready-length-2
+    part-ready-length-start part-ready-length-end sub-ready-length-3 (λ c κs. search needs) loop-less loop-again
+    sub-room (λ c κs. search needs) (λ c κs. search needs) same-length same-length-2 same-length-3 same-length-4
+    same-length-5 same-length-6 same-length-7 returns)

@@ -20,4 +20,6 @@ unfolding stageAfter
 returns-4 c = rw (c .before .before .if1 .left, le-ltb _ _ (c .before .if2 .left), c .if3 .left)
 
 pub stage-after-spec : {M : Type 1} → statement M
-stage-after-spec = tie.close (tie.spec returns returns-2 returns-3 returns-4)
+stage-after-spec =
+    tie.close
+    (tie.spec returns returns-2 returns-3 returns-4)

@@ -20,4 +20,6 @@ unfolding wantsAfter
 returns-4 c = rw (c .before .before .if1 .left, le-ltb _ _ (c .before .if2 .left), c .if3 .left)
 
 pub wants-after-spec : {M : Type 1} → statement M
-wants-after-spec = tie.close (tie.spec returns returns-2 returns-3 returns-4)
+wants-after-spec =
+    tie.close
+    (tie.spec returns returns-2 returns-3 returns-4)

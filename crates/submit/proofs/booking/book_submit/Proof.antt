@@ -5,12 +5,6 @@ use borrow.Author.Needs.{needs}
 use Rattle.submit.proofs.booking.book_submit.Statement.{statement}
 use Rattle.submit.proofs.booking.book_submit.Tie as tie
 
-order-of-requires : tie.Need-order-of-requires
-order-of-requires c κs = search needs
-
-set-time-requires : tie.Need-set-time-requires
-set-time-requires c κs = search needs
-
 count-submit-requires : tie.Need-count-submit-requires
 count-submit-requires c κs =
     let at-set-time = c .before .before .before in
@@ -40,24 +34,6 @@ place-order-requires c κs =
     let o = at-order-of .order-of .ensures (lent head prices lots value book lines) in
     placed head prices lots value book lines (a .e) (f .0) (f .1) (f .2) (f .3) _ same _ o (a .crossing) w (rows .0) (rows .1) (f .4)
 
-same-length : tie.Need-same-length
-same-length c = search needs
-
-same-length-2 : tie.Need-same-length-2
-same-length-2 c = search needs
-
-same-length-3 : tie.Need-same-length-3
-same-length-3 c = search needs
-
-same-length-4 : tie.Need-same-length-4
-same-length-4 c = search needs
-
-same-length-5 : tie.Need-same-length-5
-same-length-5 c = search needs
-
-same-length-6 : tie.Need-same-length-6
-same-length-6 c = search needs
-
 returns : tie.Need-returns
 returns c =
     let at-place-order = c .before .before .before .before .before .before .before .before .before in
@@ -81,15 +57,6 @@ returns c =
 pub book-submit-spec : {M : Type 1} → statement M
 book-submit-spec =
     tie.close
-    (tie.spec
-    order-of-requires
-    set-time-requires
-    count-submit-requires
-    place-order-requires
-    same-length
-    same-length-2
-    same-length-3
-    same-length-4
-    same-length-5
-    same-length-6
-    returns)
+    (tie.spec (λ c κs. search needs) (λ c κs. search needs) count-submit-requires place-order-requires
+    (λ c. search needs) (λ c. search needs) (λ c. search needs) (λ c. search needs) (λ c. search needs)
+    (λ c. search needs) returns)

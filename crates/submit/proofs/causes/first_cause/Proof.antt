@@ -6,26 +6,11 @@ use borrow.Author.Needs.{needs}
 use Rattle.submit.proofs.causes.first_cause.Statement.{statement}
 use Rattle.submit.proofs.causes.first_cause.Tie as tie
 
-shared-slice-read-if1 : tie.Need-shared-slice-read-if1
-shared-slice-read-if1 c = search needs
-
 returns : tie.Need-returns
 returns c = λ t b. rw (lt-ltb _ _ (c .if1 .taken))
 
-add-if2 : tie.Need-add-if2
-add-if2 c = search needs
-
-mul-if2 : tie.Need-mul-if2
-mul-if2 c = search needs
-
-shared-slice-read-if2 : tie.Need-shared-slice-read-if2
-shared-slice-read-if2 c = search needs
-
 returns-2 : tie.Need-returns-2
 returns-2 c = λ t b. rw (le-ltb _ _ (c .before .before .if1 .left), eq-eqb _ _ (c .if2 .taken))
-
-is-contract-open-requires : tie.Need-is-contract-open-requires
-is-contract-open-requires c κs = search needs
 
 returns-3 : tie.Need-returns-3
 returns-3 c =
@@ -38,9 +23,6 @@ returns-3 c =
           ∙ not-true _ (c .if3 .taken),
     )
 
-is-price-outside-requires : tie.Need-is-price-outside-requires
-is-price-outside-requires c κs = search needs
-
 returns-4 : tie.Need-returns-4
 returns-4 c =
     let at-if2 = c .before .before .before .before in
@@ -49,9 +31,6 @@ returns-4 c =
     λ t b.
     let opened = sym (c .before .before .before .is-contract-open .ensures (withPrices (start .args .prices .now) t)) ∙ not-false _ (c .before .before .if3 .left) in
     rw (le-ltb _ _ (at-if1 .if1 .left), ne-eqb _ _ (at-if2 .if2 .left), opened, sym (c .before .is-price-outside .ensures) ∙ c .if4 .taken)
-
-submits-at-requires : tie.Need-submits-at-requires
-submits-at-requires c κs = search needs
 
 returns-5 : tie.Need-returns-5
 returns-5 c =
@@ -94,17 +73,5 @@ returns-6 c =
 pub first-cause-spec : {M : Type 1} → statement M
 first-cause-spec =
     tie.close
-    (tie.spec
-    shared-slice-read-if1
-    returns
-    add-if2
-    mul-if2
-    shared-slice-read-if2
-    returns-2
-    is-contract-open-requires
-    returns-3
-    is-price-outside-requires
-    returns-4
-    submits-at-requires
-    returns-5
-    returns-6)
+    (tie.spec (λ c. search needs) returns (λ c. search needs) (λ c. search needs) (λ c. search needs) returns-2
+    (λ c κs. search needs) returns-3 (λ c κs. search needs) returns-4 (λ c κs. search needs) returns-5 returns-6)

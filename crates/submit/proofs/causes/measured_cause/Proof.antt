@@ -9,15 +9,6 @@ use borrow.Author.Needs.{needs}
 use Rattle.submit.proofs.causes.measured_cause.Statement.{statement}
 use Rattle.submit.proofs.causes.measured_cause.Tie as tie
 
-add-limit : tie.Need-add-limit
-add-limit c = search needs
-
-mul-limit : tie.Need-mul-limit
-mul-limit c = search needs
-
-shared-slice-read-limit : tie.Need-shared-slice-read-limit
-shared-slice-read-limit c = search needs
-
 position-requires : tie.Need-position-requires
 position-requires c κs =
     let start = c .before .before in
@@ -27,9 +18,6 @@ position-requires c κs =
       omega
           (arith, f .1 .within (e .contract) (e .member) (f .2 .contract-below) (f .2 .member-below), f .0 .most-run),
     )
-
-add-is-above : tie.Need-add-is-above
-add-is-above c = search needs
 
 is-above-requires : tie.Need-is-above-requires
 is-above-requires c κs =
@@ -46,9 +34,6 @@ returns c =
     (sym (c .before .before .before .position .ensures .0)) ∙ sym (c .before .is-above .ensures) in
     rw (above, c .if1 .taken)
 
-is-teye-requires : tie.Need-is-teye-requires
-is-teye-requires c κs = search needs
-
 returns-2 : tie.Need-returns-2
 returns-2 c =
     let at-position = c .before .before .before .before .before in
@@ -58,12 +43,6 @@ returns-2 c =
     let above = ap (λ z. ltZ (pos (getD (a .head .now) (128 + a .e .member) 0)) (z +ℤ pos (a .found .own + a .e .lots .0))) (sym (at-position .position .ensures .0)) ∙ sym
     (c .before .before .before .is-above .ensures) in
     rw (above, c .before .before .if1 .left, ← (c .before .is-teye .ensures), c .if2 .taken)
-
-is-resting-requires : tie.Need-is-resting-requires
-is-resting-requires c κs = search needs
-
-shared-slice-read-if3 : tie.Need-shared-slice-read-if3
-shared-slice-read-if3 c = search needs
 
 returns-3 : tie.Need-returns-3
 returns-3 c =
@@ -77,21 +56,6 @@ returns-3 c =
     let above = ap (λ z. ltZ (pos (getD (a .head .now) (128 + a .e .member) 0)) (z +ℤ pos (a .found .own + a .e .lots .0))) (sym (at-position .position .ensures .0)) ∙ sym
     (at-is-above .is-above .ensures) in
     rw (above, at-if1 .if1 .left, ← (at-is-teye .is-teye .ensures), c .before .before .before .if2 .left, ← (c .before .before .is-resting .ensures), c .if3 .taken)
-
-shared-slice-read-run : tie.Need-shared-slice-read-run
-shared-slice-read-run c = search needs
-
-least-requires : tie.Need-least-requires
-least-requires c κs = search needs
-
-mul-run : tie.Need-mul-run
-mul-run c = search needs
-
-add-run : tie.Need-add-run
-add-run c = search needs
-
-shared-slice-read-if4 : tie.Need-shared-slice-read-if4
-shared-slice-read-if4 c = search needs
 
 returns-4 : tie.Need-returns-4
 returns-4 c =
@@ -148,23 +112,7 @@ returns-5 c =
 pub measured-cause-spec : {M : Type 1} → statement M
 measured-cause-spec =
     tie.close
-    (tie.spec
-    add-limit
-    mul-limit
-    shared-slice-read-limit
-    position-requires
-    add-is-above
-    is-above-requires
-    returns
-    is-teye-requires
-    returns-2
-    is-resting-requires
-    shared-slice-read-if3
-    returns-3
-    shared-slice-read-run
-    least-requires
-    mul-run
-    add-run
-    shared-slice-read-if4
-    returns-4
+    (tie.spec (λ c. search needs) (λ c. search needs) (λ c. search needs) position-requires (λ c. search needs)
+    is-above-requires returns (λ c κs. search needs) returns-2 (λ c κs. search needs) (λ c. search needs) returns-3
+    (λ c. search needs) (λ c κs. search needs) (λ c. search needs) (λ c. search needs) (λ c. search needs) returns-4
     returns-5)

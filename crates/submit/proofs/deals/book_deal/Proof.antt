@@ -8,12 +8,6 @@ use borrow.Author.Needs.{needs}
 use Rattle.submit.proofs.deals.book_deal.Statement.{statement}
 use Rattle.submit.proofs.deals.book_deal.Tie as tie
 
-other-side-requires : tie.Need-other-side-requires
-other-side-requires c κs = search needs
-
-mul-book-line : tie.Need-mul-book-line
-mul-book-line c = search needs
-
 book-line-requires : tie.Need-book-line-requires
 book-line-requires c κs =
     let start = c .before .before .before .before .before .before in
@@ -23,12 +17,6 @@ book-line-requires c κs =
     let small : a .k < mostLots = start .pre .0 .1 in
     let first = incoming-fit (a .head .now) (a .o) (a .d) (q .0) (q .1) (q .2) (q .3) (q .4) in
     ((b .long, b .most-members, first), ((b .lots-fit, b .value-fit), (omega arith, b .lines-long)))
-
-mul-book-line-2 : tie.Need-mul-book-line-2
-mul-book-line-2 c = search needs
-
-add-book-line : tie.Need-add-book-line
-add-book-line c = search needs
 
 book-line-requires-2 : tie.Need-book-line-requires-2
 book-line-requires-2 c κs =
@@ -46,18 +34,6 @@ book-line-requires-2 c κs =
     let more = bookable-after _ _ _ _ _ _ _ _ (a .k * 2) line b first (omega arith) (at-book-line .book-line .ensures) in
     let second = resting-fit (a .head .now) (a .o) (a .d) (q .0) (q .1) (q .2) (q .3) (q .4) _ (at-other-side .other-side .result) members run in
     ((more .long, more .most-members, second), ((more .lots-fit, more .value-fit), (omega arith, more .lines-long)))
-
-same-length : tie.Need-same-length
-same-length c = search needs
-
-same-length-2 : tie.Need-same-length-2
-same-length-2 c = search needs
-
-same-length-3 : tie.Need-same-length-3
-same-length-3 c = search needs
-
-same-length-4 : tie.Need-same-length-4
-same-length-4 c = search needs
 
 returns : tie.Need-returns
 returns c =
@@ -86,15 +62,5 @@ returns c =
 pub book-deal-spec : {M : Type 1} → statement M
 book-deal-spec =
     tie.close
-    (tie.spec
-    other-side-requires
-    mul-book-line
-    book-line-requires
-    mul-book-line-2
-    add-book-line
-    book-line-requires-2
-    same-length
-    same-length-2
-    same-length-3
-    same-length-4
-    returns)
+    (tie.spec (λ c κs. search needs) (λ c. search needs) book-line-requires (λ c. search needs) (λ c. search needs)
+    book-line-requires-2 (λ c. search needs) (λ c. search needs) (λ c. search needs) (λ c. search needs) returns)

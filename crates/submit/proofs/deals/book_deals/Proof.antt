@@ -51,12 +51,6 @@ book-deal-requires c κs =
       ),
     )
 
-add-k : tie.Need-add-k Inv-loop μ-loop
-add-k c = search needs
-
-loop-less : tie.Need-loop-less Inv-loop μ-loop
-loop-less c = search needs
-
 loop-again : tie.Need-loop-again Inv-loop μ-loop
 loop-again c =
     let at-book-deal = c .before .before .before .before .before in
@@ -90,17 +84,5 @@ returns c = let same : c .before .loop .k ≡ c .before .before .before .before 
 pub book-deals-spec : {M : Type 1} → statement M
 book-deals-spec =
     tie.close
-    (tie.spec
-    Inv-loop
-    μ-loop
-    loop-holds
-    deal-at-requires
-    book-deal-requires
-    add-k
-    loop-less
-    loop-again
-    same-length
-    same-length-2
-    same-length-3
-    same-length-4
-    returns)
+    (tie.spec Inv-loop μ-loop loop-holds deal-at-requires book-deal-requires (λ c. search needs) (λ c. search needs)
+    loop-again same-length same-length-2 same-length-3 same-length-4 returns)

@@ -33,12 +33,6 @@ add-worth c =
     let w = worth-next _ _ _ _ (start .pre) (c .before .before .loop-test .taken) (c .before .before .before .loop .inv .1) _ (c .before .deal-at .ensures) in omega
     (arith, w .most, start .pre .most)
 
-add-k : tie.Need-add-k Inv-loop μ-loop
-add-k c = search needs
-
-loop-less : tie.Need-loop-less Inv-loop μ-loop
-loop-less c = search needs
-
 loop-again : tie.Need-loop-again Inv-loop μ-loop
 loop-again c =
     let start = c .before .before .before .before .before in
@@ -52,14 +46,5 @@ returns c =
 pub worth-of-spec : {M : Type 1} → statement M
 worth-of-spec =
     tie.close
-    (tie.spec
-    Inv-loop
-    μ-loop
-    loop-holds
-    deal-at-requires
-    mul-worth
-    add-worth
-    add-k
-    loop-less
-    loop-again
-    returns)
+    (tie.spec Inv-loop μ-loop loop-holds deal-at-requires mul-worth add-worth (λ c. search needs) (λ c. search needs)
+    loop-again returns)

@@ -8,15 +8,6 @@ use borrow.Author.Needs.{needs}
 use Rattle.submit.proofs.placing.rest_order.Statement.{statement}
 use Rattle.submit.proofs.placing.rest_order.Tie as tie
 
-is-resting-requires : tie.Need-is-resting-requires
-is-resting-requires c κs = search needs
-
-slice-read-count : tie.Need-slice-read-count
-slice-read-count c = search needs
-
-with-lots-requires : tie.Need-with-lots-requires
-with-lots-requires c κs = search needs
-
 put-order-requires : tie.Need-put-order-requires
 put-order-requires c κs =
     let at-is-resting = c .before .before .before .before in
@@ -29,15 +20,6 @@ add-head c =
     let at-is-resting = at-if1 .before in
     let start = at-is-resting .before .before .before in
     omega (arith, start .pre .2 (rw (← (at-is-resting .is-resting .ensures)) (at-if1 .if1 .taken)))
-
-slice-write-head : tie.Need-slice-write-head
-slice-write-head c = search needs
-
-same-length : tie.Need-same-length
-same-length c = search needs
-
-same-length-2 : tie.Need-same-length-2
-same-length-2 c = search needs
 
 returns : tie.Need-returns
 returns c =
@@ -56,14 +38,5 @@ returns-2 c = (rw (← (c .before .is-resting .ensures), c .if1 .left) refl, rw 
 pub rest-order-spec : {M : Type 1} → statement M
 rest-order-spec =
     tie.close
-    (tie.spec
-    is-resting-requires
-    slice-read-count
-    with-lots-requires
-    put-order-requires
-    add-head
-    slice-write-head
-    same-length
-    same-length-2
-    returns
-    returns-2)
+    (tie.spec (λ c κs. search needs) (λ c. search needs) (λ c κs. search needs) put-order-requires add-head
+    (λ c. search needs) (λ c. search needs) (λ c. search needs) returns returns-2)

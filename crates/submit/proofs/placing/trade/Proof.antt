@@ -6,19 +6,10 @@ use borrow.Author.Needs.{needs}
 use Rattle.submit.proofs.placing.trade.Statement.{statement}
 use Rattle.submit.proofs.placing.trade.Tie as tie
 
-slice-read-orders : tie.Need-slice-read-orders
-slice-read-orders c = search needs
-
-array-borrow-prefix-left : tie.Need-array-borrow-prefix-left
-array-borrow-prefix-left c = search needs
-
 slice-aggregate-settle : tie.Need-slice-aggregate-settle
 slice-aggregate-settle c =
     let start = c .before .before .before .before .before .before .before .before in
     sym (length-take-le _ _ (start .pre .tradable .most-orders))
-
-slice-aggregate-settle-2 : tie.Need-slice-aggregate-settle-2
-slice-aggregate-settle-2 c = search needs
 
 settle-requires : tie.Need-settle-requires
 settle-requires c κs =
@@ -32,9 +23,6 @@ rest-order-requires c κs =
     let p = start .pre in
     let x = at-settle .settle .ensures .0 in
     (omega (arith, deals-head _ _ _ _ _ _ _ _ p _ _ _ _ _ x, p .tradable .head-long), omega (arith, at-settle .settle .kept .1 .1 .0, p .tradable .book-long), room-left _ _ _ _ _ _ _ _ p _ _ _ _ _ x)
-
-slice-aggregate-book-deals : tie.Need-slice-aggregate-book-deals
-slice-aggregate-book-deals c = search needs
 
 book-deals-requires : tie.Need-book-deals-requires
 book-deals-requires c κs =
@@ -54,27 +42,6 @@ book-deals-requires c κs =
       ),
     )
 
-mul-t41 : tie.Need-mul-t41
-mul-t41 c = search needs
-
-same-length : tie.Need-same-length
-same-length c = search needs
-
-same-length-2 : tie.Need-same-length-2
-same-length-2 c = search needs
-
-same-length-3 : tie.Need-same-length-3
-same-length-3 c = search needs
-
-same-length-4 : tie.Need-same-length-4
-same-length-4 c = search needs
-
-same-length-5 : tie.Need-same-length-5
-same-length-5 c = search needs
-
-same-length-6 : tie.Need-same-length-6
-same-length-6 c = search needs
-
 returns : tie.Need-returns
 returns c =
     let at-book-deals = c .before .before .before .before .before in
@@ -87,20 +54,6 @@ returns c =
 pub trade-spec : {M : Type 1} → statement M
 trade-spec =
     tie.close
-    (tie.spec
-    slice-read-orders
-    array-borrow-prefix-left
-    slice-aggregate-settle
-    slice-aggregate-settle-2
-    settle-requires
-    rest-order-requires
-    slice-aggregate-book-deals
-    book-deals-requires
-    mul-t41
-    same-length
-    same-length-2
-    same-length-3
-    same-length-4
-    same-length-5
-    same-length-6
-    returns)
+    (tie.spec (λ c. search needs) (λ c. search needs) slice-aggregate-settle (λ c. search needs) settle-requires
+    rest-order-requires (λ c. search needs) book-deals-requires (λ c. search needs) (λ c. search needs)
+    (λ c. search needs) (λ c. search needs) (λ c. search needs) (λ c. search needs) (λ c. search needs) returns)

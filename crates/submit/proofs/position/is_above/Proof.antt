@@ -6,12 +6,6 @@ use borrow.Author.Needs.{needs}
 use Rattle.submit.proofs.position.is_above.Statement.{statement}
 use Rattle.submit.proofs.position.is_above.Tie as tie
 
-cast-most : tie.Need-cast-most
-cast-most c = search needs
-
-cast-wanted : tie.Need-cast-wanted
-cast-wanted c = search needs
-
 add-result : tie.Need-add-result
 add-result c =
     let a = c .before .args in
@@ -21,4 +15,6 @@ returns : tie.Need-returns
 returns c = let a = c .before .args in rw (rd-pos (a .limit) (omega arith), sum-is (a .p .0) (a .more) (omega arith))
 
 pub is-above-spec : {M : Type 1} → statement M
-is-above-spec = tie.close (tie.spec cast-most cast-wanted add-result returns)
+is-above-spec =
+    tie.close
+    (tie.spec (λ c. search needs) (λ c. search needs) add-result returns)

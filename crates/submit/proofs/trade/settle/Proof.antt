@@ -37,21 +37,6 @@ keep-orders-requires c κs =
     let x = start .pre .0 in
     ((x .head-long, x .book-long, x .most-orders, omega (arith, at-match-orders .match-orders .kept .1 .1 .0, start .pre .1)), x .most-side)
 
-same-length : tie.Need-same-length
-same-length c = search needs
-
-same-length-2 : tie.Need-same-length-2
-same-length-2 c = search needs
-
-same-length-3 : tie.Need-same-length-3
-same-length-3 c = search needs
-
-same-length-4 : tie.Need-same-length-4
-same-length-4 c = search needs
-
-same-length-5 : tie.Need-same-length-5
-same-length-5 c = search needs
-
 returns : tie.Need-returns
 returns c =
     let at-keep-orders = c .before .before .before .before in
@@ -70,15 +55,5 @@ returns c =
 pub settle-spec : {M : Type 1} → statement M
 settle-spec =
     tie.close
-    (tie.spec
-    match-orders-requires
-    worth-of-requires
-    sub-add-dealt
-    add-dealt-requires
-    keep-orders-requires
-    same-length
-    same-length-2
-    same-length-3
-    same-length-4
-    same-length-5
-    returns)
+    (tie.spec match-orders-requires worth-of-requires sub-add-dealt add-dealt-requires keep-orders-requires
+    (λ c. search needs) (λ c. search needs) (λ c. search needs) (λ c. search needs) (λ c. search needs) returns)

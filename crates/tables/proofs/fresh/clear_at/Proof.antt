@@ -3,27 +3,6 @@ use borrow.Author.Needs.{needs}
 use Rattle.tables.proofs.fresh.clear_at.Statement.{statement}
 use Rattle.tables.proofs.fresh.clear_at.Tie as tie
 
-add-end : tie.Need-add-end
-add-end c = search needs
-
-mul-clear : tie.Need-mul-clear
-mul-clear c = search needs
-
-sub-clear : tie.Need-sub-clear
-sub-clear c = search needs
-
-part-clear-start : tie.Need-part-clear-start
-part-clear-start c = search needs
-
-part-clear-end : tie.Need-part-clear-end
-part-clear-end c = search needs
-
-clear-requires : tie.Need-clear-requires
-clear-requires c κs = search needs
-
-same-length : tie.Need-same-length
-same-length c = search needs
-
 returns : tie.Need-returns
 returns c =
     let pre = c .before .before .before .before .before .pre in
@@ -34,12 +13,5 @@ returns c =
 pub clear-at-spec : {M : Type 1} → statement M
 clear-at-spec =
     tie.close
-    (tie.spec
-    add-end
-    mul-clear
-    sub-clear
-    part-clear-start
-    part-clear-end
-    clear-requires
-    same-length
-    returns)
+    (tie.spec (λ c. search needs) (λ c. search needs) (λ c. search needs) (λ c. search needs) (λ c. search needs)
+    (λ c κs. search needs) (λ c. search needs) returns)

@@ -3,24 +3,6 @@ use borrow.Author.Needs.{needs}
 use Rattle.tables.proofs.fresh.write_head.Statement.{statement}
 use Rattle.tables.proofs.fresh.write_head.Tie as tie
 
-write-numbers-requires : tie.Need-write-numbers-requires
-write-numbers-requires c κs = search needs
-
-write-at-requires : tie.Need-write-at-requires
-write-at-requires c κs = search needs
-
-write-at-requires-2 : tie.Need-write-at-requires-2
-write-at-requires-2 c κs = search needs
-
-clear-at-requires : tie.Need-clear-at-requires
-clear-at-requires c κs = search needs
-
-clear-at-requires-2 : tie.Need-clear-at-requires-2
-clear-at-requires-2 c κs = search needs
-
-same-length : tie.Need-same-length
-same-length c = search needs
-
 returns : tie.Need-returns
 unfolding freshHead
 returns c =
@@ -34,11 +16,5 @@ returns c =
 pub write-head-spec : {M : Type 1} → statement M
 write-head-spec =
     tie.close
-    (tie.spec
-    write-numbers-requires
-    write-at-requires
-    write-at-requires-2
-    clear-at-requires
-    clear-at-requires-2
-    same-length
-    returns)
+    (tie.spec (λ c κs. search needs) (λ c κs. search needs) (λ c κs. search needs) (λ c κs. search needs)
+    (λ c κs. search needs) (λ c. search needs) returns)

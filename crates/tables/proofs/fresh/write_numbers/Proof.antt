@@ -6,9 +6,6 @@ use borrow.Author.Needs.{needs}
 use Rattle.tables.proofs.fresh.write_numbers.Statement.{statement}
 use Rattle.tables.proofs.fresh.write_numbers.Tie as tie
 
-slice-write-head : tie.Need-slice-write-head
-slice-write-head c = search needs
-
 slice-write-head-2 : tie.Need-slice-write-head-2
 slice-write-head-2 c = simp length-set (omega arith)
 
@@ -39,14 +36,5 @@ returns c = let a = c .args in stored (a .first-year ∷ a .members ∷ a .holid
 pub write-numbers-spec : {M : Type 1} → statement M
 write-numbers-spec =
     tie.close
-    (tie.spec
-    slice-write-head
-    slice-write-head-2
-    slice-write-head-3
-    slice-write-head-4
-    slice-write-head-5
-    slice-write-head-6
-    slice-write-head-7
-    slice-write-head-8
-    same-length
-    returns)
+    (tie.spec (λ c. search needs) slice-write-head-2 slice-write-head-3 slice-write-head-4 slice-write-head-5
+    slice-write-head-6 slice-write-head-7 slice-write-head-8 same-length returns)

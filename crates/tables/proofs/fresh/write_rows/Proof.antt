@@ -22,33 +22,6 @@ loop-holds : tie.Need-loop-holds Inv-loop μ-loop
 unfolding inEachBlock
 loop-holds c = (omega arith, refl, refl)
 
-mul-at : tie.Need-mul-at Inv-loop μ-loop
-mul-at c = search needs
-
-add-end : tie.Need-add-end Inv-loop μ-loop
-add-end c = search needs
-
-mul-clear-rows : tie.Need-mul-clear-rows Inv-loop μ-loop
-mul-clear-rows c = search needs
-
-sub-clear-rows : tie.Need-sub-clear-rows Inv-loop μ-loop
-sub-clear-rows c = search needs
-
-part-clear-rows-start : tie.Need-part-clear-rows-start Inv-loop μ-loop
-part-clear-rows-start c = search needs
-
-part-clear-rows-end : tie.Need-part-clear-rows-end Inv-loop μ-loop
-part-clear-rows-end c = search needs
-
-clear-rows-requires : tie.Need-clear-rows-requires Inv-loop μ-loop
-clear-rows-requires c κs = search needs
-
-add-contract : tie.Need-add-contract Inv-loop μ-loop
-add-contract c = search needs
-
-loop-less : tie.Need-loop-less Inv-loop μ-loop
-loop-less c = search needs
-
 loop-again : tie.Need-loop-again Inv-loop μ-loop
 loop-again c =
     let d = c .before .before .before .before .before .args .rows .now in
@@ -63,9 +36,6 @@ loop-again c =
           (block-written 32 (over 0 zeros) (λ x e. over-length 0 zeros x (omega arith) ∙ e) zeros (l .contract) d (over-front zeros (take 32 (drop (l .contract * 32) d))) (omega arith) (omega arith)),
     )
 
-same-length : tie.Need-same-length Inv-loop μ-loop
-same-length c = omega arith
-
 returns : tie.Need-returns Inv-loop μ-loop
 unfolding freshRows
 returns c = let l = c .before .loop in let e : l .contract ≡ 102 = omega arith in rw e at (l .inv .2)
@@ -73,19 +43,6 @@ returns c = let l = c .before .loop in let e : l .contract ≡ 102 = omega arith
 pub write-rows-spec : {M : Type 1} → statement M
 write-rows-spec =
     tie.close
-    (tie.spec
-    Inv-loop
-    μ-loop
-    loop-holds
-    mul-at
-    add-end
-    mul-clear-rows
-    sub-clear-rows
-    part-clear-rows-start
-    part-clear-rows-end
-    clear-rows-requires
-    add-contract
-    loop-less
-    loop-again
-    same-length
-    returns)
+    (tie.spec Inv-loop μ-loop loop-holds (λ c. search needs) (λ c. search needs) (λ c. search needs)
+    (λ c. search needs) (λ c. search needs) (λ c. search needs) (λ c κs. search needs) (λ c. search needs)
+    (λ c. search needs) loop-again (λ c. omega arith) returns)

@@ -13,12 +13,6 @@ use borrow.Author.Needs.{needs}
 use Rattle.tables.proofs.leaving.remove_orders.Statement.{statement}
 use Rattle.tables.proofs.leaving.remove_orders.Tie as tie
 
-slice-read-count : tie.Need-slice-read-count
-slice-read-count c = search needs
-
-array-borrow-prefix-left : tie.Need-array-borrow-prefix-left
-array-borrow-prefix-left c = search needs
-
 slice-aggregate-write-left : tie.Need-slice-aggregate-write-left
 slice-aggregate-write-left c =
     let start = c .before .before .before .before .before in
@@ -53,12 +47,6 @@ keep-orders-requires c κs =
     let many = column-many (leaves (a .w)) n (left .last .1 .0) (replicate 256 0) (a .book .now) (fit .most-orders) (left .ensures) in
     ((start .pre .0, fit .long, fit .most-orders, rw (← many) (omega arith)), fit .most-side)
 
-same-length : tie.Need-same-length
-same-length c = search needs
-
-same-length-2 : tie.Need-same-length-2
-same-length-2 c = search needs
-
 returns : tie.Need-returns
 returns c =
     let at-keep-orders = c .before .before .before .before in
@@ -73,14 +61,6 @@ returns c =
 pub remove-orders-spec : {M : Type 1} → statement M
 remove-orders-spec =
     tie.close
-    (tie.spec
-    slice-read-count
-    array-borrow-prefix-left
-    slice-aggregate-write-left
-    write-left-requires
-    array-share-prefix-left
-    slice-aggregate-keep-orders
-    keep-orders-requires
-    same-length
-    same-length-2
+    (tie.spec (λ c. search needs) (λ c. search needs) slice-aggregate-write-left write-left-requires
+    array-share-prefix-left slice-aggregate-keep-orders keep-orders-requires (λ c. search needs) (λ c. search needs)
     returns)

@@ -13,10 +13,6 @@ use Rattle.tables.proofs.Left.{staying-length, staying-at}
 use Rattle.arith.proofs.Writes.{front-next, front-end}
 use Rattle.tables.proofs.leaving.write_left.Statement.{statement}
 use Rattle.tables.proofs.leaving.write_left.Tie as tie
-use Rattle.tables.proofs.leaving.write_left.Reads as reads
-use Rattle.tables.proofs.leaving.write_left.Lts as lts
-use Rattle.tables.proofs.book.order_at.Reads as order-at-reads
-use Rattle.tables.proofs.leaving.left_of.Reads as left-of-reads
 
 abbrev Inv-loop : tie.InvT-loop
 Inv-loop book left₀ w i₀ left i = (length left ≡ length left₀) × (i ≤ length left₀) × (left ≡ take i (staying (leaves w) (ordersIn (length left₀) book)) ++ drop i left₀)
@@ -24,35 +20,9 @@ Inv-loop book left₀ w i₀ left i = (length left ≡ length left₀) × (i ≤
 abbrev μ-loop : tie.MeasureT-loop
 μ-loop book left₀ w i₀ left i = length left₀ - i
 
--- src/leaving.rt:68:5
 loop-holds : tie.Need-loop-holds Inv-loop μ-loop
 loop-holds c = (refl, omega arith, refl)
 
--- src/leaving.rt:69:13
-order-at-requires : tie.Need-order-at-requires Inv-loop μ-loop
-order-at-requires c κs = search needs
-
--- src/leaving.rt:70:19
-left-of-requires : tie.Need-left-of-requires Inv-loop μ-loop
-left-of-requires c κs = search needs
-
--- src/leaving.rt:70:9
-mul-left : tie.Need-mul-left Inv-loop μ-loop
-mul-left c = search needs
-
--- src/leaving.rt:70:9
-slice-write-left : tie.Need-slice-write-left Inv-loop μ-loop
-slice-write-left c = search needs
-
--- src/leaving.rt:71:9
-add-i : tie.Need-add-i Inv-loop μ-loop
-add-i c = search needs
-
--- src/leaving.rt:68:5
-loop-less : tie.Need-loop-less Inv-loop μ-loop
-loop-less c = search needs
-
--- src/leaving.rt:68:5
 loop-again : tie.Need-loop-again Inv-loop μ-loop
 loop-again c =
     let a = c .before .before .before .before .before .before .args in
@@ -67,11 +37,6 @@ loop-again c =
           (front-next (l .i) all (a .left .now) 0 (omega (arith, staying-length (leaves (a .w)) n (a .book .now))) (omega arith)),
     )
 
--- src/leaving.rt:63:1
-same-length : tie.Need-same-length Inv-loop μ-loop
-same-length c = search needs
-
--- src/leaving.rt:63:1
 returns : tie.Need-returns Inv-loop μ-loop
 returns c =
     let a = c .before .before .before .before .args in
@@ -82,16 +47,5 @@ returns c =
 pub write-left-spec : {M : Type 1} → statement M
 write-left-spec =
     tie.close
-    (tie.spec
-    Inv-loop
-    μ-loop
-    loop-holds
-    order-at-requires
-    left-of-requires
-    mul-left
-    slice-write-left
-    add-i
-    loop-less
-    loop-again
-    same-length
-    returns)
+    (tie.spec Inv-loop μ-loop loop-holds (λ c κs. search needs) (λ c κs. search needs) (λ c. search needs)
+    (λ c. search needs) (λ c. search needs) (λ c. search needs) loop-again (λ c. search needs) returns)

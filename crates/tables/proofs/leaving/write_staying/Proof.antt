@@ -21,12 +21,6 @@ loop-holds : tie.Need-loop-holds Inv-loop μ-loop
 unfolding from flatMap over
 loop-holds c = (omega arith, refl, ap length (sym (left-nothing (c .before .before .args .left .now))), rw (left-nothing (c .before .before .args .left .now)))
 
-mul-keep-order : tie.Need-mul-keep-order Inv-loop μ-loop
-mul-keep-order c = search needs
-
-shared-slice-read-keep-order : tie.Need-shared-slice-read-keep-order Inv-loop μ-loop
-shared-slice-read-keep-order c = search needs
-
 keep-order-requires : tie.Need-keep-order-requires Inv-loop μ-loop
 keep-order-requires c κs =
     let start = c .before .before .before .before .before .before in
@@ -36,12 +30,6 @@ keep-order-requires c κs =
     let few = left-few qs b (l .i) in
     let side = side-there (flatMap orderPlaces (leftTo qs b (l .i))) b (l .i) (omega (arith, places-length (leftTo qs b (l .i)), few)) (omega arith) (omega arith) in
     (omega (arith, few), omega arith, omega arith, rw (l .inv .3, side) (start .pre .3 (l .i) (omega arith)))
-
-add-i : tie.Need-add-i Inv-loop μ-loop
-add-i c = search needs
-
-loop-less : tie.Need-loop-less Inv-loop μ-loop
-loop-less c = search needs
 
 loop-again : tie.Need-loop-again Inv-loop μ-loop
 loop-again c =
@@ -56,9 +44,6 @@ loop-again c =
       c .before .before .keep-order .ensures .1 ∙ kept-book qs (a .book .now) (l .i) (omega arith) (omega arith) (omega arith) (l .free) (l .book) (l .inv .2) (l .inv .3),
     )
 
-same-length : tie.Need-same-length Inv-loop μ-loop
-same-length c = search needs
-
 returns : tie.Need-returns Inv-loop μ-loop
 returns c =
     let start = c .before .before .before .before in
@@ -67,15 +52,5 @@ returns c =
 pub write-staying-spec : {M : Type 1} → statement M
 write-staying-spec =
     tie.close
-    (tie.spec
-    Inv-loop
-    μ-loop
-    loop-holds
-    mul-keep-order
-    shared-slice-read-keep-order
-    keep-order-requires
-    add-i
-    loop-less
-    loop-again
-    same-length
-    returns)
+    (tie.spec Inv-loop μ-loop loop-holds (λ c. search needs) (λ c. search needs) keep-order-requires
+    (λ c. search needs) (λ c. search needs) loop-again (λ c. search needs) returns)

@@ -4,41 +4,21 @@ use Rattle.rules.specs.Ledger.{posted}
 use borrow.Author.Needs.{needs}
 use Rattle.tables.proofs.lines.post_line.Statement.{statement}
 use Rattle.tables.proofs.lines.post_line.Tie as tie
-use Rattle.tables.proofs.lines.post_line.Reads as reads
-use Rattle.tables.proofs.lines.post_line.Lts as lts
-use Rattle.tables.proofs.lines.add_at.Reads as add-at-reads
-use Rattle.tables.proofs.lines.with_sign.Reads as with-sign-reads
 
--- src/lines.rt:64:14
-mul-at : tie.Need-mul-at
-mul-at c = search needs
-
--- src/lines.rt:64:14
-add-at : tie.Need-add-at
-add-at c = search needs
-
--- src/lines.rt:66:17
 mul-worth : tie.Need-mul-worth
 mul-worth c = omega (arith, worth-most (c .before .args .line .lots .0) (c .before .args .line .price .0) (omega arith) (omega arith))
 
--- src/lines.rt:67:22
-with-sign-requires : tie.Need-with-sign-requires
-with-sign-requires c κs = search needs
-
--- src/lines.rt:67:5
 add-at-requires : tie.Need-add-at-requires
 add-at-requires c κs =
     let pre = c .before .before .before .pre in
     let args = c .before .before .before .args in
     let l = args .line in (omega arith, omega (arith, c .with-sign .ensures .1, pre .0 .0 .within (l .contract) (l .member) (omega arith) (omega arith)))
 
--- src/lines.rt:68:23
 with-sign-requires-2 : tie.Need-with-sign-requires-2
 with-sign-requires-2 c κs =
     let args = c .before .before .before .before .before .before .args in
     worth-most (args .line .lots .0) (args .line .price .0) (omega arith) (omega arith)
 
--- src/lines.rt:68:5
 add-at-requires-2 : tie.Need-add-at-requires-2
 add-at-requires-2 c κs =
     let pre = c .before .before .before .before .before .before .before .pre in
@@ -53,15 +33,6 @@ add-at-requires-2 c κs =
       ),
     )
 
--- src/lines.rt:58:1
-same-length : tie.Need-same-length
-same-length c = search needs
-
--- src/lines.rt:58:1
-same-length-2 : tie.Need-same-length-2
-same-length-2 c = search needs
-
--- src/lines.rt:58:1
 returns : tie.Need-returns
 unfolding posted
 returns c =
@@ -75,14 +46,5 @@ returns c =
 pub post-line-spec : {M : Type 1} → statement M
 post-line-spec =
     tie.close
-    (tie.spec
-    mul-at
-    add-at
-    mul-worth
-    with-sign-requires
-    add-at-requires
-    with-sign-requires-2
-    add-at-requires-2
-    same-length
-    same-length-2
-    returns)
+    (tie.spec (λ c. search needs) (λ c. search needs) mul-worth (λ c κs. search needs) add-at-requires
+    with-sign-requires-2 add-at-requires-2 (λ c. search needs) (λ c. search needs) returns)

@@ -6,15 +6,6 @@ use borrow.Author.Needs.{needs}
 use Rattle.tables.proofs.lines.with_sign.Statement.{statement}
 use Rattle.tables.proofs.lines.with_sign.Tie as tie
 
-cast-x : tie.Need-cast-x
-cast-x c = search needs
-
-enum-told : tie.Need-enum-told
-enum-told c = search needs
-
-enum-told-2 : tie.Need-enum-told-2
-enum-told-2 c = search needs
-
 sub-t5 : tie.Need-sub-t5
 sub-t5 c = neg-ok (c .before .before .args .amount) (omega arith)
 
@@ -25,4 +16,6 @@ returns-2 : tie.Need-returns-2
 returns-2 c = rw (neg-is (c .before .before .args .amount) (omega arith), c .enum-told2 .given .1) (refl, abs-neg (pos (c .before .before .args .amount)))
 
 pub with-sign-spec : {M : Type 1} → statement M
-with-sign-spec = tie.close (tie.spec cast-x enum-told enum-told-2 sub-t5 returns returns-2)
+with-sign-spec =
+    tie.close
+    (tie.spec (λ c. search needs) (λ c. search needs) (λ c. search needs) sub-t5 returns returns-2)
