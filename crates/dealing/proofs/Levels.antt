@@ -32,6 +32,16 @@ level-length r m = length-map m (min r)
 level-le : (q r : ℕ) (m : List ℕ) → q ≤ r → sumOf (atLevel q m) ≤ sumOf (atLevel r m)
 level-le q r m h = sum-le (atLevel q m) (atLevel r m) (level-length q m ∙ sym (level-length r m)) (λ j. rw (level-at q m j, level-at r m j) (omega arith))
 
+-- no minimum is above g, so that levels above g are alike
+pub level-top : (l g : ℕ) (m : List ℕ) → ((j : ℕ) → getD m j 0 ≤ g) → atLevel (min l g) m ≡ atLevel l m
+level-top l g m h =
+    ext-getD 0 (atLevel (min l g) m) (atLevel l m) (level-length (min l g) m ∙ sym (level-length l m))
+    (λ j k. rw (level-at (min l g) m j, level-at l m j) (omega (arith, h j)))
+
+-- a level that the lots suffice for is below one that they do not
+pub level-below : (l r t : ℕ) (m : List ℕ) → sumOf (atLevel r m) ≤ l → l < sumOf (atLevel t m) → r < t
+level-below l r t m e s = le-or-lt t r (λ h. absurd (omega (arith, level-le t r m h))) (λ h. h)
+
 level-none : (m : List ℕ) → atLevel 0 m ≡ replicate (length m) 0
 unfolding atLevel
 level-none [] = refl

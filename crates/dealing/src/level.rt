@@ -1,10 +1,11 @@
 // The level up to which whole rounds deal.
 ghost use mathlib.Core.Path.{_≡_};
-ghost use Prim.Native.Nat.{_≤_};
-ghost use lib.ListN.{length};
+ghost use Prim.Native.Nat.{ℕ, _≤_, _<_};
+ghost use lib.ListN.{length, getD};
 ghost use Rattle.rules.specs.Default.{sumOf};
 ghost use Rattle.rules.specs.Ranges.{mostMembers, mostLotsRun};
 ghost use Rattle.dealing.specs.Levels.{atLevel, Highest};
+use crate::columns::larger;
 use crate::columns::smaller;
 
 pub fn lots_at_level(level: u64, minima: &[u64]) -> u64
@@ -31,13 +32,43 @@ pub fn fill_to_level(level: u64, minima: &[u64], received: &mut [u64])
     }
 }
 
-// The highest level that the lots suffice for, by halves: its cost does not grow with the lots.
+// No minimum is larger.
+fn largest(minima: &[u64]) -> u64
+    ensures { λ r. ⌜ ((i : ℕ) → getD (now (minima .entry)) i 0 ≤ r) ⌝ }
+{
+    let mut found: u64 = 0;
+    let mut i: usize = 0;
+    while i < minima.len() {
+        found = larger(found, minima[i]);
+        i += 1;
+    }
+    found
+}
+
+// A level that the lots suffice for, below one that they do not: one lot a member below it, where that is one.
+fn level_below(lots: u64, minima: &[u64], top: u64) -> u64
+    requires { ⌜ (top ≤ mostLotsRun) × (length (now minima) ≤ mostMembers) × (lots < sumOf (atLevel top (now minima))) ⌝ }
+    ensures { λ r. ⌜ (r < top) × (sumOf (atLevel r (now (minima .entry))) ≤ lots) ⌝ }
+{
+    let level = top - smaller(top, minima.len() as u64);
+    if lots_at_level(level, minima) <= lots {
+        return level;
+    }
+    0
+}
+
+// The highest level that the lots suffice for. Minimums are rounded up, so together they pass the lots by less than one
+// a member: the level is less than so many below the largest, and the halves between do not grow with the lots.
 pub fn highest_level(lots: u64, minima: &[u64]) -> u64
     requires { ⌜ (lots ≤ mostLotsRun) × (length (now minima) ≤ mostMembers) ⌝ }
     ensures { λ r. ⌜ Highest lots (now (minima .entry)) r ⌝ }
 {
-    let mut low: u64 = 0;
-    let mut high = lots;
+    let top = smaller(lots, largest(minima));
+    if lots_at_level(top, minima) <= lots {
+        return lots;
+    }
+    let mut low = level_below(lots, minima, top);
+    let mut high = top - 1;
     while low < high {
         let middle = high - (high - low) / 2;
         if lots_at_level(middle, minima) <= lots {
