@@ -53,6 +53,13 @@ in-turns : closedOut (0 ∷ []) ((0, 17, pos 4) ∷ (1, 17, negsuc 0) ∷ (2, 17
 unfolding computed closedOut lent held marked
 in-turns = refl
 
+-- L = 3 by lots here, 1, 1, 1 and 3: minimums 1, 1, 1 and 2. The larger minimum comes first, so that the turns end before
+-- member 3's.
+larger-minimum-first : closedOut (0 ∷ []) ((0, 17, pos 3) ∷ (1, 17, negsuc 0) ∷ (2, 17, negsuc 0) ∷ (3, 17, pos 1) ∷ (4, 17, negsuc 2) ∷ []) 1000
+    ≡ accepted (line 0 17 (negsuc 2) 26000 ∷ line 1 17 (pos 1) 26000 ∷ line 2 17 (pos 1) 26000 ∷ line 4 17 (pos 1) 26000 ∷ [])
+unfolding computed closedOut lent held marked
+larger-minimum-first = refl
+
 -- Step 1, the lowest member first on each side; step 2, what is left of member 2. Others' lots of that side take too.
 netting : closedOut (0 ∷ 1 ∷ 2 ∷ 3 ∷ []) ((0, 17, negsuc 2) ∷ (1, 17, pos 3) ∷ (2, 17, pos 3) ∷ (3, 17, negsuc 0) ∷ (4, 17, pos 7) ∷ []) 1000
     ≡ accepted
@@ -83,16 +90,17 @@ default-lots : dayLots (applySpec (lent (0 ∷ []) two) (closeOut 17 500) .after
 unfolding computed lent held marked
 default-lots = refl
 
--- ---- from the deals to the close-out: the price is the day's GGF
+-- ---- from the deals, at 26000 and 28000, to the close-out: the price is the day's GGF
 from-deal-to-close-out : Prints monday
-    ((sell 0 17 26000 10, accepted [])
+    ((sell 0 17 26000 6, accepted [])
+    ∷ (sell 0 17 28000 4, accepted [])
     ∷ (buy 1 17 26000 6, accepted (bought 1 0 17 6 26000))
-    ∷ (buy 2 17 27000 4, accepted (bought 2 0 17 4 26000))
+    ∷ (buy 2 17 29000 4, accepted (bought 2 0 17 4 28000))
     ∷ (closeOut 17 1000, refused 14)
     ∷ (close 61200, accepted [])
     ∷ (closeOut 17 1000, refused 15)
     ∷ (default 0, accepted [])
-    ∷ (closeOut 17 1000, accepted (line 0 17 (pos 10) 26000 ∷ line 1 17 (negsuc 5) 26000 ∷ line 2 17 (negsuc 3) 26000 ∷ []))
+    ∷ (closeOut 17 1000, accepted (line 0 17 (pos 10) 26800 ∷ line 1 17 (negsuc 5) 26800 ∷ line 2 17 (negsuc 3) 26800 ∷ []))
     ∷ [])
 unfolding computed
 from-deal-to-close-out = refl

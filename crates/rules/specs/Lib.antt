@@ -19,8 +19,6 @@ pub mod Bytes
 pub mod Computed
 pub mod ExampleRecords
 pub mod Cases
-pub mod JournalExample
-pub mod Numbers
 pub mod MatchingExamples
 pub mod ProposalExamples
 pub mod CloseOfDayExamples

@@ -1,0 +1,58 @@
+-- Document 01, "Synthetic matching": more proposals that are accepted beside those that are not, computed.
+use mathlib.Core.Path.{refl}
+use mathlib.Core.List.{[], _∷_}
+use Rattle.rules.specs.declared.order.Side.the-variants.{Buy, Sell}
+use Rattle.rules.specs.Ledger.{withAcceptedSubmits, withLotsRun, withOrders}
+use Rattle.rules.specs.Refusals.{applySpec}
+use Rattle.rules.specs.Computed.{printed, computed}
+use Rattle.rules.specs.ExampleRecords.{proposal, monday, inHead, order, refused, Each, EachPrints}
+use Rattle.rules.specs.ProposalExamples.{ones, quarterBy, fourLines}
+
+-- From the sell order's price to the buy order's; the legs of an hour have one value.
+prices-of-legs : EachPrints (quarterBy 0 1)
+    ((ones 31199 31199 31199 31199, refused 13)
+    ∷ (ones 31200 31200 31200 31200, fourLines 31200)
+    ∷ (ones 31500 31500 31500 31500, fourLines 31500)
+    ∷ (ones 31501 31501 31501 31501, refused 13)
+    ∷ (ones 31300 31300 31300 31301, refused 13)
+    ∷ [])
+unfolding computed
+prices-of-legs = refl
+
+-- Numbers rise, each names a resting order with its lots, and every hour balances.
+which-legs : EachPrints (quarterBy 0 1)
+    ((proposal ((1, 1, 31300) ∷ (0, 1, 31300) ∷ (2, 1, 31300) ∷ (3, 1, 31300) ∷ []), refused 13)
+    ∷ (proposal ((0, 1, 31300) ∷ (0, 1, 31300) ∷ (1, 2, 31300) ∷ (2, 2, 31300) ∷ (3, 2, 31300) ∷ []), refused 13)
+    ∷ (proposal ((0, 1, 31300) ∷ (1, 1, 31300) ∷ (2, 1, 31300) ∷ (3, 1, 31300) ∷ (9, 1, 31300) ∷ []), refused 13)
+    ∷ (proposal ((0, 4, 31300) ∷ (1, 4, 31300) ∷ (2, 4, 31300) ∷ (3, 4, 31300) ∷ []), refused 13)
+    ∷ (proposal ((0, 1, 31300) ∷ (1, 1, 31300) ∷ (2, 1, 31300) ∷ []), refused 13)
+    ∷ [])
+unfolding computed
+which-legs = refl
+
+-- One member is not enough, nor one contract.
+two-members : Each (λ m. printed (applySpec (quarterBy m 1) (ones 31300 31300 31300 31300))) ((0, fourLines 31300) ∷ (1, refused 13) ∷ [])
+unfolding computed
+two-members = refl
+
+two-contracts : EachPrints (withOrders (order 0 0 17 Buy 30000 1 369 0 ∷ order 1 1 17 Sell 30000 1 369 0 ∷ []) (inHead (withAcceptedSubmits 2) monday))
+    ((proposal ((0, 1, 30000) ∷ (1, 1, 30000) ∷ []), refused 13) ∷ [])
+unfolding computed
+two-contracts = refl
+
+-- A lot bought at 60000 is not two lots sold at 30000, though the value is the same.
+lots-of-legs : EachPrints
+    (withOrders
+    (order 0 0 18 Buy 60000 2 369 0 ∷ order 1 1 22 Sell 30000 2 369 0 ∷ order 2 1 23 Sell 30000 2 369 0 ∷ order 3 1 24 Sell 30000 2 369 0 ∷ [])
+    (inHead (withAcceptedSubmits 4) monday))
+    ((proposal ((0, 1, 60000) ∷ (1, 2, 30000) ∷ (2, 2, 30000) ∷ (3, 2, 30000) ∷ []), refused 13)
+    ∷ (ones 30000 30000 30000 30000, fourLines 30000)
+    ∷ [])
+unfolding computed
+lots-of-legs = refl
+
+-- Its four lines count in the lots run.
+run-of-legs : Each (λ run. printed (applySpec (inHead (withLotsRun run) (quarterBy 0 1)) (ones 31300 31300 31300 31300)))
+    ((4999996, fourLines 31300) ∷ (4999997, refused 17) ∷ [])
+unfolding computed
+run-of-legs = refl
