@@ -39,7 +39,7 @@ pub extern "C" fn ledger_make(
     told_of(answer).number
 }
 
-// Whether any call with these tables is answered 1: 1 if a table is too short or damaged, else 0.
+// Whether any record applied to these tables is answered 1: 1 if a table is too short or damaged, else 0.
 #[no_mangle]
 pub extern "C" fn ledger_is_damaged(
     head: &[u64],

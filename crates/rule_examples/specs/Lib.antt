@@ -1,5 +1,5 @@
 pub mod FullBook
 pub mod Numbers
 pub mod JournalExample
-pub mod Proposals
-pub mod ClosesOfDay
+pub mod MoreProposalExamples
+pub mod MoreCloseOfDayExamples

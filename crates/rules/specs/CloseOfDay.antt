@@ -16,7 +16,7 @@ use Rattle.rules.specs.declared.units.Day.the-variants.{On, NoDay}
 use Rattle.rules.specs.Answers.{Outcome}
 use Rattle.rules.specs.Ranges.{contractCount, secondsToQuote}
 use Rattle.rules.specs.Days.{nextBusinessDay}
-use Rattle.rules.specs.Contracts.{thresholdOf, kindOf, contractsOf, childrenOf, closesOn, openContracts}
+use Rattle.rules.specs.Contracts.{thresholdOf, kindOf, contractsOf, isParent, childrenOf, closesOn, openContracts}
 use Rattle.rules.specs.Ledger.{Tables, withHead, withPrices, withRows, members, day, calendar, withDay, withTime, priceWidth, dayLotsPlace, ggf, dayLots, dayValue, withGgf}
 use Rattle.rules.specs.Ledger.{rowsFrom, orders, withOrders, withoutSubmits}
 use Rattle.rules.specs.Sides.{sameSide}
@@ -84,7 +84,7 @@ zeroRows n c l = over (rowsFrom c) (replicate n (pos 0)) l
 
 -- A year's rows are added to its four quarters, a quarter's to its three months, and set to zero; a month's rows stay.
 unfoldable pub cascaded : ℕ → ℕ → List ℤ → List ℤ
-cascaded n c l = cond (leb (c % 17) 4) (zeroRows n c (addedTo n c (childrenOf c) l)) l
+cascaded n c l = cond (isParent c) (zeroRows n c (addedTo n c (childrenOf c) l)) l
 
 -- The contracts whose closing day is the ledger's day, years before quarters before months, each by delivery.
 unfoldable pub closingContracts : Tables → List ℕ

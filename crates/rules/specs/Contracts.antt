@@ -10,7 +10,7 @@ use Rattle.rules.specs.declared.contract.ContractKind.the-variants.{Year
 use Rattle.rules.specs.declared.contract.Term.{Term}
 use Rattle.rules.specs.declared.units.Day.{Day}
 use Rattle.rules.specs.declared.units.Day.the-variants.{On, NoDay}
-use Rattle.rules.specs.Ranges.{contractCount}
+use Rattle.rules.specs.Ranges.{contractCount, contractsInYear}
 use Rattle.rules.specs.Days.{Calendar, monthStart, firstMonth, businessDayBefore}
 
 -- ---- kinds
@@ -52,9 +52,9 @@ sameKind Month Month = true
 -- Contract number = 17 times year index (0 to 5) + k: k = 0 year, 1 to 4 quarters, 5 to 16 months.
 unfoldable pub termOf : ℕ → Term
 termOf c =
-    cond (eqb (c % 17) 0) (record { kind = Year; index = c / 17 })
-    (cond (leb (c % 17) 4) (record { kind = Quarter; index = 4 * (c / 17) + (c % 17 - 1) })
-    (record { kind = Month; index = 12 * (c / 17) + (c % 17 - 5) }))
+    cond (eqb (c % contractsInYear) 0) (record { kind = Year; index = c / contractsInYear })
+    (cond (leb (c % contractsInYear) 4) (record { kind = Quarter; index = 4 * (c / contractsInYear) + (c % contractsInYear - 1) })
+    (record { kind = Month; index = 12 * (c / contractsInYear) + (c % contractsInYear - 5) }))
 
 abbrev pub kindOf : ℕ → ContractKind
 kindOf c = termOf c .kind
@@ -63,9 +63,13 @@ kindOf c = termOf c .kind
 unfoldable pub contractsOf : ContractKind → List ℕ
 contractsOf s = kept (λ c. sameKind (kindOf c) s) (from 0 contractCount)
 
+-- A year or a quarter: a contract that cascades.
+abbrev pub isParent : ℕ → Bool
+isParent c = leb (c % contractsInYear) 4
+
 -- A year's four quarters, a quarter's three months.
 unfoldable pub childrenOf : ℕ → List ℕ
-childrenOf c = cond (eqb (c % 17) 0) (from (c + 1) 4) (cond (leb (c % 17) 4) (from (17 * (c / 17) + 5 + 3 * (c % 17 - 1)) 3) [])
+childrenOf c = cond (eqb (c % contractsInYear) 0) (from (c + 1) 4) (cond (isParent c) (from (contractsInYear * (c / contractsInYear) + 5 + 3 * (c % contractsInYear - 1)) 3) [])
 
 -- ---- periods
 -- The first delivery day of a term, and the first day after its last.
@@ -139,4 +143,4 @@ openOn k d c = any (λ x. eqb x c) (openOfKind k d (kindOf c))
 
 -- A contract has cascaded once it is a year or quarter whose closing day is before the day.
 unfoldable pub hasCascaded : Calendar → ℕ → ℕ → Bool
-hasCascaded k d c = leb (c % 17) 4 && closesBefore k c d
+hasCascaded k d c = isParent c && closesBefore k c d

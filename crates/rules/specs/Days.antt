@@ -23,14 +23,14 @@ monthDays y m = cond (eqb m 1) (cond (leapYear y) 29 28) (cond (eqb m 3 || eqb m
 -- The first day of the nth year from 2020 on; 1 January 2020 is day 0.
 unfoldable pub yearStart : ℕ → ℕ
 yearStart zero = 0
-yearStart (suc n) = yearStart n + cond (leapYear (2020 + n)) 366 365
+yearStart (suc n) = yearStart n + cond (leapYear (leastFirstYear + n)) 366 365
 
 -- Months are counted from January 2020, month 0.
 unfoldable pub monthLength : ℕ → ℕ
-monthLength i = monthDays (2020 + i / 12) (i % 12)
+monthLength i = monthDays (leastFirstYear + i / 12) (i % 12)
 
 unfoldable pub monthStart : ℕ → ℕ
-monthStart i = yearStart (i / 12) + total (monthDays (2020 + i / 12)) (from 0 (i % 12))
+monthStart i = yearStart (i / 12) + total (monthDays (leastFirstYear + i / 12)) (from 0 (i % 12))
 
 -- Day 0 is a Wednesday.
 abbrev pub saturday : ℕ → Bool

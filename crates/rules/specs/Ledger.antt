@@ -10,7 +10,7 @@ use Rattle.arith.specs.Lists.{from, over, total, inEachBlock}
 use Rattle.rules.specs.declared.answer.Answer.the-variants.{Accepted}
 use Rattle.rules.specs.declared.order.Order.{Order}
 use Rattle.rules.specs.Answers.{Outcome}
-use Rattle.rules.specs.Ranges.{contractCount, mostMembers, mostOrders, mostPrice, leastLines}
+use Rattle.rules.specs.Ranges.{contractCount, mostMembers, mostHolidays, mostOrders, mostPrice, leastLines}
 use Rattle.rules.specs.Sides.{sideOf, sideNumber}
 use Rattle.rules.specs.Days.{Calendar}
 use Rattle.rules.specs.Contracts.{openOn}
@@ -76,13 +76,13 @@ abbrev pub holidaysFrom : ℕ
 holidaysFrom = 8
 
 abbrev pub limitsFrom : ℕ
-limitsFrom = 128
+limitsFrom = holidaysFrom + mostHolidays
 
 abbrev pub marksFrom : ℕ
-marksFrom = 160
+marksFrom = limitsFrom + mostMembers
 
 abbrev pub submitsFrom : ℕ
-submitsFrom = 192
+submitsFrom = marksFrom + mostMembers
 
 -- ---- the head as it is read
 abbrev pub firstYear : Tables → ℕ
@@ -331,7 +331,7 @@ timed s t = cond (ltb (time t) s) (withHead (withTime s (withoutSubmits t .head)
 -- ---- fresh
 -- How long each table must be, sized for 32 members.
 abbrev pub headLength : ℕ
-headLength = 224
+headLength = submitsFrom + mostMembers
 
 abbrev pub pricesLength : ℕ
 pricesLength = contractCount * priceWidth

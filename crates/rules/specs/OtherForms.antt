@@ -8,6 +8,7 @@ use Rattle.rules.specs.declared.contract.ContractKind.{ContractKind}
 use Rattle.rules.specs.declared.contract.ContractKind.the-variants.{Year, Quarter, Month}
 use Rattle.rules.specs.declared.contract.Term.{Term}
 use Rattle.rules.specs.Days.{Calendar}
+use Rattle.rules.specs.Ranges.{contractsInYear, monthsInSpan}
 use Rattle.rules.specs.Contracts.{openCount, stillToClose}
 
 -- ---- contracts of a kind
@@ -17,18 +18,18 @@ nth s i = record { kind = s; index = i }
 
 -- The number of a quarter's first month.
 abbrev pub firstMonthOf : ℕ → ℕ
-firstMonthOf c = 17 * (c / 17) + 5 + 3 * (c % 17 - 1)
+firstMonthOf c = contractsInYear * (c / contractsInYear) + 5 + 3 * (c % contractsInYear - 1)
 
 -- The number of a kind's ith contract by delivery, and how many of the kind a ledger has.
 abbrev pub numberOf : ContractKind → ℕ → ℕ
-numberOf Year i = 17 * i
-numberOf Quarter i = 17 * (i / 4) + 1 + i % 4
-numberOf Month i = 17 * (i / 12) + 5 + i % 12
+numberOf Year i = contractsInYear * i
+numberOf Quarter i = contractsInYear * (i / 4) + 1 + i % 4
+numberOf Month i = contractsInYear * (i / 12) + 5 + i % 12
 
 abbrev pub sizeOf : ContractKind → ℕ
 sizeOf Year = 6
 sizeOf Quarter = 24
-sizeOf Month = 72
+sizeOf Month = monthsInSpan
 
 -- Open on a day, the same by counting those before it: how many of the kind deliver before its ith and are still to close; fewer than
 -- the open count must be.
@@ -40,13 +41,13 @@ openByCount k d t = stillToClose k d t && ltb (ahead k d (t .kind) (t .index)) (
 
 -- ---- which contracts hold a month: its year, its quarter and the month itself
 abbrev pub yearOf : ℕ → ℕ
-yearOf i = 17 * (i / 12)
+yearOf i = contractsInYear * (i / 12)
 
 abbrev pub quarterOf : ℕ → ℕ
-quarterOf i = 17 * (i / 12) + 1 + i % 12 / 3
+quarterOf i = contractsInYear * (i / 12) + 1 + i % 12 / 3
 
 abbrev pub monthOf : ℕ → ℕ
-monthOf i = 17 * (i / 12) + 5 + i % 12
+monthOf i = contractsInYear * (i / 12) + 5 + i % 12
 
 unfoldable pub holdsMonth : ℕ → ℕ → Bool
 holdsMonth c i = eqb (yearOf i) c || (eqb (quarterOf i) c || eqb (monthOf i) c)

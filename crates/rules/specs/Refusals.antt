@@ -27,7 +27,7 @@ use Rattle.rules.specs.Header.{calendarSound, membersSound, limitSound, 
 use Rattle.rules.specs.Ledger.{Tables, Line, withPrices, members, holidayCount, day, time, acceptedSubmits, lotsRun, orderCount, limit, mark, submitsThisSecond, calendar}
 use Rattle.rules.specs.Ledger.{defaulted, isOpen, priceWidth, ggfPlace, lowPlace, highPlace, dayLotsPlace, dayValuePlace, ggf, low, high, withDayLimits, rowWidth, sideAt}
 use Rattle.rules.specs.Ledger.{orders, withOrders, lineRun, booked, timed, ledgerShort, linesShort, fresh}
-use Rattle.rules.specs.Records.{timeSound, contractSound, priceSound, lotsSound, dayLimitsSound, legsOf, readOf}
+use Rattle.rules.specs.Records.{timeSound, sideSound, contractSound, priceSound, lotsSound, dayLimitsSound, legsOf, readOf}
 use Rattle.rules.specs.Matching.{submitMatched, submitLines, isTeye, wouldRest, submitsAt, aboveLimit, submitBooked}
 use Rattle.rules.specs.Synthetic.{acceptable, proposalLines, proposalBooked}
 use Rattle.rules.specs.CloseOfDay.{hasNextDay, closeBooked}
@@ -93,7 +93,7 @@ orderSound t o =
     ∷ [])
 
 unfoldable pub sidesSound : Tables → Bool
-sidesSound t = every (λ i. leb (sideAt (t .book) i) 1) (from 0 (orderCount t))
+sidesSound t = every (λ i. sideSound (sideAt (t .book) i)) (from 0 (orderCount t))
 
 -- No two share a number.
 unfoldable pub distinct : List ℕ → Bool

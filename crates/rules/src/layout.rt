@@ -1,4 +1,9 @@
 // Every place, width and least length of the lent tables; specs/Ledger says what stands there.
+use crate::ranges::CONTRACT_COUNT;
+use crate::ranges::LEAST_LINES;
+use crate::ranges::MOST_HOLIDAYS;
+use crate::ranges::MOST_MEMBERS;
+use crate::ranges::MOST_ORDERS;
 
 // ---- the head
 pub const FIRST_YEAR: usize = 0;
@@ -20,13 +25,13 @@ pub const ORDER_COUNT: usize = 7;
 // Where the holidays begin, and one place for each member: its limit, its default mark, its submits this second.
 pub const HOLIDAYS: usize = 8;
 
-pub const LIMITS: usize = 128;
+pub const LIMITS: usize = HOLIDAYS + MOST_HOLIDAYS as usize;
 
-pub const MARKS: usize = 160;
+pub const MARKS: usize = LIMITS + ROW_WIDTH;
 
-pub const SUBMITS: usize = 192;
+pub const SUBMITS: usize = MARKS + ROW_WIDTH;
 
-pub const HEAD_LENGTH: usize = 224;
+pub const HEAD_LENGTH: usize = SUBMITS + ROW_WIDTH;
 
 // ---- prices, one contract after the other
 pub const PRICE_WIDTH: usize = 5;
@@ -41,16 +46,18 @@ pub const DAY_LOTS: usize = 3;
 
 pub const DAY_VALUE: usize = 4;
 
-pub const PRICES_LENGTH: usize = 510;
+pub const PRICES_LENGTH: usize = CONTRACTS * PRICE_WIDTH;
 
 // ---- rows, one contract after the other, member by member
-pub const ROW_WIDTH: usize = 32;
+pub const ROW_WIDTH: usize = MOST_MEMBERS as usize;
 
-pub const CONTRACTS: usize = 102;
+pub const CONTRACTS: usize = CONTRACT_COUNT as usize;
 
-pub const ROWS_LENGTH: usize = 3264;
+pub const ROWS_LENGTH: usize = CONTRACTS * ROW_WIDTH;
 
 // ---- the book, one order after the other
+pub const ORDERS: usize = MOST_ORDERS as usize;
+
 pub const ORDER_WIDTH: usize = 8;
 
 pub const ORDER_NUMBER: usize = 0;
@@ -69,7 +76,7 @@ pub const ORDER_DAY: usize = 6;
 
 pub const ORDER_TIME: usize = 7;
 
-pub const BOOK_LENGTH: usize = 2048;
+pub const BOOK_LENGTH: usize = ORDERS * ORDER_WIDTH;
 
 // ---- deal lines, one after the other
 pub const LINE_WIDTH: usize = 4;
@@ -82,4 +89,4 @@ pub const LINE_LOTS: usize = 2;
 
 pub const LINE_PRICE: usize = 3;
 
-pub const LINES_LENGTH: usize = 800;
+pub const LINES_LENGTH: usize = LEAST_LINES as usize * LINE_WIDTH;

@@ -1,8 +1,12 @@
-// Numbers of document 01 that stand in several places; specs/Ranges has the same under the same names.
+// Numbers of document 01 that stand in several places, as specs/Ranges has them.
+
+pub const CONTRACTS_IN_YEAR: u64 = 17;
+
+pub const MONTHS_IN_SPAN: u64 = 72;
 
 pub const CONTRACT_COUNT: u64 = 102;
 
-pub const LAST_CONTRACT: u64 = 101;
+pub const LAST_CONTRACT: u64 = CONTRACT_COUNT - 1;
 
 pub const LEAST_FIRST_YEAR: u64 = 2020;
 
