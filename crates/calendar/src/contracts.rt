@@ -14,15 +14,13 @@ use rules::ContractKind;
 use rules::Day;
 use rules::DayNo;
 use rules::Term;
-
-// A year's contracts: itself, its quarters, its months.
-const PER_YEAR: u64 = 17;
+use rules::ranges::CONTRACTS_IN_YEAR;
 
 pub fn term_of(contract: u64) -> Term
     ensures { λ r. ⌜ r ≡ termOf contract ⌝ }
 {
-    let year = contract / PER_YEAR;
-    let k = contract % PER_YEAR;
+    let year = contract / CONTRACTS_IN_YEAR;
+    let k = contract % CONTRACTS_IN_YEAR;
     if k == 0 {
         return Term {
             kind: ContractKind::Year,

@@ -13,9 +13,7 @@ use crate::months::months_span;
 use rules::Day;
 use rules::DayNo;
 use rules::ranges::LEAST_FIRST_YEAR;
-
-// The months of the span.
-const SPAN: u64 = 72;
+use rules::ranges::MONTHS_IN_SPAN;
 
 // Days of the week, counted from Wednesday, which day 0 is.
 const SATURDAY: u64 = 3;
@@ -95,7 +93,7 @@ pub fn span_of(first_year: u64) -> Span
     ensures { λ r. ⌜ ((h : List ℕ) → IsSpan r (record { firstYear = «first_year»; holidays = h })) ⌝ }
 {
     let month = first_month(first_year);
-    months_span(month, month + SPAN)
+    months_span(month, month + MONTHS_IN_SPAN)
 }
 
 // Whether a day is in a ledger's span.

@@ -14,13 +14,14 @@ use rules::Kurus;
 use rules::Leg;
 use rules::Lots;
 use rules::kinds::PROPOSAL;
+use rules::layout::LEG_PLACES;
 use rules::ranges::MOST_LEGS;
 
 // Leg i is the order orders[i], with lots[i] at prices[i]. Places past a proposal's legs are surplus.
 pub struct Legs {
-    pub orders: [u64; 12],
-    pub lots: [u64; 12],
-    pub prices: [u64; 12],
+    pub orders: [u64; LEG_PLACES],
+    pub lots: [u64; LEG_PLACES],
+    pub prices: [u64; LEG_PLACES],
 }
 
 // Leg i, out of the columns.
@@ -72,9 +73,9 @@ pub fn read_legs(bytes: &[u8]) -> Legs
     ensures { λ r. ⌜ r ≡ legColumns (heldLegs (now (bytes .entry))) ⌝ }
 {
     let count = legs_held(bytes);
-    let mut orders = [0u64; 12];
-    let mut lots = [0u64; 12];
-    let mut prices = [0u64; 12];
+    let mut orders = [0u64; LEG_PLACES];
+    let mut lots = [0u64; LEG_PLACES];
+    let mut prices = [0u64; LEG_PLACES];
     let mut i: usize = 0;
     while i < count {
         let leg = leg_at(bytes, leg_place(i));

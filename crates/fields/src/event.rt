@@ -44,6 +44,7 @@ use rules::kinds::DAY_LIMITS;
 use rules::kinds::DEFAULT;
 use rules::kinds::PROPOSAL;
 use rules::kinds::SUBMIT;
+use rules::layout::LEG_PLACES;
 use rules::ranges::MOST_LEGS;
 use sides::side_of;
 
@@ -146,9 +147,9 @@ pub fn legs_in(row: &[u64], count: usize) -> Legs
     requires { ⌜ (recordFields ≤ length (now row)) × (count ≤ mostLegs) ⌝ }
     ensures { λ r. ⌜ r ≡ legColumns (firstLegs (now (row .entry)) count) ⌝ }
 {
-    let mut orders = [0u64; 12];
-    let mut lots = [0u64; 12];
-    let mut prices = [0u64; 12];
+    let mut orders = [0u64; LEG_PLACES];
+    let mut lots = [0u64; LEG_PLACES];
+    let mut prices = [0u64; LEG_PLACES];
     let mut i: usize = 0;
     while i < count {
         let leg = leg_in(row, FIRST_LEG + LEG_WIDTH * i);

@@ -19,6 +19,8 @@ use header::read_header;
 use header::write_header;
 use rules::Answer;
 use rules::DayNo;
+use rules::layout::HOLIDAY_PLACES;
+use rules::layout::MEMBER_PLACES;
 use rules::ranges::MOST_HOLIDAYS;
 use rules::ranges::MOST_MEMBERS;
 
@@ -75,11 +77,11 @@ pub fn read_header_fields(bytes: &[u8], row: &mut [u64]) -> Answer
     reading.answer
 }
 
-fn holidays_in(row: &[u64], count: usize) -> [u64; 120]
+fn holidays_in(row: &[u64], count: usize) -> [u64; HOLIDAY_PLACES]
     requires { ⌜ (headerFields ≤ length (now row)) × (count ≤ mostHolidays) ⌝ }
     ensures { λ r. ⌜ r ≡ padded mostHolidays (numbersAt (now (row .entry)) holidaysField count) ⌝ }
 {
-    let mut column = [0u64; 120];
+    let mut column = [0u64; HOLIDAY_PLACES];
     let mut i: usize = 0;
     while i < count {
         column[i] = row[HOLIDAYS + i];
@@ -88,11 +90,11 @@ fn holidays_in(row: &[u64], count: usize) -> [u64; 120]
     column
 }
 
-fn limits_in(row: &[u64], count: usize) -> [u64; 32]
+fn limits_in(row: &[u64], count: usize) -> [u64; MEMBER_PLACES]
     requires { ⌜ (headerFields ≤ length (now row)) × (count ≤ mostMembers) ⌝ }
     ensures { λ r. ⌜ r ≡ padded mostMembers (numbersAt (now (row .entry)) limitsField count) ⌝ }
 {
-    let mut column = [0u64; 32];
+    let mut column = [0u64; MEMBER_PLACES];
     let mut i: usize = 0;
     while i < count {
         column[i] = row[LIMITS + i];

@@ -5,6 +5,7 @@ use mathlib.Core.List.{List, map}
 use lib.ListN.{length, getD, replicate}
 use Rattle.arith.specs.Lists.{from}
 use Rattle.rules.specs.declared.answer.Answer.the-variants.{Accepted, HeaderUnsound}
+use Rattle.rules.specs.Ranges.{mostMembers, mostHolidays}
 use Rattle.rules.specs.Days.{Calendar}
 use Rattle.rules.specs.Header.{Header, calendarSound, daySound, headerOf, headerLength, beginsWithHeader}
 use Rattle.arith.specs.Columns.{padded}
@@ -33,12 +34,12 @@ headerColumns h =
       members = h .members;
       «holiday_count» = length (h .holidays);
       holidays =
-          padded 120 (h .holidays);
-      limits = padded 32 (h .limits);
+          padded mostHolidays (h .holidays);
+      limits = padded mostMembers (h .limits);
     }
 
 abbrev pub blankHeader : JournalHeader
-blankHeader = record { «first_year» = 0; «start_day» = record { 0 = 0 }; members = 0; «holiday_count» = 0; holidays = replicate 120 0; limits = replicate 32 0 }
+blankHeader = record { «first_year» = 0; «start_day» = record { 0 = 0 }; members = 0; «holiday_count» = 0; holidays = replicate mostHolidays 0; limits = replicate mostMembers 0 }
 
 -- What reading answers: the header and its length if the bytes begin with a sound one.
 unfoldable pub headerReading : List ℕ → HeaderReading

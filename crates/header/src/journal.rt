@@ -6,6 +6,8 @@ ghost use Rattle.rules.specs.Ranges.{mostMembers, mostHolidays};
 ghost use Rattle.rules.specs.Header.{membersSound, limitSound, headerSound};
 ghost use Rattle.header.specs.Journal.{firsts, daysSound, headerFrom};
 use rules::DayNo;
+use rules::layout::HOLIDAY_PLACES;
+use rules::layout::MEMBER_PLACES;
 use rules::ranges::MOST_HOLIDAYS;
 use rules::ranges::MOST_LIMIT;
 use rules::ranges::MOST_MEMBERS;
@@ -19,8 +21,8 @@ pub struct JournalHeader {
     pub start_day: DayNo,
     pub members: u64,
     pub holiday_count: u64,
-    pub holidays: [u64; 120],
-    pub limits: [u64; 32],
+    pub holidays: [u64; HOLIDAY_PLACES],
+    pub limits: [u64; MEMBER_PLACES],
 }
 
 pub fn is_member_count_sound(members: u64) -> bool
@@ -29,7 +31,7 @@ pub fn is_member_count_sound(members: u64) -> bool
     (1 <= members) & (members <= MOST_MEMBERS)
 }
 
-fn are_limits_sound(list: [u64; 32], count: usize) -> bool
+fn are_limits_sound(list: [u64; MEMBER_PLACES], count: usize) -> bool
     requires { ⌜ count ≤ mostMembers ⌝ }
     ensures { λ r. ⌜ r ≡ every limitSound (firsts count list) ⌝ }
 {
@@ -43,7 +45,12 @@ fn are_limits_sound(list: [u64; 32], count: usize) -> bool
 }
 
 // The calendar and the start day.
-fn are_days_sound(first_year: u64, list: [u64; 120], count: usize, start_day: DayNo) -> bool
+fn are_days_sound(
+    first_year: u64,
+    list: [u64; HOLIDAY_PLACES],
+    count: usize,
+    start_day: DayNo,
+) -> bool
     requires { ⌜ count ≤ mostHolidays ⌝ }
     ensures { λ r. ⌜ r ≡ daysSound (record { firstYear = «first_year»; holidays = firsts count list }) («start_day» .0) ⌝ }
 {

@@ -2,6 +2,7 @@
 ghost use mathlib.Core.Path.{_≡_};
 ghost use Prim.Native.Nat.{_+_, _*_, _<_, _≤_};
 ghost use lib.ListN.{length, getD, take};
+ghost use Rattle.rules.specs.Ranges.{mostMembers, mostHolidays};
 ghost use Rattle.rules.specs.Header.{u16sAt, u32sAt, sameBytes, lettersAndVersion, headerOf, headerLength};
 ghost use Rattle.rules.specs.declared.answer.Answer.the-variants.{HeaderUnsound};
 ghost use Rattle.arith.specs.Columns.{padded};
@@ -14,6 +15,8 @@ use big_endian::u16_at;
 use big_endian::u32_at;
 use rules::Answer;
 use rules::DayNo;
+use rules::layout::HOLIDAY_PLACES;
+use rules::layout::MEMBER_PLACES;
 use rules::ranges::MOST_HOLIDAYS;
 use rules::ranges::MOST_MEMBERS;
 
@@ -23,11 +26,11 @@ pub struct HeaderReading {
     pub header: JournalHeader,
 }
 
-fn holidays_at(bytes: &[u8], count: usize) -> [u64; 120]
-    requires { ⌜ (count ≤ 120) × (11 + 2 * count ≤ length (now bytes)) ⌝ }
-    ensures { λ r. ⌜ r ≡ padded 120 (u16sAt (now (bytes .entry)) 11 count) ⌝ }
+fn holidays_at(bytes: &[u8], count: usize) -> [u64; HOLIDAY_PLACES]
+    requires { ⌜ (count ≤ mostHolidays) × (11 + 2 * count ≤ length (now bytes)) ⌝ }
+    ensures { λ r. ⌜ r ≡ padded mostHolidays (u16sAt (now (bytes .entry)) 11 count) ⌝ }
 {
-    let mut column = [0u64; 120];
+    let mut column = [0u64; HOLIDAY_PLACES];
     let mut i: usize = 0;
     while i < count {
         column[i] = u16_at(bytes, 11 + 2 * i);
@@ -36,11 +39,11 @@ fn holidays_at(bytes: &[u8], count: usize) -> [u64; 120]
     column
 }
 
-fn limits_at(bytes: &[u8], at: usize, count: usize) -> [u64; 32]
-    requires { ⌜ (count ≤ 32) × (at + 4 * count ≤ length (now bytes)) ⌝ }
-    ensures { λ r. ⌜ r ≡ padded 32 (u32sAt (now (bytes .entry)) at count) ⌝ }
+fn limits_at(bytes: &[u8], at: usize, count: usize) -> [u64; MEMBER_PLACES]
+    requires { ⌜ (count ≤ mostMembers) × (at + 4 * count ≤ length (now bytes)) ⌝ }
+    ensures { λ r. ⌜ r ≡ padded mostMembers (u32sAt (now (bytes .entry)) at count) ⌝ }
 {
-    let mut column = [0u64; 32];
+    let mut column = [0u64; MEMBER_PLACES];
     let mut i: usize = 0;
     while i < count {
         column[i] = u32_at(bytes, at + 4 * i);
@@ -52,7 +55,7 @@ fn limits_at(bytes: &[u8], at: usize, count: usize) -> [u64; 32]
 // The fields, in whatever ranges.
 fn fields_at(bytes: &[u8], members: u64, holiday_count: u64) -> JournalHeader
     requires { ⌜ (11 ≤ length (now bytes)) × (members ≡ getD (now bytes) 9 0) × («holiday_count» ≡ getD (now bytes) 10 0) ⌝ }
-    requires { ⌜ (members ≤ 32) × («holiday_count» ≤ 120) × (headerLength (now bytes) ≤ length (now bytes)) ⌝ }
+    requires { ⌜ (members ≤ mostMembers) × («holiday_count» ≤ mostHolidays) × (headerLength (now bytes) ≤ length (now bytes)) ⌝ }
     ensures { λ r. ⌜ r ≡ headerColumns (headerOf (now (bytes .entry))) ⌝ }
 {
     let year = u16_at(bytes, 5);
@@ -88,8 +91,8 @@ fn unsound() -> HeaderReading
             start_day: DayNo(0),
             members: 0,
             holiday_count: 0,
-            holidays: [0; 120],
-            limits: [0; 32],
+            holidays: [0; HOLIDAY_PLACES],
+            limits: [0; MEMBER_PLACES],
         },
     }
 }

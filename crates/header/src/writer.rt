@@ -4,6 +4,7 @@ ghost use mathlib.Core.List.{flatMap};
 ghost use Prim.Native.Nat.{_+_, _*_, _<_, _≤_};
 ghost use lib.ListN.{length};
 ghost use Rattle.arith.specs.Lists.{over};
+ghost use Rattle.rules.specs.Ranges.{mostMembers, mostHolidays};
 ghost use Rattle.rules.specs.Header.{u16Bytes, u32Bytes, lettersAndVersion, headerBytes, writeHeaderSpec};
 ghost use Rattle.header.specs.Journal.{firsts, headerFrom};
 use crate::journal::JournalHeader;
@@ -14,6 +15,8 @@ use big_endian::put_u16;
 use big_endian::put_u32;
 use big_endian::wide;
 use rules::Answer;
+use rules::layout::HOLIDAY_PLACES;
+use rules::layout::MEMBER_PLACES;
 
 fn put_letters(out: &mut [u8])
     requires { ⌜ 5 ≤ length (now out) ⌝ }
@@ -27,8 +30,8 @@ fn put_letters(out: &mut [u8])
     put_u8(out, 4, wide(letters[4]));
 }
 
-fn put_holidays(out: &mut [u8], list: [u64; 120], count: usize)
-    requires { ⌜ (count ≤ 120) × (11 + 2 * count ≤ length (now out)) ⌝ }
+fn put_holidays(out: &mut [u8], list: [u64; HOLIDAY_PLACES], count: usize)
+    requires { ⌜ (count ≤ mostHolidays) × (11 + 2 * count ≤ length (now out)) ⌝ }
     ensures { λ r. ⌜ now (out .exit) ≡ over 11 (flatMap u16Bytes (firsts count list)) (now (out .entry)) ⌝ }
 {
     let mut i: usize = 0;
@@ -38,8 +41,8 @@ fn put_holidays(out: &mut [u8], list: [u64; 120], count: usize)
     }
 }
 
-fn put_limits(out: &mut [u8], at: usize, list: [u64; 32], count: usize)
-    requires { ⌜ (count ≤ 32) × (at + 4 * count ≤ length (now out)) ⌝ }
+fn put_limits(out: &mut [u8], at: usize, list: [u64; MEMBER_PLACES], count: usize)
+    requires { ⌜ (count ≤ mostMembers) × (at + 4 * count ≤ length (now out)) ⌝ }
     ensures { λ r. ⌜ now (out .exit) ≡ over at (flatMap u32Bytes (firsts count list)) (now (out .entry)) ⌝ }
 {
     let mut i: usize = 0;
@@ -50,7 +53,7 @@ fn put_limits(out: &mut [u8], at: usize, list: [u64; 32], count: usize)
 }
 
 fn put_header(out: &mut [u8], h: JournalHeader)
-    requires { ⌜ (h .members ≤ 32) × (h .«holiday_count» ≤ 120) × (11 + 2 * h .«holiday_count» + 4 * h .members ≤ length (now out)) ⌝ }
+    requires { ⌜ (h .members ≤ mostMembers) × (h .«holiday_count» ≤ mostHolidays) × (11 + 2 * h .«holiday_count» + 4 * h .members ≤ length (now out)) ⌝ }
     ensures { λ r. ⌜ now (out .exit) ≡ over 0 (headerBytes (headerFrom h)) (now (out .entry)) ⌝ }
 {
     let holidays = h.holidays;

@@ -22,6 +22,7 @@ use crate::priority::does_meet;
 use rules::Kurus;
 use rules::Lots;
 use rules::Order;
+use rules::layout::ORDERS;
 use tables::order_at;
 
 // The number of deals, and what is left of the incoming order.
@@ -127,7 +128,7 @@ pub fn match_orders(book: &[u64], o: Order, left: &mut [u64], deals: &mut [u64])
     requires { ⌜ Matchable o (now book) (length (now left)) × (mostLots * dealWidth ≤ length (now deals)) ⌝ }
     ensures { λ r. ⌜ MatchMade o (now (book .entry)) (length (now (left .entry))) (now (deals .entry)) r (now (left .exit)) (now (deals .exit)) ⌝ }
 {
-    let mut ranks = [NO_RANK; 256];
+    let mut ranks = [NO_RANK; ORDERS];
     let mut lows = [NO_RANK; 16];
     write_columns(book, o, &mut *left, &mut ranks);
     write_lows(&ranks, &mut lows);

@@ -2,8 +2,16 @@
 use crate::ranges::CONTRACT_COUNT;
 use crate::ranges::LEAST_LINES;
 use crate::ranges::MOST_HOLIDAYS;
+use crate::ranges::MOST_LEGS;
 use crate::ranges::MOST_MEMBERS;
 use crate::ranges::MOST_ORDERS;
+
+// ---- one place for each member, each holiday, each leg of a proposal
+pub const MEMBER_PLACES: usize = MOST_MEMBERS as usize;
+
+pub const HOLIDAY_PLACES: usize = MOST_HOLIDAYS as usize;
+
+pub const LEG_PLACES: usize = MOST_LEGS as usize;
 
 // ---- the head
 pub const FIRST_YEAR: usize = 0;
@@ -25,13 +33,13 @@ pub const ORDER_COUNT: usize = 7;
 // Where the holidays begin, and one place for each member: its limit, its default mark, its submits this second.
 pub const HOLIDAYS: usize = 8;
 
-pub const LIMITS: usize = HOLIDAYS + MOST_HOLIDAYS as usize;
+pub const LIMITS: usize = HOLIDAYS + HOLIDAY_PLACES;
 
-pub const MARKS: usize = LIMITS + ROW_WIDTH;
+pub const MARKS: usize = LIMITS + MEMBER_PLACES;
 
-pub const SUBMITS: usize = MARKS + ROW_WIDTH;
+pub const SUBMITS: usize = MARKS + MEMBER_PLACES;
 
-pub const HEAD_LENGTH: usize = SUBMITS + ROW_WIDTH;
+pub const HEAD_LENGTH: usize = SUBMITS + MEMBER_PLACES;
 
 // ---- prices, one contract after the other
 pub const PRICE_WIDTH: usize = 5;
@@ -49,7 +57,7 @@ pub const DAY_VALUE: usize = 4;
 pub const PRICES_LENGTH: usize = CONTRACTS * PRICE_WIDTH;
 
 // ---- rows, one contract after the other, member by member
-pub const ROW_WIDTH: usize = MOST_MEMBERS as usize;
+pub const ROW_WIDTH: usize = MEMBER_PLACES;
 
 pub const CONTRACTS: usize = CONTRACT_COUNT as usize;
 

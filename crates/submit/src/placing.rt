@@ -18,6 +18,7 @@ use rules::Answer;
 use rules::Order;
 use rules::OrderKind;
 use rules::layout::ORDER_COUNT;
+use rules::layout::ORDERS;
 
 // What is left of an order that rests comes last in the book, under its own number.
 fn rest_order(head: &mut [u64], book: &mut [u64], kind: OrderKind, o: Order, left: u64)
@@ -48,7 +49,7 @@ fn trade(
         ≡ orderBooked kind o (lent (now (head .entry)) (now (prices .entry)) (now (lots .entry)) (now (value .entry)) (now (book .entry)) (now (lines .entry))) ⌝ }
 {
     let orders = head[ORDER_COUNT] as usize;
-    let mut left = [0u64; 256];
+    let mut left = [0u64; ORDERS];
     let mut deals = [0u64; 300];
     let m = settle(
         &mut *head,
