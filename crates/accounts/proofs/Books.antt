@@ -33,10 +33,11 @@ use Rattle.rules.proofs.SoundTables.{SoundOrder, order-sound, book-gives}
 use Rattle.accounts.proofs.Heads.{SameHeader, field, changing, ofMember, same-header, then-same, set-other, same-holidays, but-the-day}
 use Rattle.accounts.proofs.Runs.{Sound, orders-same, timed-same}
 use Rattle.accounts.proofs.Written.{orders-written}
-use Rattle.accounts.proofs.CloseOutLines.{from-length}
 use Rattle.accounts.proofs.Closes.{day-header}
-use Rattle.accounts.proofs.Remains.{Remain, Distinct, remain-same, remain-length, remain-all, remain-distinct, distinct-more, distinct-orders, orders-distinct, kept-remain}
+use Rattle.accounts.proofs.Remains.{Remain, remain-same, remain-length, remain-all, remain-distinct, distinct-more, orders-distinct, kept-remain}
 use Rattle.accounts.proofs.Remains.{legs-remain, matching-remain, deals-total, HasLots, deals-few}
+use Rattle.arith.proofs.Appends.{from-length}
+use Rattle.rules.proofs.Distinct.{Distinct, distinct-orders}
 
 -- ---- orders
 -- what the soundness of an order reads of the tables: the members and the calendar stand, accepted submits do not fall

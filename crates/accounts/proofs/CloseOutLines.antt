@@ -23,6 +23,8 @@ use Rattle.rules.specs.Default.{shortsLeft, lotsLeft, othersLots, openWeight, w
 use Rattle.accounts.proofs.Lines.{Fits, hourTotal}
 use Rattle.accounts.proofs.OnePrice.{netLots, net-append, balanced-at-price}
 use Rattle.accounts.proofs.DealtOut.{dealt-length, dealt-none, all-dealt}
+use Rattle.arith.proofs.Appends.{from-length}
+use Rattle.rules.proofs.Netting.{given-length, given-sum}
 
 -- ---- the lines of a list of changes
 -- the changes added up
@@ -83,7 +85,7 @@ module _ (c p : ℕ) where
         all-append P (changeLines c p 0 xs) (changeLines c p 0 ys ++ changeLines c p 0 zs) (lines xs x) (all-append P (changeLines c p 0 ys) (changeLines c p 0 zs) (lines ys y) (lines zs z))
 
 -- ---- sums of changes
-regroup : (a b c d : ℤ) → (a -ℤ b) +ℤ (c -ℤ d) ≡ (a +ℤ c) -ℤ (b +ℤ d)
+pub regroup : (a b c d : ℤ) → (a -ℤ b) +ℤ (c -ℤ d) ≡ (a +ℤ c) -ℤ (b +ℤ d)
 regroup a b c d = simp group
 
 -- lots that come back less lots given up
@@ -108,27 +110,10 @@ taken-net true [] = refl
 taken-net false [] = refl
 taken-net b (q ∷ qs) = ap (λ z. signed b q +ℤ z) (taken-net b qs) ∙ signed-add b q (sumOf qs)
 
--- ---- lots given up, lowest member first
-pub given-length : (q : ℕ) (xs : List ℕ) → length (givenUp q xs) ≡ length xs
-unfolding givenUp
-given-length q [] = refl
-given-length q (x ∷ xs) = ap suc (given-length (q - min q x) xs)
-
-given-sum : (q : ℕ) (xs : List ℕ) → sumOf (givenUp q xs) ≡ min q (sumOf xs)
-unfolding givenUp sumOf total
-given-sum q [] = omega arith
-given-sum q (x ∷ xs) = omega (arith, given-sum (q - min q x) xs)
-
 left-sum : (q : ℕ) (xs : List ℕ) → sumOf (less xs (givenUp q xs)) + sumOf (givenUp q xs) ≡ sumOf xs
 unfolding givenUp sumOf total zipWith
 left-sum q [] = omega arith
 left-sum q (x ∷ xs) = omega (arith, left-sum (q - min q x) xs)
-
--- ---- one number for each member
-pub from-length : (a n : ℕ) → length (from a n) ≡ n
-unfolding from
-from-length a zero = refl
-from-length a (suc n) = ap suc (from-length (suc a) n)
 
 member-length : {A : Type 0} (t : Tables) (f : ℕ → A) → length (byMember t f) ≡ members t
 member-length t f = length-map (from 0 (members t)) f ∙ from-length 0 (members t)

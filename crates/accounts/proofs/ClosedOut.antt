@@ -12,7 +12,6 @@ use lib.IntN.{ℤ, pos, negsuc, natAbs, negℤ, _+ℤ_, _-ℤ_, +ℤ-idl, +ℤ-i
 use borrow.Author.Tests.{eq-eqb, ne-eqb}
 use Rattle.arith.specs.Ints.{when, up, dn}
 use Rattle.arith.specs.Lists.{from}
-use Rattle.arith.proofs.Sums.{group}
 use Rattle.arith.proofs.Tests.{by-bool, by-eqb}
 use Rattle.rules.specs.declared.event.CloseOutTerms.{CloseOutTerms}
 use Rattle.rules.specs.declared.event.Event.the-variants.{CloseOut}
@@ -28,7 +27,7 @@ use Rattle.accounts.proofs.Runs.{sound-of}
 use Rattle.accounts.proofs.Lines.{rowTotal}
 use Rattle.accounts.proofs.Calls.{booked-row}
 use Rattle.accounts.proofs.Books.{booked-place}
-use Rattle.accounts.proofs.CloseOutLines.{no-change, longs-length, shorts-length, netted-length, left-length, close-out-fits, defaulted-take-none}
+use Rattle.accounts.proofs.CloseOutLines.{no-change, longs-length, shorts-length, netted-length, left-length, close-out-fits, defaulted-take-none, regroup}
 use Rattle.accounts.proofs.EachKind.{accepted-call}
 
 -- ---- what the lines of changes add to a row
@@ -91,9 +90,6 @@ member-at f z a (suc n) (suc i) h = member-at f z (suc a) n i (omega arith) ∙ 
 -- lots that come back less lots given up, in two steps
 two-steps : (s l s′ l′ : ℕ) → (pos s -ℤ pos l) +ℤ (pos s′ -ℤ pos l′) ≡ pos (s + s′) -ℤ pos (l + l′)
 two-steps s l s′ l′ = regroup (pos s) (pos l) (pos s′) (pos l′)
-  where
-    regroup : (a b c d : ℤ) → (a -ℤ b) +ℤ (c -ℤ d) ≡ (a +ℤ c) -ℤ (b +ℤ d)
-    regroup a b c d = simp group
 
 -- a row less what it is long, with what it is short
 closed : (z : ℤ) → z +ℤ (pos (dn z) -ℤ pos (up z)) ≡ pos 0

@@ -12,7 +12,7 @@ use lib.ListN.{length}
 use borrow.Author.Tests.{le-leb, lt-leb, leb-false, lt-ltb, le-ltb, eq-eqb}
 use Rattle.arith.specs.Lists.{All}
 use Rattle.arith.proofs.Alls.{all-map, all-always, all-append, all-there}
-use Rattle.arith.proofs.Tests.{never, by-bool, le-or-lt, and-right, and-false}
+use Rattle.arith.proofs.Tests.{never, by-bool, le-or-lt, and-false}
 use Rattle.rules.specs.declared.order.Order.{Order}
 use Rattle.rules.specs.declared.order.Side.{Side}
 use Rattle.rules.specs.declared.order.Side.the-variants.{Buy, Sell}
@@ -28,23 +28,13 @@ use Rattle.rules.proofs.Priority.{Behind, lower, higher, same, After, after-not
 use Rattle.accounts.specs.Complete.{AcceptedSubmit, MatchingIsComplete, NobodyIsPassedOver}
 use Rattle.accounts.proofs.EachKind.{accepted-call}
 use Rattle.accounts.proofs.OrdersAfter.{submit-orders}
+use Rattle.rules.proofs.Sides.{opposing-side}
 
 -- ---- what matching ends with
 -- r, if it opposes o, is behind the price that o meets
 pub record Ends (o : Order) (m : Matched) : Type 0 where
   pub unmet : 0 < m .left → All (λ r. opposes o r ≡ true → meets o r ≡ false) (m .resting)
   pub passed : All (λ d. All (λ r. opposes o r ≡ true → (r .side ≡ d .resting .side) × After r (d .resting)) (m .resting)) (m .deals)
-
--- an order that opposes is of the other side
-side-of : (s z : Side) → sameSide s z ≡ true → s ≡ z
-side-of Buy Buy e = refl
-side-of Buy Sell e = never (sym e)
-side-of Sell Buy e = never (sym e)
-side-of Sell Sell e = refl
-
-pub opposing-side : (o r : Order) → opposes o r ≡ true → r .side ≡ otherSide (o .side)
-unfolding opposes
-opposing-side o r e = side-of (r .side) (otherSide (o .side)) (and-right (eqb (r .contract) (o .contract)) (sameSide (r .side) (otherSide (o .side))) e)
 
 not-own : (s : Side) → sameSide s (otherSide s) ≡ false
 not-own Buy = refl

@@ -1,10 +1,10 @@
 -- Lots dealt out in turns: all of them are dealt, and nobody receives more than its minimum. Assumes nothing.
-use Prim.Native.Nat.{ℕ, zero, suc, _+_, _*_, _-_, _≤_, _<_}
+use Prim.Native.Nat.{ℕ, zero, suc, _+_, _-_, _≤_, _<_}
 use mathlib.Core.Path.{_≡_, refl, sym, ap, _∙_}
 use mathlib.Core.Bool.{Bool, false, cond, _&&_}
 use mathlib.Core.List.{List, [], _∷_, map}
 use native.Mathlib.Omega.{arith}
-use native.Mathlib.Nat.{mod-lt, div-add-mod', div-eq-of-lt, div-zero, le-of-mul-le-mul-right, mul-add, add-mul, mul-zero}
+use native.Mathlib.Nat.{div-eq-of-lt, div-zero, mul-zero}
 use lib.Dec.{eqb, ltb}
 use lib.ListN.{length, getD, set, replicate, length-map, length-set, length-replicate, List·getD-eq-default, List·getD-map}
 use lib.Seq.{getD-set-same, getD-set-other}
@@ -12,22 +12,8 @@ use borrow.Author.Tests.{eq-eqb, ne-eqb, lt-ltb, ltb-true}
 use Rattle.arith.specs.Lists.{howMany, total, from}
 use Rattle.arith.proofs.Tests.{never, by-bool, le-or-lt, same-or, and-left, and-right}
 use Rattle.rules.specs.Default.{sumOf, minimum, minimums, comesFirst, placed, inOrder, Dealing, turn, round, rounds, dealtOut}
-
--- ---- the minimums suffice
-minimum-covers : (l w x : ℕ) → 0 < w → l * x ≤ minimum l w x * w
-unfolding minimum
-minimum-covers l w x p =
-    let y = l * x + (w - 1) in
-    omega (arith, div-add-mod' y w, mod-lt y p)
-
-minimums-cover : (l w : ℕ) (ws : List ℕ) → 0 < w → l * sumOf ws ≤ sumOf (map (minimum l w) ws) * w
-unfolding sumOf total
-minimums-cover l w [] p = omega arith
-minimums-cover l w (x ∷ ws) p = omega (arith, mul-add l x (sumOf ws), add-mul (minimum l w x) (sumOf (map (minimum l w) ws)) w, minimum-covers l w x p, minimums-cover l w ws p)
-
-pub minimums-suffice : (l : ℕ) (ws : List ℕ) → 0 < sumOf ws → l ≤ sumOf (minimums l ws)
-unfolding minimums
-minimums-suffice l ws p = le-of-mul-le-mul-right (minimums-cover l (sumOf ws) ws p) p
+use Rattle.rules.proofs.Minimums.{minimums-suffice}
+use Rattle.rules.proofs.Netting.{sum-set, sum-zeros}
 
 -- without weight, no minimum
 minimum-none : (l w : ℕ) → minimum l w 0 ≡ 0
@@ -54,13 +40,6 @@ from-in x a zero h l = absurd (omega arith)
 from-in x a (suc n) h l =
     same-or x a (λ e. rw (eq-eqb x a e) (omega arith)) (λ e. rw (ne-eqb x a e) (omega (arith, from-in x (suc a) n (omega arith) (omega arith))))
 
--- ---- sums of lists
-sum-one-more : (l : List ℕ) (i : ℕ) → i < length l → sumOf (set l i (getD l i 0 + 1)) ≡ sumOf l + 1
-unfolding sumOf total
-sum-one-more [] i h = absurd (omega arith)
-sum-one-more (x ∷ l) zero h = omega arith
-sum-one-more (x ∷ l) (suc i) h = rw (sum-one-more l i (omega arith)) (omega arith)
-
 -- where the sum is less, one entry is
 one-less : {P : Type 0} (a b : List ℕ) → length a ≡ length b → sumOf a < sumOf b → ((i : ℕ) → i < length b → getD a i 0 < getD b i 0 → P) → P
 unfolding sumOf total
@@ -68,11 +47,6 @@ one-less [] [] e h f = absurd (omega arith)
 one-less [] (y ∷ b) e h f = absurd (omega arith)
 one-less (x ∷ a) [] e h f = absurd (omega arith)
 one-less (x ∷ a) (y ∷ b) e h f = le-or-lt (suc x) y (λ l. f 0 (omega arith) l) (λ l. one-less a b (omega arith) (omega arith) (λ i p q. f (suc i) (omega arith) q))
-
-sum-none : (n : ℕ) → sumOf (replicate n 0) ≡ 0
-unfolding sumOf total
-sum-none zero = refl
-sum-none (suc n) = rw (sum-none n)
 
 none-received : (n i : ℕ) → _≡_ {A = ℕ} (getD (replicate n 0) i 0) 0
 none-received zero i = refl
@@ -97,7 +71,7 @@ module _ (mins : List ℕ) where
       let h : i < length r = le-or-lt (length r) i (λ k. absurd (let z = List·getD-eq-default mins 0 {n = i} (omega (arith, d .long)) in omega arith)) (λ k. k) in
       record {
         long = length-set r i (getD r i 0 + 1) ∙ d .long;
-        whole = omega (arith, sum-one-more r i h, d .whole);
+        whole = omega (arith, sum-set r i h, d .whole);
         below = λ j. same-or j i (λ e. rw (e, getD-set-same r i (getD r i 0 + 1) 0 h) (omega arith)) (λ e. rw (getD-set-other r i j (getD r i 0 + 1) 0 e) (d .below j));
       }
 
@@ -155,7 +129,7 @@ module _ (mins : List ℕ) where
 
   -- before the first turn
   start : (l : ℕ) → Dealt l (record { received = replicate (length mins) 0; left = l })
-  start l = record { long = length-replicate (length mins) 0; whole = rw (sum-none (length mins)) (omega arith); below = λ i. rw (none-received (length mins) i) (omega arith) }
+  start l = record { long = length-replicate (length mins) 0; whole = rw (sum-zeros (length mins)) (omega arith); below = λ i. rw (none-received (length mins) i) (omega arith) }
 
 -- ---- the laws
 module _ (l : ℕ) (ws : List ℕ) where

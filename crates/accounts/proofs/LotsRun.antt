@@ -2,7 +2,7 @@
 use Prim.Native.Nat.{ℕ, _+_, _<_}
 use mathlib.Core.Path.{_≡_, refl, _∙_}
 use mathlib.Core.Bool.{true, false, not}
-use mathlib.Core.List.{List, [], _∷_, _++_}
+use mathlib.Core.List.{List, [], _∷_}
 use native.Mathlib.Omega.{arith}
 use lib.Dec.{eqb}
 use lib.ListN.{length, set, length-set}
@@ -27,6 +27,7 @@ use Rattle.accounts.proofs.HeadStays.{submitUnbooked}
 use Rattle.accounts.proofs.EachKind.{acceptedAs, NoCause, every-call}
 use Rattle.accounts.proofs.OrdersAfter.{timed-long}
 use Rattle.accounts.proofs.Places.{written-place, timed-place, submit-place, close-place}
+use Rattle.rules.proofs.LinesRun.{run-append}
 
 -- what a call on t adds to the lots run is what its lines run to
 abbrev Runs : Tables → Outcome Tables → Type 0
@@ -68,12 +69,6 @@ kind-runs (CloseOfDay k) t legs u s n = close-runs t u k
 
 refused-runs : (t : Tables) (a : Answer) → isAccepted a ≡ false → Runs t (record { answer = a; after = t })
 refused-runs t a q = rw q (omega (arith, no-run))
-
--- ---- and so with every list
-run-append : (xs ys : List Line) → lineRun (xs ++ ys) ≡ lineRun xs + lineRun ys
-unfolding lineRun total
-run-append [] ys = omega arith
-run-append (x ∷ xs) ys = omega (arith, run-append xs ys)
 
 pub run-after : (calls : List Call) (t : Tables) → lotsRun (after t calls) ≡ lotsRun t + lineRun (log t calls)
 unfolding after log

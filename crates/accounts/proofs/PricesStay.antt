@@ -9,7 +9,6 @@ use native.Mathlib.Nat.{add-zero, mul-le-mul-left, div-lt-iff-lt-mul, div-zero}
 use lib.Dec.{leb, ltb}
 use lib.ListN.{length, getD, set, length-set}
 use lib.Seq.{getD-set-same, getD-set-other}
-use lib.IntN.{natAbs}
 use borrow.Author.Tests.{leb-true, le-leb}
 use Rattle.arith.specs.Lists.{All, kept, total, over, everyBlock}
 use Rattle.arith.proofs.Alls.{all-hold, hold-all, all-map}
@@ -27,7 +26,7 @@ use Rattle.rules.specs.Contracts.{thresholdOf, kindOf, openContracts}
 use Rattle.rules.specs.Header.{Header}
 use Rattle.rules.specs.Ledger.{Tables, Line, withHead, withPrices, members, day, time, lotsRun, calendar, ggf, dayLots, dayValue, orders, withOrders, lineRun, booked}
 use Rattle.rules.specs.Ledger.{withoutSubmits, timed, freshPrices, fresh}
-use Rattle.rules.specs.Sides.{signed, otherSide}
+use Rattle.rules.specs.Sides.{otherSide}
 use Rattle.rules.specs.Matching.{Deal, dealLines, incoming, matched, submitMatched, submitLines, withDeals, counted, submitBooked}
 use Rattle.rules.specs.Synthetic.{proposalLines, usedByLegs, proposalBooked}
 use Rattle.rules.specs.Default.{defaultBooked, closeOutLines, closeOutBooked}
@@ -37,6 +36,7 @@ use Rattle.rules.proofs.SoundTables.{SoundOrder, book-gives}
 use Rattle.accounts.proofs.Matches.{best-all}
 use Rattle.accounts.proofs.Submits.{dealt-all}
 use Rattle.accounts.proofs.HeadStays.{Stays, unchanged, run-booked, submitUnbooked, submit-stays, cancel-stays, proposal-stays, defaultUnbooked, default-stays}
+use Rattle.rules.proofs.Sides.{abs-signed}
 
 -- ---- a contract's five numbers: GGF, low, high, M and V
 pub record Five (run price low high m v : ℕ) : Type 0 where
@@ -202,16 +202,11 @@ deals-worth (d ∷ ds) a =
     let rest = deals-worth ds (a .1) in
     (omega arith, omega arith)
 
-signed-size : (s : Side) (q : ℕ) → natAbs (signed s q) ≡ q
-signed-size Buy q = refl
-signed-size Sell zero = refl
-signed-size Sell (suc q) = refl
-
 -- each deal counts twice in the lots run
 deals-run : (o : Order) (ds : List Deal) → lineRun (flatMap (dealLines o) ds) ≡ dealtLots ds + dealtLots ds
 unfolding lineRun total flatMap
 deals-run o [] = refl
-deals-run o (d ∷ ds) = rw (signed-size (o .side) (d .lots), signed-size (otherSide (o .side)) (d .lots)) (omega (arith, deals-run o ds))
+deals-run o (d ∷ ds) = rw (abs-signed (o .side) (d .lots), abs-signed (otherSide (o .side)) (d .lots)) (omega (arith, deals-run o ds))
 
 -- the reference price: a rounded quotient of at most 1,000,000
 rounded-most : (n d : ℕ) → n ≤ 1000000 * d → roundedHalfUp n d ≤ 1000000

@@ -1,21 +1,22 @@
 -- What is left of the resting orders when some are taken out or used: fewer, each with its number, no two with the same.
 use mathlib.Core.Path.{_≡_, refl}
-use mathlib.Core.Bool.{Bool, true, false, not, cond}
+use mathlib.Core.Bool.{Bool, true, false, cond}
 use mathlib.Core.List.{List, [], _∷_, _++_, map}
 use Prim.Native.Nat.{ℕ, _+_, _-_, _≤_, _<_}
 use native.Mathlib.Omega.{arith}
 use lib.Dec.{eqb, leb}
 use lib.ListN.{length}
-use borrow.Author.Tests.{leb-false, not-true}
+use borrow.Author.Tests.{leb-false}
 use Rattle.arith.specs.Lists.{All, any, kept, total}
 use Rattle.arith.proofs.Alls.{all-map, all-append}
-use Rattle.arith.proofs.Tests.{by-bool, and-left, and-right, or-left, or-right}
+use Rattle.arith.proofs.Tests.{by-bool}
 use Rattle.rules.specs.declared.event.Leg.{Leg}
 use Rattle.rules.specs.declared.order.Order.{Order}
 use Rattle.rules.specs.Matching.{opposes, withLots, used, matching}
 use Rattle.rules.specs.Refusals.{distinct}
 use Rattle.rules.specs.Synthetic.{usedByLegs}
 use Rattle.accounts.proofs.Matches.{best-all, by-deals}
+use Rattle.rules.proofs.Distinct.{Distinct}
 
 -- ---- what is left of orders: some are gone, others rest with all of their lots or some
 pub data Remain : List Order → List Order → Type 0 where
@@ -46,10 +47,6 @@ remain-all P Q keep (gone x) h = remain-all P Q keep x (h .1)
 remain-all P Q keep (rests {o = o} q a b x) h = (keep o q a b (h .0), remain-all P Q keep x (h .1))
 
 -- ---- no two share a number
-abbrev pub Distinct : List Order → Type 0
-Distinct [] = Unit {0}
-Distinct (o ∷ os) = All (λ x. eqb (o .number) (x .number) ≡ false) os × Distinct os
-
 pub remain-distinct : {os ls : List Order} → Remain os ls → Distinct os → Distinct ls
 remain-distinct nothing d = tt
 remain-distinct (gone x) d = remain-distinct x (d .1)
@@ -61,26 +58,10 @@ pub distinct-more : (os : List Order) (n : Order) → All (λ o. eqb (o .number)
 distinct-more [] n h d = (tt, tt)
 distinct-more (o ∷ os) n h d = (all-append (λ x. eqb (o .number) (x .number) ≡ false) os (n ∷ []) (d .0) (h .0, tt), distinct-more os n (h .1) (d .1))
 
--- the test says the same
-none-same : (n : ℕ) (os : List Order) → any (eqb n) (map (λ o. o .number) os) ≡ false → All (λ x. eqb n (x .number) ≡ false) os
-unfolding any
-none-same n [] e = tt
-none-same n (o ∷ os) e =
-    let b = any (eqb n) (map (λ o. o .number) os) in
-    (or-left (eqb n (o .number)) b e, none-same n os (or-right (eqb n (o .number)) b e))
-
 same-none : (n : ℕ) (os : List Order) → All (λ x. eqb n (x .number) ≡ false) os → any (eqb n) (map (λ o. o .number) os) ≡ false
 unfolding any
 same-none n [] h = refl
 same-none n (o ∷ os) h = rw (h .0) (same-none n os (h .1))
-
-pub distinct-orders : (os : List Order) → distinct (map (λ o. o .number) os) ≡ true → Distinct os
-unfolding distinct
-distinct-orders [] e = tt
-distinct-orders (o ∷ os) e =
-    let ns = map (λ o. o .number) os in
-    let b = any (eqb (o .number)) ns in
-    (none-same (o .number) os (not-true b (and-left (not b) (distinct ns) e)), distinct-orders os (and-right (not b) (distinct ns) e))
 
 pub orders-distinct : (os : List Order) → Distinct os → distinct (map (λ o. o .number) os) ≡ true
 unfolding distinct

@@ -9,7 +9,7 @@ use native.Mathlib.Numerals.{add-one}
 use lib.ListN.{length, getD, take, drop, drop-of-length-le}
 use lib.Seq.{drop-cons, drop-drop}
 use Rattle.arith.specs.Lists.{every, any, from, everyBlock}
-use Rattle.arith.proofs.Tests.{and-left, and-right, and-true, and-false, or-false}
+use Rattle.arith.proofs.Tests.{and-left, and-right, and-true, and-false, or-false, any-cons}
 
 pub less-one : (n i : ℕ) → i < n → n - i ≡ suc (n - (i + 1))
 less-one n i h = omega arith
@@ -20,10 +20,6 @@ done n i h = omega arith
 every-cons : {A : Type 0} (p : A → Bool) (x : A) (l : List A) → every p (x ∷ l) ≡ p x && every p l
 unfolding every
 every-cons p x l = refl
-
-any-cons : {A : Type 0} (p : A → Bool) (x : A) (l : List A) → any p (x ∷ l) ≡ p x || any p l
-unfolding any
-any-cons p x l = refl
 
 -- ---- a list
 module _ {A : Type 0} (p : A → Bool) (l : List A) (z : A) (i : ℕ) (ok : Bool) (known : ok && every p (drop i l) ≡ every p l) where

@@ -7,15 +7,10 @@ use lib.Signed.{mag}
 use mir.Syntax.{w64}
 use mir.Val.{SFits, toZ, ofZ}
 use mir.Facts.{toZ-ofZ, toZ-pos}
-use Rattle.arith.proofs.Sizes.{abs-plus}
+use Rattle.arith.proofs.Sizes.{abs-plus, abs-neg}
 
 abbrev pub rd : ℤ → ℤ
 rd z = toZ w64 (ofZ w64 z)
-
-pub abs-neg : (z : ℤ) → natAbs (negℤ z) ≡ natAbs z
-abs-neg (pos zero) = refl
-abs-neg (pos (suc n)) = refl
-abs-neg (negsuc n) = refl
 
 pub sfits-abs : (z : ℤ) → natAbs z < 2 ^ 63 → SFits w64 z
 sfits-abs (pos n) h = record { sfits = h }

@@ -19,7 +19,7 @@ abs-plus (pos a) (negsuc b) = abs-difference a (suc b)
 abs-plus (negsuc a) (pos b) = omega (arith, abs-difference b (suc a))
 abs-plus (negsuc a) (negsuc b) = omega arith
 
-abs-neg : (x : ℤ) → natAbs (negℤ x) ≡ natAbs x
+pub abs-neg : (x : ℤ) → natAbs (negℤ x) ≡ natAbs x
 abs-neg (pos zero) = refl
 abs-neg (pos (suc n)) = refl
 abs-neg (negsuc n) = refl

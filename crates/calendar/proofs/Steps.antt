@@ -7,6 +7,7 @@ use native.Mathlib.Numerals.{add-one}
 use borrow.Author.Tests.{le-leb, lt-leb}
 use Rattle.rules.specs.declared.units.Day.the-variants.{On, NoDay}
 use Rattle.rules.specs.Days.{Calendar, businessDay, dayAfterSpan, firstBusinessDay, nextBusinessDay, businessDayBefore}
+use Rattle.arith.proofs.Scans.{less-one}
 
 module _ (k : Calendar) where
   -- ---- backwards
@@ -28,10 +29,6 @@ module _ (k : Calendar) where
   unfolding businessDayBefore
   back-idle n zero p b = absurd (omega arith)
   back-idle n (suc x) p b = let e : suc x - 1 ≡ x = omega arith in let b' = rw e at b in rw (e, b')
-
-  -- ---- forwards, up to day z
-  less-one : (n i : ℕ) → i < n → n - i ≡ suc (n - (i + 1))
-  less-one n i h = omega arith
 
   pub next-end : (z x : ℕ) → z ≤ x → firstBusinessDay k (z - x) x ≡ NoDay
   unfolding firstBusinessDay

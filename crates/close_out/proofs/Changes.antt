@@ -11,8 +11,7 @@ use lib.IntN.{ℤ, pos, negsuc, negℤ, natAbs, _-ℤ_}
 use lib.ListN.{length, getD, drop, length-append, drop-of-length-le}
 use lib.Seq.{drop-cons}
 use borrow.Author.Tests.{eq-eqb, ne-eqb, lt-ltb, le-ltb}
-use Rattle.arith.proofs.Signed.{abs-neg}
-use Rattle.arith.proofs.Sizes.{abs-plus}
+use Rattle.arith.proofs.Sizes.{abs-plus, abs-neg}
 use Rattle.arith.proofs.Columns.{total-next}
 use Rattle.arith.proofs.Tests.{by-bool, same-or}
 use Rattle.rules.specs.declared.order.Side.the-variants.{Buy, Sell}

@@ -2,19 +2,17 @@
 use Prim.Native.Nat.{ℕ, zero, suc, _+_, _-_, _≤_, _<_, min}
 use mathlib.Core.Path.{_≡_, refl, sym, _∙_}
 use mathlib.Core.Bool.{Bool, true, false, cond}
-use mathlib.Core.List.{List, [], _∷_, _++_, map, zipWith}
+use mathlib.Core.List.{List, [], _∷_, map, zipWith}
 use native.Mathlib.Omega.{arith}
 use native.Mathlib.Nat.{zero-add, add-assoc}
 use lib.Dec.{ltb}
 use lib.IntN.{ℤ, pos, negℤ, natAbs, _-ℤ_, +ℤ-idl}
 use lib.ListN.{length, getD, replicate, length-append}
 use borrow.Author.Tests.{ne-eqb}
-use Rattle.arith.proofs.Signed.{abs-neg}
 use Rattle.arith.specs.Lists.{total}
 use Rattle.arith.proofs.Tests.{same-or}
-use Rattle.arith.proofs.Totals.{total-append}
 use Rattle.rules.specs.Default.{sumOf, givenUp, less, changeLines, dealtOut, rounds}
-use Rattle.rules.specs.Ledger.{Tables, Line, members, lineRun}
+use Rattle.rules.specs.Ledger.{Tables, members, lineRun}
 use Rattle.rules.specs.Ranges.{contractCount, mostPrice, leastLines}
 use Rattle.rules.proofs.Netting.{sum-cons, sum-none, sum-zeros, given-sum, given-length, given-le}
 use Rattle.dealing.proofs.Dealt.{all-dealt}
@@ -22,6 +20,7 @@ use Rattle.close_out.specs.Booking.{withEach, changes, takerLines}
 use Rattle.close_out.proofs.Changes.{minus-size, change-most, change-cons, each-append}
 use Rattle.tables.proofs.Takes.{Takes}
 use Rattle.close_out.proofs.Takes.{takes-change, each-members}
+use Rattle.arith.proofs.Sizes.{abs-neg}
 
 -- ---- what is left
 less-sum : (xs ys : List ℕ) → length ys ≡ length xs → ((i : ℕ) → getD ys i 0 ≤ getD xs i 0) → sumOf (less xs ys) + sumOf ys ≡ sumOf xs
@@ -40,10 +39,6 @@ unfolding lineRun total changeLines
 change-run c p m [] = refl
 change-run c p m (z ∷ zs) =
     same-or (natAbs z) 0 (λ e. rw (e, change-run c p (suc m) zs) (omega arith)) (λ d. rw (ne-eqb (natAbs z) 0 d, change-run c p (suc m) zs))
-
-pub run-append : (ls ms : List Line) → lineRun (ls ++ ms) ≡ lineRun ls + lineRun ms
-unfolding lineRun
-run-append ls ms = total-append (λ l. natAbs (l .lots)) ls ms
 
 -- At each place one of the two is 0.
 abbrev pub Apart : List ℕ → List ℕ → Type 0

@@ -29,9 +29,10 @@ use Rattle.close_out.specs.Booking.{withEach, changes, nettingLines, def
 use Rattle.close_out.proofs.Changes.{each-booked}
 use Rattle.tables.proofs.Takes.{rows-wider}
 use Rattle.close_out.proofs.Running.{blank}
-use Rattle.close_out.proofs.Runs.{left-sum, change-run, run-append, Apart, apart-run, takers-run}
+use Rattle.close_out.proofs.Runs.{left-sum, change-run, Apart, apart-run, takers-run}
 use Rattle.close_out.proofs.StepBooking.{less-length, less-le}
 use Rattle.close_out.proofs.ColumnFits.{column-length, column-fits, column-sum}
+use Rattle.rules.proofs.LinesRun.{run-append}
 
 -- ---- a column that was read
 pub record Read (head column : List ℕ) : Type 0 where

@@ -33,6 +33,7 @@ use Rattle.codec.specs.Trips.{WrittenIsRead, ReadIsWritten, SoundStandsW
 use Rattle.codec.proofs.Fields.{Says, submits, cancels, limits, proposes, defaults, closes-out, closes, says, said}
 use Rattle.codec.proofs.LegColumns.{legs-to, rows-said}
 use Rattle.codec.proofs.Written.{leg-wide, bound, write-whole}
+use Rattle.rules.proofs.Sides.{side-again}
 
 -- ---- a sound event's wide fields fit their bytes
 abbrev WideFields : Event → Type 0
@@ -168,10 +169,6 @@ read-written n e legs m t =
 -- and its legs.
 legs-written : (n : ℕ) (e : Event) (legs : List Leg) → eventSound n e legs ≡ true → legsOf (bytesOf e legs) ≡ legs
 legs-written n e legs t = legs-back n e legs t (beside n e legs t)
-
--- ---- read, then written
-pub side-again : (b : ℕ) → b ≤ 1 → sideNumber (sideOf b) ≡ b
-side-again b h = same-or b 0 (λ e. rw e refl) (λ n. let e : b ≡ 1 = omega arith in rw e refl)
 
 pub order-kind-again : (b : ℕ) → b ≤ 2 → orderKindNumber (orderKindOf b) ≡ b
 order-kind-again b h =

@@ -34,6 +34,7 @@ use Rattle.fields.specs.RecordFields.{recordFields, proposalLegs, legFie
 use Rattle.fields.specs.Trips.{NumbersGiveEvent, EventGivesNumbers, ReadIsWritten, WrittenIsRead}
 use Rattle.fields.proofs.Given.{Gives, submits, cancels, limits, proposes, defaults, closes-out, closes, gives, legs-given}
 use Rattle.fields.proofs.RecordOutcomes.{length-legs, read-short, read-by, few-read, rows-read, write-short, write-by}
+use Rattle.rules.proofs.Sides.{side-again}
 
 -- ---- an event's numbers give the event
 leg-back : (p q : List ℕ) (i : ℕ) → i ≡ length p → (g : Leg) → Unit {0} → legIn (p ++ (legNumbers g ++ q)) i ≡ g
@@ -90,7 +91,7 @@ module _ (f : List ℕ) where
 
   again : (e : Event) → recordFields ≤ length f → Gives f e → take (length (numbersOf e (legsIn f))) f ≡ numbersOf e (legsIn f)
   unfolding numbersOf firsts from
-  again e h (submits k a b) = take-firsts 8 f (omega arith) ∙ rw (k, codec.side-again (getD f 4 0) a, codec.order-kind-again (getD f 5 0) b) refl
+  again e h (submits k a b) = take-firsts 8 f (omega arith) ∙ rw (k, side-again (getD f 4 0) a, codec.order-kind-again (getD f 5 0) b) refl
   again e h (cancels k) = take-firsts 4 f (omega arith) ∙ rw k refl
   again e h (limits k) = take-firsts 4 f (omega arith) ∙ rw k refl
   again e h (proposes k m) =

@@ -10,26 +10,16 @@ use lib.ListN.{length, getD}
 use borrow.Author.Tests.{lt-ltb, le-ltb, eq-eqb, ne-eqb, lt-leb, leb-false, ltb-true}
 use Rattle.arith.specs.Lists.{All}
 use Rattle.arith.proofs.Alls.{all-map, all-place}
-use Rattle.arith.proofs.Tests.{by-bool, true-or, le-or-lt, by-eqb, and-left, and-right, never, same-ltb}
+use Rattle.arith.proofs.Tests.{by-bool, true-or, le-or-lt, by-eqb, and-left, and-right, same-ltb}
 use Rattle.rules.specs.declared.order.Order.{Order}
 use Rattle.rules.specs.declared.order.Side.{Side}
 use Rattle.rules.specs.declared.order.Side.the-variants.{Buy, Sell}
 use Rattle.rules.specs.Ranges.{mostPrice, mostOrders}
-use Rattle.rules.specs.Sides.{sameSide, otherSide}
+use Rattle.rules.specs.Sides.{otherSide}
 use Rattle.rules.specs.Matching.{betterPrice, precedes, better, best, opposes, meetsPrice, meets, withLots}
 use Rattle.tables.specs.Left.{leftOver}
 use Rattle.matching.specs.Ranks.{numbersEnd, Ranked, priceRank, rankOf, noRank, rankIn, ranksOf, Lowest}
-
--- ---- sides
-same-side : (a b : Side) → sameSide a b ≡ true → a ≡ b
-same-side Buy Buy e = refl
-same-side Buy Sell e = never (sym e)
-same-side Sell Buy e = never (sym e)
-same-side Sell Sell e = refl
-
-pub opposing-side : (o r : Order) → opposes o r ≡ true → r .side ≡ otherSide (o .side)
-unfolding opposes
-opposing-side o r e = same-side (r .side) (otherSide (o .side)) (and-right (eqb (r .contract) (o .contract)) (sameSide (r .side) (otherSide (o .side))) e)
+use Rattle.rules.proofs.Sides.{opposing-side}
 
 -- ---- ranks
 module _ (p q m n : ℕ) (hp : p ≤ mostPrice) (hq : q ≤ mostPrice) (hm : m < numbersEnd) (hn : n < numbersEnd) where

@@ -24,11 +24,11 @@ use Rattle.matching.specs.Matching.{DealMade, Matchable, Ended, MatchMad
 use Rattle.tables.specs.Fit.{ordersIn}
 use Rattle.arith.proofs.Alls.{all-place}
 use Rattle.matching.proofs.Best.{ranks-length, ranks-at, live, rank-live, rank-room}
-use Rattle.matching.proofs.Used.{Distinct, distinct-numbers}
 use Rattle.matching.proofs.Running.{Running, running-start, running-deal, ranks-set, ended-full, ended-far, ended-none}
 use Rattle.matching.proofs.Lows.{placed-gone, best-is}
 use Rattle.tables.proofs.Left.{orders-length, all-orders}
 use Rattle.matching.proofs.Passes.{order-here}
+use Rattle.rules.proofs.Distinct.{Distinct, distinct-orders}
 
 -- ---- one more deal in the column
 map-below : {B : Type 0} (f g : ℕ → B) (a n : ℕ) → ((i : ℕ) → i < a + n → f i ≡ g i) → map f (from a n) ≡ map g (from a n)
@@ -103,7 +103,7 @@ going-start o book left ranks lows deals m room e p b =
     let start = running-start o os (all-orders (λ r. 0 < r .lots .0) book (length left) (m .has-lots)) in
     record {
       ranked = all-orders Ranked book (length left) (m .ranked);
-      numbers = distinct-numbers os (m .numbers-distinct);
+      numbers = distinct-orders os (m .numbers-distinct);
       long = m .long;
       most-orders = m .most-orders;
       running = rw (← e) at start;

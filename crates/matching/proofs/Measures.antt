@@ -19,8 +19,8 @@ use Rattle.matching.specs.Ranks.{Ranked, rankOf, noRank, rankIn, ranksOf
 use Rattle.matching.specs.Crossing.{crosses}
 use Rattle.matching.specs.Matching.{Ended}
 use Rattle.matching.proofs.Best.{ranks-length, ranks-at, live, rank-live, rank-below, meets-far}
-use Rattle.matching.proofs.Used.{Distinct}
 use Rattle.matching.proofs.Running.{Running, ended-full, ended-far, ended-none, running-deal, count-fewer}
+use Rattle.rules.proofs.Distinct.{Distinct}
 
 -- ---- the lowest rank of a list, if there is one
 pub data Found (ranks : List ℕ) : Type 0 where

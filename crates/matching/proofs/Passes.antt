@@ -1,7 +1,7 @@
 -- One more order of a pass over the book. Assumes nothing.
-use mathlib.Core.Path.{_≡_, refl, sym, ap, _∙_}
+use mathlib.Core.Path.{_≡_, refl, ap, _∙_}
 use mathlib.Core.Bool.{false, cond}
-use mathlib.Core.List.{List, [], _∷_, _++_, map}
+use mathlib.Core.List.{List, [], _∷_, map}
 use Prim.Native.Nat.{ℕ, _+_, _*_, _≤_, _<_}
 use native.Mathlib.Omega.{arith}
 use native.Mathlib.Nat.{zero-add, add-zero}
@@ -19,11 +19,7 @@ use Rattle.rules.specs.Ranges.{mostLots}
 use Rattle.matching.specs.Crossing.{isOwn, crosses, ownLots, crossingLots, ownIn, crossingIn}
 use Rattle.tables.specs.Fit.{ordersIn}
 use Rattle.matching.proofs.Best.{ranks-at}
-
-pub total-append : {A : Type 0} (f : A → ℕ) (l m : List A) → total f (l ++ m) ≡ total f l + total f m
-unfolding total
-total-append f [] m = sym (zero-add (total f m))
-total-append f (x ∷ l) m = omega (arith, total-append f l m)
+use Rattle.arith.proofs.Totals.{total-append}
 
 pub total-one : {A : Type 0} (f : A → ℕ) (x : A) → total f (x ∷ []) ≡ f x
 unfolding total

@@ -18,7 +18,8 @@ use Rattle.matching.specs.Ranks.{Ranked, rankOf, noRank, rankIn, ranksOf
 use Rattle.matching.specs.Deals.{counterparty, counterpartyOf}
 use Rattle.matching.specs.Matching.{Ended}
 use Rattle.matching.proofs.Best.{best-lowest, best-none, ranks-length, ranks-at, live}
-use Rattle.matching.proofs.Used.{Distinct, used-left, stops-empty, stops-none, stops-far, deals-best}
+use Rattle.matching.proofs.Used.{used-left, stops-empty, stops-none, stops-far, deals-best}
+use Rattle.rules.proofs.Distinct.{Distinct}
 
 -- ---- the column of lots left
 

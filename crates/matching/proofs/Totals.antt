@@ -13,11 +13,11 @@ use Rattle.rules.specs.declared.order.Order.{Order}
 use Rattle.rules.specs.Ledger.{lineRun}
 use Rattle.rules.specs.Sides.{otherSide}
 use Rattle.rules.specs.Matching.{best, opposes, meets, withLots, used, Deal, Matched, stopped, afterDeal, matching, matched, dealLines}
-use Rattle.tables.proofs.Amounts.{abs-signed}
 use Rattle.matching.specs.declared.deals.Counterparty.{Counterparty}
 use Rattle.matching.specs.Crossing.{crosses, crossingLots, crossingIn}
 use Rattle.matching.specs.Ranks.{lotsOf, crossing}
 use Rattle.matching.specs.Deals.{counterpartyOf, linesWith}
+use Rattle.rules.proofs.Sides.{abs-signed}
 
 abbrev dealt : Deal → ℕ
 dealt d = d .lots

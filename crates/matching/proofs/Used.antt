@@ -1,42 +1,20 @@
 -- Matching over a column of what is left of each order, a deal at a time. Assumes nothing.
 use mathlib.Core.Path.{_≡_, refl, sym, ap}
-use mathlib.Core.Bool.{true, false, not, cond, _||_}
-use mathlib.Core.List.{List, [], _∷_, map}
+use mathlib.Core.Bool.{true, false, not, cond}
+use mathlib.Core.List.{List, [], _∷_}
 use mathlib.Core.Option.{Option, none, some}
 use Prim.Native.Nat.{ℕ, zero, suc, _-_, _≤_, _<_, min}
 use native.Mathlib.Omega.{arith}
 use lib.Dec.{eqb, ltb}
 use lib.ListN.{length, getD, set}
-use borrow.Author.Tests.{lt-ltb, le-leb, lt-leb, eq-eqb, ne-eqb, eqb-false, not-true}
-use Rattle.arith.specs.Lists.{any, All}
+use borrow.Author.Tests.{lt-ltb, le-leb, lt-leb, eq-eqb, ne-eqb, eqb-false}
+use Rattle.arith.specs.Lists.{All}
 use Rattle.arith.proofs.Alls.{all-place}
-use Rattle.arith.proofs.Tests.{by-bool, by-eqb, true-or, le-or-lt, and-left, and-right, never}
+use Rattle.arith.proofs.Tests.{by-eqb, true-or, le-or-lt}
 use Rattle.rules.specs.declared.order.Order.{Order}
 use Rattle.rules.specs.Matching.{best, opposes, meets, withLots, used, stopped, afterDeal, matching}
-use Rattle.rules.specs.Refusals.{distinct}
 use Rattle.tables.specs.Left.{leftOver}
-
--- ---- numbers that no two orders share
-abbrev pub Distinct : List Order → Type 0
-Distinct [] = Unit {0}
-Distinct (o ∷ os) = All (λ r. eqb (o .number) (r .number) ≡ false) os × Distinct os
-
-no-other : (n : ℕ) (os : List Order) → any (eqb n) (map (λ o. o .number) os) ≡ false → All (λ r. eqb n (r .number) ≡ false) os
-unfolding any
-no-other n [] e = tt
-no-other n (o ∷ os) e =
-    by-bool (λ b. (b || any (eqb n) (map (λ r. r .number) os)) ≡ false → (b ≡ false) × All (λ r. eqb n (r .number) ≡ false) os) (eqb n (o .number))
-    (λ _ f. absurd (never f)) (λ _ f. (refl, no-other n os f)) e
-
-pub distinct-numbers : (os : List Order) → distinct (map (λ o. o .number) os) ≡ true → Distinct os
-unfolding distinct
-distinct-numbers [] e = tt
-distinct-numbers (o ∷ os) e =
-    let others = map (λ r. r .number) os in (
-      no-other (o .number) os (not-true _ (and-left (not (any (eqb (o .number)) others)) (distinct others) e)),
-      distinct-numbers os
-          (and-right (not (any (eqb (o .number)) others)) (distinct others) e),
-    )
+use Rattle.rules.proofs.Distinct.{Distinct}
 
 -- ---- lots used
 other-number : (m n : ℕ) → eqb m n ≡ false → eqb n m ≡ false

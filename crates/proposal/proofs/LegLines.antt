@@ -14,13 +14,13 @@ use Rattle.rules.specs.Sides.{signed}
 use Rattle.tables.specs.declared.lines.DealLine.{DealLine}
 use Rattle.tables.specs.Fit.{BookFit, OrderFit, membersIn, orderCountIn}
 use Rattle.tables.specs.Lines.{LineFit, lineOf, withLine}
-use Rattle.tables.proofs.Amounts.{abs-signed}
 use Rattle.tables.proofs.Booked.{booked-none, booked-more}
 use Rattle.proposal.specs.Columns.{LegsFit, PlacesFit}
 use Rattle.tables.specs.Room.{Bookable}
 use Rattle.proposal.specs.Booking.{lineAt, linesTo}
 use Rattle.tables.proofs.Takes.{Sound, takes-line, line-members}
 use Rattle.proposal.proofs.Printed.{lines-length, lines-more}
+use Rattle.rules.proofs.Sides.{abs-signed}
 
 -- Where a leg's line is booked, with the order as the code reads it.
 abbrev pub dealLine : Order → ℕ → ℕ → DealLine

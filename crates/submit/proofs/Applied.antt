@@ -17,12 +17,12 @@ use Rattle.tables.specs.Fit.{HeadFit, BookFit, orderCountIn, ordersIn}
 use Rattle.tables.proofs.Left.{orders-length, all-orders}
 use Rattle.matching.specs.Ranks.{Ranked}
 use Rattle.matching.specs.Crossing.{ownIn, crossingIn}
-use Rattle.matching.proofs.Used.{Distinct, distinct-numbers}
 use Rattle.submit.specs.declared.causes.Verdict.{Verdict}
 use Rattle.submit.specs.declared.causes.Verdict.the-variants.{Refused, Sound}
 use Rattle.submit.specs.Fit.{SubmissionFit, Acceptable}
 use Rattle.submit.specs.Causes.{outcome, firstCauses, measuredCauses}
 use Rattle.submit.proofs.Judged.{judged-first, judged, acceptable}
+use Rattle.rules.proofs.Distinct.{Distinct, distinct-orders}
 
 module _ (head prices : List ℕ) (lots value : List ℤ) (book : List ℕ) (lines : List ℤ) (e : Submission) (h : HeadFit head) (b : BookFit head book) (f : SubmissionFit head e) where
   abbrev t : Tables
@@ -38,7 +38,7 @@ module _ (head prices : List ℕ) (lots value : List ℤ) (book : List ℕ) (lin
 
   numbers : Distinct (orders t)
   unfolding orders
-  numbers = distinct-numbers (ordersIn (orderCountIn head) book) (b .numbers-distinct)
+  numbers = distinct-orders (ordersIn (orderCountIn head) book) (b .numbers-distinct)
 
   many : length (orders t) ≡ orderCount t
   unfolding orders

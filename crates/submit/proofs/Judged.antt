@@ -1,6 +1,6 @@
 -- The causes that the book tells, by the lots that cross. Assumes nothing.
 use mathlib.Core.Path.{_≡_, refl, sym, ap, _∙_}
-use mathlib.Core.Bool.{Bool, true, false, _&&_, _||_, and-assoc}
+use mathlib.Core.Bool.{Bool, true, false, _&&_, and-assoc}
 use mathlib.Core.List.{List, [], _∷_, _++_, map, flatMap}
 use Prim.Native.Nat.{ℕ, _+_, _*_, _-_, _≤_, _<_, min}
 use native.Mathlib.Omega.{arith}
@@ -10,7 +10,7 @@ use lib.IntN.{pos, _+ℤ_}
 use lib.Signed.{ltZ}
 use borrow.Author.Tests.{lt-ltb, lt-leb, ne-eqb, ltb-true, ltb-false, leb-false}
 use Rattle.arith.specs.Lists.{total, All}
-use Rattle.arith.proofs.Tests.{true-or, same-or, same-ltb, never}
+use Rattle.arith.proofs.Tests.{true-or, same-or, same-ltb, or-left, or-right}
 use Rattle.rules.specs.declared.answer.Answer.{Answer}
 use Rattle.rules.specs.declared.answer.Answer.the-variants.{Accepted}
 use Rattle.rules.specs.declared.event.Submission.{Submission}
@@ -24,7 +24,6 @@ use Rattle.matching.specs.Ranks.{Ranked, lotsOf}
 use Rattle.matching.specs.Crossing.{isOwn, ownLots, ownIn, crossingIn}
 use Rattle.matching.specs.Deals.{counterpartyOf, linesWith}
 use Rattle.matching.specs.Matching.{Ended}
-use Rattle.matching.proofs.Used.{Distinct}
 use Rattle.matching.proofs.Running.{Running, running-start, left-all, count-most}
 use Rattle.matching.proofs.Measures.{Measured, measured, untouched}
 use Rattle.matching.proofs.Totals.{dealt-and-left, lots-kept, lines-kept, run-of-lines, total-kept, crossing-all}
@@ -32,14 +31,7 @@ use Rattle.submit.specs.declared.causes.Verdict.{Verdict}
 use Rattle.submit.specs.declared.causes.Verdict.the-variants.{Sound}
 use Rattle.submit.specs.Fit.{Acceptable}
 use Rattle.submit.specs.Causes.{outcome, firstCauses, measuredCauses}
-
-or-left : (a b : Bool) → a || b ≡ false → a ≡ false
-or-left true b e = e
-or-left false b e = refl
-
-or-right : (a b : Bool) → a || b ≡ false → b ≡ false
-or-right true b e = absurd (never e)
-or-right false b e = e
+use Rattle.rules.proofs.Distinct.{Distinct}
 
 -- ---- causes in two parts
 pub decide-both : (cs ds : List (Bool × Answer)) (t : Tables) (b : Outcome Tables) → decide (cs ++ ds) t b ≡ decide cs t (decide ds t b)

@@ -12,8 +12,9 @@ use Rattle.rules.specs.declared.order.Order.{Order}
 use Rattle.rules.specs.Ranges.{mostLots, mostPrice}
 use Rattle.matching.specs.declared.deals.Counterparty.{Counterparty}
 use Rattle.matching.specs.Deals.{dealAt, dealsIn, lineIn, lineOut, linesWith}
-use Rattle.matching.proofs.Passes.{total-append, total-one}
+use Rattle.matching.proofs.Passes.{total-one}
 use Rattle.submit.specs.Deals.{DealsFit, worthOf}
+use Rattle.arith.proofs.Totals.{total-append}
 
 module _ (l : List ℕ) where
   deals-next : (k : ℕ) → dealsIn (k + 1) l ≡ dealsIn k l ++ (dealAt l k ∷ [])

@@ -18,15 +18,13 @@ use Rattle.rules.specs.Sides.{signed}
 use Rattle.matching.specs.declared.deals.Counterparty.{Counterparty}
 use Rattle.matching.specs.Deals.{dealAt, dealsIn, lineIn, lineOut, linesWith}
 use Rattle.tables.specs.declared.lines.DealLine.{DealLine}
-use Rattle.tables.specs.Fit.{RowsFit, membersIn, lotsRunIn}
+use Rattle.tables.specs.Fit.{membersIn, lotsRunIn}
 use Rattle.tables.specs.Lines.{LineFit, lineOf, withLine}
-use Rattle.tables.proofs.Amounts.{abs-signed}
 use Rattle.tables.proofs.Booked.{rows-fit-line, booked-none, booked-more}
 use Rattle.submit.specs.Deals.{Bookable, DealBooked, lotsDealt}
 use Rattle.submit.proofs.Kept.{total-next, lines-next, lines-length}
-
-rows-wider : (members bound bound′ : ℕ) (rows : List ℤ) → bound ≤ bound′ → RowsFit members bound rows → RowsFit members bound′ rows
-rows-wider members bound bound′ rows h f = record { long = f .long; within = λ c m a b. omega (arith, f .within c m a b) }
+use Rattle.rules.proofs.Sides.{abs-signed}
+use Rattle.tables.proofs.Takes.{rows-wider}
 
 module _ (head : List ℕ) (lots value lines : List ℤ) (head′ : List ℕ) (lots′ value′ lines′ : List ℤ) (i : ℕ) (l : DealLine)
     (b : Bookable head lots value lines) (f : LineFit head l) (h : i < leastLines)

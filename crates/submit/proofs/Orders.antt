@@ -14,7 +14,8 @@ use Rattle.arith.proofs.Writes.{over-more}
 use Rattle.rules.specs.declared.order.Order.{Order}
 use Rattle.rules.specs.Ledger.{Tables, withHead, withBook, withOrderCount, sideAt, orderAt, orderPlaces, withOrders}
 use Rattle.tables.specs.Fit.{ordersIn, orderCountIn}
-use Rattle.tables.proofs.Left.{orders-more, places-length, side-back}
+use Rattle.tables.proofs.Left.{orders-more, places-length}
+use Rattle.rules.proofs.Sides.{side-again}
 
 -- ---- orders written where they stand
 module _ (b : List ℕ) where
@@ -22,7 +23,7 @@ module _ (b : List ℕ) where
   block-is i h s =
       let at = i * 8 in
       rw (
-        side-back (sideAt b i) s,
+        side-again (sideAt b i) s,
         add-one at,
         add-two at,
         add-three at,

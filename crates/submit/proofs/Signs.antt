@@ -5,7 +5,8 @@ use native.Mathlib.Omega.{arith}
 use lib.IntN.{ℤ, pos, natAbs, negℤ, _+ℤ_, _-ℤ_, +ℤ-idl}
 use mir.Syntax.{w64}
 use mir.Val.{SFits, toZ}
-use Rattle.arith.proofs.Signed.{rd, back, rd-pos, sfits-abs, abs-neg, add-is}
+use Rattle.arith.proofs.Signed.{rd, back, rd-pos, sfits-abs, add-is}
+use Rattle.arith.proofs.Sizes.{abs-neg}
 
 module _ (z : ℤ) (h : natAbs z < 2 ^ 63) where
   opposite : pos 0 -ℤ rd z ≡ negℤ z

@@ -19,12 +19,12 @@ use Rattle.matching.specs.Ranks.{Ranked, lotsOf}
 use Rattle.matching.specs.Crossing.{crossingIn}
 use Rattle.matching.specs.Deals.{dealWidth, dealsIn, counterpartyOf}
 use Rattle.matching.specs.Matching.{Matchable, Ended, MatchMade}
-use Rattle.matching.proofs.Used.{Distinct, distinct-numbers}
 use Rattle.matching.proofs.Totals.{dealt-and-left, lots-kept, worth-kept}
 use Rattle.submit.specs.Deals.{DealsFit, Tradable, Traded, lotsDealt, worthOf}
 use Rattle.submit.proofs.Judged.{still, resting-still}
 use Rattle.submit.proofs.Kept.{total-at}
 use Rattle.submit.proofs.Orders.{written-back}
+use Rattle.rules.proofs.Distinct.{Distinct, distinct-orders}
 
 module _ (head prices book : List ℕ) (o : Order) (x : Tradable head prices book o) where
   abbrev n : ℕ
@@ -97,7 +97,7 @@ module _ (head prices book : List ℕ) (o : Order) (x : Tradable head prices boo
     has-lots = all-orders (λ r. 0 < r .lots .0) book n (x .has-lots)
 
     apart : Distinct os
-    apart = distinct-numbers os (x .numbers-distinct)
+    apart = distinct-orders os (x .numbers-distinct)
 
     untouched : Ended o os (map lotsOf os) (o .lots .0) []
     untouched = still o os ranked apart has-lots (x .least-lots) none

@@ -2,15 +2,10 @@
 use mathlib.Core.Path.{_≡_, refl}
 use Prim.Native.Nat.{ℕ, zero, suc, _*_, _≤_}
 use native.Mathlib.Nat.{zero-mul, mul-le-mul}
-use lib.IntN.{pos, natAbs, _*ℤ_}
-use Rattle.arith.proofs.Signed.{abs-neg}
+use lib.IntN.{pos, _*ℤ_}
 use Rattle.rules.specs.declared.order.Side.{Side}
 use Rattle.rules.specs.declared.order.Side.the-variants.{Buy, Sell}
 use Rattle.rules.specs.Sides.{signed}
-
-pub abs-signed : (s : Side) (q : ℕ) → natAbs (signed s q) ≡ q
-abs-signed Buy q = refl
-abs-signed Sell q = abs-neg (pos q)
 
 -- Lots times price with the sign of the side.
 pub signed-times : (s : Side) (q p : ℕ) → signed s (q * p) ≡ signed s q *ℤ pos p

@@ -9,18 +9,18 @@ use native.Mathlib.Numerals.{add-one, add-two, add-three, add-four, add-five, ad
 use lib.Dec.{eqb}
 use lib.ListN.{length, getD, set, take, drop, length-append, length-map}
 use lib.Seq.{length-take-le, set-getD, getD-set-other}
-use borrow.Author.Tests.{eq-eqb, ne-eqb}
+use borrow.Author.Tests.{ne-eqb}
 use Rattle.arith.specs.Lists.{All, kept, from, over}
 use Rattle.arith.proofs.Overs.{over-outside}
-use Rattle.arith.proofs.Tests.{true-or, same-or}
+use Rattle.arith.proofs.Tests.{true-or}
 use Rattle.arith.proofs.Appends.{from-more, from-length, map-append, flat-append, flat-one, flat-length, map-at, from-at}
 use Rattle.arith.proofs.Writes.{stored, over-more, again-long, again-front, again-many}
 use Rattle.rules.specs.declared.order.Order.{Order}
-use Rattle.rules.specs.Sides.{sideOf, sideNumber}
 use Rattle.rules.specs.Ledger.{sideAt, orderAt, orderPlaces}
 use Rattle.rules.specs.Matching.{withLots}
 use Rattle.tables.specs.Fit.{ordersIn}
 use Rattle.tables.specs.Left.{leftOver, staying}
+use Rattle.rules.proofs.Sides.{side-again}
 
 -- ---- one more order
 pub left-nothing : (qs : List ℕ) → leftOver qs [] ≡ []
@@ -110,9 +110,6 @@ order-there xs b i h s l =
 pub side-there : (xs b : List ℕ) (i : ℕ) → length xs ≤ i * 8 → i < 256 → 2048 ≤ length b → sideAt (over 0 xs b) i ≡ sideAt b i
 side-there xs b i h s l = over-outside 0 xs b (omega arith) (i * 8 + 3) 0 (λ _. omega arith)
 
-pub side-back : (n : ℕ) → n ≤ 1 → sideNumber (sideOf n) ≡ n
-side-back n h = same-or n 0 (λ e. rw (eq-eqb n 0 e) (sym e)) (λ e. rw (ne-eqb n 0 e) (omega (arith, e)))
-
 -- An order written where it stands changes its lots.
 pub lots-written : (b : List ℕ) (i q : ℕ) → i * 8 + 8 ≤ length b → sideAt b i ≤ 1 → set b (i * 8 + 5) q ≡ over (i * 8) (orderPlaces (withLots q (orderAt b i))) b
 lots-written b i q h s =
@@ -121,7 +118,7 @@ lots-written b i q h s =
     sym
     (sym (stored (orderPlaces (withLots q (orderAt b i))) b at h)
     ∙ rw (
-      side-back (sideAt b i) s,
+      side-again (sideAt b i) s,
       add-one at,
       add-two at,
       add-three at,

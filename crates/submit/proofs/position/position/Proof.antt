@@ -1,6 +1,6 @@
 use lib.ListN.{getD}
 use lib.IntN.{pos}
-use Rattle.arith.proofs.Signed.{back, abs-neg}
+use Rattle.arith.proofs.Signed.{back}
 use mathlib.Core.Path.{refl}
 use Prim.Native.Nat.{_+_, _*_}
 use native.Mathlib.Omega.{arith}
@@ -8,6 +8,7 @@ use Rattle.submit.proofs.Signs.{opposite-ok, opposite-is}
 use borrow.Author.Needs.{needs}
 use Rattle.submit.proofs.position.position.Statement.{statement}
 use Rattle.submit.proofs.position.position.Tie as tie
+use Rattle.arith.proofs.Sizes.{abs-neg}
 
 sub-t13 : tie.Need-sub-t13
 sub-t13 c = let a = c .before .before .before .args in opposite-ok (getD (a .lots .now) (a .contract * 32 + a .member) (pos 0)) (omega (arith, c .before .before .before .pre .1))

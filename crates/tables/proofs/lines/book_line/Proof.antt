@@ -1,8 +1,8 @@
 use Rattle.tables.specs.Lines.{withLine}
-use Rattle.tables.proofs.Amounts.{abs-signed}
 use borrow.Author.Needs.{needs}
 use Rattle.tables.proofs.lines.book_line.Statement.{statement}
 use Rattle.tables.proofs.lines.book_line.Tie as tie
+use Rattle.rules.proofs.Sides.{abs-signed}
 
 returns : tie.Need-returns
 unfolding withLine

@@ -1,10 +1,11 @@
 use native.Mathlib.Omega.{arith}
 use mathlib.Core.Path.{refl}
 use lib.IntN.{pos}
-use Rattle.arith.proofs.Signed.{rd-pos, neg-ok, neg-is, abs-neg}
+use Rattle.arith.proofs.Signed.{rd-pos, neg-ok, neg-is}
 use borrow.Author.Needs.{needs}
 use Rattle.tables.proofs.lines.with_sign.Statement.{statement}
 use Rattle.tables.proofs.lines.with_sign.Tie as tie
+use Rattle.arith.proofs.Sizes.{abs-neg}
 
 sub-t5 : tie.Need-sub-t5
 sub-t5 c = neg-ok (c .before .before .args .amount) (omega arith)
