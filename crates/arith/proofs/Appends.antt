@@ -48,10 +48,6 @@ module _ {A : Type 0} (p : A → Bool) where
   kept-most [] = omega arith
   kept-most (x ∷ l) = true-or (p x) (λ e. rw e (omega (arith, kept-most l))) (λ e. rw e (omega (arith, kept-most l)))
 
-  pub kept-one : (x : A) → kept p (x ∷ []) ≡ cond (p x) (x ∷ []) []
-  unfolding kept
-  kept-one x = refl
-
 -- ---- place by place
 pub map-at : {A B : Type 0} (f : A → B) (l : List A) (i : ℕ) (y : A) (z : B) → i < length l → getD (map f l) i z ≡ f (getD l i y)
 map-at f [] i y z h = absurd (omega arith)

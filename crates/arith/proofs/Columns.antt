@@ -41,14 +41,6 @@ module _ (n i : ℕ) where
   pub mapped-end : {B : Type 0} (f : ℕ → B) → n ≤ i → map f (from i (n - i)) ≡ []
   mapped-end f h = rw (from-none h)
 
-  pub summed-next : (f : ℕ → ℕ) → i < n → total f (from i (n - i)) ≡ f i + total f (from (i + 1) (n - (i + 1)))
-  unfolding total
-  summed-next f h = rw (from-more h)
-
-  pub summed-end : (f : ℕ → ℕ) → n ≤ i → total f (from i (n - i)) ≡ 0
-  unfolding total
-  summed-end f h = rw (from-none h)
-
 pub mapped-length : {B : Type 0} (f : ℕ → B) (a n : ℕ) → length (map f (from a n)) ≡ n
 mapped-length f a n = length-map (from a n) f ∙ from-length a n
 

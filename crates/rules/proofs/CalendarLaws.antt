@@ -317,11 +317,6 @@ module _ (k : Calendar) where
       let z : e ≡ c + 1 + (e - c - 1) = omega arith in
       rw (z, quarter-of c (e - c - 1) h (omega arith)) (quarter-later d (c / 17) (e - c - 1) (rw (term-year c h) at w))
 
-  pub month-no-earlier-by-number : (d c e : ℕ) → 0 < c % 17 → c % 17 ≤ 4 → firstMonthOf c ≤ e → e < firstMonthOf c + 3 → stillToClose k d (termOf c) ≡ true → stillToClose k d (termOf e) ≡ true
-  month-no-earlier-by-number d c e h g a b w =
-      let z : e ≡ firstMonthOf c + (e - firstMonthOf c) = omega arith in
-      rw (z, month-of c (e - firstMonthOf c) h g (omega arith)) (month-no-earlier d (4 * (c / 17) + (c % 17 - 1)) (e - firstMonthOf c) (rw (term-quarter c h g) at w))
-
   -- ---- open
   -- Of a kind, what comes later delivers no earlier,
   pub first-le : (s : ContractKind) (i j : ℕ) → i ≤ j → termFirstDay k (nth s i) ≤ termFirstDay k (nth s j)

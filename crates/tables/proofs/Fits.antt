@@ -9,49 +9,41 @@ use lib.Dec.{leb}
 use lib.IntN.{ℤ, pos, natAbs}
 use lib.ListN.{length, getD, take, length-take, length-drop}
 use lib.Seq.{getD-take}
-use borrow.Author.Tests.{leb-true, ltb-true}
+use borrow.Author.Tests.{leb-true}
 use Rattle.arith.proofs.Alls.{all-hold, every-all, all-place}
 use Rattle.arith.proofs.Among.{every-from}
 use Rattle.arith.proofs.EachBlock.{block, block-at, block-passes}
 use Rattle.arith.specs.Lists.{every, from}
 use Rattle.arith.proofs.Tests.{and-left, and-right, passed, passes}
 use Rattle.rules.specs.Ranges.{mostPrice}
-use Rattle.rules.specs.Ledger.{Tables, members, lotsRun, orderCount, limit, mark, submitsThisSecond, rowsLength, sideAt, orderAt, orders}
-use Rattle.rules.specs.Refusals.{memberSound, headSound, contractPricesSound, pricesSound, everyRow, rowsSound, orderSound, sidesSound, bookSound, unsound}
-use Rattle.tables.specs.Fit.{MemberFit, HeadFit, ContractFit, PricesFit, RowsFit, OrderFit, BookFit, Fits}
+use Rattle.rules.specs.Ledger.{Tables, calendar, members, lotsRun, orderCount, limit, mark, rowsLength, sideAt, orderAt, orders}
+use Rattle.rules.specs.Records.{sideSound}
+use Rattle.rules.specs.Refusals.{contractPricesSound, pricesSound, everyRow, rowsSound, orderSound, sidesSound, bookSound, unsound}
+use Rattle.tables.specs.Fit.{HeadFit, ContractFit, PricesFit, RowsFit, OrderFit, BookFit, Fits}
 use Rattle.arith.proofs.Scans.{every-map}
-use Rattle.tables.proofs.Sound.{Undamaged, undamaged}
+use Rattle.rules.proofs.SoundHeaders.{calendar-gives}
+use Rattle.rules.proofs.SoundTables.{Undamaged, undamaged, order-gives}
 
 -- a test of each number below n holds of each of them
 each-below : (p : ℕ → Bool) (n i : ℕ) → every p (from 0 n) ≡ true → i < n → p i ≡ true
 each-below p n i e h = passed (p i) (every-from p 0 n (passes _ e) i (omega arith) (omega arith))
 
-member-fits : (t : Tables) (m : ℕ) → memberSound t m ≡ true → MemberFit (t .head) m
-unfolding memberSound
-member-fits t m e =
-    let all = all-hold _ e in
-    record {
-      most-limit = leb-true (limit t m) 100000 (all .0);
-      most-mark = leb-true (mark t m) 1 (all .1 .0);
-      most-submits = leb-true (submitsThisSecond t m) 5 (all .1 .1 .0);
-    }
-
 head-fits : (t : Tables) → Undamaged t → HeadFit (t .head)
-unfolding headSound
 head-fits t u =
-    let all = all-hold _ (u .head-sound) in
+    let h = u .head in
+    let years = calendar-gives (calendar t) (h .calendar-sound) .years in
     record {
-      long = u .long .head-length;
-      years = u .numbers .years;
-      most-holidays = u .numbers .most-holidays;
-      least-members = u .numbers .least-members;
-      most-members = u .numbers .most-members;
-      today = all .1 .1 .1 .0;
-      most-time = leb-true _ 86399 (all .1 .1 .1 .1 .0);
-      most-accepted = u .numbers .most-accepted;
-      most-run = u .numbers .most-run;
-      most-orders = u .numbers .most-orders;
-      member-fit = λ m h. member-fits t m (each-below (memberSound t) (members t) m (all .1 .1 .1 .1 .1 .1 .1 .1 .0) h);
+      long = u .long .head;
+      years = (years .from, years .to);
+      most-holidays = h .holidays≤;
+      least-members = h .members-range .from;
+      most-members = h .members-range .to;
+      today = h .day-sound;
+      most-time = h .time≤;
+      most-accepted = h .accepted≤;
+      most-run = h .run≤;
+      most-orders = h .orders≤;
+      member-fit = λ m k. record { most-limit = h .each m k .limit≤; most-mark = h .each m k .mark≤; most-submits = h .each m k .submits≤ };
     }
 
 contract-fits : (run : ℕ) (l : List ℕ) (c : ℕ) → contractPricesSound run (block 5 c l) ≡ true → ContractFit run l c
@@ -79,7 +71,7 @@ prices-fit : (t : Tables) → Undamaged t → PricesFit (lotsRun t) (t .prices)
 unfolding pricesSound
 prices-fit t u =
     record {
-      long = u .long .prices-length;
+      long = u .long .prices;
       contract-fit = λ c h. contract-fits (lotsRun t) (t .prices) c (block-passes 5 (contractPricesSound (lotsRun t)) 102 (t .prices) (u .prices-sound) c h);
     }
 
@@ -94,33 +86,31 @@ rows-fit n b l few long e = record { long = long; within = λ c m h k. one c m h
         let same : getD rows m (pos 0) ≡ getD l (c * 32 + m) (pos 0) = getD-take n (block 32 c l) m (pos 0) k ∙ block-at 32 c m l (pos 0) (omega arith) in
         rw same at (leb-true _ b (all-place (λ z. leb (natAbs z) b ≡ true) (pos 0) rows (every-all (λ z. leb (natAbs z) b) rows f) m (omega arith)))
 
-order-fits : (t : Tables) (i : ℕ) → leb (sideAt (t .book) i) 1 ≡ true → orderSound t (orderAt (t .book) i) ≡ true → OrderFit (t .head) (t .book) i
-unfolding orderSound
+order-fits : (t : Tables) (i : ℕ) → sideSound (sideAt (t .book) i) ≡ true → orderSound t (orderAt (t .book) i) ≡ true → OrderFit (t .head) (t .book) i
 order-fits t i s e =
-    let all = all-hold _ e in
-    let o = orderAt (t .book) i in
+    let o = order-gives t (orderAt (t .book) i) e in
     record {
-      number-below = ltb-true (o .number) _ (all .0);
-      member-below = ltb-true (o .member) _ (all .1 .0);
-      contract-below = omega (arith, leb-true (o .contract) 101 (all .1 .1 .0));
+      number-below = o .number<;
+      member-below = o .member<;
+      contract-below = o .contract<;
       most-side = leb-true (sideAt (t .book) i) 1 s;
-      least-price = leb-true 1 (o .price .0) (and-left (leb 1 (o .price .0)) (leb (o .price .0) 1000000) (all .1 .1 .1 .0));
-      most-price = leb-true (o .price .0) 1000000 (and-right (leb 1 (o .price .0)) (leb (o .price .0) 1000000) (all .1 .1 .1 .0));
-      least-lots = leb-true 1 (o .lots .0) (and-left (leb 1 (o .lots .0)) (leb (o .lots .0) 100) (all .1 .1 .1 .1 .0));
-      most-lots = leb-true (o .lots .0) 100 (and-right (leb 1 (o .lots .0)) (leb (o .lots .0) 100) (all .1 .1 .1 .1 .0));
-      day-in-span = all .1 .1 .1 .1 .1 .0;
-      most-time = leb-true (o .time) 86399 (all .1 .1 .1 .1 .1 .1 .0);
+      least-price = o .price .from;
+      most-price = o .price .to;
+      least-lots = o .lots .from;
+      most-lots = o .lots .to;
+      day-in-span = o .day-in-span;
+      most-time = o .time≤;
     }
 
 book-fits : (t : Tables) → Undamaged t → BookFit (t .head) (t .book)
-unfolding bookSound sidesSound orders
+unfolding sidesSound bookSound orders
 book-fits t u =
     let all = all-hold _ (u .book-sound) in
     let n = orderCount t in
     let each : every (λ i. orderSound t (orderAt (t .book) i)) (from 0 n) ≡ true = sym (every-map (orderSound t) (orderAt (t .book)) (from 0 n)) ∙ all .1 .0 in
     record {
-      long = u .long .book-length;
-      order-fit = λ i h. order-fits t i (each-below (λ i. leb (sideAt (t .book) i) 1) n i (all .0) h) (each-below (λ i. orderSound t (orderAt (t .book) i)) n i each h);
+      long = u .long .book;
+      order-fit = λ i h. order-fits t i (each-below (λ i. sideSound (sideAt (t .book) i)) n i (all .0) h) (each-below (λ i. orderSound t (orderAt (t .book) i)) n i each h);
       numbers-distinct = all .1 .1 .0;
     }
 
@@ -128,14 +118,14 @@ pub fits : (t : Tables) → unsound t ≡ false → Fits t
 unfolding unsound rowsSound
 fits t e =
     let u = undamaged t e in
-    let few = u .numbers .most-members in
+    let few = u .head .members-range .to in
     let lots-test = everyRow (λ z. leb (natAbs z) (lotsRun t)) (members t) (t .lots) in
     let value-test = everyRow (λ z. leb (natAbs z) (mostPrice * lotsRun t)) (members t) (t .value) in
     record {
       head-fit = head-fits t u;
       prices-fit = prices-fit t u;
-      lots-fit = rows-fit (members t) (lotsRun t) (t .lots) few (u .long .lots-length) (and-left lots-test value-test (u .rows-sound));
-      value-fit = rows-fit (members t) (mostPrice * lotsRun t) (t .value) few (u .long .value-length) (and-right lots-test value-test (u .rows-sound));
+      lots-fit = rows-fit (members t) (lotsRun t) (t .lots) few (u .long .lots) (and-left lots-test value-test (u .rows-sound));
+      value-fit = rows-fit (members t) (mostPrice * lotsRun t) (t .value) few (u .long .value) (and-right lots-test value-test (u .rows-sound));
       book-fit = book-fits t u;
-      lines-long = u .lines-length;
+      lines-long = u .lines;
     }

@@ -1,5 +1,3 @@
-pub mod Tests
-pub mod Sound
 pub mod Left
 pub mod Amounts
 pub mod Booked

@@ -5,7 +5,7 @@ use mathlib.Core.List.{[]}
 use Rattle.rules.specs.Header.{beginsWithHeader}
 use Rattle.rules.specs.Refusals.{makeSpec}
 use Rattle.rules.specs.Ledger.{lent}
-use Rattle.tables.proofs.Sound.{lengths}
+use Rattle.rules.proofs.SoundTables.{long-enough}
 use Rattle.header.proofs.Readings.{turned-back, read-well, holiday-room, limit-room, holiday-most, limit-most, as-listed}
 use borrow.Author.Needs.{needs}
 use Rattle.engine.proofs.making.make.Statement.{statement}
@@ -73,8 +73,8 @@ write-fresh-requires c κs =
     let r = read-header .result in
     let e = read-header .ensures in
     let b = sound-at (before) in
-    let w = lengths (lent (a .head .now) (a .prices .now) (a .lots .now) (a .value .now) (a .book .now) []) (sym (is-ledger-short .ensures []) ∙ if1 .left) in
-    ((w .head-length, w .prices-length, w .lots-length, w .value-length), (holiday-most s r e b, limit-most s r e b))
+    let w = long-enough (lent (a .head .now) (a .prices .now) (a .lots .now) (a .value .now) (a .book .now) []) (sym (is-ledger-short .ensures []) ∙ if1 .left) in
+    ((w .head, w .prices, w .lots, w .value), (holiday-most s r e b, limit-most s r e b))
 
 returns-3 : tie.Need-returns-3
 unfolding makeSpec
