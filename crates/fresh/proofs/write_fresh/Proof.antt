@@ -1,7 +1,7 @@
 use Rattle.rules.specs.Ledger.{fresh}
 use borrow.Author.Needs.{needs}
-use Rattle.tables.proofs.fresh.write_fresh.Statement.{statement}
-use Rattle.tables.proofs.fresh.write_fresh.Tie as tie
+use Rattle.fresh.proofs.write_fresh.Statement.{statement}
+use Rattle.fresh.proofs.write_fresh.Tie as tie
 
 returns : tie.Need-returns
 unfolding fresh

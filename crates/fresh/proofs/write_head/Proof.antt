@@ -1,7 +1,7 @@
 use Rattle.rules.specs.Ledger.{freshHead}
 use borrow.Author.Needs.{needs}
-use Rattle.tables.proofs.fresh.write_head.Statement.{statement}
-use Rattle.tables.proofs.fresh.write_head.Tie as tie
+use Rattle.fresh.proofs.write_head.Statement.{statement}
+use Rattle.fresh.proofs.write_head.Tie as tie
 
 returns : tie.Need-returns
 unfolding freshHead

@@ -1,7 +1,7 @@
 use Rattle.arith.proofs.Writes.{filled}
 use borrow.Author.Needs.{needs}
-use Rattle.tables.proofs.fresh.clear_at.Statement.{statement}
-use Rattle.tables.proofs.fresh.clear_at.Tie as tie
+use Rattle.fresh.proofs.clear_at.Statement.{statement}
+use Rattle.fresh.proofs.clear_at.Tie as tie
 
 returns : tie.Need-returns
 returns c =

@@ -9,8 +9,8 @@ use lib.ListN.{length, take, drop, length-set, length-take}
 use Rattle.arith.specs.Lists.{inEachBlock}
 use Rattle.rules.specs.Ledger.{freshPrices}
 use Rattle.arith.proofs.Writes.{stored, over-all, block-written}
-use Rattle.tables.proofs.fresh.write_prices.Statement.{statement}
-use Rattle.tables.proofs.fresh.write_prices.Tie as tie
+use Rattle.fresh.proofs.write_prices.Statement.{statement}
+use Rattle.fresh.proofs.write_prices.Tie as tie
 
 abbrev Inv-loop : tie.InvT-loop
 Inv-loop prices₀ contract₀ prices contract = (contract ≤ 102) × (length prices ≡ length prices₀) × (prices ≡ inEachBlock 5 (λ five. 0 ∷ 1 ∷ 1000000 ∷ 0 ∷ 0 ∷ []) contract prices₀)

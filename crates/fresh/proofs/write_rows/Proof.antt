@@ -9,8 +9,8 @@ use Rattle.arith.specs.Lists.{over, inEachBlock}
 use Rattle.arith.proofs.Overs.{over-length}
 use Rattle.rules.specs.Ledger.{freshRows}
 use Rattle.arith.proofs.Writes.{filled, over-front, block-written}
-use Rattle.tables.proofs.fresh.write_rows.Statement.{statement}
-use Rattle.tables.proofs.fresh.write_rows.Tie as tie
+use Rattle.fresh.proofs.write_rows.Statement.{statement}
+use Rattle.fresh.proofs.write_rows.Tie as tie
 
 abbrev Inv-loop : tie.InvT-loop
 Inv-loop rows₀ members contract₀ rows contract = (contract ≤ 102) × (length rows ≡ length rows₀) × (rows ≡ inEachBlock 32 (over 0 (replicate members (pos 0))) contract rows₀)

@@ -3,8 +3,8 @@ use mathlib.Core.List.{[], _∷_}
 use lib.ListN.{length-set}
 use Rattle.arith.proofs.Writes.{stored}
 use borrow.Author.Needs.{needs}
-use Rattle.tables.proofs.fresh.write_numbers.Statement.{statement}
-use Rattle.tables.proofs.fresh.write_numbers.Tie as tie
+use Rattle.fresh.proofs.write_numbers.Statement.{statement}
+use Rattle.fresh.proofs.write_numbers.Tie as tie
 
 slice-write-head-2 : tie.Need-slice-write-head-2
 slice-write-head-2 c = simp length-set (omega arith)

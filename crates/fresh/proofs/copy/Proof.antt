@@ -5,8 +5,8 @@ use mathlib.Core.List.{_++_}
 use Prim.Native.Nat.{_-_, _≤_}
 use lib.ListN.{length, take, drop, length-set}
 use Rattle.arith.proofs.Writes.{front-next, front-end}
-use Rattle.tables.proofs.fresh.copy.Statement.{statement}
-use Rattle.tables.proofs.fresh.copy.Tie as tie
+use Rattle.fresh.proofs.copy.Statement.{statement}
+use Rattle.fresh.proofs.copy.Tie as tie
 
 abbrev Inv-loop : tie.InvT-loop
 Inv-loop places₀ list i₀ places i = (i ≤ length list) × (length places ≡ length places₀) × (places ≡ take i list ++ drop i places₀)

@@ -3,8 +3,8 @@ use Prim.Native.Nat.{_+_, _-_}
 use lib.ListN.{length}
 use Rattle.arith.proofs.Writes.{came-back}
 use borrow.Author.Needs.{needs}
-use Rattle.tables.proofs.fresh.write_at.Statement.{statement}
-use Rattle.tables.proofs.fresh.write_at.Tie as tie
+use Rattle.fresh.proofs.write_at.Statement.{statement}
+use Rattle.fresh.proofs.write_at.Tie as tie
 
 returns : tie.Need-returns
 returns c =

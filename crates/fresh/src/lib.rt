@@ -8,7 +8,7 @@ ghost use Rattle.arith.specs.Lists.{over};
 ghost use Rattle.rules.specs.Ranges.{mostHolidays, mostMembers};
 ghost use Rattle.rules.specs.Ledger.{headLength, pricesLength, rowsLength, fresh, freshHead, freshPrices, freshRows};
 ghost use Rattle.rules.specs.Ledger.{lent};
-ghost use Rattle.tables.specs.Headers.{header};
+ghost use Rattle.fresh.specs.Headers.{header};
 use rules::DayNo;
 use rules::layout::ACCEPTED_SUBMITS;
 use rules::layout::CONTRACTS;
