@@ -11,11 +11,11 @@ use Rattle.rules.specs.declared.contract.ContractKind.{ContractKind}
 use Rattle.rules.specs.Ranges.{contractCount}
 use Rattle.rules.specs.Days.{Calendar}
 use Rattle.rules.specs.Contracts.{closingDistance, daysOf, openOn}
-use Rattle.calendar.specs.OpenDays.{openDays, startsOf, IsLeast, leastOf}
+use Rattle.open_days.specs.OpenDays.{openDays, startsOf, IsLeast, leastOf}
 use Rattle.calendar.proofs.InLedger.{numbered}
-use Rattle.calendar.proofs.OpenDays.{days-by-number}
-use Rattle.calendar.proofs.open_days.write_open_days.Statement.{statement}
-use Rattle.calendar.proofs.open_days.write_open_days.Tie as tie
+use Rattle.open_days.proofs.OpenDays.{days-by-number}
+use Rattle.open_days.proofs.write_open_days.Statement.{statement}
+use Rattle.open_days.proofs.write_open_days.Tie as tie
 
 abbrev Inv-loop : tie.InvT-loop
 Inv-loop starts least days₀ contract₀ days contract = (contract ≤ contractCount) × (length days ≡ contractCount)

@@ -21,9 +21,9 @@ use Rattle.rules.specs.Days.{Calendar, monthStart, firstMonth, dayAfterSpan, bu
 use Rattle.rules.specs.Contracts.{openCount, closingDistance, monthsIn, termOf, notBefore, termFirstDay, termDayAfter, daysOf, termClosingDay, stillToClose, openOn}
 use Rattle.rules.specs.OtherForms.{nth, openByCount}
 use Rattle.rules.proofs.CalendarLaws.{between, between-up, closes-by-count, month-le, last-month, open-by-count, open-rank}
 use Rattle.calendar.specs.Bounds.{InLedger}
 use Rattle.calendar.proofs.InLedger.{earlier}
-use Rattle.calendar.specs.OpenDays.{lastMonthStart, startsOf, NoneEarlier, IsLeast}
+use Rattle.open_days.specs.OpenDays.{lastMonthStart, startsOf, NoneEarlier, IsLeast}
 
 -- ---- counting business days from day d on
 module _ (k : Calendar) (d : ℕ) where

@@ -11,7 +11,7 @@ use Rattle.rules.specs.declared.contract.ContractKind.the-variants.{Year, Quart
 use Rattle.rules.specs.Ranges.{contractCount, monthsInSpan}
 use Rattle.rules.specs.Days.{Calendar, monthStart, firstMonth, dayAfterSpan, businessDayBefore}
 use Rattle.rules.specs.Contracts.{notBefore, daysOf, openOn}
-use Rattle.calendar.specs.declared.open_days.OpenFrom.{OpenFrom}
+use Rattle.open_days.specs.declared.OpenFrom.{OpenFrom}
 
 -- The delivery days of each contract that is open on a day, none of the others.
 unfoldable pub openDays : Calendar → ℕ → List ℕ

@@ -4,10 +4,10 @@ use native.Mathlib.Omega.{arith}
 use borrow.Author.Needs.{needs}
 use borrow.Author.Tests.{le-leb, lt-leb}
 use Rattle.rules.proofs.CalendarLaws.{open-closed, open-first}
 use Rattle.calendar.proofs.InLedger.{earlier}
-use Rattle.calendar.proofs.OpenDays.{to-close-from, open-from}
-use Rattle.calendar.proofs.open_days.is_open_from.Statement.{statement}
-use Rattle.calendar.proofs.open_days.is_open_from.Tie as tie
+use Rattle.open_days.proofs.OpenDays.{to-close-from, open-from}
+use Rattle.open_days.proofs.is_open_from.Statement.{statement}
+use Rattle.open_days.proofs.is_open_from.Tie as tie
 
 mul-if1 : tie.Need-mul-if1
 mul-if1 c = rw (c .months-in .ensures) (omega arith)

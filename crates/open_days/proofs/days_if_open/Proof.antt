@@ -2,9 +2,9 @@ use mathlib.Core.Path.{sym, _∙_}
 use native.Mathlib.Omega.{arith}
 use borrow.Author.Needs.{needs}
 use borrow.Author.Tests.{not-true, not-false}
-use Rattle.calendar.proofs.OpenDays.{first-read, after-read}
-use Rattle.calendar.proofs.open_days.days_if_open.Statement.{statement}
-use Rattle.calendar.proofs.open_days.days_if_open.Tie as tie
+use Rattle.open_days.proofs.OpenDays.{first-read, after-read}
+use Rattle.open_days.proofs.days_if_open.Statement.{statement}
+use Rattle.open_days.proofs.days_if_open.Tie as tie
 
 returns : tie.Need-returns
 returns c = λ k d e g. rw (sym (c .before .is-open-from .ensures k d e g) ∙ not-true _ (c .if1 .taken))

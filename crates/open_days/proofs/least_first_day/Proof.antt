@@ -6,9 +6,9 @@ use borrow.Author.Needs.{needs}
 use borrow.Author.Tests.{lt-leb}
 use Rattle.rules.specs.Days.{Calendar}
 use Rattle.rules.proofs.CalendarLaws.{between}
-use Rattle.calendar.proofs.OpenDays.{none-counted, one-more, closed-up-to, last-counted}
-use Rattle.calendar.proofs.open_days.least_first_day.Statement.{statement}
-use Rattle.calendar.proofs.open_days.least_first_day.Tie as tie
+use Rattle.open_days.proofs.OpenDays.{none-counted, one-more, closed-up-to, last-counted}
+use Rattle.open_days.proofs.least_first_day.Statement.{statement}
+use Rattle.open_days.proofs.least_first_day.Tie as tie
 
 abbrev Inv-loop : tie.InvT-loop
 Inv-loop holidays n end x₀ left₀ x left = (x₀ ≤ x) × (0 < left) × ((y : ℕ) → between (record { firstYear = y; holidays = holidays }) x₀ x + left ≡ n)

@@ -1,10 +1,10 @@
 use mathlib.Core.Path.{_≡_}
 use borrow.Author.Needs.{needs}
 use Rattle.rules.specs.Days.{Calendar}
-use Rattle.calendar.specs.OpenDays.{startsOf}
-use Rattle.calendar.proofs.OpenDays.{starts-made, starts-length, span-end, span-most, none-earlier}
-use Rattle.calendar.proofs.open_days.find_open_days.Statement.{statement}
-use Rattle.calendar.proofs.open_days.find_open_days.Tie as tie
+use Rattle.open_days.specs.OpenDays.{startsOf}
+use Rattle.open_days.proofs.OpenDays.{starts-made, starts-length, span-end, span-most, none-earlier}
+use Rattle.open_days.proofs.find_open_days.Statement.{statement}
+use Rattle.open_days.proofs.find_open_days.Tie as tie
 
 find-least-requires : tie.Need-find-least-requires
 find-least-requires c κs =

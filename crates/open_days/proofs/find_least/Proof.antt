@@ -4,10 +4,10 @@ use lib.Dec.{leb}
 use borrow.Author.Needs.{needs}
 use Rattle.rules.specs.Days.{businessDayBefore}
 use Rattle.rules.specs.Contracts.{closingDistance, notBefore}
-use Rattle.calendar.specs.OpenDays.{leastOf}
-use Rattle.calendar.proofs.OpenDays.{by-kind}
-use Rattle.calendar.proofs.open_days.find_least.Statement.{statement}
-use Rattle.calendar.proofs.open_days.find_least.Tie as tie
+use Rattle.open_days.specs.OpenDays.{leastOf}
+use Rattle.open_days.proofs.OpenDays.{by-kind}
+use Rattle.open_days.proofs.find_least.Statement.{statement}
+use Rattle.open_days.proofs.find_least.Tie as tie
 
 returns : tie.Need-returns
 returns c =

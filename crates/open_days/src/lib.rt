@@ -1,5 +1,5 @@
 // The delivery days of all open contracts at once: the table of months is read once, and business days are counted once
-// for each kind, where `is_open` looks for two closing days of one contract.
+// for each kind, where `is_open` of `calendar` looks for two closing days of one contract.
 ghost use mathlib.Core.Path.{_≡_};
 ghost use mathlib.Core.Bool.{cond};
 ghost use Prim.Native.Nat.{ℕ, _+_, _-_, _≤_, _<_};
@@ -10,13 +10,13 @@ ghost use Rattle.rules.specs.Days.{Calendar, businessDayBefore};
 ghost use Rattle.rules.specs.declared.contract.ContractKind.{ContractKind};
 ghost use Rattle.rules.specs.Contracts.{closingDistance, notBefore, termFirstDay, termDayAfter};
 ghost use Rattle.rules.specs.OtherForms.{openByCount};
 ghost use Rattle.calendar.specs.Bounds.{FirstYear, InLedger};
-ghost use Rattle.calendar.specs.OpenDays.{lastMonthStart, openDays, startsOf, NoneEarlier, IsLeast, leastOf};
-use crate::contracts::months_in;
-use crate::contracts::term_of;
-use crate::days::first_month;
-use crate::days::is_business_day;
-use crate::months::read_starts;
+ghost use Rattle.open_days.specs.OpenDays.{lastMonthStart, openDays, startsOf, NoneEarlier, IsLeast, leastOf};
+use calendar::first_month;
+use calendar::is_business_day;
+use calendar::months_in;
+use calendar::read_starts;
+use calendar::term_of;
 use rules::ContractKind;
 use rules::DayNo;
 use rules::Term;
@@ -25,10 +25,10 @@ use rules::Term;
 const STARTS: usize = 73;
 
 // Of each kind, the least first delivery day of a contract that is still to close.
-pub struct OpenFrom {
-    pub year: DayNo,
-    pub quarter: DayNo,
-    pub month: DayNo,
+struct OpenFrom {
+    year: DayNo,
+    quarter: DayNo,
+    month: DayNo,
 }
 
 fn least_of(least: OpenFrom, kind: ContractKind) -> DayNo
@@ -75,7 +75,8 @@ fn find_least(holidays: &[u64], day: DayNo, end: DayNo) -> OpenFrom
     }
 }
 
-// As `is_open_term`: the contract's own first delivery day decides, and that of the one that must have closed before it opens.
+// As `is_open` of `calendar`: the contract's own first delivery day decides, and that of the one that must have closed
+// before it opens.
 fn is_open_from(starts: &[u64], least: DayNo, t: Term) -> bool
     requires { ⌜ (length (now starts) ≡ monthsInSpan + 1) × InLedger t ⌝ }
     ensures { λ r. ⌜ ((k : Calendar) (d : ℕ) → now (starts .entry) ≡ startsOf k → IsLeast k d (closingDistance (t .kind)) (least .0) → r ≡ openByCount k d t) ⌝ }
