@@ -2,4 +2,3 @@ pub mod Table
 pub mod Steps
 pub mod FirstYears
 pub mod InLedger
-pub mod OpenDays

@@ -4,7 +4,6 @@
 mod contracts;
 mod days;
 mod months;
-mod open_days;
 mod sound;
 
 pub use contracts::closes_on;
@@ -13,13 +12,15 @@ pub use contracts::days_of;
 pub use contracts::first_day;
 pub use contracts::is_open;
 pub use contracts::kind_of;
+pub use contracts::months_in;
 pub use contracts::term_of;
+pub use days::first_month;
 pub use days::is_business_day;
 pub use days::is_in;
 pub use days::next_business_day;
 pub use days::span_of;
 pub use months::Span;
-pub use open_days::find_open_days;
+pub use months::read_starts;
 pub use sound::are_rising;
 pub use sound::is_calendar_sound;
 pub use sound::is_day_sound;

@@ -23,7 +23,7 @@ use Rattle.dealing.specs.Levels.{mostDays, mostWeight, Column}
 use Rattle.close_out.specs.declared.columns.Part.{Part}
 use Rattle.close_out.specs.declared.columns.Part.the-variants.{DefaultedLongs, DefaultedShorts, Others}
 use Rattle.close_out.specs.Columns.{lotsIn, columnOf, weightBy, daysWeights}
-use Rattle.calendar.specs.OpenDays.{openDays}
+use Rattle.open_days.specs.OpenDays.{openDays}
 use Rattle.close_out.proofs.DayWeights.{open-days-most, open-weight}
 
 up-most : (z : ℤ) → up z ≤ natAbs z

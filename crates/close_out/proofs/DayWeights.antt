@@ -22,7 +22,7 @@ use Rattle.rules.specs.Default.{openWeight}
 use Rattle.rules.specs.Ledger.{Tables, calendar, day, members, defaulted, lotsAt, rowPlace}
 use Rattle.rules.specs.Ranges.{contractCount}
 use Rattle.dealing.specs.Levels.{mostDays}
-use Rattle.calendar.specs.OpenDays.{openDays}
+use Rattle.open_days.specs.OpenDays.{openDays}
 use Rattle.close_out.specs.Columns.{weightBy, daysWeights}
 
 pub open-days-length : (k : Calendar) (d : ℕ) → length (openDays k d) ≡ contractCount

@@ -99,7 +99,7 @@ pub fn weigh_by_days(head: &[u64], lots: &[i64], weights: &mut [u64])
     let mut days = [0u64; CONTRACTS];
     let mut sums = [0u64; ROW_WIDTH];
     let end = HOLIDAYS + head[HOLIDAY_COUNT] as usize;
-    calendar::find_open_days(
+    open_days::find_open_days(
         head[FIRST_YEAR],
         &head[HOLIDAYS..end],
         DayNo(head[DAY]),

@@ -31,7 +31,7 @@ pub fn make(
     let limits = header.limits;
     let days = header.holiday_count as usize;
     let members = header.members as usize;
-    tables::write_fresh(
+    fresh::write_fresh(
         &mut *head,
         &mut *prices,
         &mut *lots,

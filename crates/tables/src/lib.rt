@@ -1,15 +1,11 @@
 // The lent tables: what is read and written in them. docs/LAYOUT.md has every place.
 mod book;
-mod fresh;
 mod head;
 mod leaving;
 mod lines;
 
 pub use book::order_at;
 pub use book::put_order;
-pub use fresh::clear_at;
-pub use fresh::clear_rows;
-pub use fresh::write_fresh;
 pub use head::is_contract_open;
 pub use head::set_time;
 pub use leaving::Leaving;

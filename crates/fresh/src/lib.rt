@@ -1,0 +1,165 @@
+// A fresh ledger, written from the fields of its header. Surplus places stay as they were.
+ghost use mathlib.Core.Path.{_≡_};
+ghost use mathlib.Core.List.{List, [], _∷_};
+ghost use Prim.Native.Nat.{ℕ, _+_, _*_, _≤_, _<_};
+ghost use lib.ListN.{length, replicate};
+ghost use lib.IntN.{ℤ, pos};
+ghost use Rattle.arith.specs.Lists.{over};
+ghost use Rattle.rules.specs.Ranges.{mostHolidays, mostMembers};
+ghost use Rattle.rules.specs.Ledger.{headLength, pricesLength, rowsLength, fresh, freshHead, freshPrices, freshRows};
+ghost use Rattle.rules.specs.Ledger.{lent};
+ghost use Rattle.fresh.specs.Headers.{header};
+use rules::DayNo;
+use rules::layout::ACCEPTED_SUBMITS;
+use rules::layout::CONTRACTS;
+use rules::layout::DAY;
+use rules::layout::DAY_LOTS;
+use rules::layout::DAY_VALUE;
+use rules::layout::FIRST_YEAR;
+use rules::layout::GGF;
+use rules::layout::HIGH;
+use rules::layout::HOLIDAY_COUNT;
+use rules::layout::HOLIDAYS;
+use rules::layout::LIMITS;
+use rules::layout::LOTS_RUN;
+use rules::layout::LOW;
+use rules::layout::MARKS;
+use rules::layout::MEMBERS;
+use rules::layout::ORDER_COUNT;
+use rules::layout::PRICE_WIDTH;
+use rules::layout::ROW_WIDTH;
+use rules::layout::SUBMITS;
+use rules::layout::TIME;
+use rules::ranges::MOST_PRICE;
+
+// Rows set to zero.
+pub fn clear_rows(rows: &mut [i64])
+    ensures { λ _. ⌜ now (rows .exit) ≡ replicate (length (now (rows .entry))) (pos 0) ⌝ }
+{
+    let mut i: usize = 0;
+    while i < rows.len() {
+        rows[i] = 0;
+        i += 1;
+    }
+}
+
+fn clear(places: &mut [u64])
+    ensures { λ _. ⌜ now (places .exit) ≡ replicate (length (now (places .entry))) 0 ⌝ }
+{
+    let mut i: usize = 0;
+    while i < places.len() {
+        places[i] = 0;
+        i += 1;
+    }
+}
+
+fn copy(places: &mut [u64], list: &[u64])
+    requires { ⌜ length (now places) ≡ length (now list) ⌝ }
+    ensures { λ _. ⌜ now (places .exit) ≡ now (list .entry) ⌝ }
+{
+    let mut i: usize = 0;
+    while i < list.len() {
+        places[i] = list[i];
+        i += 1;
+    }
+}
+
+// Zero rows for each member of each contract.
+fn write_rows(rows: &mut [i64], members: usize)
+    requires { ⌜ (rowsLength ≤ length (now rows)) × (members ≤ mostMembers) ⌝ }
+    ensures { λ _. ⌜ now (rows .exit) ≡ freshRows members (now (rows .entry)) ⌝ }
+{
+    let mut contract: usize = 0;
+    while contract < CONTRACTS {
+        let at = contract * ROW_WIDTH;
+        let end = at + members;
+        clear_rows(&mut rows[at..end]);
+        contract += 1;
+    }
+}
+
+// No GGF, low 1, high 1,000,000, nothing dealt.
+fn write_prices(prices: &mut [u64])
+    requires { ⌜ pricesLength ≤ length (now prices) ⌝ }
+    ensures { λ _. ⌜ now (prices .exit) ≡ freshPrices (now (prices .entry)) ⌝ }
+{
+    let mut contract: usize = 0;
+    while contract < CONTRACTS {
+        let at = contract * PRICE_WIDTH;
+        prices[at + GGF] = 0;
+        prices[at + LOW] = 1;
+        prices[at + HIGH] = MOST_PRICE;
+        prices[at + DAY_LOTS] = 0;
+        prices[at + DAY_VALUE] = 0;
+        contract += 1;
+    }
+}
+
+fn write_at(head: &mut [u64], at: usize, list: &[u64])
+    requires { ⌜ at + length (now list) ≤ length (now head) ⌝ }
+    ensures { λ _. ⌜ now (head .exit) ≡ over at (now (list .entry)) (now (head .entry)) ⌝ }
+{
+    let end = at + list.len();
+    copy(&mut head[at..end], list);
+}
+
+// So many places set to zero, from one on.
+pub fn clear_at(head: &mut [u64], at: usize, count: usize)
+    requires { ⌜ at + count ≤ length (now head) ⌝ }
+    ensures { λ _. ⌜ now (head .exit) ≡ over at (replicate count 0) (now (head .entry)) ⌝ }
+{
+    let end = at + count;
+    clear(&mut head[at..end]);
+}
+
+// The head's first eight places; time and counts are 0.
+fn write_numbers(head: &mut [u64], first_year: u64, members: u64, holidays: u64, start: DayNo)
+    requires { ⌜ headLength ≤ length (now head) ⌝ }
+    ensures { λ _. ⌜ now (head .exit) ≡ over 0 («first_year» ∷ members ∷ holidays ∷ start .0 ∷ 0 ∷ 0 ∷ 0 ∷ 0 ∷ []) (now (head .entry)) ⌝ }
+{
+    head[FIRST_YEAR] = first_year;
+    head[MEMBERS] = members;
+    head[HOLIDAY_COUNT] = holidays;
+    head[DAY] = start.0;
+    head[TIME] = 0;
+    head[ACCEPTED_SUBMITS] = 0;
+    head[LOTS_RUN] = 0;
+    head[ORDER_COUNT] = 0;
+}
+
+// Each member has a limit, so there are as many members as limits.
+fn write_head(head: &mut [u64], first_year: u64, start: DayNo, holidays: &[u64], limits: &[u64])
+    requires { ⌜ (headLength ≤ length (now head)) × (length (now holidays) ≤ mostHolidays) × (length (now limits) ≤ mostMembers) ⌝ }
+    ensures { λ _. ⌜ now (head .exit) ≡ freshHead (header «first_year» (start .0) (now (holidays .entry)) (now (limits .entry))) (now (head .entry)) ⌝ }
+{
+    let members = limits.len();
+    let count = holidays.len();
+    write_numbers(&mut *head, first_year, members as u64, count as u64, start);
+    write_at(&mut *head, HOLIDAYS, holidays);
+    write_at(&mut *head, LIMITS, limits);
+    clear_at(&mut *head, MARKS, members);
+    clear_at(&mut *head, SUBMITS, members);
+}
+
+// Every table of a fresh ledger.
+pub fn write_fresh(
+    head: &mut [u64],
+    prices: &mut [u64],
+    lots: &mut [i64],
+    value: &mut [i64],
+    first_year: u64,
+    start: DayNo,
+    holidays: &[u64],
+    limits: &[u64],
+)
+    requires { ⌜ (headLength ≤ length (now head)) × (pricesLength ≤ length (now prices)) × (rowsLength ≤ length (now lots)) × (rowsLength ≤ length (now value)) ⌝ }
+    requires { ⌜ (length (now holidays) ≤ mostHolidays) × (length (now limits) ≤ mostMembers) ⌝ }
+    ensures { λ _. ⌜ ((b : List ℕ) (n : List ℤ) → lent (now (head .exit)) (now (prices .exit)) (now (lots .exit)) (now (value .exit)) b n
+        ≡ fresh (header «first_year» (start .0) (now (holidays .entry)) (now (limits .entry))) (lent (now (head .entry)) (now (prices .entry)) (now (lots .entry)) (now (value .entry)) b n)) ⌝ }
+{
+    let members = limits.len();
+    write_head(&mut *head, first_year, start, holidays, limits);
+    write_prices(&mut *prices);
+    write_rows(&mut *lots, members);
+    write_rows(&mut *value, members);
+}
