@@ -13,10 +13,10 @@ use Rattle.rules.specs.declared.order.Order.{Order}
 use Rattle.rules.specs.Ledger.{lineRun, orderAt}
 use Rattle.rules.specs.Synthetic.{namedLegs, legLine}
 use Rattle.tables.proofs.Amounts.{abs-signed}
-use Rattle.proposal.specs.Columns.{columnLegs, namedAt, namedTo}
+use Rattle.proposal_check.specs.Columns.{columnLegs, namedAt, namedTo}
 use Rattle.proposal.specs.Booking.{lineAt, linesTo}
 use Rattle.arith.proofs.Totals.{total-same}
-use Rattle.proposal.proofs.Lists.{total-map}
+use Rattle.proposal_check.proofs.Lists.{total-map}
 
 module _ (book places lots prices : List ℕ) where
   pub lines-length : (n : ℕ) → length (linesTo book places lots prices n) ≡ n
