@@ -22,10 +22,11 @@ use Rattle.rules.specs.CloseOfDay.{priced, withoutDeals, closingContracts, allC
 use Rattle.rules.specs.Refusals.{closeSpec}
 use Rattle.tables.specs.Fit.{HeadFit, PricesFit, BookFit, orderCountIn, lotsRunIn, ordersIn}
 use Rattle.tables.proofs.Left.{all-orders}
-use Rattle.close_of_day.specs.Phases.{phases, waits, closes, closing, openIn}
-use Rattle.close_of_day.specs.Columns.{BookReads, DealsFit, bestPrice, ggfsFrom, allOpenIn, closed}
-use Rattle.close_of_day.proofs.Ggfs.{ggf-is, ggfs-are}
-use Rattle.close_of_day.proofs.Phases.{listed, kept-same, closing-order, closing-is, open-is}
+use Rattle.contract_phases.specs.Phases.{phases, waits, closes, closing, openIn, allOpenIn}
+use Rattle.reference_price.specs.Columns.{BookReads, DealsFit, bestPrice, ggfsFrom}
+use Rattle.reference_price.proofs.Ggfs.{ggf-is, ggfs-are}
+use Rattle.contract_phases.proofs.Phases.{listed, kept-same, closing-order, closing-is, open-is}
+use Rattle.close_of_day.specs.Closed.{closed}
 
 -- ---- undamaged tables
 pub book-reads : (head book : List ℕ) → HeadFit head → BookFit head book → BookReads (orderCountIn head) book

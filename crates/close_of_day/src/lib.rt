@@ -1,9 +1,5 @@
 // The close of a day. It is handed tables that are long enough and not damaged, and a record that was read.
-mod cascade;
-mod contracts;
 mod orders;
-mod prices;
-mod quotes;
 
 ghost use mathlib.Core.Path.{_≡_};
 ghost use Prim.Native.Nat.{_*_, _≤_};
@@ -13,8 +9,8 @@ ghost use Rattle.rules.specs.Ledger.{Tables, withHead, withPrices, withRows, wi
 ghost use Rattle.rules.specs.CloseOfDay.{priced, onDay};
 ghost use Rattle.rules.specs.Refusals.{closeSpec};
 ghost use Rattle.tables.specs.Fit.{HeadFit, PricesFit, RowsFit, BookFit, membersIn, lotsRunIn, calendarIn};
-ghost use Rattle.close_of_day.specs.Phases.{phases};
-ghost use Rattle.close_of_day.specs.Columns.{closed};
+ghost use Rattle.contract_phases.specs.Phases.{phases};
+ghost use Rattle.close_of_day.specs.Closed.{closed};
 use rules::Answer;
 use rules::Day;
 use rules::DayNo;
@@ -34,7 +30,7 @@ fn write_phases(head: &[u64], column: &mut [u64])
     ensures { λ _. ⌜ now (column .exit) ≡ phases (calendarIn (now (head .entry))) (getD (now (head .entry)) dayPlace 0) ⌝ }
 {
     let end = HOLIDAYS + head[HOLIDAY_COUNT] as usize;
-    contracts::write_phases(
+    contract_phases::write_phases(
         head[FIRST_YEAR],
         &head[HOLIDAYS..end],
         DayNo(head[DAY]),
@@ -53,10 +49,10 @@ fn write_prices(head: &[u64], prices: &mut [u64], book: &[u64], column: &[u64], 
     let count = head[ORDER_COUNT] as usize;
     let mut buys = [0u64; 102];
     let mut sells = [0u64; 102];
-    quotes::write_quotes(book, count, Side::Buy, day, time, &mut buys[..]);
-    quotes::write_quotes(book, count, Side::Sell, day, time, &mut sells[..]);
-    prices::write_ggfs(&mut *prices, column, &buys[..], &sells[..]);
-    prices::clear_deals(prices);
+    reference_price::write_quotes(book, count, Side::Buy, day, time, &mut buys[..]);
+    reference_price::write_quotes(book, count, Side::Sell, day, time, &mut sells[..]);
+    reference_price::write_ggfs(&mut *prices, column, &buys[..], &sells[..]);
+    reference_price::clear_deals(prices);
 }
 
 // The second's counts and the time become 0.

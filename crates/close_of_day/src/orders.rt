@@ -9,9 +9,9 @@ ghost use Rattle.rules.specs.Ranges.{contractCount};
 ghost use Rattle.rules.specs.Ledger.{Tables, withHead, withBook, headLength, withOrders};
 ghost use Rattle.tables.specs.Fit.{orderCountIn, ordersIn};
 ghost use Rattle.tables.specs.Left.{staying};
-ghost use Rattle.close_of_day.specs.Phases.{closes};
-ghost use Rattle.close_of_day.specs.Columns.{BookReads};
-use crate::contracts::CLOSING;
+ghost use Rattle.contract_phases.specs.Phases.{closes};
+ghost use Rattle.reference_price.specs.Columns.{BookReads};
+use contract_phases::CLOSING;
 use rules::Order;
 use rules::layout::ORDER_COUNT;
 

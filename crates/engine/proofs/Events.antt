@@ -25,8 +25,8 @@ use Rattle.codec.proofs.LegColumns.{legs-said}
 use Rattle.rules.specs.Ledger.{Tables}
 use Rattle.tables.specs.Fit.{membersIn, lotsRunIn, Fits}
 use Rattle.submit.specs.Fit.{SubmissionFit}
-use Rattle.proposal.specs.Columns.{columnLegs, LegsFit}
-use Rattle.proposal.proofs.LegColumns.{orderOf, lotsOf, priceOf, counted, columns-are, columns-fit}
+use Rattle.proposal_check.specs.Columns.{columnLegs, LegsFit}
+use Rattle.proposal_check.proofs.LegColumns.{orderOf, lotsOf, priceOf, counted, columns-are, columns-fit}
 use Rattle.header.proofs.Columns.{column, room}
 
 module _ (head s : List ℕ) where

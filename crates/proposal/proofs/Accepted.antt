@@ -18,10 +18,10 @@ use Rattle.rules.specs.Refusals.{distinct, runWouldPass}
 use Rattle.rules.specs.Synthetic.{namedLegs, legLine, acceptable, proposalLines, usedByLegs}
 use Rattle.tables.specs.Fit.{ordersIn}
 use Rattle.tables.specs.Left.{leftOver}
-use Rattle.proposal.specs.Columns.{LegsFit, PlacesFit, columnLegs, placesOf}
+use Rattle.proposal_check.specs.Columns.{LegsFit, PlacesFit, columnLegs, placesOf}
 use Rattle.proposal.specs.Booking.{linesTo, leftAfter, lotsIn}
-use Rattle.proposal.proofs.Named.{found-fit}
-use Rattle.proposal.proofs.Checks.{acceptable-not, places-many, places-named}
+use Rattle.proposal_check.proofs.Named.{found-fit}
+use Rattle.proposal_check.proofs.Checks.{acceptable-not, places-many, places-named}
 use Rattle.proposal.proofs.Printed.{lines-length, lines-run, lines-of}
 use Rattle.proposal.proofs.Taken.{taken-columns}
 

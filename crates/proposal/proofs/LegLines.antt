@@ -15,7 +15,7 @@ use Rattle.tables.specs.declared.lines.DealLine.{DealLine}
 use Rattle.tables.specs.Fit.{BookFit, OrderFit, membersIn, orderCountIn}
 use Rattle.tables.specs.Lines.{LineFit, lineOf, withLine}
 use Rattle.tables.proofs.Booked.{booked-none, booked-more}
-use Rattle.proposal.specs.Columns.{LegsFit, PlacesFit}
+use Rattle.proposal_check.specs.Columns.{LegsFit, PlacesFit}
 use Rattle.tables.specs.Room.{Bookable}
 use Rattle.proposal.specs.Booking.{lineAt, linesTo}
 use Rattle.tables.proofs.Takes.{Sound, takes-line, line-members}

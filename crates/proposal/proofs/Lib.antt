@@ -1,12 +1,4 @@
-pub mod Lists
-pub mod Named
-pub mod Together
-pub mod SidePlaces
-pub mod Sums
-pub mod LastRanks
-pub mod Checks
 pub mod Taken
 pub mod Printed
 pub mod LegLines
 pub mod Accepted
-pub mod LegColumns

@@ -12,10 +12,10 @@ use Rattle.arith.proofs.Scans.{map-map}
 use Rattle.rules.specs.declared.order.Order.{Order}
 use Rattle.rules.specs.Ledger.{lineRun, orderAt}
 use Rattle.rules.specs.Synthetic.{namedLegs, legLine}
-use Rattle.proposal.specs.Columns.{columnLegs, namedAt, namedTo}
+use Rattle.proposal_check.specs.Columns.{columnLegs, namedAt, namedTo}
 use Rattle.proposal.specs.Booking.{lineAt, linesTo}
 use Rattle.arith.proofs.Totals.{total-same}
-use Rattle.proposal.proofs.Lists.{total-map}
+use Rattle.proposal_check.proofs.Lists.{total-map}
 use Rattle.rules.proofs.Sides.{abs-signed}
 
 module _ (book places lots prices : List ℕ) where

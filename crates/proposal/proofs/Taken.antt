@@ -23,9 +23,9 @@ use Rattle.rules.specs.Synthetic.{usedByLegs}
 use Rattle.tables.specs.Fit.{ordersIn}
 use Rattle.tables.specs.Left.{leftOver}
 use Rattle.tables.proofs.Left.{orders-length}
-use Rattle.proposal.specs.Columns.{PlacesFit, columnLeg, columnLegs, placeOf, placesOf}
+use Rattle.proposal_check.specs.Columns.{PlacesFit, columnLeg, columnLegs, placeOf, placesOf}
 use Rattle.proposal.specs.Booking.{leftAfter, lotsIn}
-use Rattle.proposal.proofs.Named.{order-there}
+use Rattle.proposal_check.proofs.Named.{order-there}
 
 -- Nothing is taken yet.
 pub left-all : (os : List Order) → All (λ o. 1 ≤ o .lots .0) os → leftOver (map (λ o. o .lots .0) os) os ≡ os

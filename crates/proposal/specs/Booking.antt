@@ -6,7 +6,7 @@ use Rattle.arith.specs.Lists.{from}
 use Rattle.rules.specs.Ledger.{Line}
 use Rattle.rules.specs.Synthetic.{legLine}
 use Rattle.tables.specs.Fit.{ordersIn}
-use Rattle.proposal.specs.Columns.{namedAt}
+use Rattle.proposal_check.specs.Columns.{namedAt}
 
 -- The line of leg i; the order's number is not printed.
 abbrev pub lineAt : List ℕ → List ℕ → List ℕ → List ℕ → ℕ → Line

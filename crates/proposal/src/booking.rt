@@ -7,7 +7,7 @@ ghost use Rattle.rules.specs.Ranges.{mostOrders};
 ghost use Rattle.rules.specs.Ledger.{Tables, withHead, withRows, withBook, withLines, withOrders, headLength, bookLength, sideAt, booked};
 ghost use Rattle.tables.specs.Fit.{BookFit, ordersIn, orderCountIn};
 ghost use Rattle.tables.specs.Left.{leftOver};
-ghost use Rattle.proposal.specs.Columns.{LegsFit, PlacesFit};
+ghost use Rattle.proposal_check.specs.Columns.{LegsFit, PlacesFit};
 ghost use Rattle.tables.specs.Room.{Bookable};
 ghost use Rattle.proposal.specs.Booking.{linesTo, leftAfter, lotsIn};
 use rules::Kurus;

@@ -1,12 +1,5 @@
 // A synthetic proposal. It is handed tables that are long enough and not damaged, and legs in their ranges.
-mod acceptable;
-mod balance;
 mod booking;
-mod columns;
-mod conditions;
-mod places;
-mod priority;
-mod side_places;
 
 ghost use mathlib.Core.Path.{_≡_};
 ghost use Prim.Native.Nat.{_*_, _≤_};
@@ -15,13 +8,12 @@ ghost use Rattle.rules.specs.Ranges.{mostPrice};
 ghost use Rattle.rules.specs.Ledger.{Tables, withHead, withPrices, withRows, withBook, withLines, linesLength};
 ghost use Rattle.rules.specs.Refusals.{proposalSpec};
 ghost use Rattle.tables.specs.Fit.{HeadFit, PricesFit, RowsFit, BookFit, membersIn, lotsRunIn, orderCountIn};
-ghost use Rattle.proposal.specs.Columns.{LegsFit, columnLegs, placesOf};
-use crate::acceptable::is_acceptable;
+ghost use Rattle.proposal_check.specs.Columns.{LegsFit, columnLegs, placesOf};
 use crate::booking::book_legs;
 use crate::booking::total_lots;
 use crate::booking::use_orders;
-use crate::places::write_places;
-pub use columns::are_columns_acceptable;
+use proposal_check::is_acceptable;
+use proposal_check::write_places;
 use rules::Answer;
 use rules::layout::LOTS_RUN;
 use rules::layout::ORDER_COUNT;

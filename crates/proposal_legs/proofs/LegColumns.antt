@@ -26,8 +26,8 @@ use Rattle.header.proofs.Headers.{take-firsts}
 use Rattle.codec.specs.Columns.{legColumns, legRow, legRows}
 use Rattle.codec.specs.declared.legs.Legs.{Legs}
 use Rattle.codec.proofs.LegColumns.{noLeg, rows-of-columns, many-legs}
-use Rattle.proposal.specs.Columns.{columnLegs, LegsFit}
-use Rattle.proposal.proofs.LegColumns.{orderOf, lotsOf, priceOf, counted, columns-are, columns-fit}
+use Rattle.proposal_check.specs.Columns.{columnLegs, LegsFit}
+use Rattle.proposal_check.proofs.LegColumns.{orderOf, lotsOf, priceOf, counted, columns-are, columns-fit}
 use Rattle.proposal_legs.specs.Proposals.{legsAcceptable, withLeg}
 
 -- ---- the columns filled leg by leg

@@ -25,7 +25,7 @@ pub fn is_proposal_acceptable<'t>(
     let orders = columns.orders;
     let leg_lots = columns.lots;
     let leg_prices = columns.prices;
-    proposal::are_columns_acceptable(
+    proposal_check::are_columns_acceptable(
         head,
         prices,
         book,

@@ -8,8 +8,8 @@ use Rattle.arith.specs.Lists.{kept}
 use Rattle.rules.specs.Ledger.{lent, withHead, withPrices, withRows, withBook, withOrders, orders}
 use Rattle.rules.specs.CloseOfDay.{allCascaded, onDay}
 use Rattle.tables.specs.Fit.{ordersIn}
-use Rattle.close_of_day.specs.Phases.{closes, closing}
-use Rattle.close_of_day.proofs.Phases.{phases-length}
+use Rattle.contract_phases.specs.Phases.{closes, closing}
+use Rattle.contract_phases.proofs.Phases.{phases-length}
 use Rattle.close_of_day.proofs.Closes.{book-reads, closed-is}
 use borrow.Author.Needs.{needs}
 use Rattle.close_of_day.proofs.close.Statement.{statement}

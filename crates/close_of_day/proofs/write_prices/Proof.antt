@@ -4,9 +4,10 @@ use lib.ListN.{getD, length}
 use Rattle.rules.specs.Ledger.{withHead, withPrices, withBook, orders}
 use Rattle.rules.specs.CloseOfDay.{priced, withoutDeals}
 use Rattle.tables.proofs.Left.{all-orders}
-use Rattle.close_of_day.specs.Columns.{ggfsFrom, allOpenIn}
-use Rattle.close_of_day.proofs.Phases.{phases-length}
-use Rattle.close_of_day.proofs.BestPrices.{price-most}
+use Rattle.contract_phases.specs.Phases.{allOpenIn}
+use Rattle.reference_price.specs.Columns.{ggfsFrom}
+use Rattle.contract_phases.proofs.Phases.{phases-length}
+use Rattle.reference_price.proofs.BestPrices.{price-most}
 use Rattle.close_of_day.proofs.Closes.{book-reads, deals-fit, priced-is}
 use borrow.Author.Needs.{needs}
 use Rattle.close_of_day.proofs.write_prices.Statement.{statement}

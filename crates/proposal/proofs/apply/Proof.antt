@@ -2,7 +2,7 @@ use native.Mathlib.Omega.{arith}
 use mathlib.Core.Path.{sym}
 use lib.ListN.{getD, replicate}
 use lib.Seq.{length-take-le}
-use Rattle.proposal.proofs.Named.{places-long, places-as-many, places-front}
+use Rattle.proposal_check.proofs.Named.{places-long, places-as-many, places-front}
 use borrow.Author.Needs.{needs}
 use Rattle.proposal.proofs.apply.Statement.{statement}
 use Rattle.proposal.proofs.apply.Tie as tie

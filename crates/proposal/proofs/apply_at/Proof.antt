@@ -8,9 +8,9 @@ use Rattle.rules.specs.Ledger.{lent, withHead, withPrices, withRows, withBook, 
 use Rattle.rules.specs.Synthetic.{proposalLines, usedByLegs, proposalBooked}
 use Rattle.rules.specs.Refusals.{proposalSpec}
 use Rattle.tables.proofs.Left.{all-orders}
-use Rattle.proposal.specs.Columns.{LegsFit, PlacesFit, columnLegs}
+use Rattle.proposal_check.specs.Columns.{LegsFit, PlacesFit, columnLegs}
 use Rattle.proposal.specs.Booking.{linesTo}
-use Rattle.proposal.proofs.Checks.{places-many}
+use Rattle.proposal_check.proofs.Checks.{places-many}
 use Rattle.proposal.proofs.Accepted.{count-after-lines, all-booked, places-there, lines-are, line-count, run-passes, run-fits, orders-used}
 use borrow.Author.Needs.{needs}
 use Rattle.proposal.proofs.apply_at.Statement.{statement}

@@ -10,7 +10,7 @@ use Rattle.rules.specs.declared.order.Order.{Order}
 use Rattle.tables.specs.Fit.{ordersIn}
 use Rattle.tables.specs.Left.{staying}
 use Rattle.tables.proofs.Left.{staying-length, staying-at}
-use Rattle.close_of_day.specs.Phases.{closes}
+use Rattle.contract_phases.specs.Phases.{closes}
 use Rattle.close_of_day.proofs.orders.write_left.Statement.{statement}
 use Rattle.close_of_day.proofs.orders.write_left.Tie as tie
 

@@ -4,7 +4,7 @@ use mathlib.Core.Path.{_≡_, refl, ap, _∙_}
 use Prim.Native.Nat.{_*_, _-_, _≤_}
 use lib.ListN.{length, getD}
 use Rattle.arith.specs.Lists.{total, from}
-use Rattle.proposal.proofs.Lists.{sum-next}
+use Rattle.proposal_check.proofs.Lists.{sum-next}
 use Rattle.proposal.proofs.booking.total_lots.Statement.{statement}
 use Rattle.proposal.proofs.booking.total_lots.Tie as tie
 

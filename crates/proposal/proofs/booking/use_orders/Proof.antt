@@ -5,7 +5,7 @@ use lib.Seq.{length-take-le}
 use Rattle.rules.specs.Ledger.{withHead, withBook, withOrders}
 use Rattle.tables.specs.Fit.{ordersIn}
 use Rattle.tables.specs.Left.{leftOver}
-use Rattle.proposal.specs.Columns.{PlacesFit}
+use Rattle.proposal_check.specs.Columns.{PlacesFit}
 use Rattle.proposal.proofs.Taken.{left-long, left-many, left-front}
 use borrow.Author.Needs.{needs}
 use Rattle.proposal.proofs.booking.use_orders.Statement.{statement}

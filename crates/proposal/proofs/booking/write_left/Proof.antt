@@ -1,7 +1,7 @@
 use native.Mathlib.Omega.{arith}
 use mathlib.Core.Path.{sym, ap, subst, _∙_}
 use lib.ListN.{length}
-use Rattle.proposal.specs.Columns.{PlacesFit}
+use Rattle.proposal_check.specs.Columns.{PlacesFit}
 use Rattle.proposal.specs.Booking.{leftAfter}
 use Rattle.proposal.proofs.Taken.{lots-length}
 use borrow.Author.Needs.{needs}

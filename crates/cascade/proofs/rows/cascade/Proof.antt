@@ -1,0 +1,31 @@
+use Prim.Native.Nat.{_+_, _*_, _-_, _/_, _%_}
+use mathlib.Core.Path.{_≡_}
+use native.Mathlib.Omega.{arith}
+use borrow.Author.Tests.{le-leb, eq-eqb, ne-eqb}
+use Rattle.rules.specs.Contracts.{childrenOf}
+use Rattle.rules.specs.CloseOfDay.{cascaded}
+use borrow.Author.Needs.{needs}
+use Rattle.cascade.proofs.rows.cascade.Statement.{statement}
+use Rattle.cascade.proofs.rows.cascade.Tie as tie
+
+returns : tie.Need-returns
+unfolding cascaded childrenOf
+returns c =
+    let x = c .before .before .before .before .args .contract in
+    let four : x + 5 - (x + 1) ≡ 4 = omega arith in
+    rw (c .before .move-rows .ensures, four, le-leb (x % 17) 4 (omega arith), eq-eqb (x % 17) 0 (c .before .before .before .if1 .taken))
+
+returns-2 : tie.Need-returns-2
+unfolding cascaded childrenOf
+returns-2 c =
+    let x = c .before .before .before .before .args .contract in
+    let first = 17 * (x / 17) + 5 + 3 * (x % 17 - 1) in
+    let three : first + 3 - first ≡ 3 = omega arith in
+    rw (c .before .move-rows2 .ensures, three, le-leb (x % 17) 4 (omega arith), ne-eqb (x % 17) 0 (c .before .before .before .if1 .left))
+
+pub cascade-spec : {M : Type 1} → statement M
+cascade-spec =
+    tie.close
+    (tie.spec (λ c. search needs) (λ c. search needs) (λ c κs. search needs) (λ c. search needs) returns
+    (λ c. search needs) (λ c. search needs) (λ c. search needs) (λ c. search needs) (λ c. search needs)
+    (λ c. search needs) (λ c κs. search needs) (λ c. search needs) returns-2)

@@ -1,0 +1,126 @@
+-- What a column of phases says: which contracts close on the day and which are open. Assumes nothing.
+use mathlib.Core.Path.{_≡_, refl, sym, ap, _∙_}
+use mathlib.Core.Bool.{Bool, true, _&&_, _||_}
+use mathlib.Core.List.{List, [], _∷_, _++_}
+use Prim.Native.Nat.{ℕ, zero, suc, _+_, _≤_, _<_}
+use native.Mathlib.Omega.{arith}
+use native.Mathlib.Nat.{zero-add}
+use lib.Dec.{eqb, ltb}
+use lib.ListN.{length, getD, length-map}
+use borrow.Author.Tests.{lt-ltb, le-ltb, le-leb, lt-leb, eq-eqb, ne-eqb}
+use Rattle.arith.specs.Lists.{All, any, from, kept}
+use Rattle.arith.proofs.Alls.{all-map, all-append, all-kept}
+use Rattle.arith.proofs.Among.{by-among}
+use Rattle.arith.proofs.Tests.{true-or, le-or-lt, same-or, and-true, and-false, any-append}
+use Rattle.arith.proofs.Appends.{map-at, from-at, from-length}
+use Rattle.rules.specs.declared.contract.ContractKind.{ContractKind}
+use Rattle.rules.specs.declared.contract.ContractKind.the-variants.{Year, Quarter, Month}
+use Rattle.rules.specs.declared.units.Day.{Day}
+use Rattle.rules.specs.declared.units.Day.the-variants.{On, NoDay}
+use Rattle.rules.specs.Days.{Calendar}
+use Rattle.rules.specs.Contracts.{kindOf, termOf, sameKind, contractsOf, closingDay, closesOn, isOn, notBefore, stillToClose, openOfKind, openContracts}
+use Rattle.rules.specs.OtherForms.{numberOf, sizeOf}
+use Rattle.contract_phases.specs.Phases.{phaseOf, phases, closes, waits, openIn, allOpenIn, closing}
+
+-- ---- one contract
+pub number-below : (s : ContractKind) (i : ℕ) → i < sizeOf s → numberOf s i < 102
+number-below Year i h = omega arith
+number-below Quarter i h = omega arith
+number-below Month i h = omega arith
+
+phase-closes : (z : Day) (d : ℕ) → eqb (phaseOf z d) 1 ≡ isOn z d
+phase-closes (On x) d =
+    same-or (x .0) d (λ e. rw (eq-eqb (x .0) d e, le-ltb (x .0) d (omega arith)))
+    (λ e. le-or-lt d (x .0) (λ l. rw (ne-eqb (x .0) d e, le-ltb (x .0) d l)) (λ l. rw (ne-eqb (x .0) d e, lt-ltb (x .0) d l)))
+phase-closes NoDay d = refl
+
+phase-waits : (z : Day) (d : ℕ) → ltb 0 (phaseOf z d) ≡ notBefore z d
+phase-waits (On x) d =
+    same-or (x .0) d (λ e. rw (eq-eqb (x .0) d e, le-ltb (x .0) d (omega arith), le-leb d (x .0) (omega arith)))
+    (λ e. le-or-lt d (x .0) (λ l. rw (ne-eqb (x .0) d e, le-ltb (x .0) d l, le-leb d (x .0) l)) (λ l. rw (lt-ltb (x .0) d l, lt-leb d (x .0) l)))
+phase-waits NoDay d = refl
+
+module _ (k : Calendar) (d : ℕ) where
+  pub phases-length : length (phases k d) ≡ 102
+  unfolding phases
+  phases-length = length-map (from 0 102) (λ c. phaseOf (closingDay k c) d) ∙ from-length 0 102
+
+  pub phases-at : (c : ℕ) → c < 102 → getD (phases k d) c 0 ≡ phaseOf (closingDay k c) d
+  unfolding phases
+  phases-at c h =
+      map-at (λ c. phaseOf (closingDay k c) d) (from 0 102) c 0 0 (omega (arith, from-length 0 102))
+      ∙ ap (λ c. phaseOf (closingDay k c) d) (from-at 0 102 c 0 h ∙ zero-add c)
+
+  pub closes-is : (c : ℕ) → c < 102 → closes (phases k d) c ≡ closesOn k c d
+  closes-is c h = ap (λ x. eqb x 1) (phases-at c h) ∙ phase-closes (closingDay k c) d
+
+  waits-is : (c : ℕ) → c < 102 → waits (phases k d) c ≡ stillToClose k d (termOf c)
+  unfolding stillToClose
+  waits-is c h = ap (λ x. ltb 0 x) (phases-at c h) ∙ phase-waits (closingDay k c) d
+
+-- ---- all contracts
+all-from : (P : ℕ → Type 0) (a n : ℕ) → ((i : ℕ) → a ≤ i → i < a + n → P i) → All P (from a n)
+unfolding from
+all-from P a zero f = tt
+all-from P a (suc n) f = (f a (omega arith) (omega arith), all-from P (suc a) n (λ i l u. f i (omega arith) (omega arith)))
+
+pub listed : (P : ℕ → Type 0) → ((c : ℕ) → c < 102 → P c) → (s : ContractKind) → All P (contractsOf s)
+unfolding contractsOf
+listed P f s =
+    let test : ℕ → Bool = λ c. sameKind (kindOf c) s in
+    all-map (λ c. P c × (test c ≡ true)) P (kept test (from 0 102)) (λ c h. h .0) (all-kept P test (from 0 102) (all-from P 0 102 (λ i l u. f i (omega arith))))
+
+pub kept-same : {A : Type 0} (p q : A → Bool) (l : List A) → All (λ c. p c ≡ q c) l → kept p l ≡ kept q l
+unfolding kept
+kept-same p q [] a = refl
+kept-same p q (x ∷ l) a = rw (a .0, kept-same p q l (a .1))
+
+module _ (k : Calendar) (d : ℕ) where
+  pub closing-is : closing (phases k d) ≡ kept (λ c. closesOn k c d) (contractsOf Year ++ (contractsOf Quarter ++ contractsOf Month))
+  unfolding closing
+  closing-is =
+      let same = listed (λ c. closes (phases k d) c ≡ closesOn k c d) (closes-is k d) in
+      kept-same (closes (phases k d)) (λ c. closesOn k c d) (contractsOf Year ++ (contractsOf Quarter ++ contractsOf Month))
+      (all-append _ (contractsOf Year) _ (same Year) (all-append _ (contractsOf Quarter) _ (same Quarter) (same Month)))
+
+  open-of-kind : (s : ContractKind) → openIn (phases k d) s ≡ openOfKind k d s
+  unfolding openIn openOfKind
+  open-of-kind s = rw (kept-same (waits (phases k d)) (λ c. stillToClose k d (termOf c)) (contractsOf s) (listed (λ c. waits (phases k d) c ≡ stillToClose k d (termOf c)) (waits-is k d) s))
+
+  pub open-is : allOpenIn (phases k d) ≡ openContracts k d
+  unfolding allOpenIn openContracts
+  open-is = rw (open-of-kind Year, open-of-kind Quarter, open-of-kind Month)
+
+-- ---- orders of closing contracts
+any-kept : (p : ℕ → Bool) (x : ℕ) (l : List ℕ) → any (λ c. eqb c x) (kept p l) ≡ p x && any (λ c. eqb c x) l
+unfolding any kept
+any-kept p x [] = sym (and-false (p x))
+any-kept p x (c ∷ l) =
+    same-or c x
+    (λ e. rw (e, eq-eqb x x refl) (true-or (p x) (λ t. rw (t, eq-eqb x x refl)) (λ t. rw t (any-kept p x l ∙ rw t))))
+    (λ e. rw (ne-eqb c x e) (true-or (p c) (λ t. rw (t, ne-eqb c x e) (any-kept p x l)) (λ t. rw t (any-kept p x l))))
+
+any-of-kind : (s : ContractKind) (x : ℕ) → x < 102 → any (λ c. eqb c x) (contractsOf s) ≡ sameKind (kindOf x) s
+unfolding contractsOf
+any-of-kind s x h =
+    any-kept (λ c. sameKind (kindOf c) s) x (from 0 102)
+    ∙ ap (λ t. sameKind (kindOf x) s && t) (by-among (λ t. t ≡ true) 0 102 x (λ l u. refl) (λ out. absurd (out (omega arith) (omega arith)))) ∙ and-true (sameKind (kindOf x) s)
+
+some-kind : (k : ContractKind) → sameKind k Year || (sameKind k Quarter || sameKind k Month) ≡ true
+some-kind Year = refl
+some-kind Quarter = refl
+some-kind Month = refl
+
+pub closing-order : (column : List ℕ) (x : ℕ) → x < 102 → any (λ c. eqb c x) (closing column) ≡ closes column x
+unfolding closing
+closing-order column x h =
+    any-kept (closes column) x (contractsOf Year ++ (contractsOf Quarter ++ contractsOf Month))
+    ∙ rw (
+      any-append (λ c. eqb c x) (contractsOf Year) (contractsOf Quarter ++ contractsOf Month),
+      any-append (λ c. eqb c x) (contractsOf Quarter) (contractsOf Month),
+      any-of-kind Year x h,
+      any-of-kind Quarter x h,
+      any-of-kind Month x h,
+      some-kind (kindOf x),
+    )
+    (and-true (closes column x))

@@ -1,0 +1,8 @@
+pub mod Lists
+pub mod Named
+mod Together
+mod SidePlaces
+mod Sums
+mod LastRanks
+pub mod Checks
+pub mod LegColumns

@@ -1,0 +1,3 @@
+pub mod BestPrices
+pub mod Ggfs
+mod Blocks

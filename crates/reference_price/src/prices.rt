@@ -1,0 +1,139 @@
+// The GGF, the reference price, of every open contract.
+ghost use mathlib.Core.Path.{_≡_};
+ghost use mathlib.Core.Bool.{cond, _&&_};
+ghost use Prim.Native.Nat.{_-_, _*_, _≤_, _<_};
+ghost use lib.Dec.{ltb};
+ghost use lib.ListN.{length, set};
+ghost use Rattle.rules.specs.Ranges.{contractCount, mostPrice, mostLotsRun};
+ghost use Rattle.rules.specs.Ledger.{pricesLength, ggfPlace};
+ghost use Rattle.rules.specs.CloseOfDay.{roundedHalfUp, withoutDeals};
+ghost use Rattle.contract_phases.specs.Phases.{openIn, allOpenIn};
+ghost use Rattle.reference_price.specs.Columns.{DealsFit, ColumnFit, quotedFrom, priceFrom, ggfFrom, ggfsFrom};
+use contract_phases::CLOSED;
+use contract_phases::contract_of;
+use contract_phases::contracts_in;
+use rules::ContractKind;
+use rules::Lots;
+use rules::layout::CONTRACTS;
+use rules::layout::DAY_LOTS;
+use rules::layout::DAY_VALUE;
+use rules::layout::GGF;
+use rules::layout::PRICE_WIDTH;
+
+// Halves round up.
+fn rounded(n: u64, d: u64) -> u64
+    requires { ⌜ (1 ≤ d) × (d ≤ 1000000000) × (n ≤ 1000000000000000) ⌝ }
+    ensures { λ r. ⌜ r ≡ roundedHalfUp n d ⌝ }
+{
+    (2 * n + d) / (2 * d)
+}
+
+// With the best buy and the best sell that quote, or 0; fewer lots than the threshold were dealt.
+fn quoted_price(lots: u64, value: u64, former: u64, buy: u64, sell: u64) -> u64
+    requires { ⌜ (lots ≤ mostLotsRun) × (value ≤ mostPrice * mostLotsRun) × (buy ≤ mostPrice) × (sell ≤ mostPrice) ⌝ }
+    ensures { λ r. ⌜ r ≡ quotedFrom lots value former buy sell ⌝ }
+{
+    if (buy == 0) | (sell == 0) {
+        return former;
+    }
+    let both = buy + sell;
+    if 0 < lots {
+        return rounded(6 * value + lots * both, 8 * lots);
+    }
+    rounded(both, 2)
+}
+
+fn reference_price(threshold: Lots, lots: u64, value: u64, former: u64, buy: u64, sell: u64) -> u64
+    requires { ⌜ (1 ≤ threshold .0) × (lots ≤ mostLotsRun) × (value ≤ mostPrice * mostLotsRun) × (buy ≤ mostPrice) × (sell ≤ mostPrice) ⌝ }
+    ensures { λ r. ⌜ r ≡ priceFrom (threshold .0) lots value former buy sell ⌝ }
+{
+    if threshold.0 <= lots {
+        return rounded(value, lots);
+    }
+    quoted_price(lots, value, former, buy, sell)
+}
+
+fn write_ggf(prices: &mut [u64], buys: &[u64], sells: &[u64], contract: usize)
+    requires { ⌜ DealsFit (now prices) × ColumnFit (now buys) × ColumnFit (now sells) × (contract < contractCount) ⌝ }
+    ensures { λ _. ⌜ now (prices .exit) ≡ set (now (prices .entry)) (ggfPlace contract) (ggfFrom (now (buys .entry)) (now (sells .entry)) (now (prices .entry)) contract) ⌝ }
+{
+    let at = contract * PRICE_WIDTH;
+    let kind = calendar::kind_of(contract as u64);
+    let threshold = kind.threshold();
+    let ggf = reference_price(
+        threshold,
+        prices[at + DAY_LOTS],
+        prices[at + DAY_VALUE],
+        prices[at + GGF],
+        buys[contract],
+        sells[contract],
+    );
+    prices[at + GGF] = ggf;
+}
+
+// A contract that is still to close is open while fewer than its kind's count are; the answer is how many more can be.
+fn write_if_open(
+    prices: &mut [u64],
+    buys: &[u64],
+    sells: &[u64],
+    contract: usize,
+    phase: u64,
+    more: u64,
+) -> u64
+    requires { ⌜ DealsFit (now prices) × ColumnFit (now buys) × ColumnFit (now sells) × (contract < contractCount) ⌝ }
+    ensures { λ r. ⌜ r ≡ cond (ltb 0 phase) (more - 1) more ⌝ }
+    ensures { λ _. ⌜ now (prices .exit)
+        ≡ cond (ltb 0 phase && ltb 0 more) (set (now (prices .entry)) (ggfPlace contract) (ggfFrom (now (buys .entry)) (now (sells .entry)) (now (prices .entry)) contract)) (now (prices .entry)) ⌝ }
+{
+    if phase == CLOSED {
+        return more;
+    }
+    if more == 0 {
+        return more;
+    }
+    write_ggf(prices, buys, sells, contract);
+    more - 1
+}
+
+fn write_kind_ggfs(
+    prices: &mut [u64],
+    column: &[u64],
+    buys: &[u64],
+    sells: &[u64],
+    kind: ContractKind,
+)
+    requires { ⌜ DealsFit (now prices) × ColumnFit (now buys) × ColumnFit (now sells) × (length (now column) ≡ contractCount) ⌝ }
+    ensures { λ _. ⌜ now (prices .exit) ≡ ggfsFrom (now (buys .entry)) (now (sells .entry)) (openIn (now (column .entry)) kind) (now (prices .entry)) ⌝ }
+{
+    let count = contracts_in(kind);
+    let mut more = kind.open_count();
+    let mut i: u64 = 0;
+    while i < count {
+        let contract = contract_of(kind, i) as usize;
+        more = write_if_open(&mut *prices, buys, sells, contract, column[contract], more);
+        i += 1;
+    }
+}
+
+pub fn write_ggfs(prices: &mut [u64], column: &[u64], buys: &[u64], sells: &[u64])
+    requires { ⌜ DealsFit (now prices) × ColumnFit (now buys) × ColumnFit (now sells) × (length (now column) ≡ contractCount) ⌝ }
+    ensures { λ _. ⌜ now (prices .exit) ≡ ggfsFrom (now (buys .entry)) (now (sells .entry)) (allOpenIn (now (column .entry))) (now (prices .entry)) ⌝ }
+{
+    write_kind_ggfs(&mut *prices, column, buys, sells, ContractKind::Year);
+    write_kind_ggfs(&mut *prices, column, buys, sells, ContractKind::Quarter);
+    write_kind_ggfs(&mut *prices, column, buys, sells, ContractKind::Month);
+}
+
+// M and V of every contract become 0.
+pub fn clear_deals(prices: &mut [u64])
+    requires { ⌜ pricesLength ≤ length (now prices) ⌝ }
+    ensures { λ _. ⌜ now (prices .exit) ≡ withoutDeals (now (prices .entry)) ⌝ }
+{
+    let mut contract: usize = 0;
+    while contract < CONTRACTS {
+        let at = contract * PRICE_WIDTH;
+        prices[at + DAY_LOTS] = 0;
+        prices[at + DAY_VALUE] = 0;
+        contract += 1;
+    }
+}
