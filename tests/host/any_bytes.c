@@ -257,7 +257,7 @@ static void accepted(const Bytes *record, const Tables *before, const Tables *af
                i);
   if (record->at[0] == LEDGER_KIND_CLOSE_OF_DAY)
     expect(same_in_every_month(before, after), "a close moves lots or value to other hours");
-  expect(is_damaged(after) == 0, "damaged by kind %d", record->at[0]);
+  expect(is_damaged(after) == LEDGER_NOT_DAMAGED, "damaged by kind %d", record->at[0]);
 }
 
 static uint64_t answers[ANSWERS], accepted_of_kind[LEDGER_KIND_CLOSE_OF_DAY + 1];

@@ -50,7 +50,7 @@ static Tables crowded(void) {
   head[LEDGER_LOTS_RUN] = MOST_RUN;
   head[LEDGER_LIMITS + LIMITED] = 5;
   head[LEDGER_SUBMITS + FINE] = 5;
-  head[LEDGER_MARKS + DEFAULTED] = 1;
+  head[LEDGER_MARKS + DEFAULTED] = LEDGER_DEFAULTED;
   head[LEDGER_ORDER_COUNT] = head[LEDGER_ACCEPTED_SUBMITS] = LEDGER_MOST_ORDERS;
   put_order(&tables, 0, FINE, SECOND_QUARTER, LEDGER_BUY, 1);
   for (uint64_t month = APRIL; month <= JUNE; month++)
@@ -139,10 +139,10 @@ static void cut_and_short(Tables *tables) {
 /* Also for the other two entries. */
 static void short_by_one(Tables *tables) {
   const Bytes sound = header(MEMBERS, 1000, NULL, 0);
-  expect(is_damaged(tables) == 0, "the crowded ledger");
+  expect(is_damaged(tables) == LEDGER_NOT_DAMAGED, "the crowded ledger");
   for (int t = 0; t < TABLES; t++) {
     tables->at[t]++, tables->length[t]--;
-    expect(is_damaged(tables) == 1, "%s short by one is damage", TABLE_NAMES[t]);
+    expect(is_damaged(tables) == LEDGER_DAMAGED, "%s short by one is damage", TABLE_NAMES[t]);
     if (t != LINES)
       expect(make(tables, sound.at, sound.length) == LEDGER_TABLE_UNSOUND, "%s short by one, and a header",
              TABLE_NAMES[t]);
@@ -161,7 +161,7 @@ static void nothing(Tables *tables) {
     const char *what = t < TABLES ? TABLE_NAMES[t] : "all tables";
     answered(&some, record.at, record.length, LEDGER_TABLE_UNSOUND, 0, what);
     answered(&some, NULL, 0, LEDGER_TABLE_UNSOUND, 0, what);
-    expect(is_damaged(&some) == 1, "no %s", what);
+    expect(is_damaged(&some) == LEDGER_DAMAGED, "no %s", what);
     if (t != LINES) expect(make(&some, sound.at, sound.length) == LEDGER_TABLE_UNSOUND, "no %s, and a header", what);
     if (t != LINES) expect(make(&some, NULL, 0) == LEDGER_TABLE_UNSOUND, "no %s and no header", what);
   }

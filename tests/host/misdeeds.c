@@ -163,6 +163,9 @@ uint64_t __wrap_ledger_write_record(uint64_t members, const uint64_t *fields, si
 uint64_t __wrap_ledger_front_record(const uint8_t *bytes, size_t bytes_len, uint64_t *detail) {
   uint64_t number = __real_ledger_front_record(bytes, bytes_len, detail);
   if (number == LEDGER_ACCEPTED && does("splits a journal a byte early")) *detail -= 1;
+  if (bytes_len > 1 && bytes[0] == LEDGER_KIND_PROPOSAL && bytes[1] > INT8_MAX &&
+      does("splits off half of the legs above 127"))
+    *detail /= 2;
   if (number == LEDGER_ACCEPTED && *detail == bytes_len && does("finds the last record cut")) {
     *detail = 0;
     return LEDGER_RECORD_UNSOUND;
