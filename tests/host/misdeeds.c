@@ -82,6 +82,11 @@ static void spoil(uint64_t kind, uint64_t *head, uint64_t *prices, int64_t *lots
     }
   if (kind != LEDGER_KIND_CLOSE_OF_DAY) return;
   if (does("adds a lot in a cascade")) lots[(LEDGER_CONTRACTS - 1) * LEDGER_ROW_WIDTH]++;
+  if (does("gives a reference price to a year that has begun")) prices[LEDGER_YEAR + LEDGER_GGF]++;
+  if (head[LEDGER_LOTS_RUN] > 0 && lots[LEDGER_YEAR] == 0 && does("carries a year that has begun")) {
+    lots[LEDGER_YEAR] = -1;
+    for (int c = LEDGER_FIRST_QUARTER; c < LEDGER_JANUARY; c++) lots[c * LEDGER_ROW_WIDTH]++;
+  }
   for (size_t c = 0; c < LEDGER_CONTRACTS && does("rounds a GGF up by one"); c++)
     if (prices[c * LEDGER_PRICE_WIDTH + LEDGER_GGF] > 0) prices[c * LEDGER_PRICE_WIDTH + LEDGER_GGF]++;
   if (does("keeps the clock over a close")) head[LEDGER_TIME] = 1;
