@@ -39,13 +39,21 @@ static void put_order(const Tables *tables, uint64_t number, uint64_t member, ui
   memcpy(tables->at[BOOK] + number * LEDGER_ORDER_WIDTH, order, sizeof order);
 }
 
-/* A ledger in which every cause but 18 has its record: a full book with the orders of an acceptable proposal in front, a
-   lots run at its end, one member at its limit and its fifth submit, one defaulted. */
+static void put_lots(const Tables *tables, uint64_t contract, uint64_t member, int64_t lots) {
+  tables->at[LOTS][contract * LEDGER_ROW_WIDTH + member] = (uint64_t)lots;
+}
+
+static uint64_t *price(const Tables *tables, uint64_t contract, uint64_t which) {
+  return tables->at[PRICES] + contract * LEDGER_PRICE_WIDTH + which;
+}
+
+/* A ledger in which every cause but 18 has its record: a full book with the orders of an acceptable proposal in front,
+   a lots run at its end, one member at its limit and its fifth submit, one defaulted and no other that holds lots. */
 static Tables crowded(void) {
   const uint64_t holidays[] = {370, 626};
   const Bytes bytes = header(MEMBERS, 1000, holidays, 2);
   Tables tables = made(&bytes);
-  uint64_t *head = tables.at[HEAD], *lots = tables.at[LOTS];
+  uint64_t *head = tables.at[HEAD];
   head[LEDGER_TIME] = TIME;
   head[LEDGER_LOTS_RUN] = MOST_RUN;
   head[LEDGER_LIMITS + LIMITED] = 5;
@@ -57,13 +65,24 @@ static Tables crowded(void) {
     put_order(&tables, month - APRIL + 1, LIMITED, month, LEDGER_SELL, 1);
   for (uint64_t i = 4; i < LEDGER_MOST_ORDERS; i++)
     put_order(&tables, i, FINE, FIRST_OPEN_YEAR, LEDGER_SELL, MOST_LOTS);
-  for (size_t c = SECOND_QUARTER; c <= MARCH; c++) tables.at[PRICES][c * LEDGER_PRICE_WIDTH + LEDGER_HIGH] = PRICE;
-  tables.at[PRICES][SECOND_QUARTER * LEDGER_PRICE_WIDTH + LEDGER_GGF] = PRICE;
-  tables.at[PRICES][MARCH * LEDGER_PRICE_WIDTH + LEDGER_GGF] = PRICE;
-  tables.at[PRICES][APRIL * LEDGER_PRICE_WIDTH + LEDGER_GGF] = PRICE;
-  lots[SECOND_QUARTER * LEDGER_ROW_WIDTH + DEFAULTED] = 3;
-  lots[MARCH * LEDGER_ROW_WIDTH + DEFAULTED] = 3;
-  lots[MAY * LEDGER_ROW_WIDTH + DEFAULTED] = 3;
+  *price(&tables, SECOND_QUARTER, LEDGER_HIGH) = PRICE;
+  *price(&tables, MARCH, LEDGER_GGF) = *price(&tables, APRIL, LEDGER_GGF) = PRICE;
+  put_lots(&tables, MARCH, DEFAULTED, 3);
+  put_lots(&tables, MAY, DEFAULTED, 3);
+  return tables;
+}
+
+/* The same, but close-outs get as far as 17, one lot past the most: in April two defaulted members meet, in the second
+   quarter one member can take the lots, by what it holds there (ratio 1000) or by all that it holds (ratio 500). */
+static Tables with_a_taker(void) {
+  Tables tables = crowded();
+  tables.at[HEAD][LEDGER_LOTS_RUN] = MOST_RUN - 5;
+  tables.at[HEAD][LEDGER_MARKS + LIMITED] = LEDGER_DEFAULTED;
+  *price(&tables, SECOND_QUARTER, LEDGER_GGF) = PRICE;
+  put_lots(&tables, SECOND_QUARTER, DEFAULTED, 3);
+  put_lots(&tables, SECOND_QUARTER, FINE, -4);
+  put_lots(&tables, APRIL, DEFAULTED, 3);
+  put_lots(&tables, APRIL, LIMITED, -3);
   return tables;
 }
 
@@ -75,7 +94,13 @@ typedef struct {
 #define LEGS(price) 4, 0, 1, price, 1, 1, price, 2, 1, price, 3, 1, price
 
 /* A refused record is known before anything is written: the tables are read-only. */
-static void refused(const Tables *tables) {
+static void refused(const Tables *tables, const Refused *each, size_t count) {
+  for (size_t i = 0; i < count; i++)
+    answered(tables, paper(each[i].record.at, each[i].record.length), each[i].record.length, each[i].number,
+             each[i].detail, "a refused record");
+}
+
+static void refused_when_crowded(const Tables *tables) {
   const Refused each[] = {
       {LEDGER_TIME_BELOW_LEDGER, 0,
        RECORD(LEDGER_KIND_SUBMIT, TIME - 1, DEFAULTED, NOT_OPEN, LEDGER_BUY, LEDGER_RESTING, PRICE, 1)},
@@ -107,9 +132,16 @@ static void refused(const Tables *tables) {
        RECORD(LEDGER_KIND_SUBMIT, TIME, LIMITED, FIRST_OPEN_YEAR, LEDGER_BUY, LEDGER_OEYE, PRICE, 1)},
       {LEDGER_TOTAL_PASSED, 0, RECORD(LEDGER_KIND_PROPOSAL, LEGS(PRICE))},
   };
-  for (size_t i = 0; i < sizeof each / sizeof *each; i++)
-    answered(tables, paper(each[i].record.at, each[i].record.length), each[i].record.length, each[i].number,
-             each[i].detail, "a refused record");
+  refused(tables, each, sizeof each / sizeof *each);
+}
+
+static void refused_with_a_taker(const Tables *tables) {
+  const Refused each[] = {
+      {LEDGER_TOTAL_PASSED, 0, RECORD(LEDGER_KIND_CLOSE_OUT, APRIL, 500)},
+      {LEDGER_TOTAL_PASSED, 0, RECORD(LEDGER_KIND_CLOSE_OUT, SECOND_QUARTER, 500)},
+      {LEDGER_TOTAL_PASSED, 0, RECORD(LEDGER_KIND_CLOSE_OUT, SECOND_QUARTER, 1000)},
+  };
+  refused(tables, each, sizeof each / sizeof *each);
 }
 
 /* Cut at each byte and with one byte too many, a record is 3; with a table short by one place any bytes are 1. */
@@ -173,9 +205,13 @@ int main(void) {
   Tables tables = crowded();
   all_read_only(&tables);
   short_by_one(&tables);
-  refused(&tables);
+  refused_when_crowded(&tables);
   cut_and_short(&tables);
   nothing(&tables);
+
+  Tables taken = with_a_taker();
+  all_read_only(&taken);
+  refused_with_a_taker(&taken);
 
   const Bytes last = header_from(2021, LAST_DAY, MEMBERS, 1000, NULL, 0), close = RECORD(LEDGER_KIND_CLOSE_OF_DAY, 0);
   Tables ended = made(&last);

@@ -99,6 +99,9 @@ uint64_t __wrap_ledger_apply(TABLES_OF_A_LEDGER, uint64_t *book, size_t book_len
   if (number > LEDGER_RECORD_UNSOUND && does("moves the clock of a refused record")) head[LEDGER_TIME]++;
   if (number > LEDGER_RECORD_UNSOUND && does("writes and restores a refused record's clock"))
     *(volatile uint64_t *)(head + LEDGER_TIME) += 0;
+  if (number == LEDGER_TOTAL_PASSED && record[0] == LEDGER_KIND_CLOSE_OUT &&
+      does("writes and restores a line of a close-out that is 17"))
+    *(volatile int64_t *)lines += 0;
   if (number == LEDGER_TABLE_UNSOUND && record_len == 0 && does("answers 3 before 1")) return LEDGER_RECORD_UNSOUND;
   if (number == LEDGER_NO_SUCH_ORDER && does("hides a number")) return LEDGER_NOT_ACCEPTABLE;
   if (number == LEDGER_MEMBER_DEFAULTED && does("does not tell the member of 5")) *detail = 0;

@@ -1,8 +1,8 @@
 #!/usr/bin/env bash
 # Writes anew what tests/host/replay.c is held to: the model's answers and tables for a few journals. Every place: all
-# seven kinds accepted, 32 members, cascades of a year and of a quarter, number 16 (200023). Digests: all seven kinds with 2
-# members (200014), cascades of a year and of two quarters with 4 (200032), a full book (200057), a journal that ends with
-# number 3 (200052), one whose header is number 2 (200055), and the stories of examples/.
+# seven kinds accepted, 32 members, cascades of a year and of a quarter, number 16 (200023). Digests: all seven kinds
+# with 2 members (200014), cascades of a year and of two quarters with 4 (200032), a full book (200057), a journal that
+# ends with number 3 (200052), one whose header is number 2 (200055), and the stories of examples/.
 set -euo pipefail
 cd "$(dirname "$0")/../.."
 tests/model/cargo.sh build --release --quiet --bin replay_tables

@@ -1,7 +1,7 @@
-//! replay_tables places|digests JOURNAL: what tests/host/replay.c compares the proved library with. The first line names
-//! the journal; then a line a call, the making of the ledger first: count, answer and what goes with it. Of all six tables
-//! it has a digest too, or is followed by the places that the call changed. The tables begin with a number in every place
-//! that no ledger has there, so surplus places are compared too.
+//! replay_tables places|digests JOURNAL: what tests/host/replay.c compares the proved library with. The first line
+//! names the journal; then a line a call, the making of the ledger first: count, answer and what goes with it. It has a
+//! digest of all six tables too, or is followed by the places that the call changed. The tables begin with a number in
+//! every place that no ledger has there, so surplus places are compared too.
 use model::answer::told;
 use model::journal::replay;
 use model::tables::Tables;
