@@ -111,20 +111,25 @@ fn close_calls(members: u64) -> Vec<Call> {
     vec![call("close of day", ordinary, close.clone()), call("close of day that closes a year", year_end, close)]
 }
 
+/// Of 8 members one is defaulted; the lots run is what deals of the lots would have left. More lots would pass the run's
+/// most: 2,000,000 are possible only where several are defaulted.
 fn close_out_calls(members: u64) -> Vec<Call> {
+    let defaulted = (members as i64 / 8).max(1);
+    let most = if members == 32 { 2_000_000 } else { 1_250_000 };
     let with = |lots: i64| {
         let mut tables = full_book(members, 0);
-        tables.head[RUN] = lots.max(1000) as u64;
-        rows(&mut tables, |contract, member| match (contract, member) {
-            (QUARTER, 0) => lots,
-            (QUARTER, _) => -lots / (members as i64 - 1),
+        let held = |member: i64| lots / defaulted + i64::from(member < lots % defaulted);
+        tables.head[RUN] = (2 * held(0)).max(1000) as u64;
+        rows(&mut tables, |contract, member| match contract {
+            QUARTER if (member as i64) < defaulted => held(member as i64),
+            QUARTER => -lots / (members as i64 - defaulted),
             _ => (contract + member) as i64,
         });
-        tables.head[MARKS] = 1;
+        tables.head[MARKS..MARKS + defaulted as usize].fill(1);
         *tables.price_mut(QUARTER, GGF) = PRICE;
         call(format!("close-out, L = {lots}"), tables, Record::CloseOut { contract: QUARTER, ratio: 500 })
     };
-    [10, 10_000, 1_600_000].into_iter().map(with).collect()
+    [10, 10_000, most].into_iter().map(with).collect()
 }
 
 /// Three quarters, each against its months, in a full book.

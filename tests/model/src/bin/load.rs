@@ -11,7 +11,7 @@ use std::time::{Duration, Instant};
 const RUN: u64 = 10_000;
 const ROUNDS: usize = 5;
 /// How often a single record is applied.
-const REPEATS: usize = 300;
+const REPEATS: usize = 2000;
 
 type Side = fn(&mut Tables, &[u8]);
 
@@ -66,10 +66,18 @@ fn print_load(members: u64, count: u64) {
     print(&format!("{members} members, a submit of the load"), count.div_ceil(RUN) * RUN, &sum);
 }
 
-fn print_call(sides: &[Side], name: String, call: &Call) {
+fn least_of_call(sides: &[Side], call: &Call) -> Least {
     let records = [call.bytes.clone()];
-    let least = least(sides, REPEATS, |side| timed_run(&call.tables, &records, side));
-    print(&name, 1, &least);
+    least(sides, REPEATS, |side| timed_run(&call.tables, &records, side))
+}
+
+/// The whole call, and what it takes beyond the damage test of the same tables.
+fn print_call(members: u64, call: &Call) {
+    let whole = least_of_call(APPLY, call);
+    let damage = least_of_call(IS_DAMAGED, call);
+    let beyond = whole.iter().zip(&damage).map(|(whole, damage)| whole.saturating_sub(*damage)).collect();
+    print(&format!("{members} members, full book, {}", call.name), 1, &whole);
+    print("  beyond the damage test", 1, &beyond);
 }
 
 fn main() {
@@ -77,11 +85,9 @@ fn main() {
     for members in [2, 8, 32] {
         print_load(members, count);
         let empty = Call { name: String::new(), tables: fresh(members), bytes: Vec::new() };
-        print_call(IS_DAMAGED, format!("{members} members, empty book, damage test alone"), &empty);
+        print(&format!("{members} members, empty book, damage test alone"), 1, &least_of_call(IS_DAMAGED, &empty));
         let calls = calls(members);
-        print_call(IS_DAMAGED, format!("{members} members, full book, damage test alone"), &calls[0]);
-        for call in &calls {
-            print_call(APPLY, format!("{members} members, full book, {}", call.name), call);
-        }
+        print(&format!("{members} members, full book, damage test alone"), 1, &least_of_call(IS_DAMAGED, &calls[0]));
+        calls.iter().for_each(|call| print_call(members, call));
     }
 }
