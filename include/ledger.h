@@ -17,7 +17,14 @@
    - It answers for every length and every content of what it is lent; nothing is undefined, and nothing is kept: the
      library has no memory of its own between calls, takes none, opens nothing and starts no thread.
    - One call at a time may use a table. Calls on other tables may run beside it, in other threads.
-   - Where the answer is not LEDGER_ACCEPTED every table, the fields and the bytes are bit for bit as they were. */
+   - Where the answer is not LEDGER_ACCEPTED every table, the fields and the bytes are bit for bit as they were.
+
+   In which units
+   - Days are counted from day 0, 1 January 2020: the head's, an order's, holidays and a start day. Times are seconds of
+     the day, 0 to 86,399.
+   - A lot is 0.1 MWh in every hour of the contract's period. Prices are kuruş per MWh, in every table and record; GGF
+     (the reference price), low and high too. So value, lots times price, is tenths of a kuruş for each delivery hour.
+   - A close-out's ratio is per mille. */
 #ifndef LEDGER_H
 #define LEDGER_H
 #include <stddef.h>
@@ -30,7 +37,8 @@
 #define LEDGER_BOOK 2048
 #define LEDGER_LINES 800
 
-/* The head: its places, and where the holidays and what is kept for each member begin. */
+/* The head: its places, and where the holidays and what is kept for each member begin: its position limit, its default
+   mark, and its accepted submits in the present second. Member m's stand m places on. */
 enum {
   LEDGER_FIRST_YEAR = 0,
   LEDGER_MEMBERS = 1,
@@ -46,6 +54,9 @@ enum {
   LEDGER_SUBMITS = 192
 };
 
+/* A default mark. */
+enum { LEDGER_NOT_DEFAULTED = 0, LEDGER_DEFAULTED = 1 };
+
 /* The most of what is counted there. */
 enum { LEDGER_MOST_MEMBERS = 32, LEDGER_MOST_HOLIDAYS = 120, LEDGER_MOST_ORDERS = 256 };
 
@@ -59,7 +70,8 @@ enum {
   LEDGER_JANUARY = 5
 };
 
-/* The prices: contract c has LEDGER_PRICE_WIDTH places from c * LEDGER_PRICE_WIDTH on. */
+/* The prices: contract c has LEDGER_PRICE_WIDTH places from c * LEDGER_PRICE_WIDTH on. A GGF that is 0 is none yet. The
+   day's ordinary lots count each deal once, and the day's value is these times their prices. */
 enum {
   LEDGER_PRICE_WIDTH = 5,
   LEDGER_GGF = 0,
@@ -69,7 +81,8 @@ enum {
   LEDGER_DAY_VALUE = 4
 };
 
-/* The rows, lots and value alike: member m of contract c stands at c * LEDGER_ROW_WIDTH + m. */
+/* The rows, lots and value alike: member m of contract c stands at c * LEDGER_ROW_WIDTH + m. Lots are buys less
+   sells. */
 enum { LEDGER_ROW_WIDTH = 32 };
 
 /* The book: order i has LEDGER_ORDER_WIDTH places from i * LEDGER_ORDER_WIDTH on. */
@@ -85,7 +98,8 @@ enum {
   LEDGER_ORDER_TIME = 7
 };
 
-/* The lines: line i has LEDGER_LINE_WIDTH places from i * LEDGER_LINE_WIDTH on. Lots are above 0 where the member buys. */
+/* The lines: line i has LEDGER_LINE_WIDTH places from i * LEDGER_LINE_WIDTH on. Lots are above 0 where the member
+   buys. */
 enum {
   LEDGER_LINE_WIDTH = 4,
   LEDGER_LINE_MEMBER = 0,
@@ -94,8 +108,9 @@ enum {
   LEDGER_LINE_PRICE = 3
 };
 
-/* The bytes of a header, at most LEDGER_MOST_HEADER_BYTES: so many, then a holiday of so many bytes for each of LEDGER_HOLIDAY_COUNT, then a limit of so
-   many bytes for each of LEDGER_MEMBERS. The first record of a journal begins there. */
+/* The bytes of a header, at most LEDGER_MOST_HEADER_BYTES: LEDGER_HEADER_BYTES, LEDGER_HOLIDAY_BYTES for each of
+   head[LEDGER_HOLIDAY_COUNT] holidays, LEDGER_LIMIT_BYTES for each of head[LEDGER_MEMBERS] members. There a journal's
+   first record begins. */
 enum { LEDGER_HEADER_BYTES = 11, LEDGER_HOLIDAY_BYTES = 2, LEDGER_LIMIT_BYTES = 4, LEDGER_MOST_HEADER_BYTES = 379 };
 
 /* The kinds of record, the first byte of each. */
@@ -109,8 +124,9 @@ enum {
   LEDGER_KIND_CLOSE_OF_DAY = 7
 };
 
-/* The bytes of a record with its kind, at most LEDGER_MOST_RECORD_BYTES. A proposal has so many and its legs, whose count
-   is its second byte. */
+/* The bytes of a record with its kind, at most LEDGER_MOST_RECORD_BYTES where it is sound. A proposal has
+   LEDGER_PROPOSAL_BYTES and LEDGER_LEG_BYTES for each leg; its second byte counts them. That byte may be up to 255, so
+   what ledger_front_record finds in a journal may have LEDGER_MOST_FRONT_BYTES. */
 enum {
   LEDGER_SUBMIT_BYTES = 15,
   LEDGER_CANCEL_BYTES = 10,
@@ -120,7 +136,8 @@ enum {
   LEDGER_DEFAULT_BYTES = 2,
   LEDGER_CLOSE_OUT_BYTES = 4,
   LEDGER_CLOSE_OF_DAY_BYTES = 5,
-  LEDGER_MOST_RECORD_BYTES = 122
+  LEDGER_MOST_RECORD_BYTES = 122,
+  LEDGER_MOST_FRONT_BYTES = 2552
 };
 
 /* Headers and records as fields: a row of numbers, at least so many. Fields that a header or a record does not have are
@@ -231,15 +248,18 @@ uint64_t ledger_apply(uint64_t *head, size_t head_len, uint64_t *prices, size_t 
                       size_t lots_len, int64_t *value, size_t value_len, uint64_t *book, size_t book_len,
                       int64_t *lines, size_t lines_len, const uint8_t *record, size_t record_len, uint64_t *detail);
 
-/* 1 if a table is too short or damaged, so that any record applied to these tables is turned back with
-   LEDGER_TABLE_UNSOUND; else 0. */
+/* What ledger_is_damaged answers. */
+enum { LEDGER_NOT_DAMAGED = 0, LEDGER_DAMAGED = 1 };
+
+/* LEDGER_DAMAGED if a table is too short or damaged, so that any record applied to these tables is turned back with
+   LEDGER_TABLE_UNSOUND; else LEDGER_NOT_DAMAGED. */
 uint64_t ledger_is_damaged(const uint64_t *head, size_t head_len, const uint64_t *prices, size_t prices_len,
                            const int64_t *lots, size_t lots_len, const int64_t *value, size_t value_len,
                            const uint64_t *book, size_t book_len, const int64_t *lines, size_t lines_len);
 
 /* Reads the header that a journal begins with to fields; bytes past it are not read. The first of these that holds:
-   LEDGER_TABLE_UNSOUND: under LEDGER_HEADER_FIELDS fields. LEDGER_HEADER_UNSOUND: the header is cut or against its rule.
-   LEDGER_ACCEPTED: read; surplus fields are as they were.
+   LEDGER_TABLE_UNSOUND: under LEDGER_HEADER_FIELDS fields. LEDGER_HEADER_UNSOUND: the header is cut or against its
+   rule. LEDGER_ACCEPTED: read; surplus fields are as they were.
 
    *detail: with LEDGER_ACCEPTED the header's bytes, so where the first record begins; else 0. */
 uint64_t ledger_read_header(const uint8_t *header, size_t header_len, uint64_t *fields, size_t fields_len,
@@ -262,19 +282,22 @@ uint64_t ledger_write_header(const uint64_t *fields, size_t fields_len, uint8_t 
 uint64_t ledger_read_record(uint64_t members, const uint8_t *record, size_t record_len, uint64_t *fields,
                             size_t fields_len, uint64_t *detail);
 
-/* Writes the record that the fields say, for a ledger of so many members. Surplus fields are not read. The first of these
-   that holds: LEDGER_TABLE_UNSOUND: under LEDGER_RECORD_FIELDS fields. LEDGER_RECORD_UNSOUND: the kind is unknown or a
-   field is out of range, or so many members no ledger has. LEDGER_TABLE_UNSOUND: the record has more than record_len
-   bytes. LEDGER_ACCEPTED: written; bytes past it are as they were.
+/* Writes the record that the fields say, for a ledger of so many members. Surplus fields are not read. The first of
+   these that holds: LEDGER_TABLE_UNSOUND: under LEDGER_RECORD_FIELDS fields. LEDGER_RECORD_UNSOUND: the kind is unknown
+   or a field is out of range, or so many members no ledger has. LEDGER_TABLE_UNSOUND: the record has more than
+   record_len bytes. LEDGER_ACCEPTED: written; bytes past it are as they were.
 
    *detail: with LEDGER_ACCEPTED the bytes written, else 0. */
 uint64_t ledger_write_record(uint64_t members, const uint64_t *fields, size_t fields_len, uint8_t *record,
                              size_t record_len, uint64_t *detail);
 
-/* The record that bytes begin with, by its kind and, of a proposal, its number of legs; its other fields are not asked.
-   LEDGER_ACCEPTED: it is whole. LEDGER_RECORD_UNSOUND: it is cut, or no kind has its number; there are no bytes, too.
+/* The record that bytes begin with, by its kind and, of a proposal, its number of legs; no field's range is asked.
+   LEDGER_ACCEPTED: it is whole. LEDGER_RECORD_UNSOUND: it is cut, or no kind has its number. A host that reads a
+   journal in pieces tells these apart by the first byte: where it is LEDGER_KIND_SUBMIT to LEDGER_KIND_CLOSE_OF_DAY, or
+   there is none yet, the record is cut and further bytes make it whole; any other byte begins no record.
 
-   *detail: with LEDGER_ACCEPTED its bytes, so where the next record begins; else 0. */
+   *detail: with LEDGER_ACCEPTED its bytes, so where the next record begins, at most LEDGER_MOST_FRONT_BYTES; else 0.
+   More than LEDGER_MOST_RECORD_BYTES is a proposal of too many legs, which every entry that reads it turns back. */
 uint64_t ledger_front_record(const uint8_t *bytes, size_t bytes_len, uint64_t *detail);
 
 #ifdef __cplusplus

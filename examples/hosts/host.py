@@ -12,7 +12,8 @@ import types
 
 ROOT = pathlib.Path(__file__).resolve().parents[2]
 CONSTANT = re.compile(r"\bLEDGER_(\w+)(?: =)? +(\d+)")
-C = types.SimpleNamespace(**{name: int(n) for name, n in CONSTANT.findall((ROOT / "include/ledger.h").read_text())})
+HEADER = (ROOT / "include/ledger.h").read_text(encoding="utf-8")
+C = types.SimpleNamespace(**{name: int(n) for name, n in CONSTANT.findall(HEADER)})
 
 LENGTHS = {
     C.KIND_SUBMIT: C.SUBMIT_BYTES,

@@ -1,7 +1,8 @@
-/* any_bytes [RECORDS [SEED]]: a seeded run of records on fresh ledgers and odd ones: drawn for what the ledger holds, drawn
-   and then altered, or any bytes. Tables and records end or begin at an inaccessible page. After each call:
+/* any_bytes [RECORDS [SEED]]: a seeded run of records on fresh ledgers and odd ones: drawn for what the ledger holds,
+   drawn and then altered, or any bytes. Tables and records end or begin at an inaccessible page. After each call:
    - a refused record leaves all six tables bit for bit;
    - an accepted one changes only the places that docs/LAYOUT.md names for its kind, and its lines say what it booked;
+     which contracts are open, and which close, this test computes itself;
    - the ledger is not damaged.
    A whole run has to meet the answers below. Prints how often each answer came, "ok" and the count of checks. */
 #include "lent.h"
@@ -16,6 +17,8 @@ enum {
   FIRST_DAY = 366,
   DAYS = 2191,
   MONTHS = 72,
+  SATURDAY = 3,
+  SUNDAY = 4,
   PRICE = 31000,
   MOST_RUN = 5000000,
   ANSWERS = LEDGER_NO_LATER_DAY + 1
@@ -36,8 +39,8 @@ static bool percent(uint64_t share) { return below(100) < share; }
 /* A quarter, its months and a year that are open near a day, or soon will be. */
 enum { QUARTER, MONTH, YEAR = MONTH + 3, FEW };
 static uint64_t few[FEW];
-/* How far an episode's sells stay above its buys: where they are apart the book fills. And how many of a thousand records
-   are defaults: where they are many all members default in the end. */
+/* How far an episode's sells stay above its buys: where they are apart the book fills. And how many of a thousand
+   records are defaults: where they are many all members default in the end. */
 static uint64_t apart, defaults;
 
 static void choose_contracts(uint64_t day) {
@@ -63,6 +66,47 @@ static void make_odd(const Tables *tables) {
   }
 }
 
+/* The first day of a month counted from January of the first year. Every fourth year from 2020 on is a leap year. */
+static uint64_t month_start(uint64_t month) {
+  static const uint64_t before[] = {0, 31, 59, 90, 120, 151, 181, 212, 243, 273, 304, 334};
+  const uint64_t year = FIRST_YEAR - 2020 + month / 12;
+  return 365 * year + (year + 3) / 4 + before[month % 12] + (year % 4 == 0 && month % 12 > 1);
+}
+
+static bool is_business_day(const uint64_t *head, uint64_t day) {
+  for (uint64_t i = 0; i < head[LEDGER_HOLIDAY_COUNT]; i++)
+    if (head[LEDGER_HOLIDAYS + i] == day) return false;
+  return day % 7 != SATURDAY && day % 7 != SUNDAY;
+}
+
+/* The 5th business day before delivery of a year, the 3rd of a quarter or month. */
+static uint64_t closing_day(const uint64_t *head, uint64_t contract) {
+  const uint64_t year = contract / LEDGER_CONTRACTS_A_YEAR, k = contract % LEDGER_CONTRACTS_A_YEAR;
+  uint64_t month = k == LEDGER_YEAR ? 0 : k < LEDGER_JANUARY ? (k - LEDGER_FIRST_QUARTER) * 3 : k - LEDGER_JANUARY;
+  uint64_t day = month_start(12 * year + month);
+  for (int distance = k == LEDGER_YEAR ? 5 : 3; distance > 0; distance -= is_business_day(head, day)) day--;
+  return day;
+}
+
+/* Which contracts are open on the ledger's day, and whose rows its close may change: closing years and quarters, and
+   their parts. */
+static bool is_open[LEDGER_CONTRACTS], is_carried[LEDGER_CONTRACTS];
+
+static void set_contracts(const uint64_t *head) {
+  uint64_t years = 0, quarters = 0, months = 0;
+  memset(is_carried, 0, sizeof is_carried);
+  for (uint64_t c = 0; c < LEDGER_CONTRACTS; c++) {
+    const uint64_t k = c % LEDGER_CONTRACTS_A_YEAR, closing = closing_day(head, c);
+    const bool is_year = k == LEDGER_YEAR, is_quarter = !is_year && k < LEDGER_JANUARY;
+    is_open[c] = closing >= head[LEDGER_DAY] && (is_year ? years++ < 4 : is_quarter ? quarters++ < 8 : months++ < 15);
+    if (closing != head[LEDGER_DAY] || k >= LEDGER_JANUARY) continue;
+    const uint64_t first_part =
+        is_year ? c + LEDGER_FIRST_QUARTER : c - k + LEDGER_JANUARY + (k - LEDGER_FIRST_QUARTER) * 3;
+    is_carried[c] = true;
+    memset(is_carried + first_part, true, is_year ? 4 : 3);
+  }
+}
+
 /* A fresh ledger, at times made odd; where the start day is no business day, another. */
 static void begin(const Tables *tables) {
   static const uint64_t members[] = {1, 2, 3, 4, 8, LEDGER_MOST_MEMBERS}, limits[] = {10, 1000, 100000, 100000};
@@ -76,6 +120,7 @@ static void begin(const Tables *tables) {
   } while (make(tables, bytes.at, bytes.length) != LEDGER_ACCEPTED);
   apart = percent(20) ? 100 : 0;
   defaults = apart > 0 ? 0 : percent(40) ? 10 : 2;
+  set_contracts(tables->at[HEAD]);
   choose_contracts(day);
   if (percent(25)) make_odd(tables);
 }
@@ -97,7 +142,8 @@ static const uint64_t *best(const Tables *tables, uint64_t contract, uint64_t si
   return found;
 }
 
-/* The quarter against its months, one lot each at the quarter's price, from the best orders; any legs where one is missing. */
+/* The quarter against its months, one lot each at the quarter's price, from the best orders; any legs where one is
+   missing. */
 static Bytes draw_proposal(const Tables *tables) {
   uint64_t side = below(2), legs[4][3], price = PRICE;
   for (int i = 0; i < 4; i++) {
@@ -195,7 +241,7 @@ static bool may_change_prices(const Bytes *record, uint64_t place) {
   switch (record->at[0]) {
   case LEDGER_KIND_SUBMIT: return contract == record->at[6] && which >= LEDGER_DAY_LOTS;
   case LEDGER_KIND_DAY_LIMITS: return contract == record->at[1] && (which == LEDGER_LOW || which == LEDGER_HIGH);
-  case LEDGER_KIND_CLOSE_OF_DAY: return which == LEDGER_GGF || which >= LEDGER_DAY_LOTS;
+  case LEDGER_KIND_CLOSE_OF_DAY: return which == LEDGER_GGF ? is_open[contract] : which >= LEDGER_DAY_LOTS;
   default: return false;
   }
 }
@@ -212,11 +258,12 @@ static bool may_change(const Bytes *record, const Tables *before, const Tables *
            record->at[0] != LEDGER_KIND_DAY_LIMITS && record->at[0] != LEDGER_KIND_CLOSE_OUT;
   case LINES: return place < lines * LEDGER_LINE_WIDTH;
   default:
-    return record->at[0] == LEDGER_KIND_CLOSE_OF_DAY && place % LEDGER_ROW_WIDTH < before->at[HEAD][LEDGER_MEMBERS];
+    return record->at[0] == LEDGER_KIND_CLOSE_OF_DAY && is_carried[place / LEDGER_ROW_WIDTH] &&
+           place % LEDGER_ROW_WIDTH < before->at[HEAD][LEDGER_MEMBERS];
   }
 }
 
-/* Adds the lines to the rows and to the lots run of the tables before the call, where they were not added by a cascade. */
+/* Adds the lines to the rows and to the lots run of the tables before the call: so rows differ only by a cascade. */
 static void book_lines(const Tables *before, const Tables *after, uint64_t lines) {
   for (const uint64_t *line = after->at[LINES], *end = line + lines * LEDGER_LINE_WIDTH; line < end;
        line += LEDGER_LINE_WIDTH) {
@@ -257,7 +304,17 @@ static void accepted(const Bytes *record, const Tables *before, const Tables *af
                i);
   if (record->at[0] == LEDGER_KIND_CLOSE_OF_DAY)
     expect(same_in_every_month(before, after), "a close moves lots or value to other hours");
-  expect(is_damaged(after) == 0, "damaged by kind %d", record->at[0]);
+  expect(is_damaged(after) == LEDGER_NOT_DAMAGED, "damaged by kind %d", record->at[0]);
+}
+
+/* A record that names a contract is 6 exactly where it is not open, unless a lower number comes first. */
+static void asks_open(const Bytes *record, uint64_t number) {
+  const uint64_t kind = record->at[0];
+  if (kind != LEDGER_KIND_SUBMIT && kind != LEDGER_KIND_DAY_LIMITS && kind != LEDGER_KIND_CLOSE_OUT) return;
+  if (number != LEDGER_ACCEPTED && number < LEDGER_CONTRACT_NOT_OPEN) return;
+  const uint64_t contract = record->at[kind == LEDGER_KIND_SUBMIT ? 6 : 1];
+  expect((number == LEDGER_CONTRACT_NOT_OPEN) == !is_open[contract], "answer %" PRIu64 " for contract %" PRIu64, number,
+         contract);
 }
 
 static uint64_t answers[ANSWERS], accepted_of_kind[LEDGER_KIND_CLOSE_OF_DAY + 1];
@@ -270,10 +327,12 @@ static void call(const Tables *tables, const Tables *before, const Bytes *record
   expect(number < ANSWERS && number != LEDGER_HEADER_UNSOUND && number != LEDGER_TABLE_UNSOUND, "answer %" PRIu64,
          number);
   if (number < ANSWERS) answers[number]++;
+  asks_open(record, number);
   if (number == LEDGER_ACCEPTED) {
     accepted_of_kind[record->at[0]]++;
     accepted(record, before, tables, detail);
     copy(before, tables);
+    if (record->at[0] == LEDGER_KIND_CLOSE_OF_DAY) set_contracts(tables->at[HEAD]);
   } else {
     expect(same(tables, before), "answer %" PRIu64 " leaves the tables", number);
     if (number == LEDGER_MEMBER_DEFAULTED)

@@ -4,7 +4,7 @@
 uint64_t *fields_of(size_t n) { return (uint64_t *)(void *)guarded(n * sizeof(uint64_t), ENDS); }
 
 static uint8_t *bytes_place(size_t n) {
-  static uint8_t *place[LEDGER_MOST_HEADER_BYTES + 2];
+  static uint8_t *place[LEDGER_MOST_FRONT_BYTES + 2];
   if (place[n] == NULL) place[n] = guarded(n, ENDS);
   return place[n];
 }
@@ -34,7 +34,7 @@ const Codec HEADERS = {"header", LEDGER_HEADER_FIELDS}, RECORDS = {"record", LED
 /* What a call only reads stays. */
 static uint64_t read_fields(const Codec *codec, uint64_t members, const uint8_t *bytes, size_t n, uint64_t *fields,
                             size_t count, uint64_t *detail) {
-  uint8_t before[LEDGER_MOST_HEADER_BYTES + 1];
+  uint8_t before[LEDGER_MOST_FRONT_BYTES + 1];
   if (n > 0) memcpy(before, bytes, n);
   uint64_t number = codec == &HEADERS ? ledger_read_header(bytes, n, fields, count, detail)
                                       : ledger_read_record(members, bytes, n, fields, count, detail);

@@ -1,5 +1,5 @@
-/* What the tests of number fields share: headers and records read to fields and written from them, on places that end at an
-   inaccessible page. */
+/* What the tests of number fields share: headers and records read to fields and written from them, on places that end
+   at an inaccessible page. */
 #ifndef FIELDS_H
 #define FIELDS_H
 #include "lent.h"
@@ -17,7 +17,8 @@ uint64_t *row_of(const Codec *codec);
 void soil_fields(uint64_t *fields, size_t count);
 bool fields_soiled(const uint64_t *fields, size_t from, size_t to);
 
-/* The bytes at the end of a page, NULL where there are none; each length, up to one more than a header has, has one place. */
+/* The bytes at the end of a page, NULL where there are none; each length has one place, up to one more than the
+   splitter finds in a journal. */
 const uint8_t *lent_bytes(const uint8_t *bytes, size_t n);
 
 /* How many fields a record of that kind and that many legs has. */

@@ -39,31 +39,50 @@ static void put_order(const Tables *tables, uint64_t number, uint64_t member, ui
   memcpy(tables->at[BOOK] + number * LEDGER_ORDER_WIDTH, order, sizeof order);
 }
 
-/* A ledger in which every cause but 18 has its record: a full book with the orders of an acceptable proposal in front, a
-   lots run at its end, one member at its limit and its fifth submit, one defaulted. */
+static void put_lots(const Tables *tables, uint64_t contract, uint64_t member, int64_t lots) {
+  tables->at[LOTS][contract * LEDGER_ROW_WIDTH + member] = (uint64_t)lots;
+}
+
+static uint64_t *price(const Tables *tables, uint64_t contract, uint64_t which) {
+  return tables->at[PRICES] + contract * LEDGER_PRICE_WIDTH + which;
+}
+
+/* A ledger in which every cause but 18 has its record: a full book with the orders of an acceptable proposal in front,
+   a lots run at its end, one member at its limit and its fifth submit, one defaulted and no other that holds lots. */
 static Tables crowded(void) {
   const uint64_t holidays[] = {370, 626};
   const Bytes bytes = header(MEMBERS, 1000, holidays, 2);
   Tables tables = made(&bytes);
-  uint64_t *head = tables.at[HEAD], *lots = tables.at[LOTS];
+  uint64_t *head = tables.at[HEAD];
   head[LEDGER_TIME] = TIME;
   head[LEDGER_LOTS_RUN] = MOST_RUN;
   head[LEDGER_LIMITS + LIMITED] = 5;
   head[LEDGER_SUBMITS + FINE] = 5;
-  head[LEDGER_MARKS + DEFAULTED] = 1;
+  head[LEDGER_MARKS + DEFAULTED] = LEDGER_DEFAULTED;
   head[LEDGER_ORDER_COUNT] = head[LEDGER_ACCEPTED_SUBMITS] = LEDGER_MOST_ORDERS;
   put_order(&tables, 0, FINE, SECOND_QUARTER, LEDGER_BUY, 1);
   for (uint64_t month = APRIL; month <= JUNE; month++)
     put_order(&tables, month - APRIL + 1, LIMITED, month, LEDGER_SELL, 1);
   for (uint64_t i = 4; i < LEDGER_MOST_ORDERS; i++)
     put_order(&tables, i, FINE, FIRST_OPEN_YEAR, LEDGER_SELL, MOST_LOTS);
-  for (size_t c = SECOND_QUARTER; c <= MARCH; c++) tables.at[PRICES][c * LEDGER_PRICE_WIDTH + LEDGER_HIGH] = PRICE;
-  tables.at[PRICES][SECOND_QUARTER * LEDGER_PRICE_WIDTH + LEDGER_GGF] = PRICE;
-  tables.at[PRICES][MARCH * LEDGER_PRICE_WIDTH + LEDGER_GGF] = PRICE;
-  tables.at[PRICES][APRIL * LEDGER_PRICE_WIDTH + LEDGER_GGF] = PRICE;
-  lots[SECOND_QUARTER * LEDGER_ROW_WIDTH + DEFAULTED] = 3;
-  lots[MARCH * LEDGER_ROW_WIDTH + DEFAULTED] = 3;
-  lots[MAY * LEDGER_ROW_WIDTH + DEFAULTED] = 3;
+  *price(&tables, SECOND_QUARTER, LEDGER_HIGH) = PRICE;
+  *price(&tables, MARCH, LEDGER_GGF) = *price(&tables, APRIL, LEDGER_GGF) = PRICE;
+  put_lots(&tables, MARCH, DEFAULTED, 3);
+  put_lots(&tables, MAY, DEFAULTED, 3);
+  return tables;
+}
+
+/* The same, but close-outs get as far as 17, one lot past the most: in April two defaulted members meet, in the second
+   quarter one member can take the lots, by what it holds there (ratio 1000) or by all that it holds (ratio 500). */
+static Tables with_a_taker(void) {
+  Tables tables = crowded();
+  tables.at[HEAD][LEDGER_LOTS_RUN] = MOST_RUN - 5;
+  tables.at[HEAD][LEDGER_MARKS + LIMITED] = LEDGER_DEFAULTED;
+  *price(&tables, SECOND_QUARTER, LEDGER_GGF) = PRICE;
+  put_lots(&tables, SECOND_QUARTER, DEFAULTED, 3);
+  put_lots(&tables, SECOND_QUARTER, FINE, -4);
+  put_lots(&tables, APRIL, DEFAULTED, 3);
+  put_lots(&tables, APRIL, LIMITED, -3);
   return tables;
 }
 
@@ -75,7 +94,13 @@ typedef struct {
 #define LEGS(price) 4, 0, 1, price, 1, 1, price, 2, 1, price, 3, 1, price
 
 /* A refused record is known before anything is written: the tables are read-only. */
-static void refused(const Tables *tables) {
+static void refused(const Tables *tables, const Refused *each, size_t count) {
+  for (size_t i = 0; i < count; i++)
+    answered(tables, paper(each[i].record.at, each[i].record.length), each[i].record.length, each[i].number,
+             each[i].detail, "a refused record");
+}
+
+static void refused_when_crowded(const Tables *tables) {
   const Refused each[] = {
       {LEDGER_TIME_BELOW_LEDGER, 0,
        RECORD(LEDGER_KIND_SUBMIT, TIME - 1, DEFAULTED, NOT_OPEN, LEDGER_BUY, LEDGER_RESTING, PRICE, 1)},
@@ -107,9 +132,16 @@ static void refused(const Tables *tables) {
        RECORD(LEDGER_KIND_SUBMIT, TIME, LIMITED, FIRST_OPEN_YEAR, LEDGER_BUY, LEDGER_OEYE, PRICE, 1)},
       {LEDGER_TOTAL_PASSED, 0, RECORD(LEDGER_KIND_PROPOSAL, LEGS(PRICE))},
   };
-  for (size_t i = 0; i < sizeof each / sizeof *each; i++)
-    answered(tables, paper(each[i].record.at, each[i].record.length), each[i].record.length, each[i].number,
-             each[i].detail, "a refused record");
+  refused(tables, each, sizeof each / sizeof *each);
+}
+
+static void refused_with_a_taker(const Tables *tables) {
+  const Refused each[] = {
+      {LEDGER_TOTAL_PASSED, 0, RECORD(LEDGER_KIND_CLOSE_OUT, APRIL, 500)},
+      {LEDGER_TOTAL_PASSED, 0, RECORD(LEDGER_KIND_CLOSE_OUT, SECOND_QUARTER, 500)},
+      {LEDGER_TOTAL_PASSED, 0, RECORD(LEDGER_KIND_CLOSE_OUT, SECOND_QUARTER, 1000)},
+  };
+  refused(tables, each, sizeof each / sizeof *each);
 }
 
 /* Cut at each byte and with one byte too many, a record is 3; with a table short by one place any bytes are 1. */
@@ -139,10 +171,10 @@ static void cut_and_short(Tables *tables) {
 /* Also for the other two entries. */
 static void short_by_one(Tables *tables) {
   const Bytes sound = header(MEMBERS, 1000, NULL, 0);
-  expect(is_damaged(tables) == 0, "the crowded ledger");
+  expect(is_damaged(tables) == LEDGER_NOT_DAMAGED, "the crowded ledger");
   for (int t = 0; t < TABLES; t++) {
     tables->at[t]++, tables->length[t]--;
-    expect(is_damaged(tables) == 1, "%s short by one is damage", TABLE_NAMES[t]);
+    expect(is_damaged(tables) == LEDGER_DAMAGED, "%s short by one is damage", TABLE_NAMES[t]);
     if (t != LINES)
       expect(make(tables, sound.at, sound.length) == LEDGER_TABLE_UNSOUND, "%s short by one, and a header",
              TABLE_NAMES[t]);
@@ -161,7 +193,7 @@ static void nothing(Tables *tables) {
     const char *what = t < TABLES ? TABLE_NAMES[t] : "all tables";
     answered(&some, record.at, record.length, LEDGER_TABLE_UNSOUND, 0, what);
     answered(&some, NULL, 0, LEDGER_TABLE_UNSOUND, 0, what);
-    expect(is_damaged(&some) == 1, "no %s", what);
+    expect(is_damaged(&some) == LEDGER_DAMAGED, "no %s", what);
     if (t != LINES) expect(make(&some, sound.at, sound.length) == LEDGER_TABLE_UNSOUND, "no %s, and a header", what);
     if (t != LINES) expect(make(&some, NULL, 0) == LEDGER_TABLE_UNSOUND, "no %s and no header", what);
   }
@@ -173,9 +205,13 @@ int main(void) {
   Tables tables = crowded();
   all_read_only(&tables);
   short_by_one(&tables);
-  refused(&tables);
+  refused_when_crowded(&tables);
   cut_and_short(&tables);
   nothing(&tables);
+
+  Tables taken = with_a_taker();
+  all_read_only(&taken);
+  refused_with_a_taker(&taken);
 
   const Bytes last = header_from(2021, LAST_DAY, MEMBERS, 1000, NULL, 0), close = RECORD(LEDGER_KIND_CLOSE_OF_DAY, 0);
   Tables ended = made(&last);

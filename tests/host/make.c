@@ -45,7 +45,7 @@ static void fresh_places(void) {
   expect(is_soiled(&tables, HEAD, LEDGER_HOLIDAYS + HOLIDAY_COUNT, LEDGER_LIMITS), "surplus holidays");
   expect(head[LEDGER_LIMITS] == 1000 && head[LEDGER_LIMITS + 1] == 100000, "position limits");
   expect(is_soiled(&tables, HEAD, LEDGER_LIMITS + MEMBERS, LEDGER_MARKS), "surplus limits");
-  expect(head[LEDGER_MARKS] == 0 && head[LEDGER_MARKS + 1] == 0, "default marks");
+  expect(head[LEDGER_MARKS] == LEDGER_NOT_DEFAULTED && head[LEDGER_MARKS + 1] == LEDGER_NOT_DEFAULTED, "default marks");
   expect(is_soiled(&tables, HEAD, LEDGER_MARKS + MEMBERS, LEDGER_SUBMITS), "surplus marks");
   expect(head[LEDGER_SUBMITS] == 0 && head[LEDGER_SUBMITS + 1] == 0, "submits in the second");
   expect(is_soiled(&tables, HEAD, LEDGER_SUBMITS + MEMBERS, LEDGER_HEAD + SURPLUS), "surplus of the head");
@@ -71,24 +71,24 @@ static void fresh_places(void) {
 /* a fresh ledger is sound; a number out of its range, or 799 places for lines, is damage */
 static void damage(void) {
   made(sound, LENGTH);
-  expect(is_damaged(&tables) == 0, "a fresh ledger is sound");
+  expect(is_damaged(&tables) == LEDGER_NOT_DAMAGED, "a fresh ledger is sound");
   tables.length[LINES] = LEDGER_LINES - 1;
-  expect(is_damaged(&tables) == 1, "a short line table");
+  expect(is_damaged(&tables) == LEDGER_DAMAGED, "a short line table");
   tables.length[LINES] = LEDGER_LINES + SURPLUS;
   uint64_t *head = tables.at[HEAD], *row = tables.at[LOTS] + 17 * LEDGER_ROW_WIDTH;
   head[LEDGER_TIME] = 86399;
-  expect(is_damaged(&tables) == 0, "the last second of a day");
+  expect(is_damaged(&tables) == LEDGER_NOT_DAMAGED, "the last second of a day");
   head[LEDGER_TIME] = 86400;
-  expect(is_damaged(&tables) == 1, "a time past the day");
+  expect(is_damaged(&tables) == LEDGER_DAMAGED, "a time past the day");
   head[LEDGER_TIME] = 0;
   row[0] = 1;
-  expect(is_damaged(&tables) == 1, "lots above the lots run");
+  expect(is_damaged(&tables) == LEDGER_DAMAGED, "lots above the lots run");
   head[LEDGER_LOTS_RUN] = 1;
-  expect(is_damaged(&tables) == 0, "lots at the lots run");
+  expect(is_damaged(&tables) == LEDGER_NOT_DAMAGED, "lots at the lots run");
   row[1] = (uint64_t)-2;
-  expect(is_damaged(&tables) == 1, "lots below minus the lots run");
+  expect(is_damaged(&tables) == LEDGER_DAMAGED, "lots below minus the lots run");
   soil(&tables);
-  expect(is_damaged(&tables) == 1, "tables that hold no ledger");
+  expect(is_damaged(&tables) == LEDGER_DAMAGED, "tables that hold no ledger");
 }
 
 static void refused(uint64_t got, uint64_t number, const char *what) {

@@ -82,6 +82,11 @@ static void spoil(uint64_t kind, uint64_t *head, uint64_t *prices, int64_t *lots
     }
   if (kind != LEDGER_KIND_CLOSE_OF_DAY) return;
   if (does("adds a lot in a cascade")) lots[(LEDGER_CONTRACTS - 1) * LEDGER_ROW_WIDTH]++;
+  if (does("gives a reference price to a year that has begun")) prices[LEDGER_YEAR + LEDGER_GGF]++;
+  if (head[LEDGER_LOTS_RUN] > 0 && lots[LEDGER_YEAR] == 0 && does("carries a year that has begun")) {
+    lots[LEDGER_YEAR] = -1;
+    for (int c = LEDGER_FIRST_QUARTER; c < LEDGER_JANUARY; c++) lots[c * LEDGER_ROW_WIDTH]++;
+  }
   for (size_t c = 0; c < LEDGER_CONTRACTS && does("rounds a GGF up by one"); c++)
     if (prices[c * LEDGER_PRICE_WIDTH + LEDGER_GGF] > 0) prices[c * LEDGER_PRICE_WIDTH + LEDGER_GGF]++;
   if (does("keeps the clock over a close")) head[LEDGER_TIME] = 1;
@@ -94,6 +99,9 @@ uint64_t __wrap_ledger_apply(TABLES_OF_A_LEDGER, uint64_t *book, size_t book_len
   if (number > LEDGER_RECORD_UNSOUND && does("moves the clock of a refused record")) head[LEDGER_TIME]++;
   if (number > LEDGER_RECORD_UNSOUND && does("writes and restores a refused record's clock"))
     *(volatile uint64_t *)(head + LEDGER_TIME) += 0;
+  if (number == LEDGER_TOTAL_PASSED && record[0] == LEDGER_KIND_CLOSE_OUT &&
+      does("writes and restores a line of a close-out that is 17"))
+    *(volatile int64_t *)lines += 0;
   if (number == LEDGER_TABLE_UNSOUND && record_len == 0 && does("answers 3 before 1")) return LEDGER_RECORD_UNSOUND;
   if (number == LEDGER_NO_SUCH_ORDER && does("hides a number")) return LEDGER_NOT_ACCEPTABLE;
   if (number == LEDGER_MEMBER_DEFAULTED && does("does not tell the member of 5")) *detail = 0;
@@ -163,6 +171,9 @@ uint64_t __wrap_ledger_write_record(uint64_t members, const uint64_t *fields, si
 uint64_t __wrap_ledger_front_record(const uint8_t *bytes, size_t bytes_len, uint64_t *detail) {
   uint64_t number = __real_ledger_front_record(bytes, bytes_len, detail);
   if (number == LEDGER_ACCEPTED && does("splits a journal a byte early")) *detail -= 1;
+  if (bytes_len > 1 && bytes[0] == LEDGER_KIND_PROPOSAL && bytes[1] > INT8_MAX &&
+      does("splits off half of the legs above 127"))
+    *detail /= 2;
   if (number == LEDGER_ACCEPTED && *detail == bytes_len && does("finds the last record cut")) {
     *detail = 0;
     return LEDGER_RECORD_UNSOUND;

@@ -13,7 +13,10 @@ done
 passes() {
   case $1 in
   ranges) target/ranges_misled | diff - tests/host/ranges.out ;;
-  replay) target/replay_misled printed tests/journals/*.vjr && target/replay_misled tables tests/host/stored/*.tables ;;
+  replay)
+    target/replay_misled printed tests/journals/*.vjr && target/replay_misled places tests/host/stored/*.places &&
+      target/replay_misled digests tests/host/stored/*.digests
+    ;;
   any_bytes) target/any_bytes_misled 4000 ;;
   record_fields) target/record_fields_misled tests/journals/*.vjr ;;
   *) "target/$1_misled" ;;

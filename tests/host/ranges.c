@@ -14,7 +14,7 @@ static uint64_t *head, *prices, *book, *lots, *value;
 static const uint8_t sound[] = {'V',  'J', 'R', 0,    1,    0x07, 0xE5, 0x01, 0x71, MEMBERS, 2, 0x01, 0x72, 0x02,
                                 0x72, 0,   0,   0x03, 0xE8, 0,    0,    0x03, 0xE8, 0,       0, 0x03, 0xE8};
 
-static bool is_sound(void) { return is_damaged(&tables) == 0; }
+static bool is_sound(void) { return is_damaged(&tables) == LEDGER_NOT_DAMAGED; }
 
 /* contract 18, sell, 31000, 1 lot, entered on day 369 at 36000 s */
 static void put_order(size_t i, uint64_t number, uint64_t member) {
@@ -78,7 +78,7 @@ static void head_places(void) {
   last("lots run", head + LEDGER_LOTS_RUN, 1, 1, 5000000);
   last("limit", head + LEDGER_LIMITS, 1, MEMBERS, 100000);
   at("surplus limit", head + LEDGER_LIMITS + MEMBERS, 1, LEDGER_MOST_MEMBERS - MEMBERS, 100001);
-  last("mark", head + LEDGER_MARKS, 1, MEMBERS, 1);
+  last("mark", head + LEDGER_MARKS, 1, MEMBERS, LEDGER_DEFAULTED);
   at("surplus mark", head + LEDGER_MARKS + MEMBERS, 1, LEDGER_MOST_MEMBERS - MEMBERS, 2);
   last("submits in the second", head + LEDGER_SUBMITS, 1, MEMBERS, 5);
   at("surplus submits", head + LEDGER_SUBMITS + MEMBERS, 1, LEDGER_MOST_MEMBERS - MEMBERS, 6);

@@ -1,14 +1,14 @@
-/* Records by number fields: record_fields JOURNAL ... reads each header and record of the journals to fields, writes them
-   back and reads them again; then each field at its ends and past them, each byte at each of its values, fields and output
-   one short, and the splitter of a journal. Prints "ok" and the count of checks, or each check that fails. */
+/* Records by number fields: record_fields JOURNAL ... reads each header and record of the journals to fields, writes
+   them back and reads them again; then each field at its ends and past them, each byte at each of its values, fields
+   and output one short, and the splitter of a journal. Prints "ok" and the count of checks, or each that fails. */
 #include "fields.h"
 #include <stdlib.h>
 #include <string.h>
 
 enum { MEMBERS = 3 };
 
-/* A journal: its header, then its records where the splitter finds them; at its end what the splitter refuses is 3 for the
-   reader too. */
+/* A journal: its header, then its records where the splitter finds them; at its end what the splitter refuses is 3 for
+   the reader too. */
 static void journal(const char *path) {
   size_t n, at, count = 0;
   uint8_t *bytes = read_file(path, &n);
@@ -196,9 +196,9 @@ static void front(const uint8_t *bytes, size_t n, uint64_t number, uint64_t leng
          n);
 }
 
-static void fronts(void) {
+static void kinds_in_front(void) {
   static const size_t lengths[] = {0, 15, 10, 10, 0, 2, 4, 5};
-  uint8_t bytes[LEDGER_MOST_HEADER_BYTES] = {0};
+  uint8_t bytes[LEDGER_SUBMIT_BYTES + 1] = {0};
   front(NULL, 0, LEDGER_RECORD_UNSOUND, 0, "nothing");
   for (size_t kind = 0; kind < 256; kind++) {
     bytes[0] = (uint8_t)kind;
@@ -207,14 +207,25 @@ static void fronts(void) {
     for (size_t room = n == 0 ? 1 : n - 1; room <= n + 1; room++)
       front(bytes, room, n == 0 || room < n ? LEDGER_RECORD_UNSOUND : LEDGER_ACCEPTED, room < n ? 0 : n, "a kind");
   }
-  bytes[0] = LEDGER_KIND_PROPOSAL;
-  for (size_t legs = 0; legs < 35; legs++) {
-    const size_t n = LEDGER_PROPOSAL_BYTES + legs * LEDGER_LEG_BYTES;
+}
+
+/* Proposals of each count of legs, every leg sound: the splitter finds all, the reader takes those of 2 to 12. */
+static void proposals_in_front(void) {
+  const Bytes two_legs = RECORD(LEDGER_KIND_PROPOSAL, 2, 7, 1, 1, 7, 1, 1);
+  uint8_t bytes[LEDGER_MOST_FRONT_BYTES + 1] = {LEDGER_KIND_PROPOSAL};
+  size_t n = LEDGER_PROPOSAL_BYTES;
+  for (size_t legs = 0; legs <= UINT8_MAX; legs++, n += LEDGER_LEG_BYTES) {
     bytes[1] = (uint8_t)legs;
+    if (legs > 0) memcpy(bytes + n - LEDGER_LEG_BYTES, two_legs.at + LEDGER_PROPOSAL_BYTES, LEDGER_LEG_BYTES);
     front(bytes, n - 1, LEDGER_RECORD_UNSOUND, 0, "a cut proposal");
     front(bytes, n, LEDGER_ACCEPTED, n, "a proposal");
     front(bytes, n + 1, LEDGER_ACCEPTED, n, "a proposal and a byte");
+    if (legs >= 2 && legs <= LEDGER_MOST_LEGS) there_and_back(&RECORDS, MEMBERS, bytes, n);
+    else
+      not_read(&RECORDS, MEMBERS, bytes, n, row_of(&RECORDS), LEDGER_RECORD_FIELDS, LEDGER_RECORD_UNSOUND,
+               "a count of legs");
   }
+  expect(n - LEDGER_LEG_BYTES == LEDGER_MOST_FRONT_BYTES, "how many bytes the splitter finds at most");
 }
 
 /* Fields one short are 1, before 3, and so are none. A record cut at each byte is 3, and one with a byte too many. */
@@ -235,6 +246,7 @@ int main(int count, char **words) {
   kinds_and_members();
   the_wrong_way_round();
   one_short();
-  fronts();
+  kinds_in_front();
+  proposals_in_front();
   return finish();
 }

@@ -1,15 +1,22 @@
 /* Replays journals through the C entries, on tables that end at an inaccessible page.
 
-   replay printed JOURNAL.vjr ...   what is printed is held to JOURNAL.out
-   replay tables STORED.tables ...  after the making and after each record the answer, what goes with it and a digest of
-                                    all six tables are held to the stored file, which the model wrote (replay_tables)
+   replay printed JOURNAL.vjr ...     what is printed is held to JOURNAL.out
+   replay places STORED.places ...    after the making and after each record the answer, what goes with it and every
+                                      place of the six tables are held to the stored file; the first that differs is
+                                      named
+   replay digests STORED.digests ...  the same with one 64-bit number for the six tables, which names no place: for
+                                      journals whose places would fill too large a file
 
-   Prints "ok" and the count of checks, or each check that fails. */
+   The model wrote the stored files (replay_tables). Prints "ok" and the count of checks, or each check that fails. */
 #include "lent.h"
+#include <ctype.h>
 #include <inttypes.h>
 #include <stdio.h>
 #include <stdlib.h>
 #include <string.h>
+
+/* No line is longer. */
+enum { LINE = 512 };
 
 /* A text that grows. */
 typedef struct {
@@ -18,7 +25,6 @@ typedef struct {
 } Text;
 
 static void print(Text *text, const char *format, int64_t a, int64_t b, int64_t c, int64_t d) {
-  enum { LINE = 128 };
   if (text->room - text->length < LINE) {
     text->room = 2 * text->room + LINE;
     text->at = realloc(text->at, text->room);
@@ -87,50 +93,100 @@ static void compare_printed(const Tables *tables, const char *path) {
   free(bytes);
 }
 
-/* The lines of a stored file that are still to come. */
+/* The lines of a stored file that are still to come, and the tables as its lines up to now say they are. */
 typedef struct {
   const char *path, *rest;
+  Tables tables;
 } Stored;
 
-static const char *next_line(Stored *stored, char *line, size_t room) {
+static const char *next_line(Stored *stored, char *line) {
   size_t length = strcspn(stored->rest, "\n");
-  snprintf(line, room, "%.*s", (int)length, stored->rest);
+  snprintf(line, LINE, "%.*s", (int)length, stored->rest);
   stored->rest += length + (stored->rest[length] == '\n');
   return line;
 }
 
-static void compare_line(void *with, const Tables *tables, int64_t count, uint64_t number, uint64_t detail) {
-  Stored *stored = with;
-  char line[256], got[256];
-  snprintf(got, sizeof got, "%" PRId64 " %" PRIu64 " %" PRIu64 " %016" PRIx64, count, number, detail, digest(tables));
-  expect(strcmp(got, next_line(stored, line, sizeof line)) == 0, "%s has '%s', the library '%s'", stored->path, line,
-         got);
+static void compare_line(Stored *stored, const char *got) {
+  char line[LINE];
+  expect(strcmp(got, next_line(stored, line)) == 0, "%s has '%s', the library '%s'", stored->path, line, got);
 }
 
-static void compare_tables(const Tables *tables, const char *path) {
+static void compare_digest(void *with, const Tables *tables, int64_t count, uint64_t number, uint64_t detail) {
+  char got[LINE];
+  snprintf(got, LINE, "%" PRId64 " %" PRIu64 " %" PRIu64 " %016" PRIx64, count, number, detail, digest(tables));
+  compare_line(with, got);
+}
+
+/* Takes the lines up to the next call's: a table, a place, and the numbers of that place and those after it. */
+static void change_places(Stored *stored) {
+  while (islower((unsigned char)*stored->rest)) {
+    char line[LINE], name[LINE] = "";
+    size_t place = 0;
+    int64_t number;
+    int t = 0, at = 0, taken;
+    sscanf(next_line(stored, line), "%s %zu%n", name, &place, &at);
+    while (t < TABLES && strcmp(name, TABLE_NAMES[t]) != 0) t++;
+    for (; t < TABLES && place < LEAST[t] && sscanf(line + at, "%" SCNd64 "%n", &number, &taken) == 1; at += taken)
+      stored->tables.at[t][place++] = (uint64_t)number;
+    expect(line[at] == 0, "%s has the line '%s'", stored->path, line);
+  }
+}
+
+/* The first place where tables differ, if they do. */
+typedef struct {
+  bool found;
+  int table;
+  size_t place;
+} Difference;
+
+static Difference first_difference(const Tables *a, const Tables *b) {
+  for (int t = 0; t < TABLES; t++)
+    for (size_t i = 0; i < LEAST[t]; i++)
+      if (a->at[t][i] != b->at[t][i]) return (Difference){true, t, i};
+  return (Difference){false, 0, 0};
+}
+
+/* Where a place differs the library's tables are taken over, so that it is named once. */
+static void compare_places(void *with, const Tables *tables, int64_t count, uint64_t number, uint64_t detail) {
+  Stored *stored = with;
+  char got[LINE];
+  snprintf(got, LINE, "%" PRId64 " %" PRIu64 " %" PRIu64, count, number, detail);
+  compare_line(stored, got);
+  change_places(stored);
+  const Difference d = first_difference(&stored->tables, tables);
+  expect(!d.found, "%s, after record %" PRId64 ": %s %zu is %" PRId64 ", the library has %" PRId64, stored->path, count,
+         TABLE_NAMES[d.table], d.place, (int64_t)stored->tables.at[d.table][d.place],
+         (int64_t)tables->at[d.table][d.place]);
+  copy(&stored->tables, tables);
+}
+
+static void compare_stored(const Tables *tables, const char *path, Each *compare) {
   static const char word[] = "journal ";
   size_t n;
-  char line[256];
+  char line[LINE];
   char *text = (char *)read_file(path, &n);
-  Stored stored = {path, text};
-  next_line(&stored, line, sizeof line);
+  Stored stored = {path, text, lend(0)};
+  next_line(&stored, line);
   expect(strncmp(line, word, strlen(word)) == 0, "%s names no journal", path);
   uint8_t *bytes = read_file(line + strlen(word), &n);
   soil(tables);
-  replay(tables, bytes, n, compare_line, &stored);
+  soil(&stored.tables);
+  replay(tables, bytes, n, compare, &stored);
   expect(*stored.rest == 0, "%s has more lines than the journal has records", path);
+  give_back(&stored.tables);
   free(bytes);
   free(text);
 }
 
 int main(int count, char **words) {
-  const bool printed = count > 2 && strcmp(words[1], "printed") == 0,
-             stored = count > 2 && strcmp(words[1], "tables") == 0;
-  if (!printed && !stored) {
-    fprintf(stderr, "replay printed JOURNAL ... | replay tables STORED ...\n");
-    return 2;
-  }
+  const char *form = count > 2 ? words[1] : "";
   const Tables tables = lend_guarded(0, ENDS);
-  for (int i = 2; i < count; i++) (printed ? compare_printed : compare_tables)(&tables, words[i]);
-  return finish();
+  for (int i = 2; i < count; i++)
+    if (strcmp(form, "printed") == 0) compare_printed(&tables, words[i]);
+    else if (strcmp(form, "places") == 0) compare_stored(&tables, words[i], compare_places);
+    else if (strcmp(form, "digests") == 0) compare_stored(&tables, words[i], compare_digest);
+    else form = "";
+  if (*form != 0) return finish();
+  fprintf(stderr, "replay printed JOURNAL ... | replay places STORED ... | replay digests STORED ...\n");
+  return 2;
 }

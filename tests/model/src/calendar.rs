@@ -53,7 +53,7 @@ impl Calendar<'_> {
         (delivery.end - delivery.start) as u64
     }
 
-    /// Holidays all lie in the span, so outside it only weekends are no business days.
+    /// The list has no holiday before or after the six years: there, Monday to Friday are all business days.
     pub fn is_business_day(&self, day: i64) -> bool {
         let weekday = day.rem_euclid(7);
         let weekend = weekday == 3 || weekday == 4;
@@ -75,8 +75,8 @@ impl Calendar<'_> {
         day
     }
 
-    /// Closing days rise with delivery, so a contract is among the first of those not closed exactly if the contract
-    /// that many places before it has closed.
+    /// Within a kind nothing closes before what delivers earlier. So a contract that is still to close is among the
+    /// first of those exactly if the one `open_count` places ahead of it has closed.
     pub fn is_open(&self, contract: Contract, day: i64) -> bool {
         let Contract { kind, index } = contract;
         let ahead = index.checked_sub(kind.open_count());

@@ -64,7 +64,7 @@ impl Kind {
 #[derive(Clone, Copy, Debug, PartialEq, Eq)]
 pub struct Contract {
     pub kind: Kind,
-    /// place by delivery among the ledger's contracts of the kind
+    /// counted within the kind, earliest delivery first, from 0
     pub index: u64,
 }
 

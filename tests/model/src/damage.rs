@@ -1,4 +1,4 @@
-//! Whether what is lent is too short or damaged.
+//! The test before every record: the length of each table, then the range of each number in it.
 use crate::calendar::Calendar;
 use crate::contract::CONTRACTS;
 use crate::tables::*;

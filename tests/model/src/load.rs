@@ -1,4 +1,5 @@
 //! The load of Change 14, and ledgers for measuring one record of each kind.
+use crate::answer::Refusal;
 use crate::contract::{Contract, Kind, CONTRACTS};
 use crate::generate::random::Random;
 use crate::header::Header;
@@ -47,15 +48,16 @@ pub fn fresh(members: u64) -> Tables {
     tables
 }
 
-/// One record to measure, and the tables it is applied to.
+/// One record to measure, the tables it is applied to, and why it is turned back, if it is.
 pub struct Call {
     pub name: String,
     pub tables: Tables,
     pub bytes: Vec<u8>,
+    pub refusal: Option<Refusal>,
 }
 
 fn call(name: impl Into<String>, tables: Tables, record: Record) -> Call {
-    Call { name: name.into(), tables, bytes: record.bytes() }
+    Call { name: name.into(), tables, bytes: record.bytes(), refusal: None }
 }
 
 const PRICE: u64 = 27_500;
@@ -91,13 +93,23 @@ fn rows(tables: &mut Tables, lots: impl Fn(u64, u64) -> i64) {
     }
 }
 
+fn buy(kind: OrderKind, lots: u64) -> Record {
+    Record::Submit(Submit { time: 0, member: 0, contract: QUARTER, side: Side::Buy, kind, price: PRICE, lots })
+}
+
 fn submit_calls(members: u64) -> Vec<Call> {
-    let submit = |lots| {
-        let (side, kind) = (Side::Buy, OrderKind::Oeye);
-        Record::Submit(Submit { time: 0, member: 0, contract: QUARTER, side, kind, price: PRICE, lots })
+    let meeting = |met: u64| {
+        let submit = buy(OrderKind::Oeye, met.max(1));
+        call(format!("submit, {met} deals"), full_book(members, met), submit)
     };
-    let deals = [0, 1, 10, 100];
-    deals.iter().map(|&met| call(format!("submit, {met} deals"), full_book(members, met), submit(met.max(1)))).collect()
+    [0, 1, 10, 100].into_iter().map(meeting).collect()
+}
+
+/// Where the time of a submit goes: the first is damage test and reading alone, the second has all causes up to 11 too.
+fn refused_calls(members: u64) -> Vec<Call> {
+    let unsound = call("submit, unsound", full_book(members, 0), buy(OrderKind::Resting, MOST_LOTS + 1));
+    let book_full = call("submit, book full", full_book(members, 0), buy(OrderKind::Resting, 1));
+    vec![Call { refusal: Some(Refusal::Record), ..unsound }, Call { refusal: Some(Refusal::BookFull), ..book_full }]
 }
 
 fn close_calls(members: u64) -> Vec<Call> {
@@ -111,8 +123,8 @@ fn close_calls(members: u64) -> Vec<Call> {
     vec![call("close of day", ordinary, close.clone()), call("close of day that closes a year", year_end, close)]
 }
 
-/// Of 8 members one is defaulted; the lots run is what deals of the lots would have left. More lots would pass the run's
-/// most: 2,000,000 are possible only where several are defaulted.
+/// Of 8 members one is defaulted, and the lots run is twice what one of them holds. Deals in a fresh ledger would leave
+/// 2L and the close-out adds 2L, so L is at most 1,250,000 there; the 2,000,000 are in lent rows that no deals made.
 fn close_out_calls(members: u64) -> Vec<Call> {
     let defaulted = (members as i64 / 8).max(1);
     let most = if members == 32 { 2_000_000 } else { 1_250_000 };
@@ -151,9 +163,10 @@ fn proposal_call(members: u64) -> Call {
     call("proposal, 12 legs", tables, Record::Proposal { legs })
 }
 
-/// A record of each kind with a full book; each is accepted.
+/// Records of each kind with a full book.
 pub fn calls(members: u64) -> Vec<Call> {
     let mut calls = submit_calls(members);
+    calls.extend(refused_calls(members));
     let cancelled = full_book(members, 0);
     let Order { member, number, .. } = cancelled.order(100);
     calls.push(call("cancel", cancelled, Record::Cancel { time: 0, member, number }));
@@ -171,14 +184,22 @@ mod tests {
     use super::*;
     use crate::apply::apply;
 
+    /// The number that a name has between these words.
+    fn named(name: &str, before: &str, after: &str) -> Option<u64> {
+        name.strip_prefix(before)?.strip_suffix(after)?.parse().ok()
+    }
+
     #[test]
-    fn each_measured_call_is_accepted() {
+    fn each_measured_call_is_accepted_or_refused_as_it_says() {
         for members in [2, 8, 32] {
-            for Call { name, mut tables, bytes } in calls(members) {
+            for Call { name, mut tables, bytes, refusal } in calls(members) {
                 let answer = apply(&mut tables, &bytes);
-                assert!(answer.is_ok(), "{name} at {members} members: {answer:?}");
-                let deals = name.strip_prefix("submit, ").and_then(|rest| rest.strip_suffix(" deals"));
-                assert!(deals.is_none_or(|deals| Ok(deals.parse::<u64>().unwrap() * 2) == answer), "{name}");
+                assert_eq!(answer.err(), refusal, "{name} at {members} members");
+                let lines = answer.unwrap_or(0);
+                let lots = (0..lines).map(|place| tables.line(place as usize).lots.unsigned_abs()).sum::<u64>();
+                let (deals, left) = (named(&name, "submit, ", " deals"), named(&name, "close-out, L = ", ""));
+                assert!(deals.is_none_or(|deals| lines == 2 * deals), "{name} at {members} members: {lines} lines");
+                assert!(left.is_none_or(|left| lots == 2 * left), "{name} at {members} members: {lots} lots");
             }
         }
     }

@@ -53,7 +53,7 @@ pub enum Record {
     CloseOfDay { time: u64 },
 }
 
-/// How many bytes the record at the front has, where its kind (and leg count) says so.
+/// A record's length, by its first byte and for a proposal its second; none where they do not say.
 pub fn length(bytes: &[u8]) -> Option<usize> {
     match bytes.first()? {
         1 => Some(15),

@@ -1,4 +1,4 @@
-//! A ledger as the text of tests/lists or as one number, and numbers in hex.
+//! A ledger as the text of tests/lists, as one number or as the places that changed, and numbers in hex.
 use crate::contract::CONTRACTS;
 use crate::tables::*;
 use std::fmt::Write;
@@ -43,18 +43,42 @@ pub fn ledger(tables: &Tables) -> String {
     out
 }
 
+/// The six tables with their names, all as signed numbers.
+fn columns(tables: &Tables) -> [(&'static str, Vec<i64>); 6] {
+    let Tables { head, prices, lots, value, book, lines } = tables;
+    let signed = |column: &[u64]| column.iter().map(|&number| number as i64).collect();
+    let (lots, value, lines) = (lots.clone(), value.clone(), lines.clone());
+    [
+        ("head", signed(head)),
+        ("prices", signed(prices)),
+        ("lots", lots),
+        ("value", value),
+        ("book", signed(book)),
+        ("lines", lines),
+    ]
+}
+
 /// A number that changes with every place of every table; tests/host/lent.c has the same.
 pub fn digest(tables: &Tables) -> u64 {
-    let Tables { head, prices, lots, value, book, lines } = tables;
-    let signed = |column: &[i64]| column.iter().map(|&number| number as u64).collect::<Vec<u64>>();
-    let step = |digest: u64, number: u64| {
-        let digest = (digest ^ number).wrapping_mul(0x9e37_79b9_7f4a_7c15);
+    let step = |digest: u64, number: i64| {
+        let digest = (digest ^ number as u64).wrapping_mul(0x9e37_79b9_7f4a_7c15);
         digest ^ digest >> 32
     };
-    [head.clone(), prices.clone(), signed(lots), signed(value), book.clone(), signed(lines)]
-        .into_iter()
-        .flatten()
-        .fold(0, step)
+    columns(tables).into_iter().flat_map(|(_, column)| column).fold(0, step)
+}
+
+/// The places that changed: a line has a table, a place, and the numbers of that place and its neighbours.
+pub fn changes(before: &Tables, after: &Tables) -> String {
+    let mut out = String::new();
+    for ((name, before), (_, after)) in columns(before).into_iter().zip(columns(after)) {
+        let changed: Vec<usize> = (0..after.len()).filter(|&place| before[place] != after[place]).collect();
+        for neighbours in changed.chunk_by(|&place, &next| next == place + 1 && next % ROW_WIDTH != 0) {
+            write!(out, "{name} {}", neighbours[0]).expect("a string grows");
+            neighbours.iter().for_each(|&place| write!(out, " {}", after[place]).expect("a string grows"));
+            out.push('\n');
+        }
+    }
+    out
 }
 
 /// Tables of the least lengths in which every place holds a number that no ledger has there.

@@ -1,5 +1,5 @@
-//! load [SUBMITS]: the time of Change 14's load at 2, 8 and 32 members and of single records, in the model and, with the
-//! feature `c_engine`, in the proved library: both in this process, in turn, the least of many rounds.
+//! load [SUBMITS]: the time of Change 14's load at 2, 8 and 32 members and of single records, in the model and, with
+//! the feature `c_engine`, in the proved library: both in this process, in turn, the least of many rounds.
 use model::apply::apply;
 use model::damage::is_damaged;
 use model::load::{calls, fresh, submits, Call};
@@ -66,17 +66,18 @@ fn print_load(members: u64, count: u64) {
     print(&format!("{members} members, a submit of the load"), count.div_ceil(RUN) * RUN, &sum);
 }
 
-fn least_of_call(sides: &[Side], call: &Call) -> Least {
-    let records = [call.bytes.clone()];
-    least(sides, REPEATS, |side| timed_run(&call.tables, &records, side))
+fn least_of_call(sides: &[Side], tables: &Tables, record: &[u8]) -> Least {
+    let records = [record.to_vec()];
+    least(sides, REPEATS, |side| timed_run(tables, &records, side))
 }
 
 /// The whole call, and what it takes beyond the damage test of the same tables.
-fn print_call(members: u64, call: &Call) {
-    let whole = least_of_call(APPLY, call);
-    let damage = least_of_call(IS_DAMAGED, call);
+fn print_call(members: u64, Call { name, tables, bytes, refusal }: &Call) {
+    let whole = least_of_call(APPLY, tables, bytes);
+    let damage = least_of_call(IS_DAMAGED, tables, bytes);
     let beyond = whole.iter().zip(&damage).map(|(whole, damage)| whole.saturating_sub(*damage)).collect();
-    print(&format!("{members} members, full book, {}", call.name), 1, &whole);
+    let refused = refusal.map_or(String::new(), |refusal| format!(" (refused {})", refusal.number()));
+    print(&format!("{members} members, full book, {name}{refused}"), 1, &whole);
     print("  beyond the damage test", 1, &beyond);
 }
 
@@ -84,10 +85,11 @@ fn main() {
     let count = std::env::args().nth(1).and_then(|count| count.parse().ok()).unwrap_or(1_000_000);
     for members in [2, 8, 32] {
         print_load(members, count);
-        let empty = Call { name: String::new(), tables: fresh(members), bytes: Vec::new() };
-        print(&format!("{members} members, empty book, damage test alone"), 1, &least_of_call(IS_DAMAGED, &empty));
         let calls = calls(members);
-        print(&format!("{members} members, full book, damage test alone"), 1, &least_of_call(IS_DAMAGED, &calls[0]));
+        for (book, tables) in [("empty", &fresh(members)), ("full", &calls[0].tables)] {
+            let damage = least_of_call(IS_DAMAGED, tables, &[]);
+            print(&format!("{members} members, {book} book, damage test alone"), 1, &damage);
+        }
         calls.iter().for_each(|call| print_call(members, call));
     }
 }
