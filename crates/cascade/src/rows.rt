@@ -7,7 +7,7 @@ ghost use lib.Dec.{eqb};
 ghost use lib.ListN.{length, getD, take, drop};
 ghost use lib.IntN.{pos, natAbs, _+ℤ_};
 ghost use Rattle.arith.specs.Lists.{from, over, kept};
-ghost use Rattle.rules.specs.Ranges.{contractCount, mostMembers};
+ghost use Rattle.rules.specs.Ranges.{contractCount, contractsInYear, mostMembers};
 ghost use Rattle.rules.specs.OtherForms.{sizeOf};
 ghost use Rattle.rules.specs.Contracts.{contractsOf};
 ghost use Rattle.rules.specs.Ledger.{rowsLength, rowsFrom, rowPlace};
@@ -20,13 +20,14 @@ use contract_phases::contract_of;
 use contract_phases::contracts_in;
 use rules::ContractKind;
 use rules::layout::ROW_WIDTH;
+use rules::ranges::CONTRACTS_IN_YEAR;
 
 // The rows from a place on, copied out of the column.
-fn rows_from(rows: &[i64], at: usize, members: usize) -> [i64; 32]
+fn rows_from(rows: &[i64], at: usize, members: usize) -> [i64; ROW_WIDTH]
     requires { ⌜ (members ≤ mostMembers) × (at + members ≤ length (now rows)) ⌝ }
     ensures { λ r. ⌜ (take members r ≡ take members (drop at (now (rows .entry)))) × (length r ≡ mostMembers) ⌝ }
 {
-    let mut copied = [0i64; 32];
+    let mut copied = [0i64; ROW_WIDTH];
     let mut i: usize = 0;
     while i < members {
         let x = rows[at + i];
@@ -36,7 +37,7 @@ fn rows_from(rows: &[i64], at: usize, members: usize) -> [i64; 32]
     copied
 }
 
-fn add_rows(child: &mut [i64], parent: [i64; 32])
+fn add_rows(child: &mut [i64], parent: [i64; ROW_WIDTH])
     requires { ⌜ length (now child) ≤ mostMembers ⌝ }
     requires { ⌜ ((m : ℕ) → m < length (now child) → natAbs (getD (now child) m (pos 0)) + natAbs (getD parent m (pos 0)) < 2 ^ 63) ⌝ }
     ensures { λ _. ⌜ now (child .exit) ≡ zipWith _+ℤ_ (now (child .entry)) parent ⌝ }
@@ -51,7 +52,7 @@ fn add_rows(child: &mut [i64], parent: [i64; 32])
 }
 
 // The child contract's rows are lent as a part of the column.
-fn add_to_child(rows: &mut [i64], members: usize, child: usize, parent: [i64; 32])
+fn add_to_child(rows: &mut [i64], members: usize, child: usize, parent: [i64; ROW_WIDTH])
     requires { ⌜ (rowsLength ≤ length (now rows)) × (members ≤ mostMembers) × (child < contractCount) ⌝ }
     requires { ⌜ ((m : ℕ) → m < members → natAbs (getD (now rows) (rowPlace child m) (pos 0)) + natAbs (getD parent m (pos 0)) < 2 ^ 63) ⌝ }
     ensures { λ _. ⌜ now (rows .exit) ≡ over (rowsFrom child) (zipWith _+ℤ_ (contractRows members child (now (rows .entry))) parent) (now (rows .entry)) ⌝ }
@@ -90,21 +91,21 @@ fn move_rows(rows: &mut [i64], members: usize, contract: usize, first: usize, en
 // A year's or a quarter's rows go to its children.
 fn cascade(rows: &mut [i64], members: usize, contract: usize)
     requires { ⌜ RowsFit members (2 ^ 61) (now rows) × (members ≤ mostMembers) ⌝ }
-    requires { ⌜ (contract < contractCount) × (contract % 17 ≤ 4) ⌝ }
+    requires { ⌜ (contract < contractCount) × (contract % contractsInYear ≤ 4) ⌝ }
     ensures { λ _. ⌜ now (rows .exit) ≡ cascaded members contract (now (rows .entry)) ⌝ }
 {
-    let k = contract % 17;
+    let k = contract % CONTRACTS_IN_YEAR;
     if k == 0 {
         move_rows(rows, members, contract, contract + 1, contract + 5);
         return;
     }
-    let first = 17 * (contract / 17) + 5 + 3 * (k - 1);
+    let first = CONTRACTS_IN_YEAR * (contract / CONTRACTS_IN_YEAR) + 5 + 3 * (k - 1);
     move_rows(rows, members, contract, first, first + 3);
 }
 
 fn cascade_closing(rows: &mut [i64], members: usize, contract: usize, phase: u64)
     requires { ⌜ RowsFit members (2 ^ 61) (now rows) × (members ≤ mostMembers) ⌝ }
-    requires { ⌜ (contract < contractCount) × (contract % 17 ≤ 4) ⌝ }
+    requires { ⌜ (contract < contractCount) × (contract % contractsInYear ≤ 4) ⌝ }
     ensures { λ _. ⌜ now (rows .exit) ≡ cond (eqb phase 1) (cascaded members contract (now (rows .entry))) (now (rows .entry)) ⌝ }
 {
     if phase == CLOSING {

@@ -15,6 +15,7 @@ use rules::Answer;
 use rules::Day;
 use rules::DayNo;
 use rules::Side;
+use rules::layout::CONTRACTS;
 use rules::layout::DAY;
 use rules::layout::FIRST_YEAR;
 use rules::layout::HOLIDAY_COUNT;
@@ -47,8 +48,8 @@ fn write_prices(head: &[u64], prices: &mut [u64], book: &[u64], column: &[u64], 
 {
     let day = DayNo(head[DAY]);
     let count = head[ORDER_COUNT] as usize;
-    let mut buys = [0u64; 102];
-    let mut sells = [0u64; 102];
+    let mut buys = [0u64; CONTRACTS];
+    let mut sells = [0u64; CONTRACTS];
     reference_price::write_quotes(book, count, Side::Buy, day, time, &mut buys[..]);
     reference_price::write_quotes(book, count, Side::Sell, day, time, &mut sells[..]);
     reference_price::write_ggfs(&mut *prices, column, &buys[..], &sells[..]);
@@ -81,7 +82,7 @@ fn close(
         ≡ closed time (next .0) (withHead (now (head .entry)) (withPrices (now (prices .entry)) (withRows (now (lots .entry)) (now (value .entry)) (withBook (now (book .entry)) t))))) ⌝ }
 {
     let members = head[MEMBERS] as usize;
-    let mut column = [0u64; 102];
+    let mut column = [0u64; CONTRACTS];
     write_phases(&*head, &mut column[..]);
     write_prices(&*head, &mut *prices, &*book, &column[..], time);
     cascade::cascade_all(&mut *lots, &column[..], members);

@@ -14,6 +14,7 @@ ghost use Rattle.reference_price.specs.Columns.{BookReads};
 use contract_phases::CLOSING;
 use rules::Order;
 use rules::layout::ORDER_COUNT;
+use rules::layout::ORDERS;
 
 fn left_of(o: Order, phase: u64) -> u64
     ensures { λ r. ⌜ r ≡ cond (eqb phase 1) 0 (o .lots .0) ⌝ }
@@ -45,7 +46,7 @@ pub fn remove_closing(head: &mut [u64], book: &mut [u64], column: &[u64])
         (withHead (now (head .entry)) (withBook (now (book .entry)) t))) ⌝ }
 {
     let count = head[ORDER_COUNT] as usize;
-    let mut left = [0u64; 256];
+    let mut left = [0u64; ORDERS];
     write_left(&*book, column, &mut left[..count]);
     tables::keep_orders(&mut *head, &mut *book, &left[..count]);
 }

@@ -10,6 +10,8 @@ use rules::ContractKind;
 use rules::Day;
 use rules::DayNo;
 use rules::layout::CONTRACTS;
+use rules::ranges::CONTRACTS_IN_YEAR;
+use rules::ranges::MONTHS_IN_SPAN;
 
 // The phases of a contract: it closed before the day, closes on it, or later.
 pub const CLOSED: u64 = 0;
@@ -25,7 +27,7 @@ pub fn contracts_in(kind: ContractKind) -> u64
     match kind {
         ContractKind::Year => 6,
         ContractKind::Quarter => 24,
-        ContractKind::Month => 72,
+        ContractKind::Month => MONTHS_IN_SPAN,
     }
 }
 
@@ -35,9 +37,9 @@ pub fn contract_of(kind: ContractKind, index: u64) -> u64
     ensures { λ r. ⌜ r ≡ numberOf kind index ⌝ }
 {
     match kind {
-        ContractKind::Year => 17 * index,
-        ContractKind::Quarter => 17 * (index / 4) + 1 + index % 4,
-        ContractKind::Month => 17 * (index / 12) + 5 + index % 12,
+        ContractKind::Year => CONTRACTS_IN_YEAR * index,
+        ContractKind::Quarter => CONTRACTS_IN_YEAR * (index / 4) + 1 + index % 4,
+        ContractKind::Month => CONTRACTS_IN_YEAR * (index / 12) + 5 + index % 12,
     }
 }
 

@@ -8,7 +8,7 @@ ghost use Rattle.matching.specs.Deals.{dealWidth, dealPlaces, dealAt};
 use rules::Kurus;
 use rules::Lots;
 
-const DEAL_WIDTH: usize = 3;
+pub const DEAL_WIDTH: usize = 3;
 
 const DEAL_MEMBER: usize = 0;
 

@@ -9,6 +9,7 @@ pub use columns::least;
 pub use crossing::Crossing;
 pub use crossing::measure;
 pub use deals::Counterparty;
+pub use deals::DEAL_WIDTH;
 pub use deals::deal_at;
 pub use levels::Matched;
 pub use levels::match_orders;

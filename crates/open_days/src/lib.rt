@@ -20,9 +20,10 @@ use calendar::term_of;
 use rules::ContractKind;
 use rules::DayNo;
 use rules::Term;
+use rules::ranges::MONTHS_IN_SPAN;
 
 // The months of the span, and the one after them.
-const STARTS: usize = 73;
+const STARTS: usize = MONTHS_IN_SPAN as usize + 1;
 
 // Of each kind, the least first delivery day of a contract that is still to close.
 struct OpenFrom {

@@ -13,6 +13,7 @@ ghost use Rattle.proposal.specs.Booking.{linesTo, leftAfter, lotsIn};
 use rules::Kurus;
 use rules::Lots;
 use rules::layout::ORDER_COUNT;
+use rules::layout::ORDERS;
 use tables::DealLine;
 use tables::book_line;
 use tables::keep_orders;
@@ -119,7 +120,7 @@ pub fn use_orders(head: &mut [u64], book: &mut [u64], places: &[usize], lots: &[
         (withHead (now (head .entry)) (withBook (now (book .entry)) t))) ⌝ }
 {
     let count = head[ORDER_COUNT] as usize;
-    let mut left = [0u64; 256];
+    let mut left = [0u64; ORDERS];
     write_left(&*book, &mut left[..count], places, lots);
     keep_orders(&mut *head, &mut *book, &left[..count]);
 }

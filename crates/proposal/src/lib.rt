@@ -15,6 +15,7 @@ use crate::booking::use_orders;
 use proposal_check::is_acceptable;
 use proposal_check::write_places;
 use rules::Answer;
+use rules::layout::LEG_PLACES;
 use rules::layout::LOTS_RUN;
 use rules::layout::ORDER_COUNT;
 use rules::ranges::MOST_LOTS_RUN;
@@ -89,7 +90,7 @@ pub fn apply(
 {
     let n = orders.len();
     let count = head[ORDER_COUNT] as usize;
-    let mut places = [0usize; 12];
+    let mut places = [0usize; LEG_PLACES];
     write_places(&*book, count, orders, &mut places[..n]);
     apply_at(
         &mut *head,

@@ -12,12 +12,12 @@ ghost use Rattle.rules.specs.OtherForms.{yearOf, quarterOf, monthOf};
 ghost use Rattle.proposal_check.specs.Columns.{LegsFit, PlacesFit, ContractsFit, balancedMonths};
 ghost use Rattle.proposal_check.specs.SidePlaces.{sidePlaces};
 ghost use Rattle.proposal_check.specs.Sums.{SumsTo, SumsFit, monthSum, balancedSums};
+use crate::side_places::SIDE_PLACES;
 use crate::side_places::SIDES;
 use crate::side_places::side_place;
+use rules::ranges::CONTRACTS_IN_YEAR;
+use rules::ranges::MONTHS_IN_SPAN;
 use tables::order_at;
-
-// Months of the six years.
-const MONTHS_IN_SPAN: u64 = 72;
 
 // What a lot adds to a sum beside its price: more than the values of all legs together, so that sums are equal exactly if
 // lots and values both are.
@@ -48,7 +48,7 @@ fn contracts_of(i: u64) -> MonthContracts
     requires { ⌜ i < monthsInSpan ⌝ }
     ensures { λ r. ⌜ (r .year ≡ yearOf i) × (r .quarter ≡ quarterOf i) × (r .month ≡ monthOf i) ⌝ }
 {
-    let first = 17 * (i / 12);
+    let first = CONTRACTS_IN_YEAR * (i / 12);
     MonthContracts {
         year: first,
         quarter: first + 1 + i % 12 / 3,
@@ -95,7 +95,7 @@ pub fn are_both_balanced(book: &[u64], places: &[usize], lots: &[u64], prices: &
     ensures { λ r. ⌜ r ≡ balancedMonths (now (book .entry)) (now (places .entry)) (now (lots .entry))
         && balancedMonths (now (book .entry)) (now (places .entry)) (zipWith (λ q p. q * p) (now (lots .entry)) (now (prices .entry))) ⌝ }
 {
-    let mut sums = [0u64; 204];
+    let mut sums = [0u64; SIDE_PLACES];
     write_sums(book, places, lots, prices, &mut sums);
     are_months_balanced(&sums)
 }

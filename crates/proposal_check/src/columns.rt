@@ -8,6 +8,7 @@ ghost use Rattle.tables.specs.Fit.{HeadFit, BookFit};
 ghost use Rattle.proposal_check.specs.Columns.{LegsFit, columnLegs};
 use crate::acceptable::is_acceptable;
 use crate::places::write_places;
+use rules::layout::LEG_PLACES;
 use rules::layout::ORDER_COUNT;
 
 pub fn are_columns_acceptable(
@@ -25,7 +26,7 @@ pub fn are_columns_acceptable(
 {
     let n = orders.len();
     let count = head[ORDER_COUNT] as usize;
-    let mut places = [0usize; 12];
+    let mut places = [0usize; LEG_PLACES];
     write_places(book, count, orders, &mut places[..n]);
     is_acceptable(
         head,

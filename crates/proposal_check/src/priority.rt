@@ -10,6 +10,7 @@ ghost use Rattle.matching.specs.Ranks.{Ranked};
 ghost use Rattle.proposal_check.specs.Columns.{PlacesFit, isAhead, isFullLeg};
 ghost use Rattle.proposal_check.specs.SidePlaces.{sidePlaces};
 ghost use Rattle.proposal_check.specs.LastRanks.{OrdersRanked, LegsRanked, LastRanks, keptBy};
+use crate::side_places::SIDE_PLACES;
 use crate::side_places::side_place;
 use matching::rank_of;
 use rules::Order;
@@ -91,7 +92,7 @@ pub fn is_priority_kept(
     requires { ⌜ OrdersRanked count (now book) × PlacesFit count (now places) × (length (now lots) ≡ length (now orders)) ⌝ }
     ensures { λ r. ⌜ r ≡ every (λ o. not (isAhead (now (book .entry)) (now (places .entry)) o) || isFullLeg (now (orders .entry)) (now (lots .entry)) o) (ordersIn count (now (book .entry))) ⌝ }
 {
-    let mut lasts = [0u64; 204];
+    let mut lasts = [0u64; SIDE_PLACES];
     write_last_ranks(book, places, &mut lasts);
     are_kept(book, count, &lasts, orders, lots)
 }

@@ -7,15 +7,16 @@ ghost use Rattle.codec.specs.Columns.{legColumns};
 ghost use Rattle.proposal_legs.specs.Proposals.{withLeg};
 use codec::Legs;
 use rules::Leg;
+use rules::layout::LEG_PLACES;
 use rules::ranges::MOST_LEGS;
 
 fn no_legs() -> Legs
     ensures { λ r. ⌜ r ≡ legColumns [] ⌝ }
 {
     Legs {
-        orders: [0u64; 12],
-        lots: [0u64; 12],
-        prices: [0u64; 12],
+        orders: [0u64; LEG_PLACES],
+        lots: [0u64; LEG_PLACES],
+        prices: [0u64; LEG_PLACES],
     }
 }
 

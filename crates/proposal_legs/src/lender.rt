@@ -8,10 +8,11 @@ ghost use Rattle.tables.specs.Fit.{HeadFit, BookFit};
 ghost use Rattle.proposal_legs.specs.Proposals.{legsAcceptable};
 use crate::legs::are_legs_acceptable;
 use rules::Leg;
+use rules::layout::LEG_PLACES;
 use rules::ranges::MOST_LEGS;
 
 fn are_lent_acceptable<'t>(
-    legs: [Leg; 12],
+    legs: [Leg; LEG_PLACES],
     count: usize,
     head: &'t [u64],
     prices: &'t [u64],
@@ -26,7 +27,7 @@ fn are_lent_acceptable<'t>(
 
 // A count past the array's 12 legs is no proposal's.
 pub fn are_first_acceptable<'t>(
-    legs: [Leg; 12],
+    legs: [Leg; LEG_PLACES],
     count: usize,
     head: &'t [u64],
     prices: &'t [u64],

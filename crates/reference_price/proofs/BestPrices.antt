@@ -11,13 +11,14 @@ use lib.Seq.{getD-set-same, getD-set-other}
 use borrow.Author.Tests.{lt-ltb, le-ltb, eq-eqb, ne-eqb}
 use Rattle.arith.specs.Lists.{All, from}
 use Rattle.arith.proofs.Alls.{all-map}
-use Rattle.arith.proofs.Tests.{never, by-bool, true-or, le-or-lt, same-or, and-left, and-right}
+use Rattle.arith.proofs.Tests.{by-bool, true-or, le-or-lt, same-or, and-left, and-right}
 use Rattle.rules.specs.declared.order.Order.{Order}
 use Rattle.rules.specs.declared.order.Side.{Side}
 use Rattle.rules.specs.declared.order.Side.the-variants.{Buy, Sell}
 use Rattle.rules.specs.Sides.{sameSide}
 use Rattle.rules.specs.Matching.{betterPrice, precedes, better, best}
 use Rattle.reference_price.specs.Columns.{quotesAt, quoteOf, bestPrice, betterQuote}
+use Rattle.rules.proofs.Sides.{same-side}
 
 -- ---- what holds of the best order
 abbrev pub Holds : (Order → Type 0) → Option Order → Type 0
@@ -59,13 +60,6 @@ quote-better side o none h = refl
 quote-better side o (some b) h =
     quote-of (precedes b o) b o
     ∙ rw (h .0, ne-eqb (b .price .0) 0 (omega (arith, h .1))) (better-price side (b .price .0) (o .price .0) (ltb (b .number) (o .number)))
-
--- ---- one more order
-same-side : (a b : Side) → sameSide a b ≡ true → a ≡ b
-same-side Buy Buy e = refl
-same-side Buy Sell e = never (sym e)
-same-side Sell Buy e = never (sym e)
-same-side Sell Sell e = refl
 
 module _ (d s : ℕ) (side : Side) where
   quotes-side : (c : ℕ) (o : Order) → eqb (o .contract) c && quotesAt d s side o ≡ true → o .side ≡ side

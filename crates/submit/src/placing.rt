@@ -14,11 +14,16 @@ ghost use Rattle.submit.specs.Placing.{Placeable, orderBooked};
 use crate::causes::is_resting;
 use crate::deals::book_deals;
 use crate::trade::settle;
+use matching::DEAL_WIDTH;
 use rules::Answer;
 use rules::Order;
 use rules::OrderKind;
 use rules::layout::ORDER_COUNT;
 use rules::layout::ORDERS;
+use rules::ranges::MOST_LOTS;
+
+// A deal takes one lot at least.
+const DEAL_PLACES: usize = MOST_LOTS as usize * DEAL_WIDTH;
 
 // What is left of an order that rests comes last in the book, under its own number.
 fn rest_order(head: &mut [u64], book: &mut [u64], kind: OrderKind, o: Order, left: u64)
@@ -50,7 +55,7 @@ fn trade(
 {
     let orders = head[ORDER_COUNT] as usize;
     let mut left = [0u64; ORDERS];
-    let mut deals = [0u64; 300];
+    let mut deals = [0u64; DEAL_PLACES];
     let m = settle(
         &mut *head,
         &mut *prices,

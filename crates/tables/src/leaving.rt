@@ -20,6 +20,7 @@ use rules::Order;
 use rules::layout::ORDER_COUNT;
 use rules::layout::ORDER_LOTS;
 use rules::layout::ORDER_WIDTH;
+use rules::layout::ORDERS;
 
 // Which orders leave the book: the one of a number if it is the member's, or all of a member.
 pub enum Leaving {
@@ -144,7 +145,7 @@ pub fn remove_orders(head: &mut [u64], book: &mut [u64], w: Leaving)
         ≡ withOrders (kept (λ o. not (leaves w o)) (ordersIn (orderCountIn (now (head .entry))) (now (book .entry)))) (withHead (now (head .entry)) (withBook (now (book .entry)) t))) ⌝ }
 {
     let count = head[ORDER_COUNT] as usize;
-    let mut left = [0u64; 256];
+    let mut left = [0u64; ORDERS];
     write_left(&*book, &mut left[..count], w);
     keep_orders(&mut *head, &mut *book, &left[..count]);
 }
