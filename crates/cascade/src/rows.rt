@@ -22,6 +22,8 @@ use rules::ContractKind;
 use rules::layout::ROW_WIDTH;
 use rules::ranges::CONTRACTS_IN_YEAR;
 
+const PER_YEAR: usize = CONTRACTS_IN_YEAR as usize;
+
 // The rows from a place on, copied out of the column.
 fn rows_from(rows: &[i64], at: usize, members: usize) -> [i64; ROW_WIDTH]
     requires { ⌜ (members ≤ mostMembers) × (at + members ≤ length (now rows)) ⌝ }
@@ -94,12 +96,12 @@ fn cascade(rows: &mut [i64], members: usize, contract: usize)
     requires { ⌜ (contract < contractCount) × (contract % contractsInYear ≤ 4) ⌝ }
     ensures { λ _. ⌜ now (rows .exit) ≡ cascaded members contract (now (rows .entry)) ⌝ }
 {
-    let k = contract % CONTRACTS_IN_YEAR;
+    let k = contract % PER_YEAR;
     if k == 0 {
         move_rows(rows, members, contract, contract + 1, contract + 5);
         return;
     }
-    let first = CONTRACTS_IN_YEAR * (contract / CONTRACTS_IN_YEAR) + 5 + 3 * (k - 1);
+    let first = PER_YEAR * (contract / PER_YEAR) + 5 + 3 * (k - 1);
     move_rows(rows, members, contract, first, first + 3);
 }
 
