@@ -6,7 +6,6 @@ ghost use lib.ListN.{length};
 ghost use Rattle.journal.specs.Places.{Stands, nextStands};
 use crate::input::Filled;
 use crate::input::fill;
-use crate::input::shift;
 use crate::output::flush;
 use libc::STDERR_FILENO;
 use records::Stage;
@@ -17,6 +16,7 @@ use rules::layout::HEAD_LENGTH;
 use rules::layout::LINES_LENGTH;
 use rules::layout::PRICES_LENGTH;
 use rules::layout::ROWS_LENGTH;
+use text::shift;
 
 const BUFFER: usize = 65536;
 

@@ -6,7 +6,6 @@ ghost use lib.ListN.{length};
 ghost use Rattle.listing_program.specs.Places.{filledTo, LedgerOf, Stands, nextStands};
 use crate::input::Filled;
 use crate::input::fill;
-use crate::input::shift;
 use crate::output::flush;
 use big_endian::u8_or_zero;
 use listing::Piece;
@@ -14,6 +13,7 @@ use listing::ROOM;
 use listing::next_piece;
 use listing::put_header_line;
 use listing::put_record_line;
+use text::shift;
 
 const INPUT: usize = 65536;
 
