@@ -8,6 +8,7 @@ use crate::input::Filled;
 use crate::input::fill;
 use crate::output::flush;
 use big_endian::u8_or_zero;
+use libc::STDERR_FILENO;
 use listing::Piece;
 use listing::ROOM;
 use listing::next_piece;
@@ -190,6 +191,7 @@ fn list_records(ledger: Ledger, first: Place, input: &mut [u8], output: &mut [u8
         }
         turns += 1;
     }
+    io::write_all(STDERR_FILENO, b"listing: too long\n");
     Ending::ReadFailed
 }
 
