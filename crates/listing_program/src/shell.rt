@@ -1,9 +1,10 @@
 // The program's turns: the next record is listed, or bytes are read, or lines are written. No contract can say what a read brought
 // or a write took; what is listed for the bytes that came is the promise of crate listing.
 ghost use mathlib.Core.Path.{_≡_};
-ghost use Prim.Native.Nat.{_+_, _*_, _≤_, _<_};
+ghost use Prim.Native.Nat.{_+_, _≤_, _<_};
 ghost use lib.ListN.{length};
-ghost use Rattle.listing_program.specs.Places.{filledTo, LedgerOf, Stands, nextStands};
+ghost use Rattle.listing.specs.Sizes.{lineRoom};
+ghost use Rattle.listing_program.specs.Places.{inputLength, outputLength, mostTurns, mostInTwoBytes, filledTo, LedgerOf, Stands, nextStands};
 use crate::input::Filled;
 use crate::input::fill;
 use crate::output::flush;
@@ -71,7 +72,7 @@ fn finish(output: &[u8], filled: usize, ending: Ending) -> Ending
 
 // The rest goes to the front, and more comes behind it. After a failed read the lines that wait go out.
 fn read_more(place: Place, input: &mut [u8], output: &[u8]) -> Next
-    requires { ⌜ Stands place × (length (now input) ≡ 65536) × (length (now output) ≡ 131072) ⌝ }
+    requires { ⌜ Stands place × (length (now input) ≡ inputLength) × (length (now output) ≡ outputLength) ⌝ }
     ensures { λ r. ⌜ nextStands (place .turns) r ⌝ }
 {
     let rest = place.end - place.from;
@@ -103,7 +104,7 @@ fn read_more(place: Place, input: &mut [u8], output: &[u8]) -> Next
 }
 
 fn write_out(place: Place, output: &[u8]) -> Next
-    requires { ⌜ Stands place × (length (now output) ≡ 131072) ⌝ }
+    requires { ⌜ Stands place × (length (now output) ≡ outputLength) ⌝ }
     ensures { λ r. ⌜ nextStands (place .turns) r ⌝ }
 {
     if flush(output, place.filled) {
@@ -122,8 +123,8 @@ fn write_out(place: Place, output: &[u8]) -> Next
 
 // The record of the first bytes; the program ends after one that is unsound, since no later record's place is known.
 fn list_record(ledger: Ledger, place: Place, size: usize, input: &[u8], output: &mut [u8]) -> Next
-    requires { ⌜ Stands place × (place .turns < 70368744177664) × (place .from + size ≤ place .end) × (place .filled + 62000 ≤ 131072) ⌝ }
-    requires { ⌜ (ledger .«first_year» ≤ 65535) × (length (now input) ≡ 65536) × (length (now output) ≡ 131072) ⌝ }
+    requires { ⌜ Stands place × (place .turns < mostTurns) × (place .from + size ≤ place .end) × (place .filled + lineRoom ≤ outputLength) ⌝ }
+    requires { ⌜ (ledger .«first_year» ≤ mostInTwoBytes) × (length (now input) ≡ inputLength) × (length (now output) ≡ outputLength) ⌝ }
     ensures { λ r. ⌜ nextStands (place .turns + 1) r ⌝ }
 {
     let from = place.from;
@@ -153,7 +154,7 @@ fn list_record(ledger: Ledger, place: Place, size: usize, input: &[u8], output: 
 }
 
 fn turn(ledger: Ledger, place: Place, input: &mut [u8], output: &mut [u8]) -> Next
-    requires { ⌜ Stands place × (place .turns < 70368744177664) × (ledger .«first_year» ≤ 65535) × (length (now input) ≡ 65536) × (length (now output) ≡ 131072) ⌝ }
+    requires { ⌜ Stands place × (place .turns < mostTurns) × (ledger .«first_year» ≤ mostInTwoBytes) × (length (now input) ≡ inputLength) × (length (now output) ≡ outputLength) ⌝ }
     ensures { λ r. ⌜ nextStands (place .turns + 1) r ⌝ }
 {
     let from = place.from;
@@ -178,7 +179,7 @@ fn turn(ledger: Ledger, place: Place, input: &mut [u8], output: &mut [u8]) -> Ne
 }
 
 fn list_records(ledger: Ledger, first: Place, input: &mut [u8], output: &mut [u8]) -> Ending
-    requires { ⌜ Stands first × (first .turns ≡ 0) × (ledger .«first_year» ≤ 65535) × (length (now input) ≡ 65536) × (length (now output) ≡ 131072) ⌝ }
+    requires { ⌜ Stands first × (first .turns ≡ 0) × (ledger .«first_year» ≤ mostInTwoBytes) × (length (now input) ≡ inputLength) × (length (now output) ≡ outputLength) ⌝ }
 {
     let mut place = first;
     let mut turns: u64 = 0;
@@ -197,7 +198,7 @@ fn list_records(ledger: Ledger, first: Place, input: &mut [u8], output: &mut [u8
 
 // The bytes of the longest header, or all that there are.
 fn fill_header(input: &mut [u8]) -> Filled
-    requires { ⌜ length (now input) ≡ 65536 ⌝ }
+    requires { ⌜ length (now input) ≡ inputLength ⌝ }
     ensures { λ r. ⌜ filledTo r (length (now (input .entry))) ⌝ }
 {
     let mut end: usize = 0;
@@ -232,7 +233,7 @@ fn ledger_of(bytes: &[u8]) -> Ledger
 
 // The header's line, then those of the records behind it.
 fn list_from(end: usize, input: &mut [u8], output: &mut [u8]) -> Ending
-    requires { ⌜ (end ≤ length (now input)) × (length (now input) ≡ 65536) × (length (now output) ≡ 131072) ⌝ }
+    requires { ⌜ (end ≤ length (now input)) × (length (now input) ≡ inputLength) × (length (now output) ≡ outputLength) ⌝ }
 {
     let listed = put_header_line(&input[..end], &mut *output, 0);
     if !listed.is_sound {

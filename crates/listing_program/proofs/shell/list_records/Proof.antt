@@ -3,15 +3,15 @@ use mathlib.Core.Path.{_≡_}
 use Prim.Native.Nat.{_-_}
 use native.Mathlib.Omega.{arith}
 use lib.ListN.{length}
-use Rattle.listing_program.specs.Places.{Stands}
+use Rattle.listing_program.specs.Places.{inputLength, outputLength, mostTurns, Stands}
 use Rattle.listing_program.proofs.shell.list_records.Statement.{statement}
 use Rattle.listing_program.proofs.shell.list_records.Tie as tie
 
 abbrev Inv-loop : tie.InvT-loop
-Inv-loop ledger input₀ output₀ place₀ turns₀ t9 input output place turns = Stands place × (place .turns ≡ turns) × (length input ≡ 65536) × (length output ≡ 131072)
+Inv-loop ledger input₀ output₀ place₀ turns₀ t9 input output place turns = Stands place × (place .turns ≡ turns) × (length input ≡ inputLength) × (length output ≡ outputLength)
 
 abbrev μ-loop : tie.MeasureT-loop
-μ-loop ledger input₀ output₀ place₀ turns₀ t9 input output place turns = 70368744177664 - turns
+μ-loop ledger input₀ output₀ place₀ turns₀ t9 input output place turns = mostTurns - turns
 
 turn-requires : tie.Need-turn-requires Inv-loop μ-loop
 turn-requires c κs = (
