@@ -22,6 +22,8 @@ use crate::numbers::put_contract;
 use crate::numbers::put_price;
 use crate::numbers::put_time;
 use crate::numbers::put_word;
+use crate::ranges::HOLIDAY_COUNT_PLACE;
+use crate::ranges::MEMBERS_PLACE;
 use crate::ranges::does_pass;
 use crate::ranges::is_within;
 use crate::ranges::number_at;
@@ -249,8 +251,8 @@ pub fn put_header_line(bytes: &[u8], out: &mut [u8], start: usize) -> Listed
     requires { ⌜ (start + lineRoom ≤ length (now out)) × (length (now bytes) ≤ mostBytes) ⌝ }
     ensures { λ r. ⌜ ListedAs lineRoom start (headerLine (now (bytes .entry))) (headerFault (now (bytes .entry))) (now (out .entry)) (now (out .exit)) r ⌝ }
 {
-    let members = u8_or_zero(bytes, 9);
-    let holidays = u8_or_zero(bytes, 10);
+    let members = u8_or_zero(bytes, MEMBERS_PLACE);
+    let holidays = u8_or_zero(bytes, HOLIDAY_COUNT_PLACE);
     let count = 8 + (holidays + members);
     let shape = Shape::Header(holidays, members);
     let listed = put_fields(shape, count, 0, 0, 0, bytes, &mut *out, start);

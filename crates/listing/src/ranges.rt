@@ -30,12 +30,18 @@ use rules::ranges::MOST_MEMBERS;
 use rules::ranges::MOST_PRICE;
 use rules::ranges::MOST_RATIO;
 
-const FIRST_YEAR_PLACE: usize = 5;
+// Where the fields of a header stand; the limits stand behind the holidays.
+pub const FIRST_YEAR_PLACE: usize = 5;
 
 const START_DAY_PLACE: usize = 7;
 
-const FIRST_HOLIDAY_PLACE: usize = 11;
+pub const MEMBERS_PLACE: usize = 9;
 
+pub const HOLIDAY_COUNT_PLACE: usize = 10;
+
+pub const FIRST_HOLIDAY_PLACE: usize = 11;
+
+// Where a day limits' low stands.
 const LOW_PLACE: usize = 2;
 
 const LAST_ORDER_NUMBER: u64 = 4294967295;

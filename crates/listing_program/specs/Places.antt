@@ -2,8 +2,8 @@
 use Prim.Native.Nat.{ℕ, _+_, _*_, _≤_}
 use mathlib.Core.List.{List}
 use mathlib.Core.Path.{_≡_}
-use lib.ListN.{getD}
 use lib.IntN.{ℤ, pos}
+use Rattle.rules.specs.Header.{headerLength, headerOf}
 use Rattle.listing_program.specs.declared.input.Filled.{Filled}
 use Rattle.listing_program.specs.declared.input.Filled.the-variants.{Until, End, Failed}
 use Rattle.listing_program.specs.declared.shell.Ending.{Ending}
@@ -35,9 +35,9 @@ filledTo Failed n = Unit {0}
 
 -- Members, first year and size of the header that the bytes begin with.
 pub record LedgerOf (s : List ℕ) (r : Ledger) : Type 0 where
-  pub members : r .members ≡ getD s 9 0
-  pub year : r .«first_year» ≡ getD s 5 0 * 256 + getD s 6 0
-  pub size : r .«header_size» ≡ 11 + (2 * getD s 10 0 + 4 * getD s 9 0)
+  pub members : r .members ≡ headerOf s .members
+  pub year : r .«first_year» ≡ headerOf s .firstYear
+  pub size : r .«header_size» ≡ headerLength s
   pub yearFits : r .«first_year» ≤ mostInTwoBytes
   pub sizeFits : r .«header_size» ≤ inputLength
 

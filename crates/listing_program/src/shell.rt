@@ -10,11 +10,17 @@ use crate::input::fill;
 use crate::output::flush;
 use big_endian::u8_or_zero;
 use libc::STDERR_FILENO;
+use listing::FIRST_HOLIDAY_PLACE;
+use listing::FIRST_YEAR_PLACE;
+use listing::HOLIDAY_COUNT_PLACE;
+use listing::MEMBERS_PLACE;
 use listing::Piece;
 use listing::ROOM;
 use listing::next_piece;
 use listing::put_header_line;
 use listing::put_record_line;
+use rules::ranges::MOST_HOLIDAYS;
+use rules::ranges::MOST_MEMBERS;
 use text::shift;
 
 const INPUT: usize = 65536;
@@ -22,8 +28,10 @@ const INPUT: usize = 65536;
 // Room for a line beside those that wait.
 const OUTPUT: usize = 131072;
 
-// The longest header that can be sound: 120 holidays and 32 limits.
-const LONGEST_HEADER: usize = 379;
+// The longest header that can be sound: holidays of two bytes and limits of four.
+const LONGEST_HEADER: usize = FIRST_HOLIDAY_PLACE
+    + 2 * MOST_HOLIDAYS as usize
+    + 4 * MOST_MEMBERS as usize;
 
 // Nothing says that standard input ends, so turns are counted: this many take years.
 const MOST_TURNS: u64 = 70368744177664;
@@ -222,12 +230,13 @@ fn fill_header(input: &mut [u8]) -> Filled
 fn ledger_of(bytes: &[u8]) -> Ledger
     ensures { λ r. ⌜ LedgerOf (now (bytes .entry)) r ⌝ }
 {
-    let members = u8_or_zero(bytes, 9);
-    let holidays = u8_or_zero(bytes, 10);
+    let members = u8_or_zero(bytes, MEMBERS_PLACE);
+    let holidays = u8_or_zero(bytes, HOLIDAY_COUNT_PLACE);
     Ledger {
         members: members,
-        first_year: u8_or_zero(bytes, 5) * 256 + u8_or_zero(bytes, 6),
-        header_size: 11 + (2 * holidays + 4 * members),
+        first_year: u8_or_zero(bytes, FIRST_YEAR_PLACE) * 256
+            + u8_or_zero(bytes, FIRST_YEAR_PLACE + 1),
+        header_size: FIRST_HOLIDAY_PLACE as u64 + 2 * holidays + 4 * members,
     }
 }
 
