@@ -1,8 +1,9 @@
 -- Where the program stands in its buffers, and its exit status.
-use Prim.Native.Nat.{ℕ, _*_, _≤_}
+use Prim.Native.Nat.{ℕ, _+_, _*_, _≤_}
 use mathlib.Core.Path.{_≡_}
 use lib.IntN.{ℤ, pos}
 use Rattle.records.specs.Stages.{Counts}
+use Rattle.rules.specs.Ledger.{rowsLength}
 use Rattle.journal.specs.declared.input.Filled.{Filled}
 use Rattle.journal.specs.declared.input.Filled.the-variants.{Until, End, Failed}
 use Rattle.journal.specs.declared.shell.Ending.{Ending}
@@ -11,18 +12,30 @@ use Rattle.journal.specs.declared.shell.Next.{Next}
 use Rattle.journal.specs.declared.shell.Next.the-variants.{Going, Ended}
 use Rattle.journal.specs.declared.shell.Place.{Place}
 
+-- How long the buffers for input and output are.
+abbrev pub bufferLength : ℕ
+bufferLength = 65536
+
+-- The rows, and a place before and after them.
+abbrev pub rowsRoom : ℕ
+rowsRoom = rowsLength + 2
+
+-- Turns are counted up to here.
+abbrev pub mostTurns : ℕ
+mostTurns = 70368744177664
+
 abbrev pub filledTo : Filled → ℕ → Type 0
 filledTo (Until end) n = end ≤ n
 filledTo End n = Unit {0}
 filledTo Failed n = Unit {0}
 
--- Its places lie in order within buffers of 65,536 bytes, and each turn counts no more records than these.
+-- Its places lie in order within the buffers, and each turn counts no more records than a buffer has bytes.
 pub record Stands (p : Place) : Type 0 where
   pub before : p .from ≤ p .end
-  pub inside : p .end ≤ 65536
-  pub printed : p .filled ≤ 65536
-  pub counts : Counts (p .stage) (65536 * p .turns)
-  pub few : p .turns ≤ 70368744177664
+  pub inside : p .end ≤ bufferLength
+  pub printed : p .filled ≤ bufferLength
+  pub counts : Counts (p .stage) (bufferLength * p .turns)
+  pub few : p .turns ≤ mostTurns
 
 abbrev pub nextStands : ℕ → Next → Type 0
 nextStands turns (Going p) = Stands p × (p .turns ≡ turns)

@@ -3,10 +3,10 @@
 ghost use mathlib.Core.Path.{_≡_};
 ghost use Prim.Native.Nat.{_+_, _≤_, _<_};
 ghost use lib.ListN.{length};
-ghost use Rattle.journal.specs.Places.{Stands, nextStands};
+ghost use Rattle.rules.specs.Ledger.{headLength, linesLength};
+ghost use Rattle.journal.specs.Places.{bufferLength, rowsRoom, mostTurns, Stands, nextStands};
 use crate::input::Filled;
 use crate::input::fill;
-use crate::input::shift;
 use crate::output::flush;
 use libc::STDERR_FILENO;
 use records::Stage;
@@ -17,11 +17,12 @@ use rules::layout::HEAD_LENGTH;
 use rules::layout::LINES_LENGTH;
 use rules::layout::PRICES_LENGTH;
 use rules::layout::ROWS_LENGTH;
+use text::shift;
 
 const BUFFER: usize = 65536;
 
 // The rows, and a place before and after them.
-const ROWS: usize = 3266;
+const ROWS: usize = ROWS_LENGTH + 2;
 
 // Nothing says that standard input ends, so turns are counted: this many take years.
 const MOST_TURNS: u64 = 70368744177664;
@@ -64,7 +65,7 @@ fn first_place() -> Place
 
 // The rest goes to the front, and more comes behind it. After a failed read what is printed goes out.
 fn read_more(place: Place, input: &mut [u8], output: &[u8]) -> Next
-    requires { ⌜ Stands place × (length (now input) ≡ 65536) × (length (now output) ≡ 65536) ⌝ }
+    requires { ⌜ Stands place × (length (now input) ≡ bufferLength) × (length (now output) ≡ bufferLength) ⌝ }
     ensures { λ r. ⌜ nextStands (place .turns) r ⌝ }
 {
     let rest = place.end - place.from;
@@ -96,7 +97,7 @@ fn read_more(place: Place, input: &mut [u8], output: &[u8]) -> Next
 
 // What is printed so far goes out.
 fn write_out(place: Place, output: &[u8]) -> Next
-    requires { ⌜ Stands place × (length (now output) ≡ 65536) ⌝ }
+    requires { ⌜ Stands place × (length (now output) ≡ bufferLength) ⌝ }
     ensures { λ r. ⌜ nextStands (place .turns) r ⌝ }
 {
     let stage = place.stage;
@@ -133,7 +134,7 @@ fn ending_of(stage: Stage) -> Ending {
 
 // The next stage, or the end, when what is printed goes out.
 fn go_on(place: Place, output: &[u8]) -> Next
-    requires { ⌜ Stands place × (length (now output) ≡ 65536) ⌝ }
+    requires { ⌜ Stands place × (length (now output) ≡ bufferLength) ⌝ }
     ensures { λ r. ⌜ nextStands (place .turns) r ⌝ }
 {
     let stage = place.stage;
@@ -157,7 +158,8 @@ fn turn(
     book: &mut [u64],
     lines: &mut [i64],
 ) -> Next
-    requires { ⌜ Stands place × (place .turns < 70368744177664) × (length (now input) ≡ 65536) × (length (now output) ≡ 65536) × (224 ≤ length (now head)) × (800 ≤ length (now lines)) ⌝ }
+    requires { ⌜ Stands place × (place .turns < mostTurns) × (length (now input) ≡ bufferLength) × (length (now output) ≡ bufferLength)
+        × (headLength ≤ length (now head)) × (linesLength ≤ length (now lines)) ⌝ }
     ensures { λ r. ⌜ nextStands (place .turns + 1) r ⌝ }
 {
     let from = place.from;
@@ -203,7 +205,7 @@ fn run_turns(
     book: &mut [u64],
     lines: &mut [i64],
 ) -> Ending
-    requires { ⌜ (length (now input) ≡ 65536) × (length (now output) ≡ 65536) × (224 ≤ length (now head)) × (800 ≤ length (now lines)) ⌝ }
+    requires { ⌜ (length (now input) ≡ bufferLength) × (length (now output) ≡ bufferLength) × (headLength ≤ length (now head)) × (linesLength ≤ length (now lines)) ⌝ }
 {
     let mut place = first_place();
     let mut turns: u64 = 0;
@@ -242,8 +244,8 @@ fn run_on_rows(
     book: &mut [u64],
     lines: &mut [i64],
 ) -> Ending
-    requires { ⌜ (length (now input) ≡ 65536) × (length (now output) ≡ 65536) × (224 ≤ length (now head)) × (800 ≤ length (now lines)) ⌝ }
-    requires { ⌜ (length (now lots) ≡ 3266) × (length (now value) ≡ 3266) ⌝ }
+    requires { ⌜ (length (now input) ≡ bufferLength) × (length (now output) ≡ bufferLength) × (headLength ≤ length (now head)) × (linesLength ≤ length (now lines)) ⌝ }
+    requires { ⌜ (length (now lots) ≡ rowsRoom) × (length (now value) ≡ rowsRoom) ⌝ }
 {
     let first: usize = 1;
     let end = first + ROWS_LENGTH;

@@ -7,6 +7,7 @@ ghost use Rattle.rules.specs.Text.{space, decimal};
 ghost use Rattle.listing.specs.Fields.{fieldsOf, headerFault, faultOf, faultPlace};
 ghost use Rattle.listing.specs.Lines.{ListedAs, FieldsListed};
 ghost use Rattle.listing.specs.Short.{Short};
+ghost use Rattle.listing.specs.Sizes.{mostBytes, lineRoom};
 ghost use Rattle.listing.specs.Words.{nameOf, priceText, contractText, fieldWords, hint, outOfRange, reason, faultText, faultWords, recordLine, headerLine};
 use crate::field::Field;
 use crate::field::Quantity;
@@ -21,6 +22,8 @@ use crate::numbers::put_contract;
 use crate::numbers::put_price;
 use crate::numbers::put_time;
 use crate::numbers::put_word;
+use crate::ranges::HOLIDAY_COUNT_PLACE;
+use crate::ranges::MEMBERS_PLACE;
 use crate::ranges::does_pass;
 use crate::ranges::is_within;
 use crate::ranges::number_at;
@@ -180,7 +183,7 @@ fn put_fault(
     out: &mut [u8],
     place: usize,
 ) -> usize
-    requires { ⌜ (place + 170 ≤ length (now out)) × (at ≤ length (now bytes)) × (length (now bytes) ≤ 65536) × (base ≤ 4611686018427387904) ⌝ }
+    requires { ⌜ (place + 170 ≤ length (now out)) × (at ≤ length (now bytes)) × (length (now bytes) ≤ mostBytes) × (base ≤ 4611686018427387904) ⌝ }
     ensures { λ r. ⌜ Short 170 place (faultWords base members (now (bytes .entry)) at field) (now (out .entry)) (now (out .exit)) r ⌝ }
 {
     let verdict = verdict_of(members, bytes, at, field);
@@ -209,7 +212,7 @@ fn put_fields(
     out: &mut [u8],
     start: usize,
 ) -> Listed
-    requires { ⌜ (count ≡ length (fieldsOf shape)) × (start + (80 * count + 170) ≤ length (now out)) × (length (now bytes) ≤ 65536) ⌝ }
+    requires { ⌜ (count ≡ length (fieldsOf shape)) × (start + (80 * count + 170) ≤ length (now out)) × (length (now bytes) ≤ mostBytes) ⌝ }
     requires { ⌜ («first_year» ≤ 4294967296) × (base ≤ 4611686018427387904) × (count ≤ 767) ⌝ }
     ensures { λ r. ⌜ FieldsListed count start «first_year» base members (now (bytes .entry)) shape (now (out .entry)) (now (out .exit)) r ⌝ }
 {
@@ -245,11 +248,11 @@ fn put_fields(
 pub const ROOM: usize = 62000;
 
 pub fn put_header_line(bytes: &[u8], out: &mut [u8], start: usize) -> Listed
-    requires { ⌜ (start + 62000 ≤ length (now out)) × (length (now bytes) ≤ 65536) ⌝ }
-    ensures { λ r. ⌜ ListedAs 62000 start (headerLine (now (bytes .entry))) (headerFault (now (bytes .entry))) (now (out .entry)) (now (out .exit)) r ⌝ }
+    requires { ⌜ (start + lineRoom ≤ length (now out)) × (length (now bytes) ≤ mostBytes) ⌝ }
+    ensures { λ r. ⌜ ListedAs lineRoom start (headerLine (now (bytes .entry))) (headerFault (now (bytes .entry))) (now (out .entry)) (now (out .exit)) r ⌝ }
 {
-    let members = u8_or_zero(bytes, 9);
-    let holidays = u8_or_zero(bytes, 10);
+    let members = u8_or_zero(bytes, MEMBERS_PLACE);
+    let holidays = u8_or_zero(bytes, HOLIDAY_COUNT_PLACE);
     let count = 8 + (holidays + members);
     let shape = Shape::Header(holidays, members);
     let listed = put_fields(shape, count, 0, 0, 0, bytes, &mut *out, start);
@@ -269,9 +272,9 @@ pub fn put_record_line(
     out: &mut [u8],
     start: usize,
 ) -> Listed
-    requires { ⌜ (start + 62000 ≤ length (now out)) × (length (now bytes) ≤ 65536) ⌝ }
+    requires { ⌜ (start + lineRoom ≤ length (now out)) × (length (now bytes) ≤ mostBytes) ⌝ }
     requires { ⌜ («first_year» ≤ 4294967296) × (base ≤ 4611686018427387904) ⌝ }
-    ensures { λ r. ⌜ ListedAs 62000 start (recordLine members «first_year» number base (now (bytes .entry))) (faultOf members (now (bytes .entry))) (now (out .entry)) (now (out .exit)) r ⌝ }
+    ensures { λ r. ⌜ ListedAs lineRoom start (recordLine members «first_year» number base (now (bytes .entry))) (faultOf members (now (bytes .entry))) (now (out .entry)) (now (out .exit)) r ⌝ }
 {
     let kind = u8_or_zero(bytes, 0);
     let legs = u8_or_zero(bytes, 1);

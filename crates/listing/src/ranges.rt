@@ -6,6 +6,7 @@ ghost use lib.ListN.{length};
 ghost use Rattle.rules.specs.Days.{saturday, sunday};
 ghost use Rattle.rules.specs.Header.{u16At, u32At};
 ghost use Rattle.listing.specs.Fields.{sizeOf, quantityOf, range as rangeFrom, numberAt, spanRange, holidayRange, rangeOf, within, dayVerdict, verdictOf, passes};
+ghost use Rattle.listing.specs.Sizes.{mostBytes};
 ghost use Rattle.listing.specs.Words.{otherWayRound};
 use crate::field::Field;
 use crate::field::Quantity;
@@ -29,12 +30,18 @@ use rules::ranges::MOST_MEMBERS;
 use rules::ranges::MOST_PRICE;
 use rules::ranges::MOST_RATIO;
 
-const FIRST_YEAR_PLACE: usize = 5;
+// Where the fields of a header stand; the limits stand behind the holidays.
+pub const FIRST_YEAR_PLACE: usize = 5;
 
 const START_DAY_PLACE: usize = 7;
 
-const FIRST_HOLIDAY_PLACE: usize = 11;
+pub const MEMBERS_PLACE: usize = 9;
 
+pub const HOLIDAY_COUNT_PLACE: usize = 10;
+
+pub const FIRST_HOLIDAY_PLACE: usize = 11;
+
+// Where a day limits' low stands.
 const LOW_PLACE: usize = 2;
 
 const LAST_ORDER_NUMBER: u64 = 4294967295;
@@ -101,7 +108,7 @@ pub fn quantity_of(field: Field) -> Quantity
 
 // The number of so many bytes at a place; bytes past the end are 0.
 pub fn number_at(bytes: &[u8], place: usize, size: usize) -> u64
-    requires { ⌜ place ≤ 65536 ⌝ }
+    requires { ⌜ place ≤ mostBytes ⌝ }
     ensures { λ r. ⌜ (r ≡ numberAt (now (bytes .entry)) place size) × (r < 4294967296) ⌝ }
 {
     if size == 1 {
@@ -114,14 +121,14 @@ pub fn number_at(bytes: &[u8], place: usize, size: usize) -> u64
 }
 
 fn u16_or_zero(bytes: &[u8], place: usize) -> u64
-    requires { ⌜ place ≤ 65540 ⌝ }
+    requires { ⌜ place ≤ mostBytes + 4 ⌝ }
     ensures { λ r. ⌜ (r ≡ u16At (now (bytes .entry)) place) × (r < 65536) ⌝ }
 {
     u8_or_zero(bytes, place) * 256 + u8_or_zero(bytes, place + 1)
 }
 
 fn u32_or_zero(bytes: &[u8], place: usize) -> u64
-    requires { ⌜ place ≤ 65536 ⌝ }
+    requires { ⌜ place ≤ mostBytes ⌝ }
     ensures { λ r. ⌜ (r ≡ u32At (now (bytes .entry)) place) × (r < 4294967296) ⌝ }
 {
     u16_or_zero(bytes, place) * 65536 + u16_or_zero(bytes, place + 2)
@@ -149,7 +156,7 @@ fn span_range(first_year: u64) -> Range
 
 // Each holiday is above the one before it.
 fn holiday_range(bytes: &[u8], place: usize) -> Range
-    requires { ⌜ place ≤ 65536 ⌝ }
+    requires { ⌜ place ≤ mostBytes ⌝ }
     ensures { λ r. ⌜ r ≡ holidayRange (now (bytes .entry)) place ⌝ }
 {
     let span = span_range(u16_or_zero(bytes, FIRST_YEAR_PLACE));
@@ -169,7 +176,7 @@ fn last_member(members: u64) -> u64
 }
 
 pub fn range_of(members: u64, bytes: &[u8], place: usize, field: Field) -> Range
-    requires { ⌜ place ≤ 65536 ⌝ }
+    requires { ⌜ place ≤ mostBytes ⌝ }
     ensures { λ r. ⌜ r ≡ rangeOf members (now (bytes .entry)) place field ⌝ }
 {
     match field {
@@ -254,7 +261,7 @@ fn day_verdict(bytes: &[u8], quantity: Quantity, number: u64) -> Verdict
 
 // What is found of a field at a place of the bytes, in a ledger of that many members.
 pub fn verdict_of(members: u64, bytes: &[u8], place: usize, field: Field) -> Verdict
-    requires { ⌜ (place ≤ length (now bytes)) × (length (now bytes) ≤ 65536) ⌝ }
+    requires { ⌜ (place ≤ length (now bytes)) × (length (now bytes) ≤ mostBytes) ⌝ }
     ensures { λ r. ⌜ r ≡ verdictOf members (now (bytes .entry)) place field ⌝ }
 {
     let size = size_of(field);

@@ -1,7 +1,6 @@
 // Standard input, read into a buffer.
-ghost use mathlib.Core.Path.{_≡_};
-ghost use Prim.Native.Nat.{_-_, _≤_};
-ghost use lib.ListN.{length, take, drop};
+ghost use Prim.Native.Nat.{_≤_};
+ghost use lib.ListN.{length};
 ghost use Rattle.listing_program.specs.Places.{filledTo};
 use libc::STDIN_FILENO;
 
@@ -30,17 +29,4 @@ pub fn fill(input: &mut [u8], end: usize) -> Filled
         return Filled::End;
     }
     Filled::Until(end + io::count(got, &input[end..]))
-}
-
-// The bytes from a place to end, moved to the front.
-pub fn shift(input: &mut [u8], from: usize, end: usize)
-    requires { ⌜ (from ≤ end) × (end ≤ length (now input)) ⌝ }
-    ensures { λ _. ⌜ take (end - from) (now (input .exit)) ≡ take (end - from) (drop from (now (input .entry))) ⌝ }
-{
-    let n = end - from;
-    let mut i: usize = 0;
-    while i < n {
-        input[i] = input[from + i];
-        i += 1;
-    }
 }

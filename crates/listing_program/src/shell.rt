@@ -1,27 +1,37 @@
 // The program's turns: the next record is listed, or bytes are read, or lines are written. No contract can say what a read brought
 // or a write took; what is listed for the bytes that came is the promise of crate listing.
 ghost use mathlib.Core.Path.{_≡_};
-ghost use Prim.Native.Nat.{_+_, _*_, _≤_, _<_};
+ghost use Prim.Native.Nat.{_+_, _≤_, _<_};
 ghost use lib.ListN.{length};
-ghost use Rattle.listing_program.specs.Places.{filledTo, LedgerOf, Stands, nextStands};
+ghost use Rattle.listing.specs.Sizes.{lineRoom};
+ghost use Rattle.listing_program.specs.Places.{inputLength, outputLength, mostTurns, mostInTwoBytes, filledTo, LedgerOf, Stands, nextStands};
 use crate::input::Filled;
 use crate::input::fill;
-use crate::input::shift;
 use crate::output::flush;
 use big_endian::u8_or_zero;
+use libc::STDERR_FILENO;
+use listing::FIRST_HOLIDAY_PLACE;
+use listing::FIRST_YEAR_PLACE;
+use listing::HOLIDAY_COUNT_PLACE;
+use listing::MEMBERS_PLACE;
 use listing::Piece;
 use listing::ROOM;
 use listing::next_piece;
 use listing::put_header_line;
 use listing::put_record_line;
+use rules::ranges::MOST_HOLIDAYS;
+use rules::ranges::MOST_MEMBERS;
+use text::shift;
 
 const INPUT: usize = 65536;
 
 // Room for a line beside those that wait.
 const OUTPUT: usize = 131072;
 
-// The longest header that can be sound: 120 holidays and 32 limits.
-const LONGEST_HEADER: usize = 379;
+// The longest header that can be sound: holidays of two bytes and limits of four.
+const LONGEST_HEADER: usize = FIRST_HOLIDAY_PLACE
+    + 2 * MOST_HOLIDAYS as usize
+    + 4 * MOST_MEMBERS as usize;
 
 // Nothing says that standard input ends, so turns are counted: this many take years.
 const MOST_TURNS: u64 = 70368744177664;
@@ -70,7 +80,7 @@ fn finish(output: &[u8], filled: usize, ending: Ending) -> Ending
 
 // The rest goes to the front, and more comes behind it. After a failed read the lines that wait go out.
 fn read_more(place: Place, input: &mut [u8], output: &[u8]) -> Next
-    requires { ⌜ Stands place × (length (now input) ≡ 65536) × (length (now output) ≡ 131072) ⌝ }
+    requires { ⌜ Stands place × (length (now input) ≡ inputLength) × (length (now output) ≡ outputLength) ⌝ }
     ensures { λ r. ⌜ nextStands (place .turns) r ⌝ }
 {
     let rest = place.end - place.from;
@@ -102,7 +112,7 @@ fn read_more(place: Place, input: &mut [u8], output: &[u8]) -> Next
 }
 
 fn write_out(place: Place, output: &[u8]) -> Next
-    requires { ⌜ Stands place × (length (now output) ≡ 131072) ⌝ }
+    requires { ⌜ Stands place × (length (now output) ≡ outputLength) ⌝ }
     ensures { λ r. ⌜ nextStands (place .turns) r ⌝ }
 {
     if flush(output, place.filled) {
@@ -121,8 +131,8 @@ fn write_out(place: Place, output: &[u8]) -> Next
 
 // The record of the first bytes; the program ends after one that is unsound, since no later record's place is known.
 fn list_record(ledger: Ledger, place: Place, size: usize, input: &[u8], output: &mut [u8]) -> Next
-    requires { ⌜ Stands place × (place .turns < 70368744177664) × (place .from + size ≤ place .end) × (place .filled + 62000 ≤ 131072) ⌝ }
-    requires { ⌜ (ledger .«first_year» ≤ 65535) × (length (now input) ≡ 65536) × (length (now output) ≡ 131072) ⌝ }
+    requires { ⌜ Stands place × (place .turns < mostTurns) × (place .from + size ≤ place .end) × (place .filled + lineRoom ≤ outputLength) ⌝ }
+    requires { ⌜ (ledger .«first_year» ≤ mostInTwoBytes) × (length (now input) ≡ inputLength) × (length (now output) ≡ outputLength) ⌝ }
     ensures { λ r. ⌜ nextStands (place .turns + 1) r ⌝ }
 {
     let from = place.from;
@@ -152,7 +162,7 @@ fn list_record(ledger: Ledger, place: Place, size: usize, input: &[u8], output: 
 }
 
 fn turn(ledger: Ledger, place: Place, input: &mut [u8], output: &mut [u8]) -> Next
-    requires { ⌜ Stands place × (place .turns < 70368744177664) × (ledger .«first_year» ≤ 65535) × (length (now input) ≡ 65536) × (length (now output) ≡ 131072) ⌝ }
+    requires { ⌜ Stands place × (place .turns < mostTurns) × (ledger .«first_year» ≤ mostInTwoBytes) × (length (now input) ≡ inputLength) × (length (now output) ≡ outputLength) ⌝ }
     ensures { λ r. ⌜ nextStands (place .turns + 1) r ⌝ }
 {
     let from = place.from;
@@ -177,7 +187,7 @@ fn turn(ledger: Ledger, place: Place, input: &mut [u8], output: &mut [u8]) -> Ne
 }
 
 fn list_records(ledger: Ledger, first: Place, input: &mut [u8], output: &mut [u8]) -> Ending
-    requires { ⌜ Stands first × (first .turns ≡ 0) × (ledger .«first_year» ≤ 65535) × (length (now input) ≡ 65536) × (length (now output) ≡ 131072) ⌝ }
+    requires { ⌜ Stands first × (first .turns ≡ 0) × (ledger .«first_year» ≤ mostInTwoBytes) × (length (now input) ≡ inputLength) × (length (now output) ≡ outputLength) ⌝ }
 {
     let mut place = first;
     let mut turns: u64 = 0;
@@ -190,12 +200,13 @@ fn list_records(ledger: Ledger, first: Place, input: &mut [u8], output: &mut [u8
         }
         turns += 1;
     }
+    io::write_all(STDERR_FILENO, b"listing: too long\n");
     Ending::ReadFailed
 }
 
 // The bytes of the longest header, or all that there are.
 fn fill_header(input: &mut [u8]) -> Filled
-    requires { ⌜ length (now input) ≡ 65536 ⌝ }
+    requires { ⌜ length (now input) ≡ inputLength ⌝ }
     ensures { λ r. ⌜ filledTo r (length (now (input .entry))) ⌝ }
 {
     let mut end: usize = 0;
@@ -219,18 +230,19 @@ fn fill_header(input: &mut [u8]) -> Filled
 fn ledger_of(bytes: &[u8]) -> Ledger
     ensures { λ r. ⌜ LedgerOf (now (bytes .entry)) r ⌝ }
 {
-    let members = u8_or_zero(bytes, 9);
-    let holidays = u8_or_zero(bytes, 10);
+    let members = u8_or_zero(bytes, MEMBERS_PLACE);
+    let holidays = u8_or_zero(bytes, HOLIDAY_COUNT_PLACE);
     Ledger {
         members: members,
-        first_year: u8_or_zero(bytes, 5) * 256 + u8_or_zero(bytes, 6),
-        header_size: 11 + (2 * holidays + 4 * members),
+        first_year: u8_or_zero(bytes, FIRST_YEAR_PLACE) * 256
+            + u8_or_zero(bytes, FIRST_YEAR_PLACE + 1),
+        header_size: FIRST_HOLIDAY_PLACE as u64 + 2 * holidays + 4 * members,
     }
 }
 
 // The header's line, then those of the records behind it.
 fn list_from(end: usize, input: &mut [u8], output: &mut [u8]) -> Ending
-    requires { ⌜ (end ≤ length (now input)) × (length (now input) ≡ 65536) × (length (now output) ≡ 131072) ⌝ }
+    requires { ⌜ (end ≤ length (now input)) × (length (now input) ≡ inputLength) × (length (now output) ≡ outputLength) ⌝ }
 {
     let listed = put_header_line(&input[..end], &mut *output, 0);
     if !listed.is_sound {

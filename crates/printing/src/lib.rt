@@ -3,9 +3,10 @@ ghost use mathlib.Core.List.{[], _∷_, flatMap};
 ghost use Prim.Native.Nat.{_+_, _*_, _≤_, _<_};
 ghost use lib.ListN.{length};
 ghost use Rattle.rules.specs.Journal.{headText, dealText, refusalText, endText};
-ghost use Rattle.rules.specs.Ledger.{Tables, Line, withHead, firstLines};
+ghost use Rattle.rules.specs.Ledger.{Tables, Line, lineWidth, headLength, withHead, firstLines};
 ghost use Rattle.rules.specs.Text.{decimal, lineText};
 ghost use Rattle.text.specs.Wrote.{Wrote};
+ghost use Rattle.printing.specs.Room.{lineRoom};
 use rules::layout::DAY;
 use rules::layout::FIRST_YEAR;
 use rules::layout::LINE_CONTRACT;
@@ -24,8 +25,8 @@ use text::size;
 pub const LINE_ROOM: usize = 86;
 
 fn put_two(out: &mut [u8], place: usize, letter: u8, a: u64, b: u64) -> usize
-    requires { ⌜ place + 86 ≤ length (now out) ⌝ }
-    ensures { λ r. ⌜ Wrote place (lineText letter (decimal a ∷ decimal b ∷ [])) (now (out .entry)) (now (out .exit)) r × (r ≤ place + 86) ⌝ }
+    requires { ⌜ place + lineRoom ≤ length (now out) ⌝ }
+    ensures { λ r. ⌜ Wrote place (lineText letter (decimal a ∷ decimal b ∷ [])) (now (out .entry)) (now (out .exit)) r × (r ≤ place + lineRoom) ⌝ }
 {
     let end = put_byte(&mut *out, place, letter);
     let end = put_field(&mut *out, end, a);
@@ -34,8 +35,8 @@ fn put_two(out: &mut [u8], place: usize, letter: u8, a: u64, b: u64) -> usize
 }
 
 fn put_three(out: &mut [u8], place: usize, letter: u8, a: u64, b: u64, c: u64) -> usize
-    requires { ⌜ place + 86 ≤ length (now out) ⌝ }
-    ensures { λ r. ⌜ Wrote place (lineText letter (decimal a ∷ decimal b ∷ decimal c ∷ [])) (now (out .entry)) (now (out .exit)) r × (r ≤ place + 86) ⌝ }
+    requires { ⌜ place + lineRoom ≤ length (now out) ⌝ }
+    ensures { λ r. ⌜ Wrote place (lineText letter (decimal a ∷ decimal b ∷ decimal c ∷ [])) (now (out .entry)) (now (out .exit)) r × (r ≤ place + lineRoom) ⌝ }
 {
     let end = put_byte(&mut *out, place, letter);
     let end = put_field(&mut *out, end, a);
@@ -46,24 +47,24 @@ fn put_three(out: &mut [u8], place: usize, letter: u8, a: u64, b: u64, c: u64) -
 
 // H: first year, day, members.
 pub fn put_head(out: &mut [u8], place: usize, head: &[u64]) -> usize
-    requires { ⌜ (place + 86 ≤ length (now out)) × (224 ≤ length (now head)) ⌝ }
-    ensures { λ r. ⌜ ((t : Tables) → Wrote place (headText (withHead (now (head .entry)) t)) (now (out .entry)) (now (out .exit)) r) × (r ≤ place + 86) ⌝ }
+    requires { ⌜ (place + lineRoom ≤ length (now out)) × (headLength ≤ length (now head)) ⌝ }
+    ensures { λ r. ⌜ ((t : Tables) → Wrote place (headText (withHead (now (head .entry)) t)) (now (out .entry)) (now (out .exit)) r) × (r ≤ place + lineRoom) ⌝ }
 {
     put_three(out, place, b'H', head[FIRST_YEAR], head[DAY], head[MEMBERS])
 }
 
 // R: the record, counted from 1, and the number of the cause.
 pub fn put_refusal(out: &mut [u8], place: usize, record: u64, number: u64) -> usize
-    requires { ⌜ place + 86 ≤ length (now out) ⌝ }
-    ensures { λ r. ⌜ Wrote place (refusalText «record» number) (now (out .entry)) (now (out .exit)) r × (r ≤ place + 86) ⌝ }
+    requires { ⌜ place + lineRoom ≤ length (now out) ⌝ }
+    ensures { λ r. ⌜ Wrote place (refusalText «record» number) (now (out .entry)) (now (out .exit)) r × (r ≤ place + lineRoom) ⌝ }
 {
     put_two(out, place, b'R', record, number)
 }
 
 // E: accepted, refused, lots run.
 pub fn put_end(out: &mut [u8], place: usize, counted: u64, accepted: u64, head: &[u64]) -> usize
-    requires { ⌜ (place + 86 ≤ length (now out)) × (accepted ≤ counted) × (224 ≤ length (now head)) ⌝ }
-    ensures { λ r. ⌜ ((t : Tables) → Wrote place (endText counted accepted (withHead (now (head .entry)) t)) (now (out .entry)) (now (out .exit)) r) × (r ≤ place + 86) ⌝ }
+    requires { ⌜ (place + lineRoom ≤ length (now out)) × (accepted ≤ counted) × (headLength ≤ length (now head)) ⌝ }
+    ensures { λ r. ⌜ ((t : Tables) → Wrote place (endText counted accepted (withHead (now (head .entry)) t)) (now (out .entry)) (now (out .exit)) r) × (r ≤ place + lineRoom) ⌝ }
 {
     put_three(
         out,
@@ -84,8 +85,8 @@ fn put_deal(
     lots: i64,
     price: u64,
 ) -> usize
-    requires { ⌜ place + 86 ≤ length (now out) ⌝ }
-    ensures { λ r. ⌜ Wrote place (dealText (record { member = member; contract = contract; lots = lots; price = price })) (now (out .entry)) (now (out .exit)) r × (r ≤ place + 86) ⌝ }
+    requires { ⌜ place + lineRoom ≤ length (now out) ⌝ }
+    ensures { λ r. ⌜ Wrote place (dealText (record { member = member; contract = contract; lots = lots; price = price })) (now (out .entry)) (now (out .exit)) r × (r ≤ place + lineRoom) ⌝ }
 {
     let end = put_byte(&mut *out, place, b'D');
     let end = put_field(&mut *out, end, member);
@@ -97,8 +98,8 @@ fn put_deal(
 
 // The first deal lines of a line table.
 pub fn put_deals(out: &mut [u8], place: usize, lines: &[i64], count: usize) -> usize
-    requires { ⌜ (place + 86 * count ≤ length (now out)) × (count * 4 ≤ length (now lines)) ⌝ }
-    ensures { λ r. ⌜ Wrote place (flatMap dealText (firstLines count (now (lines .entry)))) (now (out .entry)) (now (out .exit)) r × (r ≤ place + 86 * count) ⌝ }
+    requires { ⌜ (place + lineRoom * count ≤ length (now out)) × (count * lineWidth ≤ length (now lines)) ⌝ }
+    ensures { λ r. ⌜ Wrote place (flatMap dealText (firstLines count (now (lines .entry)))) (now (out .entry)) (now (out .exit)) r × (r ≤ place + lineRoom * count) ⌝ }
 {
     let mut end = place;
     let mut i: usize = 0;

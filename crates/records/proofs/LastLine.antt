@@ -8,6 +8,7 @@ use lib.ListN.{length}
 use Rattle.rules.specs.Journal.{endText}
 use Rattle.rules.specs.Ledger.{Tables, withHead}
 use Rattle.text.specs.Wrote.{Wrote}
+use Rattle.records.specs.Room.{roomWanted}
 use Rattle.records.specs.declared.stage.Progress.{Progress}
 use Rattle.records.specs.declared.stage.Stage.{Stage}
 use Rattle.records.specs.declared.stage.Stage.the-variants.{Header, Records, Read, Stopped, ReadToEnd, RecordUnsound, HeaderUnsound}
@@ -35,7 +36,7 @@ pub stopped-counts : {stage : Stage} {n k most : ℕ} → stage ≡ Stopped n k 
 stopped-counts e c = rw e at c
 
 module _ (stage : Stage) (t : Tables) (bytes : List ℕ) (last : Bool) (filled : ℕ) (entry : List ℕ) (fits : filled ≤ length entry) {r : Progress} where
-  pub waits : length entry - filled < 17286 → r ≡ record { used = 0; end = filled; stage = stage; wants = Room } → Advanced stage t bytes last filled entry entry t r
+  pub waits : length entry - filled < roomWanted → r ≡ record { used = 0; end = filled; stage = stage; wants = Room } → Advanced stage t bytes last filled entry entry t r
   waits h e = rw e (none-run stage t bytes last filled entry Room fits (λ room f. omega arith) (λ most c. counts-more stage most (length bytes) c))
 
   pub all-printed : rank stage ≡ 3 → r ≡ record { used = 0; end = filled; stage = stage; wants = Nothing } → Advanced stage t bytes last filled entry entry t r

@@ -17,6 +17,7 @@ use Rattle.rules.specs.Records.{frontOf}
 use Rattle.rules.specs.Refusals.{applySpec}
 use Rattle.text.specs.Wrote.{Wrote}
 use Rattle.text.proofs.Writing.{then, wrote-none}
+use Rattle.records.specs.Room.{roomWanted}
 use Rattle.records.specs.declared.record.Printed.{Printed}
 use Rattle.records.specs.declared.stage.Stage.{Stage}
 use Rattle.records.specs.declared.stage.Stage.the-variants.{Records, Read, Stopped}
@@ -39,14 +40,14 @@ ran-part i m s t w = let e : (i + m) - i ≡ m = omega arith in rw e at w
 
 -- ---- whether a record can be run
 -- A record can be run now.
-pub ready-says : (last stopped : Bool) (room : ℕ) (s : List ℕ) → 0 < readyLength last stopped room s → (stopped ≡ false) × (17286 ≤ room) × (readyLength last stopped room s ≡ lengthNow last s)
+pub ready-says : (last stopped : Bool) (room : ℕ) (s : List ℕ) → 0 < readyLength last stopped room s → (stopped ≡ false) × (roomWanted ≤ room) × (readyLength last stopped room s ≡ lengthNow last s)
 unfolding readyLength
 ready-says last true room s h = absurd (omega arith)
 ready-says last false room s h =
-    true-or (ltb room 17286) (λ e. let z = rw e at h in absurd (omega arith)) (λ e. (refl, ltb-false room 17286 e, rw e refl))
+    true-or (ltb room roomWanted) (λ e. let z = rw e at h in absurd (omega arith)) (λ e. (refl, ltb-false room roomWanted e, rw e refl))
 
 -- None can: the journal was stopped, or room lacks, or none is there.
-pub ready-none : (last : Bool) (room : ℕ) (s : List ℕ) → readyLength last false room s ≡ 0 → ltb room 17286 ≡ false → lengthNow last s ≡ 0
+pub ready-none : (last : Bool) (room : ℕ) (s : List ℕ) → readyLength last false room s ≡ 0 → ltb room roomWanted ≡ false → lengthNow last s ≡ 0
 unfolding readyLength
 ready-none last room s z e = rw e at z
 
@@ -96,7 +97,7 @@ module _ {n₀ k₀ : ℕ} {t₀ : Tables} {bytes : List ℕ} {last : Bool} {fil
 
   -- ---- one record more
   module _ {m : ℕ} (room : ℕ) (is : m ≡ readyLength last stopped room left) (some : 0 < m) (roomy : end + room ≡ length out) where
-    ready : (stopped ≡ false) × (17286 ≤ room) × (readyLength last stopped room left ≡ lengthNow last left)
+    ready : (stopped ≡ false) × (roomWanted ≤ room) × (readyLength last stopped room left ≡ lengthNow last left)
     ready = ready-says last stopped room left (rw is at some)
 
     now-is : m ≡ lengthNow last left
@@ -105,7 +106,7 @@ module _ {n₀ k₀ : ℕ} {t₀ : Tables} {bytes : List ℕ} {last : Bool} {fil
     pub next-inside : place + m ≤ length bytes
     next-inside = let f : m ≤ length left = rw now-is (now-fits last left) in omega (arith, rw (length-drop place bytes) at f, w .inside)
 
-    pub next-room : end + 17286 ≤ length out
+    pub next-room : end + roomWanted ≤ length out
     next-room = omega (arith, ready .1)
 
     module _ {t′ : Tables} {out′ : List ℕ} {r : Printed} (one : RanOne (n + 1) end (applySpec t (take m left)) out out′ t′ r) (kept : length out′ ≡ length out) where
@@ -160,7 +161,7 @@ module _ {n₀ k₀ : ℕ} {t₀ : Tables} {bytes : List ℕ} {last : Bool} {fil
             (w .rest more ends);
       }
 
-  end-room : (room : ℕ) → stopped ≡ false → end + room ≡ length out → room < 17286 → End (Records n k) Room
+  end-room : (room : ℕ) → stopped ≡ false → end + room ≡ length out → room < roomWanted → End (Records n k) Room
   unfolding remaining
   end-room room e f h =
       record { text = w .text; wrote = w .wrote; inside = w .inside; within = w .within; counts = counts; asks = λ room′ g. omega (arith, w .same); rest = going e }
@@ -187,18 +188,18 @@ module _ {n₀ k₀ : ℕ} {t₀ : Tables} {bytes : List ℕ} {last : Bool} {fil
 
   -- ---- the stage that is told
   module _ (room : ℕ) (read : Bool) (roomy : end + room ≡ length out) (is-read : read ≡ last && eqb place (length bytes)) where
-    told-room : stopped ≡ false → ltb room 17286 ≡ true → End (stageAfter n k stopped read room) (wantsAfter stopped read room)
+    told-room : stopped ≡ false → ltb room roomWanted ≡ true → End (stageAfter n k stopped read room) (wantsAfter stopped read room)
     unfolding stageAfter wantsAfter
-    told-room e f = rw (e, f) (end-room room e roomy (ltb-true room 17286 f))
+    told-room e f = rw (e, f) (end-room room e roomy (ltb-true room roomWanted f))
 
-    told-read : stopped ≡ false → ltb room 17286 ≡ false → read ≡ true → End (stageAfter n k stopped read room) (wantsAfter stopped read room)
+    told-read : stopped ≡ false → ltb room roomWanted ≡ false → read ≡ true → End (stageAfter n k stopped read room) (wantsAfter stopped read room)
     unfolding stageAfter wantsAfter
     told-read e f g =
         let both : last && eqb place (length bytes) ≡ true = sym is-read ∙ g in
         rw (e, f, g)
         (end-read e (and-left last (eqb place (length bytes)) both) (borrow.Author.Tests.eqb-true place (length bytes) (and-right last (eqb place (length bytes)) both)))
 
-    told-bytes : stopped ≡ false → ltb room 17286 ≡ false → read ≡ false → lengthNow last left ≡ 0 → End (stageAfter n k stopped read room) (wantsAfter stopped read room)
+    told-bytes : stopped ≡ false → ltb room roomWanted ≡ false → read ≡ false → lengthNow last left ≡ 0 → End (stageAfter n k stopped read room) (wantsAfter stopped read room)
     unfolding stageAfter wantsAfter
     told-bytes e f g z = rw (e, f, g) (end-bytes e not-last (now-short last left z))
       where
@@ -215,5 +216,5 @@ module _ {n₀ k₀ : ℕ} {t₀ : Tables} {bytes : List ℕ} {last : Bool} {fil
     pub runs-end : {stage : Stage} {wants : Wants} → readyLength last stopped room left ≡ 0 → stage ≡ stageAfter n k stopped read room → wants ≡ wantsAfter stopped read room → End stage wants
     runs-end none es ew =
         rw (es, ew)
-        (true-or stopped told-stopped (λ e. true-or (ltb room 17286) (told-room e)
+        (true-or stopped told-stopped (λ e. true-or (ltb room roomWanted) (told-room e)
         (λ f. true-or read (told-read e f) (λ g. told-bytes e f g (ready-none last room left (rw e at none) f)))))

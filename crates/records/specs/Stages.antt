@@ -13,6 +13,7 @@ use Rattle.rules.specs.Journal.{endText, answerText, stops, acceptedBy, records
 use Rattle.rules.specs.Ledger.{Tables}
 use Rattle.rules.specs.Records.{frontOf}
 use Rattle.text.specs.Wrote.{Wrote}
+use Rattle.records.specs.Room.{recordRoom, roomWanted}
 use Rattle.records.specs.declared.record.Printed.{Printed}
 use Rattle.records.specs.declared.stage.Progress.{Progress}
 use Rattle.records.specs.declared.stage.Stage.{Stage}
@@ -25,7 +26,7 @@ use Rattle.records.specs.declared.stage.Wants.the-variants.{Nothing, Byt
 pub record RanOne (number place : ℕ) (o : Outcome Tables) (entry exit : List ℕ) (after : Tables) (r : Printed) : Type 0 where
   pub outcome : after ≡ o .after
   pub wrote : Wrote place (answerText number o) entry exit (r .end)
-  pub room : r .end ≤ place + 17200
+  pub room : r .end ≤ place + recordRoom
   pub counted : r .accepted ≡ acceptedBy (o .answer)
   pub unsound : r .«is_unsound» ≡ stops (o .answer)
 
@@ -40,14 +41,14 @@ lengthNow last s = lengthByNow last (length s) (frontOf s)
 
 -- The same, or 0 where the journal was stopped or the output may lack room.
 unfoldable pub readyLength : Bool → Bool → ℕ → List ℕ → ℕ
-readyLength last stopped room s = cond stopped 0 (cond (ltb room 17286) 0 (lengthNow last s))
+readyLength last stopped room s = cond stopped 0 (cond (ltb room roomWanted) 0 (lengthNow last s))
 
 -- ---- where running some records ended
 unfoldable pub stageAfter : ℕ → ℕ → Bool → Bool → ℕ → Stage
-stageAfter n k stopped read room = cond stopped (Stopped n k) (cond (ltb room 17286) (Records n k) (cond read (Read n k) (Records n k)))
+stageAfter n k stopped read room = cond stopped (Stopped n k) (cond (ltb room roomWanted) (Records n k) (cond read (Read n k) (Records n k)))
 
 unfoldable pub wantsAfter : Bool → Bool → ℕ → Wants
-wantsAfter stopped read room = cond stopped Nothing (cond (ltb room 17286) Room (cond read Nothing Bytes))
+wantsAfter stopped read room = cond stopped Nothing (cond (ltb room roomWanted) Room (cond read Nothing Bytes))
 
 -- ---- what is still to be printed, of these tables and bytes
 unfoldable pub remaining : Stage → Tables → List ℕ → List ℕ
@@ -93,7 +94,7 @@ Short HeaderUnsound s = ⊥
 abbrev pub Asks : Wants → Stage → Stage → List ℕ → Bool → ℕ → Type 0
 Asks Nothing before after left last room = rank before < 3 → rank before < rank after
 Asks Bytes before after left last room = (last ≡ false) × Short after left
-Asks Room before after left last room = room < 17286
+Asks Room before after left last room = room < roomWanted
 
 -- What a call did on these bytes, the last of the journal or not, whatever bytes come after them: a text was written behind
 -- what was printed, and it, with what is still to be printed, is what was to be printed.

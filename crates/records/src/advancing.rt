@@ -1,7 +1,7 @@
 // One stage of a journal after the other.
 ghost use Prim.Native.Nat.{_≤_, _<_, _^_};
 ghost use lib.ListN.{length};
-ghost use Rattle.rules.specs.Ledger.{lent};
+ghost use Rattle.rules.specs.Ledger.{lent, headLength, linesLength};
 ghost use Rattle.records.specs.Stages.{Advanced, Counts};
 use crate::beginning::begin;
 use crate::run::run_records;
@@ -26,7 +26,7 @@ pub fn advance(
     book: &mut [u64],
     lines: &mut [i64],
 ) -> Progress
-    requires { ⌜ Counts stage (2 ^ 62) × (length (now bytes) < 2 ^ 62) × (filled ≤ length (now out)) × (224 ≤ length (now head)) × (800 ≤ length (now lines)) ⌝ }
+    requires { ⌜ Counts stage (2 ^ 62) × (length (now bytes) < 2 ^ 62) × (filled ≤ length (now out)) × (headLength ≤ length (now head)) × (linesLength ≤ length (now lines)) ⌝ }
     ensures { λ r. ⌜ Advanced stage
         (lent (now (head .entry)) (now (prices .entry)) (now (lots .entry)) (now (value .entry)) (now (book .entry)) (now (lines .entry)))
         (now (bytes .entry)) «is_last» filled (now (out .entry)) (now (out .exit))

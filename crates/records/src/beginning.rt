@@ -2,8 +2,9 @@
 ghost use mathlib.Core.Path.{_≡_};
 ghost use Prim.Native.Nat.{_+_, _≤_, _<_};
 ghost use lib.ListN.{length};
+ghost use Rattle.printing.specs.Room.{lineRoom};
 ghost use Rattle.rules.specs.Header.{headerLength};
-ghost use Rattle.rules.specs.Ledger.{lent};
+ghost use Rattle.rules.specs.Ledger.{lent, headLength};
 ghost use Rattle.records.specs.declared.stage.Stage.the-variants.{Header};
 ghost use Rattle.records.specs.Stages.{Advanced};
 use crate::stage::Progress;
@@ -40,7 +41,7 @@ pub fn begin(
     book: &[u64],
     lines: &[i64],
 ) -> Progress
-    requires { ⌜ (filled + 86 ≤ length (now out)) × (224 ≤ length (now head)) ⌝ }
+    requires { ⌜ (filled + lineRoom ≤ length (now out)) × (headLength ≤ length (now head)) ⌝ }
     ensures { λ r. ⌜ Advanced Header
         (lent (now (head .entry)) (now (prices .entry)) (now (lots .entry)) (now (value .entry)) (now (book .entry)) (now (lines .entry)))
         (now (bytes .entry)) «is_last» filled (now (out .entry)) (now (out .exit))

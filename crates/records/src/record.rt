@@ -2,8 +2,9 @@
 ghost use mathlib.Core.Path.{_≡_};
 ghost use Prim.Native.Nat.{_+_, _≤_};
 ghost use lib.ListN.{length};
-ghost use Rattle.rules.specs.Ledger.{lent};
+ghost use Rattle.rules.specs.Ledger.{lent, linesLength};
 ghost use Rattle.rules.specs.Refusals.{applySpec};
+ghost use Rattle.records.specs.Room.{recordRoom};
 ghost use Rattle.records.specs.Stages.{RanOne, lengthNow, readyLength};
 use crate::stage::ROOM;
 use codec::front_record;
@@ -60,7 +61,7 @@ pub fn run_record(
     book: &mut [u64],
     lines: &mut [i64],
 ) -> Printed
-    requires { ⌜ (place + 17200 ≤ length (now out)) × (800 ≤ length (now lines)) ⌝ }
+    requires { ⌜ (place + recordRoom ≤ length (now out)) × (linesLength ≤ length (now lines)) ⌝ }
     ensures { λ r. ⌜ RanOne number place
         (applySpec (lent (now (head .entry)) (now (prices .entry)) (now (lots .entry)) (now (value .entry)) (now (book .entry)) (now (lines .entry))) (now (bytes .entry)))
         (now (out .entry)) (now (out .exit))

@@ -2,7 +2,7 @@
 ghost use mathlib.Core.Path.{_≡_};
 ghost use Prim.Native.Nat.{_+_, _≤_, _<_, _^_};
 ghost use lib.ListN.{length};
-ghost use Rattle.rules.specs.Ledger.{lent};
+ghost use Rattle.rules.specs.Ledger.{lent, linesLength};
 ghost use Rattle.records.specs.declared.stage.Stage.the-variants.{Records};
 ghost use Rattle.records.specs.Stages.{Advanced, stageAfter, wantsAfter};
 use crate::record::ready_length;
@@ -56,7 +56,7 @@ pub fn run_records(
     book: &mut [u64],
     lines: &mut [i64],
 ) -> Progress
-    requires { ⌜ («accepted_before» ≤ «counted_before») × («counted_before» + length (now bytes) < 2 ^ 63) × (filled ≤ length (now out)) × (800 ≤ length (now lines)) ⌝ }
+    requires { ⌜ («accepted_before» ≤ «counted_before») × («counted_before» + length (now bytes) < 2 ^ 63) × (filled ≤ length (now out)) × (linesLength ≤ length (now lines)) ⌝ }
     ensures { λ r. ⌜ Advanced (Records «counted_before» «accepted_before»)
         (lent (now (head .entry)) (now (prices .entry)) (now (lots .entry)) (now (value .entry)) (now (book .entry)) (now (lines .entry)))
         (now (bytes .entry)) «is_last» filled (now (out .entry)) (now (out .exit))

@@ -1,8 +1,11 @@
 // How far a journal has been run, and why it went no further.
 ghost use mathlib.Core.Path.{_≡_};
+use printing::LINE_ROOM;
+use rules::layout::LINE_WIDTH;
+use rules::layout::LINES_LENGTH;
 
 // The most that one record prints, 200 lines, and one line more.
-pub const ROOM: usize = 17286;
+pub const ROOM: usize = (LINES_LENGTH / LINE_WIDTH + 1) * LINE_ROOM;
 
 // Where there are two numbers: the records counted so far, and those of them that were accepted.
 pub enum Stage {

@@ -1,9 +1,9 @@
 // Text written over a lent slice of bytes, from a place on. Each writer answers the place after what it wrote.
-ghost use mathlib.Core.List.{[], _∷_};
+ghost use mathlib.Core.List.{[], _∷_, _++_};
 ghost use mathlib.Core.Path.{_≡_};
-ghost use Prim.Native.Nat.{_+_, _<_, _≤_};
+ghost use Prim.Native.Nat.{_+_, _-_, _<_, _≤_};
 ghost use lib.IntN.{natAbs};
-ghost use lib.ListN.{length};
+ghost use lib.ListN.{length, take, drop};
 ghost use Rattle.rules.specs.Text.{decimal, signedDecimal, space};
 ghost use Rattle.text.specs.Wrote.{Wrote};
 
@@ -80,4 +80,17 @@ pub fn put_signed_field(out: &mut [u8], place: usize, x: i64) -> usize
 {
     let digits = put_byte(&mut *out, place, b' ');
     put_signed(out, digits, x)
+}
+
+// The bytes from a place to end, moved to the front; those behind them stay.
+pub fn shift(bytes: &mut [u8], from: usize, end: usize)
+    requires { ⌜ (from ≤ end) × (end ≤ length (now bytes)) ⌝ }
+    ensures { λ _. ⌜ now (bytes .exit) ≡ take (end - from) (drop from (now (bytes .entry))) ++ drop (end - from) (now (bytes .entry)) ⌝ }
+{
+    let n = end - from;
+    let mut i: usize = 0;
+    while i < n {
+        bytes[i] = bytes[from + i];
+        i += 1;
+    }
 }

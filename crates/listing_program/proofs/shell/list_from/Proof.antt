@@ -2,6 +2,7 @@ use mathlib.Core.Path.{refl, sym}
 use native.Mathlib.Omega.{arith}
 use lib.Seq.{length-take-le}
 use Rattle.arith.proofs.Tests.{asked-true}
+use Rattle.rules.specs.Header.{headerLength}
 use Rattle.listing.proofs.HeaderSizes.{header-fits}
 use borrow.Author.Needs.{needs}
 use Rattle.listing_program.proofs.shell.list_from.Statement.{statement}
@@ -18,6 +19,7 @@ slice-aggregate-ledger-of : tie.Need-slice-aggregate-ledger-of
 slice-aggregate-ledger-of c = sym (length-take-le _ _ (omega arith))
 
 list-records-requires : tie.Need-list-records-requires
+unfolding headerLength
 list-records-requires c κs =
     let e = length-take-le (c .before .before .before .before .before .before .before .before .before .before .before .before .before .args .end)
     (c .before .before .before .before .before .before .before .before .before .before .before .before .before .args .input .now) (omega arith) in

@@ -3,18 +3,15 @@ use mathlib.Core.Path.{_≡_}
 use Prim.Native.Nat.{_-_}
 use native.Mathlib.Omega.{arith}
 use lib.ListN.{length}
-use Rattle.listing_program.specs.Places.{Stands}
+use Rattle.listing_program.specs.Places.{inputLength, outputLength, mostTurns, Stands}
 use Rattle.listing_program.proofs.shell.list_records.Statement.{statement}
 use Rattle.listing_program.proofs.shell.list_records.Tie as tie
 
 abbrev Inv-loop : tie.InvT-loop
-Inv-loop ledger input₀ output₀ place₀ turns₀ input output place turns = Stands place × (place .turns ≡ turns) × (length input ≡ 65536) × (length output ≡ 131072)
+Inv-loop ledger input₀ output₀ place₀ turns₀ t9 input output place turns = Stands place × (place .turns ≡ turns) × (length input ≡ inputLength) × (length output ≡ outputLength)
 
 abbrev μ-loop : tie.MeasureT-loop
-μ-loop ledger input₀ output₀ place₀ turns₀ input output place turns = 70368744177664 - turns
-
-loop-holds : tie.Need-loop-holds Inv-loop μ-loop
-loop-holds c = (c .before .before .pre .0, c .before .before .pre .1, c .before .before .pre .3, c .before .before .pre .4)
+μ-loop ledger input₀ output₀ place₀ turns₀ t9 input output place turns = mostTurns - turns
 
 turn-requires : tie.Need-turn-requires Inv-loop μ-loop
 turn-requires c κs = (
@@ -31,6 +28,6 @@ loop-again c = let n = rw (c .before .next .given .1) at (c .before .before .bef
 pub list-records-spec : {M : Type 1} → statement M
 list-records-spec =
     tie.close
-    (tie.spec Inv-loop μ-loop loop-holds turn-requires (λ c. search needs) (λ c. search needs) (λ c. omega arith)
-    (λ c. omega arith) (λ c. search needs) (λ c. omega arith) (λ c. omega arith) loop-again (λ c. omega arith)
-    (λ c. omega arith) (λ c. search needs))
+    (tie.spec Inv-loop μ-loop (λ c. search needs) turn-requires (λ c. search needs) (λ c. search needs) (λ c. search needs)
+    (λ c. search needs) (λ c. search needs) (λ c. search needs) (λ c. search needs) loop-again (λ c. search needs)
+    (λ c κs. search needs) (λ c. search needs) (λ c. search needs) (λ c. search needs))

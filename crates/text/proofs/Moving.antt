@@ -1,11 +1,11 @@
--- Bytes moved to the front of a buffer, one after the other. Assumes nothing.
+-- Bytes moved to the front of a slice, one after the other. Assumes nothing.
 use Prim.Native.Nat.{ℕ, suc, _+_, _<_}
 use mathlib.Core.List.{List, [], _∷_, _++_}
 use mathlib.Core.Path.{_≡_, refl, sym, ap, _∙_}
 use native.Mathlib.Nat.{add-comm}
 use native.Mathlib.Numerals.{add-one}
 use native.Mathlib.Omega.{arith}
-use lib.ListN.{length, take, drop, getD, set, length-drop}
+use lib.ListN.{length, take, drop, getD, set, length-drop, take-append-drop}
 use lib.Seq.{take-suc, take-suc-set, drop-set-lt, getD-drop, drop-drop}
 
 -- The first i are moved, those from i on stand as they were.
@@ -26,9 +26,12 @@ moved-next from i l m h e w =
     let past : drop (suc i) m ≡ drop (suc i) l = sym (one-on m) ∙ (ap (drop 1) (w .stands) ∙ one-on l) in
     rw add-one (record {
       moved = take-suc-set m i (getD m (from + i) 0) (omega arith) ∙ (rw (w .moved, here) refl ∙ sym next);
-      stands = drop-set-lt (suc i) m i (getD m (from + i) 0)
-          (omega arith) ∙ past;
+      stands = drop-set-lt (suc i) m i
+          (getD m (from + i) 0) (omega arith) ∙ past;
     })
   where
     one-on : (x : List ℕ) → drop 1 (drop i x) ≡ drop (suc i) x
     one-on x = drop-drop 1 i x ∙ rw add-one refl
+
+pub moved-all : (from i : ℕ) (l m : List ℕ) → Moved from i l m → m ≡ take i (drop from l) ++ drop i l
+moved-all from i l m w = sym (take-append-drop i m) ∙ rw (w .moved, w .stands) refl
