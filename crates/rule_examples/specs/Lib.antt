@@ -3,3 +3,5 @@ pub mod Numbers
 pub mod JournalExample
 pub mod MoreProposalExamples
 pub mod MoreCloseOfDayExamples
+pub mod MoreMatchingExamples
+pub mod MoreCloseOutExamples

@@ -1,12 +1,13 @@
 -- Document 01, "Synthetic matching": more proposals that are accepted beside those that are not, computed.
-use mathlib.Core.Path.{refl}
-use mathlib.Core.List.{[], _∷_}
+use mathlib.Core.Path.{_≡_, refl}
+use mathlib.Core.List.{[], _∷_, map}
+use lib.IntN.{pos, negsuc}
 use Rattle.rules.specs.declared.order.Side.the-variants.{Buy, Sell}
-use Rattle.rules.specs.Ledger.{withAcceptedSubmits, withLotsRun, withOrders}
+use Rattle.rules.specs.Ledger.{orders, withAcceptedSubmits, withLotsRun, withOrders}
 use Rattle.rules.specs.Refusals.{applySpec}
-use Rattle.rules.specs.Computed.{printed, computed}
-use Rattle.rules.specs.ExampleRecords.{proposal, monday, inHead, order, refused, Each, EachPrints}
-use Rattle.rules.specs.ProposalExamples.{ones, quarterBy, fourLines}
+use Rattle.rules.specs.Computed.{printed, tablesAfter, computed}
+use Rattle.rules.specs.ExampleRecords.{limits, proposal, monday, inHead, order, line, accepted, refused, Each, EachPrints}
+use Rattle.rules.specs.ProposalExamples.{ones, quarterBy, fourLines, usedInPart}
 
 -- From the sell order's price to the buy order's; the legs of an hour have one value.
 prices-of-legs : EachPrints (quarterBy 0 1)
@@ -56,3 +57,26 @@ run-of-legs : Each (λ run. printed (applySpec (inHead (withLotsRun run) (quarte
     ((4999996, fourLines 31300) ∷ (4999997, refused 17) ∷ [])
 unfolding computed
 run-of-legs = refl
+
+-- A low of 31300 for the quarter that is bought.
+lows-of-legs : EachPrints (tablesAfter (quarterBy 0 1) (limits 18 31300 1000000 ∷ []))
+    ((ones 31299 31299 31299 31299, refused 13) ∷ (ones 31300 31300 31300 31300, fourLines 31300) ∷ [])
+unfolding computed
+lows-of-legs = refl
+
+-- A leg in part is not in full: order 4 may be a leg only where all of order 3 is.
+legs-in-full : EachPrints (quarterBy 0 1)
+    ((proposal ((0, 2, 31300) ∷ (1, 2, 31300) ∷ (2, 2, 31300) ∷ (3, 1, 31300) ∷ (4, 1, 31300) ∷ []), refused 13)
+    ∷ (
+      proposal ((0, 3, 31300) ∷ (1, 3, 31300) ∷ (2, 3, 31300) ∷ (3, 2, 31300) ∷ (4, 1, 31300) ∷ []),
+      accepted (line 0 18 (pos 3) 31300 ∷ line 1 22 (negsuc 2) 31300 ∷ line 1 23 (negsuc 2) 31300 ∷ line 1 24 (negsuc 1) 31300 ∷ line 1 24 (negsuc 0) 31300 ∷ []),
+    )
+    ∷ [])
+unfolding computed
+legs-in-full = refl
+
+-- What is left rests with its number: number and lots of each order.
+after-a-proposal : map (λ o. o .number ∷ o .lots .0 ∷ []) (orders (usedInPart .after))
+    ≡ (0 ∷ 1 ∷ []) ∷ (1 ∷ 1 ∷ []) ∷ (2 ∷ 1 ∷ []) ∷ (4 ∷ 2 ∷ []) ∷ []
+unfolding computed
+after-a-proposal = refl

@@ -3,23 +3,23 @@ use Prim.Native.Nat.{ℕ}
 use mathlib.Core.Path.{_≡_, refl}
 use mathlib.Core.List.{List, [], _∷_}
 use lib.IntN.{ℤ, pos, negsuc}
-use Rattle.rules.specs.Ledger.{Tables, withLotsRun, withGgf, dayLots}
+use Rattle.rules.specs.Ledger.{Tables, withLotsRun, withGgf}
 use Rattle.rules.specs.Refusals.{applySpec}
 use Rattle.rules.specs.Computed.{Printed, printed, computed}
 use Rattle.rules.specs.ExampleRecords.{buy, sell, default, closeOut, close, made, monday, inHead, inPrices, marked, held, line, bought, accepted, refused, Prints}
 
 -- ---- close-outs of lent tables
 -- Monday, 369, five members: these have defaulted, and these lots are held.
-lent : List ℕ → List (ℕ × ℕ × ℤ) → Tables
+unfoldable pub lent : List ℕ → List (ℕ × ℕ × ℤ) → Tables
 lent ms xs = held xs (marked ms (inPrices (withGgf 17 26000) (inHead (withLotsRun 1000) (made 2021 369 [] (0 ∷ 0 ∷ 0 ∷ 0 ∷ 0 ∷ [])))))
 
 -- What the close-out of contract 17 with that ratio prints.
-closedOut : List ℕ → List (ℕ × ℕ × ℤ) → ℕ → Printed
+unfoldable pub closedOut : List ℕ → List (ℕ × ℕ × ℤ) → ℕ → Printed
 closedOut ms xs ratio = printed (applySpec (lent ms xs) (closeOut 17 ratio))
 
 -- L = 1 and t = 2. At a ratio of 500 members 1 and 2 weigh 365 and 3465, since member 2 has January 2022, of 31 days, too;
 -- at 501 both weigh 1, and the lower number comes first. Member 3 has defaulted and takes nothing.
-abbrev two : List (ℕ × ℕ × ℤ)
+abbrev pub two : List (ℕ × ℕ × ℤ)
 two = (0, 17, pos 1) ∷ (1, 17, negsuc 0) ∷ (2, 17, negsuc 0) ∷ (2, 22, pos 100) ∷ (3, 22, pos 900) ∷ []
 
 ratio-met : closedOut (0 ∷ 3 ∷ []) two 500 ≡ accepted (line 0 17 (negsuc 0) 26000 ∷ line 2 17 (pos 1) 26000 ∷ [])
@@ -36,16 +36,6 @@ days-of-open-contracts : closedOut (0 ∷ []) ((0, 17, pos 1) ∷ (1, 22, pos 10
     ≡ accepted (line 0 17 (negsuc 0) 26000 ∷ line 2 17 (pos 1) 26000 ∷ [])
 unfolding computed closedOut lent held marked
 days-of-open-contracts = refl
-
--- Nobody else has lots in it: who has other open lots takes them. Nobody has: 16.
-taker-from-elsewhere : closedOut (0 ∷ []) ((0, 17, negsuc 1) ∷ (4, 22, pos 1) ∷ []) 1000
-    ≡ accepted (line 0 17 (pos 2) 26000 ∷ line 4 17 (negsuc 1) 26000 ∷ [])
-unfolding computed closedOut lent held marked
-taker-from-elsewhere = refl
-
-no-taker : closedOut (0 ∷ 4 ∷ []) ((0, 17, negsuc 1) ∷ (4, 22, pos 1) ∷ (1, 5, pos 1) ∷ []) 1000 ≡ refused 16
-unfolding computed closedOut lent held marked
-no-taker = refl
 
 -- L = 4 by lots here, 1, 5 and 1: minimums 1, 3 and 1; received, one lot each in turn, 1, 2 and 1.
 in-turns : closedOut (0 ∷ []) ((0, 17, pos 4) ∷ (1, 17, negsuc 0) ∷ (2, 17, negsuc 4) ∷ (3, 17, pos 1) ∷ []) 1000
@@ -67,28 +57,6 @@ netting : closedOut (0 ∷ 1 ∷ 2 ∷ 3 ∷ []) ((0, 17, negsuc 2) ∷ (1, 17, 
     ∷ line 2 17 (negsuc 1) 26000 ∷ line 4 17 (pos 2) 26000 ∷ [])
 unfolding computed closedOut lent held marked
 netting = refl
-
--- The same with a short left over.
-netting-of-shorts : closedOut (0 ∷ 1 ∷ 2 ∷ []) ((0, 17, negsuc 2) ∷ (1, 17, negsuc 2) ∷ (2, 17, pos 4) ∷ (4, 17, negsuc 6) ∷ []) 1000
-    ≡ accepted
-    (line 0 17 (pos 3) 26000 ∷ line 1 17 (pos 1) 26000 ∷ line 2 17 (negsuc 3) 26000 ∷ line 1 17 (pos 2) 26000 ∷ line 4 17 (negsuc 1) 26000 ∷ [])
-unfolding computed closedOut lent held marked
-netting-of-shorts = refl
-
--- Defaulted lots that net to zero are no 15: step 1 alone, though there is no taker. Lots elsewhere are 15.
-netting-to-zero : closedOut (0 ∷ 1 ∷ []) ((0, 17, pos 5) ∷ (1, 17, negsuc 4) ∷ []) 1000
-    ≡ accepted (line 0 17 (negsuc 4) 26000 ∷ line 1 17 (pos 5) 26000 ∷ [])
-unfolding computed closedOut lent held marked
-netting-to-zero = refl
-
-no-defaulted-lots : closedOut (0 ∷ []) ((0, 18, pos 5) ∷ (1, 17, negsuc 4) ∷ []) 1000 ≡ refused 15
-unfolding computed closedOut lent held marked
-no-defaulted-lots = refl
-
--- The lots of a close-out do not count in M.
-default-lots : dayLots (applySpec (lent (0 ∷ []) two) (closeOut 17 500) .after) 17 ≡ 0
-unfolding computed lent held marked
-default-lots = refl
 
 -- ---- from the deals, at 26000 and 28000, to the close-out: the price is the day's GGF
 from-deal-to-close-out : Prints monday
