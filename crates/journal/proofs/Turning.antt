@@ -13,7 +13,7 @@ use Rattle.journal.specs.declared.input.Filled.the-variants.{Until}
 use Rattle.journal.specs.declared.shell.Next.{Next}
 use Rattle.journal.specs.declared.shell.Next.the-variants.{Going}
 use Rattle.journal.specs.declared.shell.Place.{Place}
-use Rattle.journal.specs.Places.{filledTo, Stands, nextStands}
+use Rattle.journal.specs.Places.{bufferLength, mostTurns, filledTo, Stands, nextStands}
 
 pub filled-until : (x : Filled) (e n : ℕ) → filledTo x n → x ≡ Until e → e ≤ n
 filled-until x e n h q = rw q at h
@@ -35,11 +35,11 @@ counts-most HeaderUnsound most more h c = tt
 pub part-length : (p : Place) (l : List ℕ) → length (take (p .end - p .from) (drop (p .from) l)) ≤ p .end - p .from
 part-length p l = rw length-take (min-le-left (p .end - p .from) (length (drop (p .from) l)))
 
-module _ (p : Place) (l : List ℕ) (s : Stands p) (few : p .turns < 70368744177664) where
+module _ (p : Place) (l : List ℕ) (s : Stands p) (few : p .turns < mostTurns) where
   pub turn-counts : Counts (p .stage) (2 ^ 62)
-  turn-counts = counts-most (p .stage) (65536 * p .turns) (2 ^ 62) (omega arith) (s .counts)
+  turn-counts = counts-most (p .stage) (bufferLength * p .turns) (2 ^ 62) (omega arith) (s .counts)
 
-  pub turn-stands : (used end : ℕ) (stage : Stage) → used ≤ length (take (p .end - p .from) (drop (p .from) l)) → end ≤ 65536
+  pub turn-stands : (used end : ℕ) (stage : Stage) → used ≤ length (take (p .end - p .from) (drop (p .from) l)) → end ≤ bufferLength
       → ((most : ℕ) → Counts (p .stage) most → Counts stage (most + length (take (p .end - p .from) (drop (p .from) l))))
       → Stands (record { turns = p .turns + 1; from = p .from + used; end = p .end; «is_last» = p .«is_last»; filled = end; stage = stage })
   turn-stands used end stage h e counts =
@@ -49,7 +49,7 @@ module _ (p : Place) (l : List ℕ) (s : Stands p) (few : p .turns < 70368744177
         inside = s .inside;
         printed = e;
         counts =
-            counts-most stage (65536 * p .turns + length (take (p .end - p .from) (drop (p .from) l))) (65536 * (p .turns + 1)) (omega (arith, s .inside))
-            (counts (65536 * p .turns) (s .counts));
+            counts-most stage (bufferLength * p .turns + length (take (p .end - p .from) (drop (p .from) l))) (bufferLength * (p .turns + 1)) (omega (arith, s .inside))
+            (counts (bufferLength * p .turns) (s .counts));
         few = omega arith;
       }

@@ -1,7 +1,7 @@
 // Fields and faults in words, and the lines of a header and of a record.
 ghost use mathlib.Core.Path.{_≡_};
 ghost use mathlib.Core.List.{_∷_, _++_};
-ghost use Prim.Native.Nat.{_+_, _*_, _≤_, _<_};
+ghost use Prim.Native.Nat.{_+_, _*_, _^_, _≤_, _<_};
 ghost use lib.ListN.{length};
 ghost use Rattle.rules.specs.Text.{space, decimal};
 ghost use Rattle.listing.specs.Fields.{fieldsOf, headerFault, faultOf, faultPlace};
@@ -64,7 +64,7 @@ fn put_named_contract(
     first_year: u64,
     contract: u64,
 ) -> usize
-    requires { ⌜ (place + 71 ≤ length (now out)) × («first_year» ≤ 4294967296) × (contract < 4294967296) ⌝ }
+    requires { ⌜ (place + 71 ≤ length (now out)) × («first_year» ≤ 2 ^ 32) × (contract < 2 ^ 32) ⌝ }
     ensures { λ r. ⌜ Short 71 place (nameOf field ++ contractText «first_year» contract) (now (out .entry)) (now (out .exit)) r ⌝ }
 {
     let i = put_word(&mut *out, place, name_of(field));
@@ -72,7 +72,7 @@ fn put_named_contract(
 }
 
 fn put_quantity(out: &mut [u8], place: usize, first_year: u64, field: Field, number: u64) -> usize
-    requires { ⌜ (place + 80 ≤ length (now out)) × («first_year» ≤ 4294967296) × (number < 4294967296) ⌝ }
+    requires { ⌜ (place + 80 ≤ length (now out)) × («first_year» ≤ 2 ^ 32) × (number < 2 ^ 32) ⌝ }
     ensures { λ r. ⌜ Short 80 place (fieldWords «first_year» field number) (now (out .entry)) (now (out .exit)) r ⌝ }
 {
     let quantity = quantity_of(field);
@@ -183,7 +183,7 @@ fn put_fault(
     out: &mut [u8],
     place: usize,
 ) -> usize
-    requires { ⌜ (place + 170 ≤ length (now out)) × (at ≤ length (now bytes)) × (length (now bytes) ≤ mostBytes) × (base ≤ 4611686018427387904) ⌝ }
+    requires { ⌜ (place + 170 ≤ length (now out)) × (at ≤ length (now bytes)) × (length (now bytes) ≤ mostBytes) × (base ≤ 2 ^ 62) ⌝ }
     ensures { λ r. ⌜ Short 170 place (faultWords base members (now (bytes .entry)) at field) (now (out .entry)) (now (out .exit)) r ⌝ }
 {
     let verdict = verdict_of(members, bytes, at, field);
@@ -213,7 +213,7 @@ fn put_fields(
     start: usize,
 ) -> Listed
     requires { ⌜ (count ≡ length (fieldsOf shape)) × (start + (80 * count + 170) ≤ length (now out)) × (length (now bytes) ≤ mostBytes) ⌝ }
-    requires { ⌜ («first_year» ≤ 4294967296) × (base ≤ 4611686018427387904) × (count ≤ 767) ⌝ }
+    requires { ⌜ («first_year» ≤ 2 ^ 32) × (base ≤ 2 ^ 62) × (count ≤ 767) ⌝ }
     ensures { λ r. ⌜ FieldsListed count start «first_year» base members (now (bytes .entry)) shape (now (out .entry)) (now (out .exit)) r ⌝ }
 {
     let mut place: usize = 0;
@@ -273,7 +273,7 @@ pub fn put_record_line(
     start: usize,
 ) -> Listed
     requires { ⌜ (start + lineRoom ≤ length (now out)) × (length (now bytes) ≤ mostBytes) ⌝ }
-    requires { ⌜ («first_year» ≤ 4294967296) × (base ≤ 4611686018427387904) ⌝ }
+    requires { ⌜ («first_year» ≤ 2 ^ 32) × (base ≤ 2 ^ 62) ⌝ }
     ensures { λ r. ⌜ ListedAs lineRoom start (recordLine members «first_year» number base (now (bytes .entry))) (faultOf members (now (bytes .entry))) (now (out .entry)) (now (out .exit)) r ⌝ }
 {
     let kind = u8_or_zero(bytes, 0);

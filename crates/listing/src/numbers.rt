@@ -1,7 +1,7 @@
 // Numbers in words: times, prices and names of contracts.
 ghost use mathlib.Core.Path.{_≡_};
 ghost use mathlib.Core.List.{_∷_};
-ghost use Prim.Native.Nat.{_+_, _≤_, _<_};
+ghost use Prim.Native.Nat.{_+_, _^_, _≤_, _<_};
 ghost use lib.ListN.{length, take};
 ghost use Rattle.rules.specs.Text.{space};
 ghost use Rattle.listing.specs.Short.{Short};
@@ -75,7 +75,7 @@ fn put_month(out: &mut [u8], place: usize, index: u64) -> usize
 }
 
 fn put_term(out: &mut [u8], place: usize, first_year: u64, kind: ContractKind, index: u64) -> usize
-    requires { ⌜ (place + 23 ≤ length (now out)) × («first_year» ≤ 4294967296) × (index ≤ 4294967296) ⌝ }
+    requires { ⌜ (place + 23 ≤ length (now out)) × («first_year» ≤ 2 ^ 32) × (index ≤ 2 ^ 32) ⌝ }
     ensures { λ r. ⌜ Short 23 place (termName «first_year» kind index) (now (out .entry)) (now (out .exit)) r ⌝ }
 {
     match kind {
@@ -93,7 +93,7 @@ fn put_term(out: &mut [u8], place: usize, first_year: u64, kind: ContractKind, i
 
 // A contract's number and, in brackets, its name.
 pub fn put_contract(out: &mut [u8], place: usize, first_year: u64, contract: u64) -> usize
-    requires { ⌜ (place + 47 ≤ length (now out)) × («first_year» ≤ 4294967296) × (contract < 4294967296) ⌝ }
+    requires { ⌜ (place + 47 ≤ length (now out)) × («first_year» ≤ 2 ^ 32) × (contract < 2 ^ 32) ⌝ }
     ensures { λ r. ⌜ Short 47 place (contractText «first_year» contract) (now (out .entry)) (now (out .exit)) r ⌝ }
 {
     let term = term_of(contract);

@@ -1,7 +1,7 @@
 // The size, the number and the range of a field, and what is found of it.
 ghost use mathlib.Core.Path.{_≡_};
 ghost use mathlib.Core.Bool.{_||_};
-ghost use Prim.Native.Nat.{_+_, _-_, _≤_, _<_};
+ghost use Prim.Native.Nat.{_+_, _-_, _^_, _≤_, _<_};
 ghost use lib.ListN.{length};
 ghost use Rattle.rules.specs.Days.{saturday, sunday};
 ghost use Rattle.rules.specs.Header.{u16At, u32At};
@@ -109,7 +109,7 @@ pub fn quantity_of(field: Field) -> Quantity
 // The number of so many bytes at a place; bytes past the end are 0.
 pub fn number_at(bytes: &[u8], place: usize, size: usize) -> u64
     requires { ⌜ place ≤ mostBytes ⌝ }
-    ensures { λ r. ⌜ (r ≡ numberAt (now (bytes .entry)) place size) × (r < 4294967296) ⌝ }
+    ensures { λ r. ⌜ (r ≡ numberAt (now (bytes .entry)) place size) × (r < 2 ^ 32) ⌝ }
 {
     if size == 1 {
         return u8_or_zero(bytes, place);
@@ -129,7 +129,7 @@ fn u16_or_zero(bytes: &[u8], place: usize) -> u64
 
 fn u32_or_zero(bytes: &[u8], place: usize) -> u64
     requires { ⌜ place ≤ mostBytes ⌝ }
-    ensures { λ r. ⌜ (r ≡ u32At (now (bytes .entry)) place) × (r < 4294967296) ⌝ }
+    ensures { λ r. ⌜ (r ≡ u32At (now (bytes .entry)) place) × (r < 2 ^ 32) ⌝ }
 {
     u16_or_zero(bytes, place) * 65536 + u16_or_zero(bytes, place + 2)
 }
@@ -277,7 +277,7 @@ pub fn verdict_of(members: u64, bytes: &[u8], place: usize, field: Field) -> Ver
 
 // The number whose bytes are the same the other way round.
 pub fn other_way_round(size: usize, number: u64) -> u64
-    ensures { λ r. ⌜ (r ≡ otherWayRound size number) × ((number < 4294967296) → r < 4294967296) ⌝ }
+    ensures { λ r. ⌜ (r ≡ otherWayRound size number) × ((number < 2 ^ 32) → r < 2 ^ 32) ⌝ }
 {
     if size == 1 {
         return number;

@@ -1,9 +1,9 @@
 // The lines that the journal program prints, over a lent slice of bytes. Each writer answers the place after its line.
 ghost use mathlib.Core.List.{[], _∷_, flatMap};
-ghost use Prim.Native.Nat.{_+_, _*_, _≤_, _<_};
+ghost use Prim.Native.Nat.{_+_, _*_, _≤_};
 ghost use lib.ListN.{length};
 ghost use Rattle.rules.specs.Journal.{headText, dealText, refusalText, endText};
-ghost use Rattle.rules.specs.Ledger.{Tables, Line, lineWidth, headLength, withHead, firstLines};
+ghost use Rattle.rules.specs.Ledger.{Tables, lineWidth, headLength, withHead, firstLines};
 ghost use Rattle.rules.specs.Text.{decimal, lineText};
 ghost use Rattle.text.specs.Wrote.{Wrote};
 ghost use Rattle.printing.specs.Room.{lineRoom};

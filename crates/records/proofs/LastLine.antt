@@ -2,18 +2,19 @@
 use Prim.Native.Nat.{ℕ, _+_, _-_, _<_, _≤_}
 use mathlib.Core.Bool.{Bool}
 use mathlib.Core.List.{List, append-nil}
-use mathlib.Core.Path.{_≡_, sym}
+use mathlib.Core.Path.{_≡_, refl, sym}
 use native.Mathlib.Omega.{arith}
 use lib.ListN.{length}
 use Rattle.rules.specs.Journal.{endText}
 use Rattle.rules.specs.Ledger.{Tables, withHead}
 use Rattle.text.specs.Wrote.{Wrote}
+use Rattle.printing.specs.Room.{lineRoom}
 use Rattle.records.specs.Room.{roomWanted}
 use Rattle.records.specs.declared.stage.Progress.{Progress}
 use Rattle.records.specs.declared.stage.Stage.{Stage}
 use Rattle.records.specs.declared.stage.Stage.the-variants.{Header, Records, Read, Stopped, ReadToEnd, RecordUnsound, HeaderUnsound}
 use Rattle.records.specs.declared.stage.Wants.the-variants.{Nothing, Room}
-use Rattle.records.specs.Stages.{remaining, rank, Counts, Advanced}
+use Rattle.records.specs.Stages.{remaining, rank, Counts, EndPrinted, Advanced}
 use Rattle.records.proofs.Starts.{none-run}
 
 counts-more : (stage : Stage) (most more : ℕ) → Counts stage most → Counts stage (most + more)
@@ -42,33 +43,38 @@ module _ (stage : Stage) (t : Tables) (bytes : List ℕ) (last : Bool) (filled :
   pub all-printed : rank stage ≡ 3 → r ≡ record { used = 0; end = filled; stage = stage; wants = Nothing } → Advanced stage t bytes last filled entry entry t r
   all-printed h e = rw e (none-run stage t bytes last filled entry Nothing fits (λ room f g. absurd (omega arith)) (λ most c. counts-more stage most (length bytes) c))
 
--- E is printed, and nothing is left.
-module _ (t : Tables) (bytes : List ℕ) (last : Bool) (filled : ℕ) (entry exit : List ℕ) (end n k : ℕ) (room : filled + 86 ≤ length entry)
-    (w : (u : Tables) → Wrote filled (endText n k (withHead (t .head) u)) entry exit end) (short : end ≤ filled + 86) {r : Progress} where
-  pub read-line : {stage : Stage} → stage ≡ Read n k → r ≡ record { used = 0; end = end; stage = ReadToEnd; wants = Nothing } → Advanced stage t bytes last filled entry exit t r
+-- E is printed,
+pub end-printed : {stage : Stage} {n k filled end : ℕ} {head entry exit : List ℕ} {r : Progress}
+    → ((t : Tables) → Wrote filled (endText n k (withHead head t)) entry exit end) → end ≤ filled + lineRoom
+    → r ≡ record { used = 0; end = end; stage = stage; wants = Nothing } → EndPrinted stage n k head filled entry exit r
+end-printed w short e = rw e (record { wrote = w; room = short; stands = refl })
+
+-- and nothing is left.
+module _ (t : Tables) (bytes : List ℕ) (last : Bool) (filled : ℕ) (entry exit : List ℕ) (n k : ℕ) (room : filled + lineRoom ≤ length entry) {r : Progress} where
+  pub read-line : {stage : Stage} → stage ≡ Read n k → EndPrinted ReadToEnd n k (t .head) filled entry exit r → Advanced stage t bytes last filled entry exit t r
   unfolding remaining
-  read-line e f =
-      rw (e, f)
+  read-line e w =
+      rw (e, w .stands)
       (record {
         text = endText n k t;
-        wrote = w t;
+        wrote = w .wrote t;
         inside = omega arith;
-        within = omega arith;
+        within = omega (arith, w .room);
         counts = λ most c. tt;
         asks = λ room′ g h. omega arith;
         rest = λ more ends. sym
             (append-nil (endText n k t));
       })
 
-  pub stopped-line : {stage : Stage} → stage ≡ Stopped n k → r ≡ record { used = 0; end = end; stage = RecordUnsound; wants = Nothing } → Advanced stage t bytes last filled entry exit t r
+  pub stopped-line : {stage : Stage} → stage ≡ Stopped n k → EndPrinted RecordUnsound n k (t .head) filled entry exit r → Advanced stage t bytes last filled entry exit t r
   unfolding remaining
-  stopped-line e f =
-      rw (e, f)
+  stopped-line e w =
+      rw (e, w .stands)
       (record {
         text = endText n k t;
-        wrote = w t;
+        wrote = w .wrote t;
         inside = omega arith;
-        within = omega arith;
+        within = omega (arith, w .room);
         counts = λ most c. tt;
         asks = λ room′ g h. omega arith;
         rest = λ more ends. sym

@@ -10,14 +10,16 @@ use Rattle.rules.specs.declared.answer.Answer.{Answer}
 use Rattle.rules.specs.Answers.{Outcome, told}
 use Rattle.rules.specs.Journal.{dealText, refusalText, answerText}
 use Rattle.rules.specs.Ledger.{Tables, firstLines}
+use Rattle.rules.specs.Ranges.{leastLines}
 use Rattle.rules.specs.Refusals.{applySpec}
 use Rattle.accounts.proofs.SameLengths.{at-most-200-lines}
 use Rattle.text.specs.Wrote.{Wrote}
+use Rattle.printing.specs.Room.{lineRoom}
 use Rattle.records.specs.Stages.{RanOne}
 
 -- An accepted record has at most 200 lines.
 pub few-lines : (t after : Tables) (bytes : List ℕ) (a : Answer) (number detail : ℕ) → record { answer = a; after = after } ≡ applySpec t bytes
-    → number ≡ told a .number → detail ≡ told a .value → number ≡ 0 → detail ≤ 200
+    → number ≡ told a .number → detail ≡ told a .value → number ≡ 0 → detail ≤ leastLines
 few-lines t after bytes a number detail e f g z =
     let same : a ≡ applySpec t bytes .answer = ap (λ (o : Outcome Tables). o .answer) e in
     let accepted : eqb (told (applySpec t bytes .answer) .number) 0 ≡ true = ap (λ (x : Answer). eqb (told x .number) 0) (sym same) ∙ eq-eqb (told a .number) 0 (sym f ∙ z) in
@@ -27,7 +29,7 @@ few-lines t after bytes a number detail e f g z =
 
 module _ (o : Outcome Tables) (after : Tables) (a : Answer) (number detail record-number place end : ℕ) (entry exit : List ℕ)
     (is : record { answer = a; after = after } ≡ o) (number-is : number ≡ told a .number) (detail-is : detail ≡ told a .value) where
-  pub printed-lines : number ≡ 0 → detail ≤ 200 → Wrote place (flatMap dealText (firstLines detail (after .lines))) entry exit end × (end ≤ place + 86 * detail)
+  pub printed-lines : number ≡ 0 → detail ≤ leastLines → Wrote place (flatMap dealText (firstLines detail (after .lines))) entry exit end × (end ≤ place + lineRoom * detail)
       → RanOne record-number place o entry exit after (record { end = end; accepted = 1; «is_unsound» = false })
   unfolding answerText
   printed-lines z few w =
@@ -41,7 +43,7 @@ module _ (o : Outcome Tables) (after : Tables) (a : Answer) (number detail recor
         unsound = rw accepted refl;
       })
 
-  pub printed-refusal : (unsound : Bool) → (number ≡ 0 → ⊥) → unsound ≡ eqb number 3 → Wrote place (refusalText record-number number) entry exit end × (end ≤ place + 86)
+  pub printed-refusal : (unsound : Bool) → (number ≡ 0 → ⊥) → unsound ≡ eqb number 3 → Wrote place (refusalText record-number number) entry exit end × (end ≤ place + lineRoom)
       → RanOne record-number place o entry exit after (record { end = end; accepted = 0; «is_unsound» = unsound })
   unfolding answerText
   printed-refusal unsound z u w =

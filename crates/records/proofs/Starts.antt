@@ -16,6 +16,7 @@ use Rattle.rules.specs.Ledger.{Tables, withHead}
 use Rattle.rules.specs.Refusals.{makeSpec}
 use Rattle.text.specs.Wrote.{Wrote}
 use Rattle.text.proofs.Writing.{wrote-none}
+use Rattle.printing.specs.Room.{lineRoom}
 use Rattle.records.specs.declared.stage.Stage.{Stage}
 use Rattle.records.specs.declared.stage.Stage.the-variants.{Header, Records, HeaderUnsound}
 use Rattle.records.specs.declared.stage.Wants.{Wants}
@@ -49,14 +50,14 @@ unfolding journalTextOn
 journal-refused t s o e z = rw (e, ne-eqb (told (o .answer) .number) 0 z) refl
 
 module _ (t after : Tables) (bytes : List ℕ) (last : Bool) (filled : ℕ) (entry exit : List ℕ) (a : Answer) (made : record { answer = a; after = after } ≡ makeSpec t bytes)
-    (whole : not last && ltb (length bytes) (headerLength bytes) ≡ false) (number end : ℕ) (is-told : number ≡ told a .number) (room : filled + 86 ≤ length entry) where
+    (whole : not last && ltb (length bytes) (headerLength bytes) ≡ false) (number end : ℕ) (is-told : number ≡ told a .number) (room : filled + lineRoom ≤ length entry) where
   abbrev o : Outcome Tables
   o = record { answer = a; after = after }
 
   with-more : (more : List ℕ) → (last ≡ true → more ≡ []) → makeSpec t (bytes ++ more) ≡ o
   with-more more ends = same-made bytes last whole more ends t ∙ sym made
 
-  pub start-made : (m : ℕ) → m ≡ headerLength bytes → number ≡ 0 → ((u : Tables) → Wrote filled (headText (withHead (after .head) u)) entry exit end) → end ≤ filled + 86
+  pub start-made : (m : ℕ) → m ≡ headerLength bytes → number ≡ 0 → ((u : Tables) → Wrote filled (headText (withHead (after .head) u)) entry exit end) → end ≤ filled + lineRoom
       → Advanced Header t bytes last filled entry exit after (record { used = m; end = end; stage = Records 0 0; wants = Nothing })
   unfolding remaining
   start-made m e z w short =
@@ -71,7 +72,7 @@ module _ (t after : Tables) (bytes : List ℕ) (last : Bool) (filled : ℕ) (ent
         rest = λ more ends. journal-made t (bytes ++ more) o m (with-more more ends) zero-told (same-length bytes last whole more ends ∙ sym e);
       }
 
-  pub start-refused : (number ≡ 0 → ⊥) → Wrote filled (refusalText 0 number) entry exit end → end ≤ filled + 86
+  pub start-refused : (number ≡ 0 → ⊥) → Wrote filled (refusalText 0 number) entry exit end → end ≤ filled + lineRoom
       → Advanced Header t bytes last filled entry exit after (record { used = 0; end = end; stage = HeaderUnsound; wants = Nothing })
   unfolding remaining
   start-refused z w short =

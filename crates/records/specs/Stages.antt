@@ -10,9 +10,10 @@ use Rattle.rules.specs.declared.event.Front.the-variants.{Whole, Cut, UnknownKi
 use Rattle.rules.specs.Answers.{Outcome}
 use Rattle.rules.specs.Header.{headerLength}
 use Rattle.rules.specs.Journal.{endText, answerText, stops, acceptedBy, recordsText, journalTextOn}
-use Rattle.rules.specs.Ledger.{Tables}
+use Rattle.rules.specs.Ledger.{Tables, withHead}
 use Rattle.rules.specs.Records.{frontOf}
 use Rattle.text.specs.Wrote.{Wrote}
+use Rattle.printing.specs.Room.{lineRoom}
 use Rattle.records.specs.Room.{recordRoom, roomWanted}
 use Rattle.records.specs.declared.record.Printed.{Printed}
 use Rattle.records.specs.declared.stage.Progress.{Progress}
@@ -95,6 +96,12 @@ abbrev pub Asks : Wants → Stage → Stage → List ℕ → Bool → ℕ → Ty
 Asks Nothing before after left last room = rank before < 3 → rank before < rank after
 Asks Bytes before after left last room = (last ≡ false) × Short after left
 Asks Room before after left last room = room < roomWanted
+
+-- E was printed, and the journal is at its last stage.
+pub record EndPrinted (stage : Stage) (n k : ℕ) (head : List ℕ) (filled : ℕ) (entry exit : List ℕ) (r : Progress) : Type 0 where
+  pub wrote : (t : Tables) → Wrote filled (endText n k (withHead head t)) entry exit (r .end)
+  pub room : r .end ≤ filled + lineRoom
+  pub stands : r ≡ record { used = 0; end = r .end; stage = stage; wants = Nothing }
 
 -- What a call did on these bytes, the last of the journal or not, whatever bytes come after them: a text was written behind
 -- what was printed, and it, with what is still to be printed, is what was to be printed.

@@ -1,8 +1,10 @@
 // One stage of a journal after the other.
-ghost use Prim.Native.Nat.{_≤_, _<_, _^_};
+ghost use Prim.Native.Nat.{_+_, _≤_, _<_, _^_};
 ghost use lib.ListN.{length};
+ghost use Rattle.printing.specs.Room.{lineRoom};
 ghost use Rattle.rules.specs.Ledger.{lent, headLength, linesLength};
-ghost use Rattle.records.specs.Stages.{Advanced, Counts};
+ghost use Rattle.records.specs.declared.stage.Stage.the-variants.{ReadToEnd, RecordUnsound};
+ghost use Rattle.records.specs.Stages.{EndPrinted, Advanced, Counts};
 use crate::beginning::begin;
 use crate::run::run_records;
 use crate::stage::Progress;
@@ -11,6 +13,24 @@ use crate::stage::Stage;
 use crate::stage::Wants;
 use crate::stage::standing;
 use printing::put_end;
+
+// E after the last record,
+fn end_read(out: &mut [u8], filled: usize, counted: u64, accepted: u64, head: &[u64]) -> Progress
+    requires { ⌜ (filled + lineRoom ≤ length (now out)) × (accepted ≤ counted) × (headLength ≤ length (now head)) ⌝ }
+    ensures { λ r. ⌜ EndPrinted ReadToEnd counted accepted (now (head .entry)) filled (now (out .entry)) (now (out .exit)) r ⌝ }
+{
+    let end = put_end(out, filled, counted, accepted, head);
+    standing(end, Stage::ReadToEnd, Wants::Nothing)
+}
+
+// and after one that was number 3.
+fn end_stopped(out: &mut [u8], filled: usize, counted: u64, accepted: u64, head: &[u64]) -> Progress
+    requires { ⌜ (filled + lineRoom ≤ length (now out)) × (accepted ≤ counted) × (headLength ≤ length (now head)) ⌝ }
+    ensures { λ r. ⌜ EndPrinted RecordUnsound counted accepted (now (head .entry)) filled (now (out .entry)) (now (out .exit)) r ⌝ }
+{
+    let end = put_end(out, filled, counted, accepted, head);
+    standing(end, Stage::RecordUnsound, Wants::Nothing)
+}
 
 // What can be run of these bytes at a stage. The last bytes of a journal are told by is_last.
 pub fn advance(
@@ -62,16 +82,8 @@ pub fn advance(
             book,
             lines,
         ),
-        Stage::Read(counted, accepted) => standing(
-            put_end(out, filled, counted, accepted, &*head),
-            Stage::ReadToEnd,
-            Wants::Nothing,
-        ),
-        Stage::Stopped(counted, accepted) => standing(
-            put_end(out, filled, counted, accepted, &*head),
-            Stage::RecordUnsound,
-            Wants::Nothing,
-        ),
+        Stage::Read(counted, accepted) => end_read(out, filled, counted, accepted, &*head),
+        Stage::Stopped(counted, accepted) => end_stopped(out, filled, counted, accepted, &*head),
         Stage::ReadToEnd => standing(filled, stage, Wants::Nothing),
         Stage::RecordUnsound => standing(filled, stage, Wants::Nothing),
         Stage::HeaderUnsound => standing(filled, stage, Wants::Nothing),

@@ -3,14 +3,14 @@ use Prim.Native.Nat.{_-_, _≤_}
 use mathlib.Core.Path.{_≡_, refl}
 use native.Mathlib.Omega.{arith}
 use lib.ListN.{length}
-use Rattle.journal.specs.Places.{Stands}
+use Rattle.journal.specs.Places.{mostTurns, Stands}
 use Rattle.journal.proofs.Turning.{going-stands}
 use Rattle.journal.proofs.shell.run_turns.Statement.{statement}
 use Rattle.journal.proofs.shell.run_turns.Tie as tie
 
 abbrev Inv-loop : tie.InvT-loop
 Inv-loop input₀ output₀ head₀ prices₀ lots₀ value₀ book₀ lines₀ place₀ turns₀ t13 input output head prices lots value book lines place turns =
-    Stands place × (place .turns ≡ turns) × (turns ≤ 70368744177664)
+    Stands place × (place .turns ≡ turns) × (turns ≤ mostTurns)
     × (length input ≡ length input₀)
     × (length output ≡ length output₀)
     × (length head ≡ length head₀)
@@ -22,7 +22,7 @@ Inv-loop input₀ output₀ head₀ prices₀ lots₀ value₀ book₀ lines₀ 
 
 abbrev μ-loop : tie.MeasureT-loop
 μ-loop input₀ output₀ head₀ prices₀ lots₀ value₀ book₀ lines₀ place₀ turns₀ t13 input output head prices lots value book lines place turns =
-    70368744177664 - turns
+    mostTurns - turns
 
 loop-holds : tie.Need-loop-holds Inv-loop μ-loop
 loop-holds c = (c .first-place .ensures .0, omega (arith, c .first-place .ensures .1), omega arith, refl, refl, refl, refl, refl, refl, refl, refl)

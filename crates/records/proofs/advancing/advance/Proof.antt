@@ -20,23 +20,15 @@ run-records-requires c κs =
       c .before .before .before .before .before .before .before .before .before .before .before .before .before .before .before .before .pre .4,
     )
 
-put-end-requires : tie.Need-put-end-requires
-put-end-requires c κs = (
-  omega
-      (arith, c .before .before .before .before .before .if1 .left, c .before .before .before .before .before .before .before .before .before .before .before .pre .2),
-  read-counts (c .before .before .before .stage2 .given .1)
-      (c .before .before .before .before .before .before .before .before .before .before .before .pre .0) .0,
-  c .before .before .before .before .before .before .before .before .before .before .before .pre .3,
-)
+end-read-requires : tie.Need-end-read-requires
+end-read-requires c κs =
+    let given = c .before .before .before .before .before .before .before .before .before .before .before .pre in
+    (omega (arith, c .before .before .before .before .before .if1 .left, given .2), read-counts (c .before .before .before .stage2 .given .1) (given .0) .0, given .3)
 
-put-end-requires-2 : tie.Need-put-end-requires-2
-put-end-requires-2 c κs = (
-  omega
-      (arith, c .before .before .before .before .before .if1 .left, c .before .before .before .before .before .before .before .before .before .before .before .pre .2),
-  stopped-counts (c .before .before .before .stage3 .given .1)
-      (c .before .before .before .before .before .before .before .before .before .before .before .pre .0) .0,
-  c .before .before .before .before .before .before .before .before .before .before .before .pre .3,
-)
+end-stopped-requires : tie.Need-end-stopped-requires
+end-stopped-requires c κs =
+    let given = c .before .before .before .before .before .before .before .before .before .before .before .pre in
+    (omega (arith, c .before .before .before .before .before .if1 .left, given .2), stopped-counts (c .before .before .before .stage3 .given .1) (given .0) .0, given .3)
 
 returns-2 : tie.Need-returns-2
 returns-2 c =
@@ -51,47 +43,41 @@ returns-3 c =
 
 returns-4 : tie.Need-returns-4
 returns-4 c =
-    read-line _ _ _ _ _ _ _ _ _ (omega (
-      arith,
-      c .before .before .before .before .before .before .before .before .before .if1 .left,
-      c .before .before .before .before .before .before .before .before .before .before .before .before .before .before .before .pre .2,
-    ))
-    (c .before .before .before .put-end .ensures .0) (c .before .before .before .put-end .ensures .1)
-    (c .before .before .before .before .before .before .before .stage2 .given .1) (c .standing2 .ensures)
+    let left = c .before .before .before .before .before .before .before .before .if1 .left in
+    let given = c .before .before .before .before .before .before .before .before .before .before .before .before .before .before .pre in
+    read-line _ _ _ _ _ _ _ _ (omega (arith, left, given .2))
+    (c .before .before .before .before .before .before .stage2 .given .1) (c .before .before .end-read .ensures)
 
 returns-5 : tie.Need-returns-5
 returns-5 c =
-    stopped-line _ _ _ _ _ _ _ _ _ (omega (
-      arith,
-      c .before .before .before .before .before .before .before .before .before .if1 .left,
-      c .before .before .before .before .before .before .before .before .before .before .before .before .before .before .before .pre .2,
-    ))
-    (c .before .before .before .put-end2 .ensures .0) (c .before .before .before .put-end2 .ensures .1)
-    (c .before .before .before .before .before .before .before .stage3 .given .1) (c .standing3 .ensures)
+    let left = c .before .before .before .before .before .before .before .before .if1 .left in
+    let given = c .before .before .before .before .before .before .before .before .before .before .before .before .before .before .pre in
+    stopped-line _ _ _ _ _ _ _ _ (omega (arith, left, given .2))
+    (c .before .before .before .before .before .before .stage3 .given .1) (c .before .before .end-stopped .ensures)
 
 returns-6 : tie.Need-returns-6
 returns-6 c =
     all-printed _ _ _ _ _ _ (c .before .before .before .before .before .before .before .before .before .pre .2) (ap rank (c .before .enum-told2 .given .1))
-    (c .standing4 .ensures)
+    (c .standing2 .ensures)
 
 returns-7 : tie.Need-returns-7
 returns-7 c =
     all-printed _ _ _ _ _ _ (c .before .before .before .before .before .before .before .before .before .pre .2) (ap rank (c .before .enum-told3 .given .1))
-    (c .standing5 .ensures)
+    (c .standing3 .ensures)
 
 returns-8 : tie.Need-returns-8
 returns-8 c =
     all-printed _ _ _ _ _ _ (c .before .before .before .before .before .before .before .before .before .pre .2) (ap rank (c .before .enum-told4 .given .1))
-    (c .standing6 .ensures)
+    (c .standing4 .ensures)
 
 pub advance-spec : {M : Type 1} → statement M
 advance-spec =
     tie.close
     (tie.spec (λ c. search needs) (λ c κs. search needs) returns (λ c. search needs) (λ c κs. search needs)
-    (λ c. search needs) run-records-requires (λ c. search needs) put-end-requires (λ c κs. search needs)
-    (λ c. search needs) put-end-requires-2 (λ c κs. search needs) (λ c. search needs) (λ c κs. search needs)
-    (λ c. search needs) (λ c κs. search needs) (λ c. search needs) (λ c κs. search needs) (λ c. search needs)
+    (λ c. search needs) run-records-requires (λ c. search needs) end-read-requires (λ c. search needs)
+    end-stopped-requires (λ c. search needs) (λ c κs. search needs) (λ c. search needs) (λ c κs. search needs)
+    (λ c. search needs) (λ c κs. search needs) (λ c. search needs) (λ c. search needs) (λ c. search needs)
+    (λ c. search needs) (λ c. search needs) (λ c. search needs) (λ c. search needs) returns-2 (λ c. search needs)
     (λ c. search needs) (λ c. search needs) (λ c. search needs) (λ c. search needs) (λ c. search needs)
-    (λ c. search needs) returns-2 (λ c. search needs) (λ c. search needs) (λ c. search needs) (λ c. search needs)
-    (λ c. search needs) (λ c. search needs) (λ c. search needs) returns-3 (λ c. search needs) (λ c. search needs)
-    returns-4 (λ c. search needs) (λ c. search needs) returns-5 returns-6 returns-7 returns-8)
+    (λ c. search needs) returns-3 (λ c. search needs) (λ c. search needs) returns-4 (λ c. search needs)
+    (λ c. search needs) returns-5 returns-6 returns-7 returns-8)

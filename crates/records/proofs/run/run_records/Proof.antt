@@ -12,14 +12,14 @@ use Rattle.records.proofs.run.run_records.Statement.{statement}
 use Rattle.records.proofs.run.run_records.Tie as tie
 
 abbrev Inv-loop : tie.InvT-loop
-Inv-loop counted-before accepted-before bytes is-last out₀ filled head₀ prices₀ lots₀ value₀ book₀ lines₀ place₀ end₀ counted₀ accepted₀ is-stopped₀ n₀ out head prices lots value book lines place end counted accepted is-stopped n =
+Inv-loop counted-before accepted-before bytes is-last out₀ filled head₀ prices₀ lots₀ value₀ book₀ lines₀ _ _ _ _ _ _ out head prices lots value book lines place end counted accepted is-stopped n =
     Runs counted-before accepted-before (lent head₀ prices₀ lots₀ value₀ book₀ lines₀) bytes is-last filled out₀ out
     (lent head prices lots value book lines) place end counted accepted is-stopped
     × SameLengths (lent head₀ prices₀ lots₀ value₀ book₀ lines₀) (lent head prices lots value book lines)
     × (n ≡ readyLength is-last is-stopped (length out - end) (drop place bytes))
 
 abbrev μ-loop : tie.MeasureT-loop
-μ-loop counted-before accepted-before bytes is-last out₀ filled head₀ prices₀ lots₀ value₀ book₀ lines₀ place₀ end₀ counted₀ accepted₀ is-stopped₀ n₀ out head prices lots value book lines place end counted accepted is-stopped n =
+μ-loop counted-before accepted-before bytes is-last out₀ filled head₀ prices₀ lots₀ value₀ book₀ lines₀ _ _ _ _ _ _ out head prices lots value book lines place end counted accepted is-stopped n =
     length bytes - place
 
 loop-holds : tie.Need-loop-holds Inv-loop μ-loop
