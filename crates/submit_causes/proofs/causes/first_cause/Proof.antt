@@ -3,8 +3,8 @@ use Rattle.rules.specs.Ledger.{withPrices}
 use borrow.Author.Tests.{not-true, not-false}
 use mathlib.Core.Path.{sym, _∙_}
 use borrow.Author.Needs.{needs}
-use Rattle.submit.proofs.causes.first_cause.Statement.{statement}
-use Rattle.submit.proofs.causes.first_cause.Tie as tie
+use Rattle.submit_causes.proofs.causes.first_cause.Statement.{statement}
+use Rattle.submit_causes.proofs.causes.first_cause.Tie as tie
 
 returns : tie.Need-returns
 returns c = λ t b. rw (lt-ltb _ _ (c .if1 .taken))

@@ -4,10 +4,10 @@ use Rattle.arith.proofs.Signed.{back}
 use mathlib.Core.Path.{refl}
 use Prim.Native.Nat.{_+_, _*_}
 use native.Mathlib.Omega.{arith}
-use Rattle.submit.proofs.Signs.{opposite-ok, opposite-is}
+use Rattle.submit_causes.proofs.Signs.{opposite-ok, opposite-is}
 use borrow.Author.Needs.{needs}
-use Rattle.submit.proofs.position.position.Statement.{statement}
-use Rattle.submit.proofs.position.position.Tie as tie
+use Rattle.submit_causes.proofs.position.position.Statement.{statement}
+use Rattle.submit_causes.proofs.position.position.Tie as tie
 use Rattle.arith.proofs.Sizes.{abs-neg}
 
 sub-t13 : tie.Need-sub-t13

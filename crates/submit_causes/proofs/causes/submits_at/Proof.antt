@@ -1,8 +1,8 @@
 use Rattle.rules.specs.Matching.{submitsAt}
 use borrow.Author.Tests.{lt-ltb, le-ltb}
 use borrow.Author.Needs.{needs}
-use Rattle.submit.proofs.causes.submits_at.Statement.{statement}
-use Rattle.submit.proofs.causes.submits_at.Tie as tie
+use Rattle.submit_causes.proofs.causes.submits_at.Statement.{statement}
+use Rattle.submit_causes.proofs.causes.submits_at.Tie as tie
 
 returns : tie.Need-returns
 unfolding submitsAt

@@ -1,10 +1,10 @@
-use Rattle.submit.proofs.Signs.{sum-is}
+use Rattle.submit_causes.proofs.Signs.{sum-is}
 use lib.IntN.{pos}
 use native.Mathlib.Omega.{arith}
 use Rattle.arith.proofs.Signed.{rd-pos, back, add-ok}
 use borrow.Author.Needs.{needs}
-use Rattle.submit.proofs.position.is_above.Statement.{statement}
-use Rattle.submit.proofs.position.is_above.Tie as tie
+use Rattle.submit_causes.proofs.position.is_above.Statement.{statement}
+use Rattle.submit_causes.proofs.position.is_above.Tie as tie
 
 add-result : tie.Need-add-result
 add-result c =

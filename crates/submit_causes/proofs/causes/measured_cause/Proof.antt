@@ -6,8 +6,8 @@ use lib.Signed.{ltZ}
 use native.Mathlib.Omega.{arith}
 use mathlib.Core.Path.{sym, _∙_}
 use borrow.Author.Needs.{needs}
-use Rattle.submit.proofs.causes.measured_cause.Statement.{statement}
-use Rattle.submit.proofs.causes.measured_cause.Tie as tie
+use Rattle.submit_causes.proofs.causes.measured_cause.Statement.{statement}
+use Rattle.submit_causes.proofs.causes.measured_cause.Tie as tie
 
 position-requires : tie.Need-position-requires
 position-requires c κs =

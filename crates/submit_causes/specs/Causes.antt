@@ -12,8 +12,8 @@ use Rattle.rules.specs.Answers.{Outcome}
 use Rattle.rules.specs.Ranges.{mostSubmitsInSecond, mostOrders, mostLotsRun, mostAcceptedSubmits}
 use Rattle.rules.specs.Ledger.{Tables, time, acceptedSubmits, lotsRun, orderCount, limit, defaulted, isOpen, low, high, lotsAt}
 use Rattle.rules.specs.Matching.{isTeye, isResting, mirrored, submitsAt}
-use Rattle.submit.specs.declared.causes.Verdict.{Verdict}
-use Rattle.submit.specs.declared.causes.Verdict.the-variants.{Refused, Sound}
+use Rattle.submit_causes.specs.declared.causes.Verdict.{Verdict}
+use Rattle.submit_causes.specs.declared.causes.Verdict.the-variants.{Refused, Sound}
 
 -- What a verdict leads to.
 abbrev pub outcome : Verdict → Tables → Outcome Tables → Outcome Tables

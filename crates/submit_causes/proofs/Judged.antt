@@ -27,10 +27,10 @@ use Rattle.matching.specs.Matching.{Ended}
 use Rattle.matching.proofs.Running.{Running, running-start, left-all, count-most}
 use Rattle.matching.proofs.Measures.{Measured, measured, untouched}
 use Rattle.matching.proofs.Totals.{dealt-and-left, lots-kept, lines-kept, run-of-lines, total-kept, crossing-all}
-use Rattle.submit.specs.declared.causes.Verdict.{Verdict}
-use Rattle.submit.specs.declared.causes.Verdict.the-variants.{Sound}
-use Rattle.submit.specs.Fit.{Acceptable}
-use Rattle.submit.specs.Causes.{outcome, firstCauses, measuredCauses}
+use Rattle.submit_causes.specs.declared.causes.Verdict.{Verdict}
+use Rattle.submit_causes.specs.declared.causes.Verdict.the-variants.{Sound}
+use Rattle.submit_causes.specs.Fit.{Acceptable}
+use Rattle.submit_causes.specs.Causes.{outcome, firstCauses, measuredCauses}
 use Rattle.rules.proofs.Distinct.{Distinct}
 
 -- ---- causes in two parts

@@ -9,8 +9,8 @@ ghost use Rattle.rules.specs.Ranges.{contractCount, mostMembers, mostLots, most
 ghost use Rattle.rules.specs.Ledger.{Tables, withHead, withPrices, withRows, headLength, pricesLength, lowPlace, highPlace};
 ghost use Rattle.rules.specs.Matching.{isTeye, isResting, submitsAt};
 ghost use Rattle.tables.specs.Fit.{HeadFit, RowsFit, membersIn, lotsRunIn};
-ghost use Rattle.submit.specs.Fit.{SubmissionFit};
-ghost use Rattle.submit.specs.Causes.{outcome, firstCauses, measuredCauses};
+ghost use Rattle.submit_causes.specs.Fit.{SubmissionFit};
+ghost use Rattle.submit_causes.specs.Causes.{outcome, firstCauses, measuredCauses};
 use crate::position::is_above;
 use crate::position::position;
 use matching::Crossing;
