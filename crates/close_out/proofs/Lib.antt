@@ -1,9 +1,7 @@
 mod Changes
 mod Takes
 mod Running
-mod DayWeights
 mod StepColumns
 mod Runs
 mod StepBooking
-mod ColumnFits
 mod Verdicts

@@ -1,17 +1,18 @@
 -- The columns of the steps of a close-out. Assumes nothing.
-use Prim.Native.Nat.{ℕ, zero, suc, _+_, _-_, _≤_, _<_}
+use Prim.Native.Nat.{ℕ, _+_, _-_, _≤_, _<_}
 use mathlib.Core.Path.{_≡_, refl, sym, ap, _∙_}
 use mathlib.Core.List.{List, [], _∷_, map, zipWith}
 use native.Mathlib.Omega.{arith}
 use native.Mathlib.Nat.{add-zero, zero-add}
 use native.Mathlib.Numerals.{add-one}
 use lib.IntN.{pos, negℤ, _-ℤ_, +ℤ-idl}
-use lib.ListN.{length, getD, set, take, drop, replicate, drop-of-length-le}
-use lib.Seq.{drop-cons, drop-drop, drop-set-lt, getD-drop}
+use lib.ListN.{length, getD, drop, replicate, drop-of-length-le}
+use lib.Seq.{drop-cons}
 use borrow.Author.Tests.{lt-ltb, le-ltb}
 use Rattle.rules.specs.Default.{sumOf, givenUp, less, changeLines, dealtOut}
 use Rattle.rules.specs.Ledger.{Tables}
 use Rattle.rules.proofs.Netting.{given-sum, given-length, given-le}
+use Rattle.close_out_weights.proofs.Still.{still-at}
 use Rattle.close_out.specs.Booking.{withEach, changes, nettingLines, takerLines}
 
 -- ---- what is left, in place
@@ -25,14 +26,8 @@ less-end xs ys i h = rw (drop-of-length-le xs h)
 
 -- xs from place i on as it was at first
 module _ (xs first : List ℕ) (i : ℕ) (known : drop i xs ≡ drop i first) where
-  pub still-at : getD xs i 0 ≡ getD first i 0
-  still-at = let e : i + 0 ≡ i = add-zero i in ap (λ n. getD xs n 0) (sym e) ∙ sym (getD-drop i xs 0 0) ∙ ap (λ l. getD l 0 0) known ∙ getD-drop i first 0 0 ∙ ap (λ n. getD first n 0) e
-
-  pub still-after : (x : ℕ) → drop (i + 1) (set xs i x) ≡ drop (i + 1) first
-  still-after x = drop-set-lt (i + 1) xs i x (omega arith) ∙ sym (drop-drop 1 i xs) ∙ ap (drop 1) known ∙ drop-drop 1 i first
-
   pub left-next : (ys : List ℕ) → i < length first → i < length ys → less (drop i first) (drop i ys) ≡ (getD xs i 0 - getD ys i 0) ∷ less (drop (i + 1) first) (drop (i + 1) ys)
-  left-next ys h k = less-next first ys i h k ∙ ap (λ x. (x - getD ys i 0) ∷ less (drop (i + 1) first) (drop (i + 1) ys)) (sym still-at)
+  left-next ys h k = less-next first ys i h k ∙ ap (λ x. (x - getD ys i 0) ∷ less (drop (i + 1) first) (drop (i + 1) ys)) (sym (still-at xs first i known))
 
 -- ---- takers
 bought : (xs : List ℕ) → map (λ n. pos n) xs ≡ changes xs (replicate (length xs) 0)
@@ -53,11 +48,6 @@ module _ (c p long l : ℕ) (ws xs zeros : List ℕ) (n : ℕ) (dealt : xs ≡ d
   pub takers-sell : long ≤ 0 → changeLines c p 0 (changes zeros xs) ≡ takerLines c p long l ws
   unfolding takerLines
   takers-sell h = rw (le-ltb 0 long h, none, ← size, ← dealt, sold xs)
-
-pub zeros-front : (n m : ℕ) → n ≤ m → take n (replicate {A = ℕ} m 0) ≡ replicate n 0
-zeros-front zero m h = refl
-zeros-front (suc n) zero h = absurd (omega arith)
-zeros-front (suc n) (suc m) h = ap (λ (l : List ℕ). 0 ∷ l) (zeros-front n m (omega arith))
 
 -- ---- netting
 module _ (c p q : ℕ) (longs shorts gl gs : List ℕ) (el : gl ≡ givenUp q longs) (es : gs ≡ givenUp q shorts) where

@@ -21,9 +21,9 @@ use Rattle.rules.specs.Refusals.{closeOutSpec}
 use Rattle.rules.proofs.Netting.{given-sum, given-length, given-le}
 use Rattle.tables.specs.Fit.{membersIn}
 use Rattle.dealing.specs.Levels.{mostWeight, Column}
-use Rattle.close_out.specs.declared.columns.Part.{Part}
-use Rattle.close_out.specs.declared.columns.Part.the-variants.{DefaultedLongs, DefaultedShorts}
-use Rattle.close_out.specs.Columns.{columnOf}
+use Rattle.close_out_weights.specs.declared.columns.Part.{Part}
+use Rattle.close_out_weights.specs.declared.columns.Part.the-variants.{DefaultedLongs, DefaultedShorts}
+use Rattle.close_out_weights.specs.Columns.{columnOf}
 use Rattle.tables.specs.Room.{Bookable}
 use Rattle.close_out.specs.Booking.{withEach, changes, nettingLines, defaultedLines, takerLines, stepLines, Dealable}
 use Rattle.close_out.proofs.Changes.{each-booked}
@@ -31,7 +31,7 @@ use Rattle.tables.proofs.Takes.{rows-wider}
 use Rattle.close_out.proofs.Running.{blank}
 use Rattle.close_out.proofs.Runs.{left-sum, change-run, Apart, apart-run, takers-run}
 use Rattle.close_out.proofs.StepBooking.{less-length, less-le}
-use Rattle.close_out.proofs.ColumnFits.{column-length, column-fits, column-sum}
+use Rattle.close_out_weights.proofs.ColumnFits.{column-length, column-fits, column-sum}
 use Rattle.rules.proofs.LinesRun.{run-append}
 
 -- ---- a column that was read

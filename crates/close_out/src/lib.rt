@@ -1,7 +1,6 @@
 // The close-out of a contract: netting among the defaulted, lots dealt out to the others. It is handed tables that are
 // long enough and not damaged, and a record that was read.
 mod booking;
-mod columns;
 mod netting;
 mod steps;
 mod takers;
@@ -16,8 +15,8 @@ ghost use Rattle.rules.specs.Ledger.{Tables, withHead, withPrices, withRows, wi
 ghost use Rattle.rules.specs.Refusals.{closeOutSpec};
 ghost use Rattle.tables.specs.Fit.{PricesFit, membersIn, lotsRunIn};
 ghost use Rattle.tables.specs.Room.{Bookable};
-use columns::Part;
-use columns::read_column;
+use close_out_weights::Part;
+use close_out_weights::read_column;
 use dealing::smaller;
 use dealing::sum_of;
 use rules::Answer;

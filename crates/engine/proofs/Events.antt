@@ -24,7 +24,7 @@ use Rattle.codec.proofs.Fields.{said}
 use Rattle.codec.proofs.LegColumns.{legs-said}
 use Rattle.rules.specs.Ledger.{Tables}
 use Rattle.tables.specs.Fit.{membersIn, lotsRunIn, Fits}
-use Rattle.submit.specs.Fit.{SubmissionFit}
+use Rattle.submit_causes.specs.Fit.{SubmissionFit}
 use Rattle.proposal_check.specs.Columns.{columnLegs, LegsFit}
 use Rattle.proposal_check.proofs.LegColumns.{orderOf, lotsOf, priceOf, counted, columns-are, columns-fit}
 use Rattle.header.proofs.Columns.{column, room}

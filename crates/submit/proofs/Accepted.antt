@@ -13,7 +13,7 @@ use Rattle.rules.specs.Matching.{incoming, submitMatched, submitLines, wouldRes
 use Rattle.tables.specs.Fit.{HeadFit, PricesFit, RowsFit, BookFit, membersIn, acceptedIn, lotsRunIn, orderCountIn, ordersIn}
 use Rattle.matching.specs.Crossing.{crossingIn}
 use Rattle.tables.proofs.Heads.{timed-length, timed-place}
-use Rattle.submit.specs.Fit.{SubmissionFit, Acceptable}
+use Rattle.submit_causes.specs.Fit.{SubmissionFit, Acceptable}
 use Rattle.submit.specs.Deals.{Tradable}
 use Rattle.submit.specs.Placing.{Placeable, orderBooked}
 use Rattle.submit.proofs.Heads.{timed-submits, counted-length, counted-place}

@@ -17,11 +17,11 @@ use Rattle.tables.specs.Fit.{HeadFit, BookFit, orderCountIn, ordersIn}
 use Rattle.tables.proofs.Left.{orders-length, all-orders}
 use Rattle.matching.specs.Ranks.{Ranked}
 use Rattle.matching.specs.Crossing.{ownIn, crossingIn}
-use Rattle.submit.specs.declared.causes.Verdict.{Verdict}
-use Rattle.submit.specs.declared.causes.Verdict.the-variants.{Refused, Sound}
-use Rattle.submit.specs.Fit.{SubmissionFit, Acceptable}
-use Rattle.submit.specs.Causes.{outcome, firstCauses, measuredCauses}
-use Rattle.submit.proofs.Judged.{judged-first, judged, acceptable}
+use Rattle.submit_causes.specs.declared.causes.Verdict.{Verdict}
+use Rattle.submit_causes.specs.declared.causes.Verdict.the-variants.{Refused, Sound}
+use Rattle.submit_causes.specs.Fit.{SubmissionFit, Acceptable}
+use Rattle.submit_causes.specs.Causes.{outcome, firstCauses, measuredCauses}
+use Rattle.submit_causes.proofs.Judged.{judged-first, judged, acceptable}
 use Rattle.rules.proofs.Distinct.{Distinct, distinct-orders}
 
 module _ (head prices : List ℕ) (lots value : List ℤ) (book : List ℕ) (lines : List ℤ) (e : Submission) (h : HeadFit head) (b : BookFit head book) (f : SubmissionFit head e) where

@@ -1,5 +1,3 @@
-pub mod Signs
-pub mod Judged
 pub mod Kept
 pub mod Lines
 pub mod Heads

@@ -21,7 +21,7 @@ use Rattle.matching.specs.Deals.{dealWidth, dealsIn, counterpartyOf}
 use Rattle.matching.specs.Matching.{Matchable, Ended, MatchMade}
 use Rattle.matching.proofs.Totals.{dealt-and-left, lots-kept, worth-kept}
 use Rattle.submit.specs.Deals.{DealsFit, Tradable, Traded, lotsDealt, worthOf}
-use Rattle.submit.proofs.Judged.{still, resting-still}
+use Rattle.submit_causes.proofs.Judged.{still, resting-still}
 use Rattle.submit.proofs.Kept.{total-at}
 use Rattle.submit.proofs.Orders.{written-back}
 use Rattle.rules.proofs.Distinct.{Distinct, distinct-orders}

@@ -1,4 +1,2 @@
-pub mod Fit
-pub mod Causes
 pub mod Deals
 pub mod Placing

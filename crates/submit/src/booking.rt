@@ -6,7 +6,7 @@ ghost use Rattle.rules.specs.Ranges.{mostMembers, mostPrice, mostSubmitsInSecon
 ghost use Rattle.rules.specs.Ledger.{Tables, lent, withHead, withAcceptedSubmits, withSubmitsThisSecond, submitsFrom, headLength, linesLength};
 ghost use Rattle.rules.specs.Matching.{incoming, submitBooked};
 ghost use Rattle.tables.specs.Fit.{HeadFit, PricesFit, RowsFit, BookFit, membersIn, acceptedIn, lotsRunIn};
-ghost use Rattle.submit.specs.Fit.{SubmissionFit, Acceptable};
+ghost use Rattle.submit_causes.specs.Fit.{SubmissionFit, Acceptable};
 use crate::placing::place_order;
 use rules::Answer;
 use rules::DayNo;

@@ -1,9 +1,7 @@
 // A submit. It is handed tables that are long enough and not damaged, and a record that was read.
 mod booking;
-mod causes;
 mod deals;
 mod placing;
-mod position;
 mod trade;
 
 ghost use mathlib.Core.Path.{_≡_};
@@ -13,15 +11,15 @@ ghost use Rattle.rules.specs.Ranges.{mostPrice};
 ghost use Rattle.rules.specs.Ledger.{Tables, withHead, withPrices, withRows, withBook, withLines, linesLength};
 ghost use Rattle.rules.specs.Refusals.{submitSpec};
 ghost use Rattle.tables.specs.Fit.{HeadFit, PricesFit, RowsFit, BookFit, membersIn, lotsRunIn};
-ghost use Rattle.submit.specs.Fit.{SubmissionFit};
+ghost use Rattle.submit_causes.specs.Fit.{SubmissionFit};
 use booking::book_submit;
 use booking::order_of;
-use causes::Verdict;
-use causes::first_cause;
-use causes::measured_cause;
 use rules::Answer;
 use rules::Submission;
 use rules::layout::ORDER_COUNT;
+use submit_causes::Verdict;
+use submit_causes::first_cause;
+use submit_causes::measured_cause;
 
 // What refuses it is known before anything is written.
 pub fn apply(

@@ -11,7 +11,6 @@ ghost use Rattle.rules.specs.Matching.{isResting, withLots};
 ghost use Rattle.tables.specs.Fit.{orderCountIn, ordersIn};
 ghost use Rattle.matching.specs.Crossing.{crossingIn};
 ghost use Rattle.submit.specs.Placing.{Placeable, orderBooked};
-use crate::causes::is_resting;
 use crate::deals::book_deals;
 use crate::trade::settle;
 use matching::DEAL_WIDTH;
@@ -21,6 +20,7 @@ use rules::OrderKind;
 use rules::layout::ORDER_COUNT;
 use rules::layout::ORDERS;
 use rules::ranges::MOST_LOTS;
+use submit_causes::is_resting;
 
 // A deal takes one lot at least.
 const DEAL_PLACES: usize = MOST_LOTS as usize * DEAL_WIDTH;

@@ -4,7 +4,7 @@ use native.Mathlib.Omega.{arith}
 use borrow.Author.Needs.{needs}
 use Rattle.rules.specs.Ledger.{withLines}
 use Rattle.rules.specs.Ranges.{mostLotsRun}
-use Rattle.close_out.specs.declared.columns.Part.the-variants.{DefaultedLongs, DefaultedShorts}
+use Rattle.close_out_weights.specs.declared.columns.Part.the-variants.{DefaultedLongs, DefaultedShorts}
 use Rattle.tables.proofs.Takes.{rows-wider}
 use Rattle.close_out.proofs.Running.{put, blank}
 use Rattle.close_out.proofs.Verdicts.{read-fits, left-is, no-lots, no-taker, passed, booked-so, dealable}

@@ -6,7 +6,8 @@ use lib.ListN.{length, take, drop, length-set}
 use borrow.Author.Needs.{needs}
 use Rattle.arith.proofs.Columns.{written-next, written-end}
 use Rattle.rules.specs.Default.{less}
-use Rattle.close_out.proofs.StepColumns.{less-end, still-at, still-after, left-next}
+use Rattle.close_out_weights.proofs.Still.{still-at, still-after}
+use Rattle.close_out.proofs.StepColumns.{less-end, left-next}
 use Rattle.close_out.proofs.netting.subtract.Statement.{statement}
 use Rattle.close_out.proofs.netting.subtract.Tie as tie
 

@@ -1,7 +1,7 @@
 use native.Mathlib.Omega.{arith}
 use lib.ListN.{length, length-take}
 use borrow.Author.Needs.{needs}
-use Rattle.close_out.proofs.StepColumns.{zeros-front}
+use Rattle.close_out_weights.proofs.Still.{zeros-front}
 use Rattle.close_out.proofs.takers.book_takers.Statement.{statement}
 use Rattle.close_out.proofs.takers.book_takers.Tie as tie
 

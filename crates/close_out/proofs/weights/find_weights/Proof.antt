@@ -7,9 +7,9 @@ use borrow.Author.Needs.{needs}
 use Rattle.rules.specs.Ledger.{withHead, withRows}
 use Rattle.rules.specs.Ranges.{mostMembers}
 use Rattle.dealing.specs.Levels.{mostWeight}
-use Rattle.close_out.specs.declared.columns.Part.the-variants.{Others}
+use Rattle.close_out_weights.specs.declared.columns.Part.the-variants.{Others}
 use Rattle.close_out.proofs.Running.{blank}
-use Rattle.close_out.proofs.ColumnFits.{column-fits, days-column, weights-here, weights-days, sum-fits}
+use Rattle.close_out_weights.proofs.ColumnFits.{column-fits, days-column, weights-here, weights-days, sum-fits}
 use Rattle.close_out.proofs.weights.find_weights.Statement.{statement}
 use Rattle.close_out.proofs.weights.find_weights.Tie as tie
 

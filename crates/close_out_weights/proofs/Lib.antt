@@ -1,0 +1,3 @@
+pub mod Still
+mod DayWeights
+pub mod ColumnFits
