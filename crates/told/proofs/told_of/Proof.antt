@@ -1,6 +1,6 @@
 use borrow.Author.Needs.{needs}
-use Rattle.engine.proofs.told.told_of.Statement.{statement}
-use Rattle.engine.proofs.told.told_of.Tie as tie
+use Rattle.told.proofs.told_of.Statement.{statement}
+use Rattle.told.proofs.told_of.Tie as tie
 
 returns : tie.Need-returns
 returns c = rw (c .before .before .answer .given .1) (c .numbered .ensures)
