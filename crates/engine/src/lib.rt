@@ -3,10 +3,6 @@ mod applying;
 mod event;
 mod legs;
 mod making;
-mod told;
 
 pub use applying::apply;
 pub use making::make;
-pub use told::Told;
-pub use told::numbered;
-pub use told::told_of;

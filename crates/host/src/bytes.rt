@@ -4,10 +4,10 @@ ghost use Rattle.rules.specs.Records.{frontOf, toldFront};
 ghost use Rattle.fields.specs.HeaderFields.{readHeaderFields, writeHeaderFields};
 ghost use Rattle.fields.specs.RecordFields.{readFields, writeFields};
 ghost use Rattle.host.specs.Sent.{sent};
-use engine::Told;
-use engine::numbered;
-use engine::told_of;
 use rules::Front;
+use told::Told;
+use told::numbered;
+use told::told_of;
 
 // Reads a record of a ledger of that many members to the fields: 0 with how many numbers were written, or 1 (fewer
 // fields than a record may have) or 3, and then the fields are as they were.

@@ -13,7 +13,7 @@ pub use bytes::ledger_read_header;
 pub use bytes::ledger_read_record;
 pub use bytes::ledger_write_header;
 pub use bytes::ledger_write_record;
-use engine::told_of;
+use told::told_of;
 
 // Makes a ledger in the lent tables: 0, or the number of the cause, 1 or 2, and then every table is as it was.
 #[no_mangle]

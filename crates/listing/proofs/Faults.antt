@@ -9,10 +9,10 @@ use borrow.Author.Tests.{le-ltb, lt-ltb, le-leb, lt-leb}
 use lib.Dec.{leb, ltb}
 use lib.ListN.{length}
 use Rattle.arith.proofs.Tests.{true-or, le-or-lt, and-false}
-use Rattle.listing.specs.declared.field.Field.{Field}
-use Rattle.listing.specs.declared.field.Verdict.{Verdict}
-use Rattle.listing.specs.declared.field.Verdict.the-variants.{OutOfRange}
-use Rattle.listing.specs.Fields.{sizeOf, numberAt, quantityOf, rangeOf, within, dayVerdict, verdictOf, passes, Fault, isNone, faultIn}
+use Rattle.listing_words.specs.declared.field.Field.{Field}
+use Rattle.listing_words.specs.declared.field.Verdict.{Verdict}
+use Rattle.listing_words.specs.declared.field.Verdict.the-variants.{OutOfRange}
+use Rattle.listing_words.specs.Fields.{sizeOf, numberAt, quantityOf, rangeOf, within, dayVerdict, verdictOf, passes, Fault, isNone, faultIn}
 
 unfoldable pub sizes : List Field → ℕ
 sizes [] = 0

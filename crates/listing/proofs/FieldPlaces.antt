@@ -9,10 +9,10 @@ use lib.Dec.{eqb}
 use Rattle.rules.specs.Records.{closeOfDayKind}
 use lib.ListN.{length, getD, replicate, length-append, List·getD-append}
 use lib.Seq.{getD-append-add}
-use Rattle.listing.specs.declared.field.Field.{Field}
-use Rattle.listing.specs.declared.field.Field.the-variants.{Kind, Time, Order, Lots, Price, Holiday, Limit}
-use Rattle.listing.specs.declared.field.Shape.the-variants.{Header}
-use Rattle.listing.specs.Fields.{legFields, proposalFields, fixedFields, fieldsOfKind, fieldsOf}
+use Rattle.listing_words.specs.declared.field.Field.{Field}
+use Rattle.listing_words.specs.declared.field.Field.the-variants.{Kind, Time, Order, Lots, Price, Holiday, Limit}
+use Rattle.listing_words.specs.declared.field.Shape.the-variants.{Header}
+use Rattle.listing_words.specs.Fields.{legFields, proposalFields, fixedFields, fieldsOfKind, fieldsOf}
 
 -- The last of numbers of which all others are ruled out.
 pub last-of-four : (i : ℕ) → 3 ≤ i → i < 7 → (i ≡ 3 → ⊥) → (i ≡ 4 → ⊥) → (i ≡ 5 → ⊥) → i ≡ 6

@@ -9,15 +9,15 @@ use borrow.Author.Tests.{lt-ltb}
 use lib.ListN.{length, drop, getD, drop-of-length-le}
 use lib.Seq.{drop-cons}
 use Rattle.arith.proofs.Tests.{le-or-lt, never}
-use Rattle.listing.specs.declared.field.Field.{Field}
-use Rattle.listing.specs.declared.field.Field.the-variants.{Kind}
-use Rattle.listing.specs.declared.field.Verdict.{Verdict}
-use Rattle.listing.specs.declared.field.Verdict.the-variants.{Passes, Cut, OutOfRange, NoBusinessDay, OnStartDay}
-use Rattle.listing.specs.Fields.{sizeOf, numberAt, verdictOf, passes, faultPlace, isNone, faultIn}
+use Rattle.listing_words.specs.declared.field.Field.{Field}
+use Rattle.listing_words.specs.declared.field.Field.the-variants.{Kind}
+use Rattle.listing_words.specs.declared.field.Verdict.{Verdict}
+use Rattle.listing_words.specs.declared.field.Verdict.the-variants.{Passes, Cut, OutOfRange, NoBusinessDay, OnStartDay}
+use Rattle.listing_words.specs.Fields.{sizeOf, numberAt, verdictOf, passes, faultPlace, isNone, faultIn}
 use Rattle.listing.specs.Lines.{ListedAs, Going}
-use Rattle.listing.specs.Short.{Short}
-use Rattle.listing.specs.Words.{fieldWords, faultWords, wordsIn}
-use Rattle.listing.proofs.Writers.{next, nothing, within-room}
+use Rattle.listing_words.specs.Short.{Short}
+use Rattle.listing_words.specs.Words.{fieldWords, faultWords, wordsIn}
+use Rattle.listing_words.proofs.Writers.{next, nothing, within-room}
 
 not-cut : (n : ℕ) (s : List ℕ) (place : ℕ) (f : Field) → passes (verdictOf n s place f) ≡ true → place + sizeOf f ≤ length s
 unfolding verdictOf

@@ -16,11 +16,11 @@ use Rattle.rules.specs.Header.{u16At, u32At, u16sAt, u32sAt, lettersAndVersion,
 use Rattle.rules.specs.Header.{membersSound, limitSound, daySound, headerSound, beginsWithHeader}
 use Rattle.rules.specs.Ranges.{leastFirstYear, mostFirstYear, mostMembers, mostHolidays}
 use Rattle.rules.proofs.Rising.{rising-cons, rising-short}
-use Rattle.listing.specs.declared.field.Field.{Field}
-use Rattle.listing.specs.declared.field.Field.the-variants.{Holiday, Limit}
-use Rattle.listing.specs.declared.field.Verdict.the-variants.{Passes, NoBusinessDay, OnStartDay}
+use Rattle.listing_words.specs.declared.field.Field.{Field}
+use Rattle.listing_words.specs.declared.field.Field.the-variants.{Holiday, Limit}
+use Rattle.listing_words.specs.declared.field.Verdict.the-variants.{Passes, NoBusinessDay, OnStartDay}
 use Rattle.listing.specs.Exact.{HeaderExact}
-use Rattle.listing.specs.Fields.{sizeOf, fieldsOf, headerShape, numberAt, range, spanRange, holidayRange, within, passes, isNone, headerFault}
+use Rattle.listing_words.specs.Fields.{sizeOf, fieldsOf, headerShape, numberAt, range, spanRange, holidayRange, within, passes, isNone, headerFault}
 use Rattle.listing.proofs.Faults.{sizes, inRanges, none-is, from-zero, last-before}
 use Rattle.listing.proofs.HeaderSizes.{sizes-holidays, header-sizes}
 use Rattle.listing.proofs.SpanDays.{some-day}

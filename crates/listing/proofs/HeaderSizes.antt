@@ -9,10 +9,10 @@ use borrow.Author.Tests.{leb-true}
 use lib.Dec.{leb}
 use lib.ListN.{length, getD, replicate}
 use Rattle.arith.proofs.Tests.{and-left}
-use Rattle.listing.specs.declared.field.Field.{Field}
-use Rattle.listing.specs.declared.field.Field.the-variants.{Holiday, Limit}
-use Rattle.listing.specs.declared.field.Shape.the-variants.{Header}
-use Rattle.listing.specs.Fields.{fixedFields, fieldsOf, headerShape, isNone, headerFault}
+use Rattle.listing_words.specs.declared.field.Field.{Field}
+use Rattle.listing_words.specs.declared.field.Field.the-variants.{Holiday, Limit}
+use Rattle.listing_words.specs.declared.field.Shape.the-variants.{Header}
+use Rattle.listing_words.specs.Fields.{fixedFields, fieldsOf, headerShape, isNone, headerFault}
 use Rattle.listing.proofs.Faults.{sizes, inRanges, none-is}
 
 sizes-append : (xs ys : List Field) → sizes (xs ++ ys) ≡ sizes xs + sizes ys

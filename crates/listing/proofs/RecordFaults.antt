@@ -22,7 +22,7 @@ use Rattle.rules.specs.Header.{u16At, u32At, membersSound}
 use Rattle.rules.specs.Records.{recordLength, frontLength, timeSound, contractSound, sideSound, orderKindSound, priceSound, lotsSound, dayLimitsSound, numberSound, legSound, legAt}
 use Rattle.rules.specs.Records.{legPlace, submissionOf, submitOf, cancellationOf, newDayLimitsOf, closeOutOf, fieldsByKind, fieldsOf as readFields, legsOf, eventSound, ifSound, readOf}
 use Rattle.listing.specs.Exact.{isSound, RecordExact}
-use Rattle.listing.specs.Fields.{legFields, fieldsOfKind, fieldsOf, numberAt, range, within, recordShape, isNone, faultOf}
+use Rattle.listing_words.specs.Fields.{legFields, fieldsOfKind, fieldsOf, numberAt, range, within, recordShape, isNone, faultOf}
 use Rattle.listing.proofs.Faults.{sizes, inRanges, none-is, from-zero, last-before}
 
 -- ---- tests in another order

@@ -9,7 +9,7 @@ use Rattle.rules.specs.declared.event.Reading.{Reading}
 use Rattle.rules.specs.declared.event.Reading.the-variants.{Sound, Unsound}
 use Rattle.rules.specs.Header.{membersSound, beginsWithHeader}
 use Rattle.rules.specs.Records.{frontLength, readOf}
-use Rattle.listing.specs.Fields.{isNone, faultOf, headerFault}
+use Rattle.listing_words.specs.Fields.{isNone, faultOf, headerFault}
 
 abbrev pub isSound : Reading → Bool
 isSound (Sound e) = true

@@ -3,12 +3,12 @@ use Prim.Native.Nat.{ℕ, _+_, _*_, _≤_}
 use mathlib.Core.List.{List, _++_}
 use mathlib.Core.Path.{_≡_}
 use lib.ListN.{length, drop}
-use Rattle.listing.specs.declared.field.Field.{Field}
-use Rattle.listing.specs.declared.field.Shape.{Shape}
+use Rattle.listing_words.specs.declared.field.Field.{Field}
+use Rattle.listing_words.specs.declared.field.Shape.{Shape}
 use Rattle.listing.specs.declared.lines.Listed.{Listed}
-use Rattle.listing.specs.Fields.{fieldsOf, Fault, isNone, faultIn}
-use Rattle.listing.specs.Short.{Short}
-use Rattle.listing.specs.Words.{wordsIn}
+use Rattle.listing_words.specs.Fields.{fieldsOf, Fault, isNone, faultIn}
+use Rattle.listing_words.specs.Short.{Short}
+use Rattle.listing_words.specs.Words.{wordsIn}
 
 -- The text is written, in at most so many places, and the answer says whether there is no fault.
 pub record ListedAs (most start : ℕ) (text : List ℕ) (fault : Fault) (entry exit : List ℕ) (r : Listed) : Type 0 where

@@ -2,11 +2,11 @@
 ghost use mathlib.Core.Path.{_≡_};
 ghost use Prim.Native.Nat.{ℕ, _<_, _≤_};
 ghost use lib.ListN.{length, getD};
-ghost use Rattle.listing.specs.declared.field.Field.the-variants.{Kind as firstField};
-ghost use Rattle.listing.specs.declared.field.Shape.the-variants.{Header as HeaderShape};
-ghost use Rattle.listing.specs.Fields.{fixedFields, submitFields, cancelFields, dayLimitsFields, proposalFields, closeOutFields, fieldsOfKind, fieldsOf};
-use crate::field::Field;
-use crate::field::Shape;
+ghost use Rattle.listing_words.specs.declared.field.Field.the-variants.{Kind as firstField};
+ghost use Rattle.listing_words.specs.declared.field.Shape.the-variants.{Header as HeaderShape};
+ghost use Rattle.listing_words.specs.Fields.{fixedFields, submitFields, cancelFields, dayLimitsFields, proposalFields, closeOutFields, fieldsOfKind, fieldsOf};
+use listing_words::Field;
+use listing_words::Shape;
 use rules::kinds::CANCEL;
 use rules::kinds::CLOSE_OF_DAY;
 use rules::kinds::CLOSE_OUT;

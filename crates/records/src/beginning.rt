@@ -11,9 +11,9 @@ use crate::stage::Progress;
 use crate::stage::Stage;
 use crate::stage::Wants;
 use big_endian::u8_or_zero;
-use engine::told_of;
 use printing::put_head;
 use printing::put_refusal;
+use told::told_of;
 
 const ACCEPTED: u64 = 0;
 

@@ -8,10 +8,10 @@ ghost use Rattle.records.specs.Room.{recordRoom};
 ghost use Rattle.records.specs.Stages.{RanOne, lengthNow, readyLength};
 use crate::stage::ROOM;
 use codec::front_record;
-use engine::told_of;
 use printing::put_deals;
 use printing::put_refusal;
 use rules::Front;
+use told::told_of;
 
 const ACCEPTED: u64 = 0;
 

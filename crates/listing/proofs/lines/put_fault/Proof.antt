@@ -1,5 +1,5 @@
 use native.Mathlib.Omega.{arith}
-use Rattle.listing.specs.Words.{faultWords}
+use Rattle.listing_words.specs.Words.{faultWords}
 use Rattle.listing.proofs.Goings.{fault-most}
 use borrow.Author.Needs.{needs}
 use Rattle.listing.proofs.lines.put_fault.Statement.{statement}

@@ -1,8 +1,8 @@
 use mathlib.Core.Path.{refl}
 use native.Mathlib.Omega.{arith}
-use Rattle.listing.proofs.Writers.{next, exactly, number, worded, within-room}
+use Rattle.listing_words.proofs.Writers.{next, exactly, number, worded, within-room}
 use mathlib.Core.List.{append-assoc}
-use Rattle.listing.specs.Words.{faultText}
+use Rattle.listing_words.specs.Words.{faultText}
 use borrow.Author.Needs.{needs}
 use Rattle.listing.proofs.lines.put_fault_text.Statement.{statement}
 use Rattle.listing.proofs.lines.put_fault_text.Tie as tie

@@ -2,7 +2,7 @@ use borrow.Author.Needs.{needs}
 use native.Mathlib.Omega.{arith}
 use Prim.Native.Nat.{_-_}
 use Rattle.arith.proofs.Tests.{asked-true, asked-false}
-use Rattle.listing.specs.Fields.{fieldsOf}
+use Rattle.listing_words.specs.Fields.{fieldsOf}
 use Rattle.listing.specs.Lines.{Going}
 use Rattle.listing.proofs.Goings.{going-start, going-next, going-fault, going-end}
 use Rattle.listing.proofs.lines.put_fields.Statement.{statement}

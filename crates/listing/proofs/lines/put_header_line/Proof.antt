@@ -1,7 +1,7 @@
 use mathlib.Core.Path.{refl, sym}
 use native.Mathlib.Omega.{arith}
-use Rattle.listing.proofs.Writers.{next, exactly, within-room}
-use Rattle.listing.specs.Words.{headerLine}
+use Rattle.listing_words.proofs.Writers.{next, exactly, within-room}
+use Rattle.listing_words.specs.Words.{headerLine}
 use Rattle.listing.proofs.FieldPlaces.{header-length}
 use borrow.Author.Needs.{needs}
 use Rattle.listing.proofs.lines.put_header_line.Statement.{statement}

@@ -1,7 +1,7 @@
 use mathlib.Core.Path.{refl}
 use native.Mathlib.Omega.{arith}
-use Rattle.listing.proofs.Writers.{next, exactly, number, nothing, within-room}
-use Rattle.listing.specs.Words.{hint}
+use Rattle.listing_words.proofs.Writers.{next, exactly, number, nothing, within-room}
+use Rattle.listing_words.specs.Words.{hint}
 use borrow.Author.Needs.{needs}
 use Rattle.listing.proofs.lines.put_hint.Statement.{statement}
 use Rattle.listing.proofs.lines.put_hint.Tie as tie

@@ -1,8 +1,8 @@
 use mathlib.Core.Path.{refl}
 use native.Mathlib.Omega.{arith}
-use Rattle.listing.proofs.Writers.{next, exactly, number, within-room}
+use Rattle.listing_words.proofs.Writers.{next, exactly, number, within-room}
 use mathlib.Core.List.{append-assoc}
-use Rattle.listing.specs.Words.{outOfRange}
+use Rattle.listing_words.specs.Words.{outOfRange}
 use borrow.Author.Needs.{needs}
 use Rattle.listing.proofs.lines.put_out_of_range.Statement.{statement}
 use Rattle.listing.proofs.lines.put_out_of_range.Tie as tie

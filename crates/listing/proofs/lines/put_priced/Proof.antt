@@ -1,6 +1,6 @@
 use mathlib.Core.Path.{refl}
 use native.Mathlib.Omega.{arith}
-use Rattle.listing.proofs.Writers.{next, worded, within-room}
+use Rattle.listing_words.proofs.Writers.{next, worded, within-room}
 use borrow.Author.Needs.{needs}
 use Rattle.listing.proofs.lines.put_priced.Statement.{statement}
 use Rattle.listing.proofs.lines.put_priced.Tie as tie

@@ -1,7 +1,7 @@
 use mathlib.Core.Path.{refl}
 use native.Mathlib.Omega.{arith}
-use Rattle.listing.proofs.Writers.{exactly, worded, within-room}
-use Rattle.listing.specs.Words.{quantityWords}
+use Rattle.listing_words.proofs.Writers.{exactly, worded, within-room}
+use Rattle.listing_words.specs.Words.{quantityWords}
 use borrow.Author.Needs.{needs}
 use Rattle.listing.proofs.lines.put_quantity.Statement.{statement}
 use Rattle.listing.proofs.lines.put_quantity.Tie as tie

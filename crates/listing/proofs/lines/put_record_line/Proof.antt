@@ -1,9 +1,9 @@
 use mathlib.Core.Path.{refl}
 use native.Mathlib.Omega.{arith}
-use Rattle.listing.proofs.Writers.{next, exactly, digits, decimal-room, within-room}
+use Rattle.listing_words.proofs.Writers.{next, exactly, digits, decimal-room, within-room}
 use mathlib.Core.List.{append-assoc}
-use Rattle.listing.specs.Fields.{fieldsOf}
-use Rattle.listing.specs.Words.{recordLine}
+use Rattle.listing_words.specs.Fields.{fieldsOf}
+use Rattle.listing_words.specs.Words.{recordLine}
 use borrow.Author.Needs.{needs}
 use Rattle.listing.proofs.lines.put_record_line.Statement.{statement}
 use Rattle.listing.proofs.lines.put_record_line.Tie as tie

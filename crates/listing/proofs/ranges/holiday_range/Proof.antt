@@ -1,6 +1,6 @@
 use mathlib.Core.Path.{refl, _∙_}
 use borrow.Author.Tests.{le-leb, lt-leb}
-use Rattle.listing.specs.Fields.{holidayRange}
+use Rattle.listing_words.specs.Fields.{holidayRange}
 use borrow.Author.Needs.{needs}
 use Rattle.listing.proofs.ranges.holiday_range.Statement.{statement}
 use Rattle.listing.proofs.ranges.holiday_range.Tie as tie

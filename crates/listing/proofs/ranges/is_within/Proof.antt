@@ -1,5 +1,5 @@
 use mathlib.Core.Path.{refl}
-use Rattle.listing.specs.Fields.{within}
+use Rattle.listing_words.specs.Fields.{within}
 use Rattle.listing.proofs.ranges.is_within.Statement.{statement}
 use Rattle.listing.proofs.ranges.is_within.Tie as tie
 

@@ -2,7 +2,7 @@ use mathlib.Core.Path.{refl}
 use borrow.Author.Tests.{ne-eqb}
 use native.Mathlib.Omega.{arith}
 use Rattle.rules.specs.Header.{u16At, u32At}
-use Rattle.listing.specs.Words.{otherWayRound}
+use Rattle.listing_words.specs.Words.{otherWayRound}
 use borrow.Author.Needs.{needs}
 use Rattle.listing.proofs.ranges.other_way_round.Statement.{statement}
 use Rattle.listing.proofs.ranges.other_way_round.Tie as tie

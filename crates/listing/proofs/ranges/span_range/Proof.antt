@@ -2,7 +2,7 @@ use mathlib.Core.Path.{refl, _∙_}
 use mathlib.Core.List.{[]}
 use native.Mathlib.Omega.{arith}
 use Rattle.arith.proofs.Tests.{asked-true, asked-false}
-use Rattle.listing.specs.Fields.{spanRange, spanOf}
+use Rattle.listing_words.specs.Fields.{spanRange, spanOf}
 use Rattle.listing.proofs.SpanDays.{some-day, first-year-in}
 use borrow.Author.Needs.{needs}
 use Rattle.listing.proofs.ranges.span_range.Statement.{statement}

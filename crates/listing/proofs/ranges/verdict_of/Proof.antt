@@ -1,6 +1,6 @@
 use mathlib.Core.Path.{refl}
 use borrow.Author.Tests.{lt-ltb, le-ltb}
-use Rattle.listing.specs.Fields.{verdictOf}
+use Rattle.listing_words.specs.Fields.{verdictOf}
 use borrow.Author.Needs.{needs}
 use Rattle.listing.proofs.ranges.verdict_of.Statement.{statement}
 use Rattle.listing.proofs.ranges.verdict_of.Tie as tie

@@ -1,9 +1,9 @@
-use Rattle.listing.specs.declared.field.Field.the-variants.{Kind}
-use Rattle.listing.specs.Fields.{fieldsOfKind}
+use Rattle.listing_words.specs.declared.field.Field.the-variants.{Kind}
+use Rattle.listing_words.specs.Fields.{fieldsOfKind}
 use Rattle.listing.proofs.FieldPlaces.{after-first}
 use mathlib.Core.Path.{refl}
 use native.Mathlib.Omega.{arith}
-use Rattle.listing.specs.Fields.{fieldsOf}
+use Rattle.listing_words.specs.Fields.{fieldsOf}
 use borrow.Author.Needs.{needs}
 use Rattle.listing.proofs.shapes.field_at.Statement.{statement}
 use Rattle.listing.proofs.shapes.field_at.Tie as tie

@@ -1,0 +1,2 @@
+mod Spelled
+pub mod Writers

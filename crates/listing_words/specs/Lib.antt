@@ -1,0 +1,5 @@
+pub mod Fields
+pub mod Words
+pub mod Word
+pub mod Short
+pub mod Examples

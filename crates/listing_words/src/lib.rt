@@ -1,0 +1,19 @@
+// The words and numbers that a line of the listing is made of.
+mod field;
+mod names;
+mod numbers;
+
+pub use field::Field;
+pub use field::Quantity;
+pub use field::Range;
+pub use field::Shape;
+pub use field::Verdict;
+pub use names::Word;
+pub use names::kind_word;
+pub use names::name_of;
+pub use names::order_kind_word;
+pub use names::side_word;
+pub use numbers::put_contract;
+pub use numbers::put_price;
+pub use numbers::put_time;
+pub use numbers::put_word;
