@@ -25,7 +25,8 @@ NAME = re.compile(r"[^\W\d][\w'·-]*$")
 # How a name is defined: a signature, field or case of a specification; an item, field or variant of a program.
 SIGNATURE = re.compile(r"^\s*(?:(?:pub|abbrev|unfoldable|data|record|mod|ruleset)\s+)*([^\s:(){}=,]+)(?=[\s:({=]|$)", re.M)
 ITEM = re.compile(r"\b(?:fn|struct|enum|const|mod|type)\s+(\w+)")
-FIELD = re.compile(r"^\s*(?:pub\s+)?(\w+)\s*(?=[,({:=])", re.M)
+# A variant has a capital letter; a field has its type behind it. A call is neither.
+FIELD = re.compile(r"^\s*(?:pub\s+)?([A-Z]\w*(?=\s*[,({=])|[a-z]\w*(?=:\s))", re.M)
 WORD = re.compile(r"\w+")
 DEFINES = {".antt": (SIGNATURE,), ".rt": (ITEM, FIELD)}
 
