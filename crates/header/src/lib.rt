@@ -3,7 +3,15 @@ mod journal;
 mod reader;
 mod writer;
 
+pub use journal::FIRST_HOLIDAY_PLACE;
+pub use journal::FIRST_YEAR_PLACE;
+pub use journal::HOLIDAY_COUNT_PLACE;
+pub use journal::HOLIDAY_LENGTH;
 pub use journal::JournalHeader;
+pub use journal::LIMIT_LENGTH;
+pub use journal::MEMBERS_PLACE;
+pub use journal::START_DAY_PLACE;
+pub use journal::header_length;
 pub use journal::is_member_count_sound;
 pub use reader::HeaderReading;
 pub use reader::read_header;

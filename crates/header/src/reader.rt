@@ -7,8 +7,16 @@ ghost use Rattle.rules.specs.Header.{u16sAt, u32sAt, sameBytes, lettersAndVersi
 ghost use Rattle.rules.specs.declared.answer.Answer.the-variants.{HeaderUnsound};
 ghost use Rattle.arith.specs.Columns.{padded};
 ghost use Rattle.header.specs.Journal.{headerColumns, blankHeader, headerReading};
+use crate::journal::FIRST_HOLIDAY_PLACE;
+use crate::journal::FIRST_YEAR_PLACE;
+use crate::journal::HOLIDAY_COUNT_PLACE;
+use crate::journal::HOLIDAY_LENGTH;
 use crate::journal::JournalHeader;
 use crate::journal::LETTERS_AND_VERSION;
+use crate::journal::LIMIT_LENGTH;
+use crate::journal::MEMBERS_PLACE;
+use crate::journal::START_DAY_PLACE;
+use crate::journal::header_length;
 use crate::journal::is_header_sound;
 use big_endian::u8_at;
 use big_endian::u16_at;
@@ -33,7 +41,7 @@ fn holidays_at(bytes: &[u8], count: usize) -> [u64; HOLIDAY_PLACES]
     let mut column = [0u64; HOLIDAY_PLACES];
     let mut i: usize = 0;
     while i < count {
-        column[i] = u16_at(bytes, 11 + 2 * i);
+        column[i] = u16_at(bytes, FIRST_HOLIDAY_PLACE + HOLIDAY_LENGTH * i);
         i += 1;
     }
     column
@@ -46,7 +54,7 @@ fn limits_at(bytes: &[u8], at: usize, count: usize) -> [u64; MEMBER_PLACES]
     let mut column = [0u64; MEMBER_PLACES];
     let mut i: usize = 0;
     while i < count {
-        column[i] = u32_at(bytes, at + 4 * i);
+        column[i] = u32_at(bytes, at + LIMIT_LENGTH * i);
         i += 1;
     }
     column
@@ -58,11 +66,15 @@ fn fields_at(bytes: &[u8], members: u64, holiday_count: u64) -> JournalHeader
     requires { ⌜ (members ≤ mostMembers) × («holiday_count» ≤ mostHolidays) × (headerLength (now bytes) ≤ length (now bytes)) ⌝ }
     ensures { λ r. ⌜ r ≡ headerColumns (headerOf (now (bytes .entry))) ⌝ }
 {
-    let year = u16_at(bytes, 5);
-    let start = u16_at(bytes, 7);
+    let year = u16_at(bytes, FIRST_YEAR_PLACE);
+    let start = u16_at(bytes, START_DAY_PLACE);
     let n = holiday_count as usize;
     let holidays = holidays_at(bytes, n);
-    let limits = limits_at(bytes, 11 + 2 * n, members as usize);
+    let limits = limits_at(
+        bytes,
+        FIRST_HOLIDAY_PLACE + HOLIDAY_LENGTH * n,
+        members as usize,
+    );
     JournalHeader {
         first_year: year,
         start_day: DayNo(start),
@@ -78,7 +90,7 @@ fn begins_with_letters(bytes: &[u8]) -> bool
     ensures { λ r. ⌜ r ≡ sameBytes (take 5 (now (bytes .entry))) lettersAndVersion ⌝ }
 {
     let letters = LETTERS_AND_VERSION;
-    check::same(&bytes[..5], &letters)
+    check::same(&bytes[..FIRST_YEAR_PLACE], &letters)
 }
 
 fn unsound() -> HeaderReading
@@ -101,21 +113,21 @@ fn unsound() -> HeaderReading
 pub fn read_header(bytes: &[u8]) -> HeaderReading
     ensures { λ r. ⌜ r ≡ headerReading (now (bytes .entry)) ⌝ }
 {
-    if bytes.len() < 11 {
+    if bytes.len() < FIRST_HOLIDAY_PLACE {
         return unsound();
     }
     if !begins_with_letters(bytes) {
         return unsound();
     }
-    let members = u8_at(bytes, 9);
-    let holiday_count = u8_at(bytes, 10);
+    let members = u8_at(bytes, MEMBERS_PLACE);
+    let holiday_count = u8_at(bytes, HOLIDAY_COUNT_PLACE);
     if MOST_MEMBERS < members {
         return unsound();
     }
     if MOST_HOLIDAYS < holiday_count {
         return unsound();
     }
-    let n = 11 + 2 * holiday_count + 4 * members;
+    let n = header_length(members, holiday_count);
     if (bytes.len() as u64) < n {
         return unsound();
     }

@@ -7,8 +7,16 @@ ghost use Rattle.arith.specs.Lists.{over};
 ghost use Rattle.rules.specs.Ranges.{mostMembers, mostHolidays};
 ghost use Rattle.rules.specs.Header.{u16Bytes, u32Bytes, lettersAndVersion, headerBytes, writeHeaderSpec};
 ghost use Rattle.header.specs.Journal.{firsts, headerFrom};
+use crate::journal::FIRST_HOLIDAY_PLACE;
+use crate::journal::FIRST_YEAR_PLACE;
+use crate::journal::HOLIDAY_COUNT_PLACE;
+use crate::journal::HOLIDAY_LENGTH;
 use crate::journal::JournalHeader;
 use crate::journal::LETTERS_AND_VERSION;
+use crate::journal::LIMIT_LENGTH;
+use crate::journal::MEMBERS_PLACE;
+use crate::journal::START_DAY_PLACE;
+use crate::journal::header_length;
 use crate::journal::is_header_sound;
 use big_endian::put_u8;
 use big_endian::put_u16;
@@ -36,7 +44,7 @@ fn put_holidays(out: &mut [u8], list: [u64; HOLIDAY_PLACES], count: usize)
 {
     let mut i: usize = 0;
     while i < count {
-        put_u16(out, 11 + 2 * i, list[i]);
+        put_u16(out, FIRST_HOLIDAY_PLACE + HOLIDAY_LENGTH * i, list[i]);
         i += 1;
     }
 }
@@ -47,7 +55,7 @@ fn put_limits(out: &mut [u8], at: usize, list: [u64; MEMBER_PLACES], count: usiz
 {
     let mut i: usize = 0;
     while i < count {
-        put_u32(out, at + 4 * i, list[i]);
+        put_u32(out, at + LIMIT_LENGTH * i, list[i]);
         i += 1;
     }
 }
@@ -60,12 +68,17 @@ fn put_header(out: &mut [u8], h: JournalHeader)
     let limits = h.limits;
     let n = h.holiday_count as usize;
     put_letters(out);
-    put_u16(out, 5, h.first_year);
-    put_u16(out, 7, h.start_day.0);
-    put_u8(out, 9, h.members);
-    put_u8(out, 10, h.holiday_count);
+    put_u16(out, FIRST_YEAR_PLACE, h.first_year);
+    put_u16(out, START_DAY_PLACE, h.start_day.0);
+    put_u8(out, MEMBERS_PLACE, h.members);
+    put_u8(out, HOLIDAY_COUNT_PLACE, h.holiday_count);
     put_holidays(out, holidays, n);
-    put_limits(out, 11 + 2 * n, limits, h.members as usize);
+    put_limits(
+        out,
+        FIRST_HOLIDAY_PLACE + HOLIDAY_LENGTH * n,
+        limits,
+        h.members as usize,
+    );
 }
 
 // A header: HeaderUnsound before TableUnsound, and nothing written on either; Accepted with the bytes written.
@@ -75,7 +88,7 @@ pub fn write_header(h: JournalHeader, out: &mut [u8]) -> Answer
     if !is_header_sound(h) {
         return Answer::HeaderUnsound;
     }
-    let n = 11 + 2 * h.holiday_count + 4 * h.members;
+    let n = header_length(h.members, h.holiday_count);
     if (out.len() as u64) < n {
         return Answer::TableUnsound;
     }

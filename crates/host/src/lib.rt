@@ -70,7 +70,11 @@ pub extern "C" fn ledger_apply(
     bytes: &[u8],
     detail: &mut u64,
 ) -> u64
-    ensures { λ r. ⌜ record { number = r; value = now (detail .exit); after = lent (now (head .exit)) (now (prices .exit)) (now (lots .exit)) (now (value .exit)) (now (book .exit)) (now (lines .exit)) }
+    ensures { λ r. ⌜ record {
+      number = r;
+      value = now (detail .exit);
+      after = lent (now (head .exit)) (now (prices .exit)) (now (lots .exit)) (now (value .exit)) (now (book .exit)) (now (lines .exit));
+    }
         ≡ sent (applySpec (lent (now (head .entry)) (now (prices .entry)) (now (lots .entry)) (now (value .entry)) (now (book .entry)) (now (lines .entry))) (now (bytes .entry))) ⌝ }
 {
     let answer = engine::apply(

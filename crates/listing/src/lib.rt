@@ -10,7 +10,3 @@ pub use lines::put_header_line;
 pub use lines::put_record_line;
 pub use pieces::Piece;
 pub use pieces::next_piece;
-pub use ranges::FIRST_HOLIDAY_PLACE;
-pub use ranges::FIRST_YEAR_PLACE;
-pub use ranges::HOLIDAY_COUNT_PLACE;
-pub use ranges::MEMBERS_PLACE;

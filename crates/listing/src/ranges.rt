@@ -11,6 +11,9 @@ ghost use Rattle.listing_words.specs.Words.{otherWayRound};
 use big_endian::u8_or_zero;
 use calendar::is_first_year_sound;
 use calendar::span_of;
+use header::FIRST_HOLIDAY_PLACE;
+use header::FIRST_YEAR_PLACE;
+use header::START_DAY_PLACE;
 use listing_words::Field;
 use listing_words::Quantity;
 use listing_words::Range;
@@ -29,17 +32,6 @@ use rules::ranges::MOST_LOTS;
 use rules::ranges::MOST_MEMBERS;
 use rules::ranges::MOST_PRICE;
 use rules::ranges::MOST_RATIO;
-
-// Where the fields of a header stand; the limits stand behind the holidays.
-pub const FIRST_YEAR_PLACE: usize = 5;
-
-const START_DAY_PLACE: usize = 7;
-
-pub const MEMBERS_PLACE: usize = 9;
-
-pub const HOLIDAY_COUNT_PLACE: usize = 10;
-
-pub const FIRST_HOLIDAY_PLACE: usize = 11;
 
 // Where a day limits' low stands.
 const LOW_PLACE: usize = 2;

@@ -9,11 +9,14 @@ use crate::input::Filled;
 use crate::input::fill;
 use crate::output::flush;
 use big_endian::u8_or_zero;
+use header::FIRST_HOLIDAY_PLACE;
+use header::FIRST_YEAR_PLACE;
+use header::HOLIDAY_COUNT_PLACE;
+use header::HOLIDAY_LENGTH;
+use header::LIMIT_LENGTH;
+use header::MEMBERS_PLACE;
+use header::header_length;
 use libc::STDERR_FILENO;
-use listing::FIRST_HOLIDAY_PLACE;
-use listing::FIRST_YEAR_PLACE;
-use listing::HOLIDAY_COUNT_PLACE;
-use listing::MEMBERS_PLACE;
 use listing::Piece;
 use listing::ROOM;
 use listing::next_piece;
@@ -28,10 +31,10 @@ const INPUT: usize = 65536;
 // Room for a line beside those that wait.
 const OUTPUT: usize = 131072;
 
-// The longest header that can be sound: holidays of two bytes and limits of four.
+// The longest header that can be sound.
 const LONGEST_HEADER: usize = FIRST_HOLIDAY_PLACE
-    + 2 * MOST_HOLIDAYS as usize
-    + 4 * MOST_MEMBERS as usize;
+    + HOLIDAY_LENGTH * MOST_HOLIDAYS as usize
+    + LIMIT_LENGTH * MOST_MEMBERS as usize;
 
 // Nothing says that standard input ends, so turns are counted: this many take years.
 const MOST_TURNS: u64 = 70368744177664;
@@ -236,7 +239,7 @@ fn ledger_of(bytes: &[u8]) -> Ledger
         members: members,
         first_year: u8_or_zero(bytes, FIRST_YEAR_PLACE) * 256
             + u8_or_zero(bytes, FIRST_YEAR_PLACE + 1),
-        header_size: FIRST_HOLIDAY_PLACE as u64 + 2 * holidays + 4 * members,
+        header_size: header_length(members, holidays),
     }
 }
 

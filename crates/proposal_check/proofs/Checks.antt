@@ -23,7 +23,8 @@ use Rattle.rules.specs.Ledger.{Tables, orderAt, orders, calendar}
 use Rattle.rules.specs.Sides.{sameSide}
 use Rattle.rules.specs.Synthetic.{Named, namedLegs, hasLots, priceAllowed, twoOccur, inHour, legLots, legValue, balancedInHour, balanced, inFull, priorityKept, acceptable}
 use Rattle.tables.specs.Fit.{HeadFit, BookFit, orderCountIn, ordersIn}
-use Rattle.proposal_check.specs.Columns.{LegsFit, PlacesFit, ContractsFit, columnLeg, columnLegs, placeOf, placesOf, namedAt, namedTo, countsAt, inMonth, balancedMonths, isBefore, isAhead, isFullLeg}
+use Rattle.proposal_check.specs.Columns.{LegsFit, PlacesFit, ContractsFit, columnLeg, columnLegs, placeOf, placesOf}
+use Rattle.proposal_check.specs.Columns.{namedAt, namedTo, countsAt, inMonth, balancedMonths, isBefore, isAhead, isFullLeg}
 use Rattle.proposal_check.proofs.Lists.{map-places, any-map, total-map}
 use Rattle.proposal_check.proofs.Named.{columns-orders, named-columns, not-named, found-fit, places-wider, contracts-fit}
 use Rattle.proposal_check.proofs.Together.{two-first, hour-month, before, priority-orders}

@@ -11,6 +11,9 @@ use crate::stage::Progress;
 use crate::stage::Stage;
 use crate::stage::Wants;
 use big_endian::u8_or_zero;
+use header::HOLIDAY_COUNT_PLACE;
+use header::MEMBERS_PLACE;
+use header::header_length;
 use printing::put_head;
 use printing::put_refusal;
 use told::told_of;
@@ -20,12 +23,12 @@ const ACCEPTED: u64 = 0;
 const HEADER_NUMBER: u64 = 0;
 
 // How many bytes the header takes that the bytes begin with.
-fn header_length(bytes: &[u8]) -> usize
+fn length_of(bytes: &[u8]) -> usize
     ensures { λ r. ⌜ (r ≡ headerLength (now (bytes .entry))) × (r < 2048) ⌝ }
 {
-    let members = u8_or_zero(bytes, 9) as usize;
-    let holidays = u8_or_zero(bytes, 10) as usize;
-    11 + 2 * holidays + 4 * members
+    let members = u8_or_zero(bytes, MEMBERS_PLACE);
+    let holidays = u8_or_zero(bytes, HOLIDAY_COUNT_PLACE);
+    header_length(members, holidays) as usize
 }
 
 // A header that is cut waits for more bytes, if any can come.
@@ -47,7 +50,7 @@ pub fn begin(
         (now (bytes .entry)) «is_last» filled (now (out .entry)) (now (out .exit))
         (lent (now (head .exit)) (now (prices .exit)) (now (lots .exit)) (now (value .exit)) (now (book .entry)) (now (lines .entry))) r ⌝ }
 {
-    let length = header_length(bytes);
+    let length = length_of(bytes);
     if !is_last & (bytes.len() < length) {
         return Progress {
             used: 0,

@@ -39,7 +39,8 @@ pub fn order_of(head: &[u64], e: Submission) -> Order
 // One more accepted submit, and one more of the member in the present second.
 fn count_submit(head: &mut [u64], member: u64)
     requires { ⌜ (headLength ≤ length (now head)) × (member < mostMembers) × (getD (now head) (submitsFrom + member) 0 ≤ mostSubmitsInSecond) × (acceptedIn (now head) ≤ mostAcceptedSubmits) ⌝ }
-    ensures { λ _. ⌜ now (head .exit) ≡ withAcceptedSubmits (acceptedIn (now (head .entry)) + 1) (withSubmitsThisSecond member (getD (now (head .entry)) (submitsFrom + member) 0 + 1) (now (head .entry))) ⌝ }
+    ensures { λ _. ⌜ now (head .exit)
+        ≡ withAcceptedSubmits (acceptedIn (now (head .entry)) + 1) (withSubmitsThisSecond member (getD (now (head .entry)) (submitsFrom + member) 0 + 1) (now (head .entry))) ⌝ }
 {
     let at = SUBMITS + member as usize;
     let accepted = head[ACCEPTED_SUBMITS];

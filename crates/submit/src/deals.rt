@@ -43,8 +43,10 @@ fn book_deal(
     d: Counterparty,
 )
     requires { ⌜ Bookable (now head) (now lots) (now value) (now lines) × (k < mostLots) ⌝ }
-    requires { ⌜ (o .member < membersIn (now head)) × (o .contract < contractCount) × (d .member < membersIn (now head)) × (d .price .0 ≤ mostPrice) × (lotsRunIn (now head) + 2 * d .lots .0 ≤ mostLotsRun) ⌝ }
-    ensures { λ _. ⌜ DealBooked o d k (now (head .entry)) (now (lots .entry)) (now (value .entry)) (now (lines .entry)) (now (head .exit)) (now (lots .exit)) (now (value .exit)) (now (lines .exit)) ⌝ }
+    requires { ⌜ (o .member < membersIn (now head)) × (o .contract < contractCount)
+        × (d .member < membersIn (now head)) × (d .price .0 ≤ mostPrice) × (lotsRunIn (now head) + 2 * d .lots .0 ≤ mostLotsRun) ⌝ }
+    ensures { λ _. ⌜ DealBooked o d k (now (head .entry)) (now (lots .entry)) (now (value .entry)) (now (lines .entry))
+        (now (head .exit)) (now (lots .exit)) (now (value .exit)) (now (lines .exit)) ⌝ }
 {
     let side = o.side;
     let against = other_side(side);
@@ -95,7 +97,8 @@ pub fn book_deals(
     requires { ⌜ (o .member < membersIn (now head)) × (o .contract < contractCount) × ((j : ℕ) → j < count → dealAt (now deals) j .member < membersIn (now head)) ⌝ }
     requires { ⌜ lotsRunIn (now head) + 2 * total lotsDealt (dealsIn count (now deals)) ≤ mostLotsRun ⌝ }
     ensures { λ _. ⌜ ((t : Tables) → withHead (now (head .exit)) (withRows (now (lots .exit)) (now (value .exit)) (withLines (now (lines .exit)) t))
-        ≡ booked (flatMap (linesWith o) (dealsIn count (now (deals .entry)))) (withHead (now (head .entry)) (withRows (now (lots .entry)) (now (value .entry)) (withLines (now (lines .entry)) t))) .after) ⌝ }
+        ≡ booked (flatMap (linesWith o) (dealsIn count (now (deals .entry))))
+        (withHead (now (head .entry)) (withRows (now (lots .entry)) (now (value .entry)) (withLines (now (lines .entry)) t))) .after) ⌝ }
 {
     let mut k: usize = 0;
     while k < count {

@@ -33,8 +33,13 @@ pub fn apply(
 ) -> Answer
     requires { ⌜ HeadFit (now head) × PricesFit (lotsRunIn (now head)) (now prices) × BookFit (now head) (now book) × SubmissionFit (now head) e × (linesLength ≤ length (now lines)) ⌝ }
     requires { ⌜ RowsFit (membersIn (now head)) (lotsRunIn (now head)) (now lots) × RowsFit (membersIn (now head)) (mostPrice * lotsRunIn (now head)) (now value) ⌝ }
-    ensures { λ r. ⌜ ((t : Tables) → record { answer = r; after = withHead (now (head .exit)) (withPrices (now (prices .exit)) (withRows (now (lots .exit)) (now (value .exit)) (withBook (now (book .exit)) (withLines (now (lines .exit)) t)))) }
-        ≡ submitSpec (withHead (now (head .entry)) (withPrices (now (prices .entry)) (withRows (now (lots .entry)) (now (value .entry)) (withBook (now (book .entry)) (withLines (now (lines .entry)) t))))) e) ⌝ }
+    ensures { λ r. ⌜ ((t : Tables) → record {
+      answer = r;
+      after = withHead (now (head .exit)) (withPrices (now (prices .exit)) (withRows (now (lots .exit)) (now (value .exit))
+          (withBook (now (book .exit)) (withLines (now (lines .exit)) t))));
+    }
+        ≡ submitSpec (withHead (now (head .entry)) (withPrices (now (prices .entry)) (withRows (now (lots .entry)) (now (value .entry))
+        (withBook (now (book .entry)) (withLines (now (lines .entry)) t))))) e) ⌝ }
 {
     let first = first_cause(&*head, &*prices, e);
     if let Verdict::Refused(answer) = first {

@@ -29,7 +29,8 @@ const DEAL_PLACES: usize = MOST_LOTS as usize * DEAL_WIDTH;
 fn rest_order(head: &mut [u64], book: &mut [u64], kind: OrderKind, o: Order, left: u64)
     requires { ⌜ (headLength ≤ length (now head)) × (bookLength ≤ length (now book)) × (isResting kind && ltb 0 left ≡ true → orderCountIn (now head) < mostOrders) ⌝ }
     ensures { λ _. ⌜ now (head .exit) ≡ cond (isResting kind && ltb 0 left) (withOrderCount (orderCountIn (now (head .entry)) + 1) (now (head .entry))) (now (head .entry)) ⌝ }
-    ensures { λ _. ⌜ now (book .exit) ≡ cond (isResting kind && ltb 0 left) (over (orderCountIn (now (head .entry)) * orderWidth) (orderPlaces (withLots left o)) (now (book .entry))) (now (book .entry)) ⌝ }
+    ensures { λ _. ⌜ now (book .exit)
+        ≡ cond (isResting kind && ltb 0 left) (over (orderCountIn (now (head .entry)) * orderWidth) (orderPlaces (withLots left o)) (now (book .entry))) (now (book .entry)) ⌝ }
 {
     if is_resting(kind) & (0 < left) {
         let count = head[ORDER_COUNT];

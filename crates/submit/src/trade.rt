@@ -21,7 +21,8 @@ use rules::layout::PRICE_WIDTH;
 fn add_dealt(prices: &mut [u64], contract: u64, lots: u64, worth: u64)
     requires { ⌜ (pricesLength ≤ length (now prices)) × (contract < contractCount) ⌝ }
     requires { ⌜ (getD (now prices) (dayLotsPlace contract) 0 + lots ≤ mostPrice * mostLotsRun * 2) × (getD (now prices) (dayValuePlace contract) 0 + worth ≤ mostPrice * mostLotsRun * 2) ⌝ }
-    ensures { λ _. ⌜ now (prices .exit) ≡ withDealt contract (getD (now (prices .entry)) (dayLotsPlace contract) 0 + lots) (getD (now (prices .entry)) (dayValuePlace contract) 0 + worth) (now (prices .entry)) ⌝ }
+    ensures { λ _. ⌜ now (prices .exit)
+        ≡ withDealt contract (getD (now (prices .entry)) (dayLotsPlace contract) 0 + lots) (getD (now (prices .entry)) (dayValuePlace contract) 0 + worth) (now (prices .entry)) ⌝ }
 {
     let at = contract as usize * PRICE_WIDTH;
     let all_lots = prices[at + DAY_LOTS] + lots;
@@ -42,7 +43,8 @@ pub fn settle(
     requires { ⌜ Tradable (now head) (now prices) (now book) o × (length (now left) ≡ orderCountIn (now head)) × (mostLots * dealWidth ≤ length (now deals)) ⌝ }
     ensures { λ r. ⌜ Traded o (now (head .entry)) (now (prices .entry)) (now (book .entry)) r (now (head .exit)) (now (prices .exit)) (now (book .exit)) (now (deals .exit)) ⌝ }
     ensures { λ r. ⌜ DealsFit (r .deals) (now (deals .exit)) ⌝ }
-    ensures { λ _. ⌜ matched o (ordersIn (orderCountIn (now (head .entry))) (now (book .entry))) .resting ≡ leftOver (now (left .exit)) (ordersIn (orderCountIn (now (head .entry))) (now (book .entry))) ⌝ }
+    ensures { λ _. ⌜ matched o (ordersIn (orderCountIn (now (head .entry))) (now (book .entry))) .resting
+        ≡ leftOver (now (left .exit)) (ordersIn (orderCountIn (now (head .entry))) (now (book .entry))) ⌝ }
 {
     let m = match_orders(&*book, o, &mut *left, &mut *deals);
     let worth = worth_of(&*deals, m.deals);

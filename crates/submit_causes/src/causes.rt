@@ -109,7 +109,8 @@ pub fn measured_cause(head: &[u64], lots: &[i64], e: Submission, found: Crossing
     requires { ⌜ HeadFit (now head) × RowsFit (membersIn (now head)) (lotsRunIn (now head)) (now lots) × SubmissionFit (now head) e ⌝ }
     requires { ⌜ found .own ≤ mostOrders * mostLots ⌝ }
     ensures { λ r. ⌜ ((t : Tables) (b : Outcome Tables) → outcome r (withHead (now (head .entry)) (withRows (now (lots .entry)) (t .value) t)) b
-        ≡ decide (measuredCauses (found .own) (found .lots) (withHead (now (head .entry)) (withRows (now (lots .entry)) (t .value) t)) e) (withHead (now (head .entry)) (withRows (now (lots .entry)) (t .value) t)) b) ⌝ }
+        ≡ decide (measuredCauses (found .own) (found .lots) (withHead (now (head .entry)) (withRows (now (lots .entry)) (t .value) t)) e)
+        (withHead (now (head .entry)) (withRows (now (lots .entry)) (t .value) t)) b) ⌝ }
 {
     let kind = e.kind;
     let side = e.side;

@@ -22,7 +22,7 @@ returns-4 c = c .unsound4 .ensures ∙ reading-unsound _ (begins-holidays (c .be
 
 returns-5 : tie.Need-returns-5
 unfolding headerLength
-returns-5 c = c .unsound5 .ensures ∙ reading-unsound _ (begins-cut (c .before .before .before .before .before .before .before .before .before .before .args .bytes .now) (omega arith))
+returns-5 c = c .unsound5 .ensures ∙ reading-unsound _ (begins-cut (c .before .before .before .before .before .before .before .before .before .before .before .args .bytes .now) (omega arith))
 
 fields-at-requires : tie.Need-fields-at-requires
 unfolding headerLength
@@ -31,21 +31,22 @@ fields-at-requires c κs = omega arith
 returns-6 : tie.Need-returns-6
 unfolding headerLength
 returns-6 c =
-    let args = c .before .before .before .before .before .before .before .before .before .before .before .before .before .args in
-    let begins-with-letters = c .before .before .before .before .before .before .before .before .before .before .begins-with-letters in
-    let if2 = c .before .before .before .before .before .before .before .before .before .if2 in
+    let args = c .before .before .before .before .before .before .before .before .before .before .before .before .before .before .args in
+    let begins-with-letters = c .before .before .before .before .before .before .before .before .before .before .before .begins-with-letters in
+    let if2 = c .before .before .before .before .before .before .before .before .before .before .if2 in
+    let counts = c .before .before .before .before .before .before .before .before in
     let fields-at = c .before .before .before .fields-at in
     let is-header-sound = c .before .before .is-header-sound in
     c .unsound6 .ensures ∙ reading-unsound _
-    (begins-by (args .bytes .now) (omega arith) (asked-true (begins-with-letters .ensures) (if2 .left)) (omega arith) (fields-at .ensures) (is-header-sound .ensures)
-    (not-true (is-header-sound .result) (c .before .if6 .taken)))
+    (begins-by (args .bytes .now) (omega arith) (asked-true (begins-with-letters .ensures) (if2 .left)) (omega (arith, counts .u8-at2 .ensures, counts .before .u8-at .ensures))
+    (fields-at .ensures) (is-header-sound .ensures) (not-true (is-header-sound .result) (c .before .if6 .taken)))
 
 returns-7 : tie.Need-returns-7
 unfolding headerLength
 returns-7 c =
-    let args = c .before .before .before .before .before .before .before .before .before .before .before .before .args in
-    let begins-with-letters = c .before .before .before .before .before .before .before .before .before .begins-with-letters in
-    let if2 = c .before .before .before .before .before .before .before .before .if2 in
+    let args = c .before .before .before .before .before .before .before .before .before .before .before .before .before .args in
+    let begins-with-letters = c .before .before .before .before .before .before .before .before .before .before .begins-with-letters in
+    let if2 = c .before .before .before .before .before .before .before .before .before .if2 in
     let fields-at = c .before .before .fields-at in
     rw (fields-at .ensures)
     (reading-sound (args .bytes .now) _
@@ -58,5 +59,5 @@ read-header-spec =
     tie.close
     (tie.spec (λ c κs. search needs) returns (λ c κs. search needs) (λ c κs. search needs) returns-2
     (λ c κs. search needs) (λ c κs. search needs) (λ c κs. search needs) returns-3 (λ c κs. search needs) returns-4
-    (λ c. search needs) (λ c. search needs) (λ c. search needs) (λ c. search needs) (λ c κs. search needs) returns-5
-    fields-at-requires (λ c κs. search needs) (λ c κs. search needs) returns-6 returns-7)
+    (λ c κs. search needs) (λ c κs. search needs) returns-5 fields-at-requires (λ c κs. search needs) (λ c κs. search needs)
+    returns-6 returns-7)

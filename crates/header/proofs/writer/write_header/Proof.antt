@@ -1,4 +1,4 @@
-use mathlib.Core.Path.{sym}
+use mathlib.Core.Path.{sym, _∙_}
 use native.Mathlib.Omega.{arith}
 use borrow.Author.Needs.{needs}
 use Rattle.header.proofs.Headers.{length-header, members-fit, holidays-fit, write-header-unsound, write-header-short, write-header-whole}
@@ -9,47 +9,33 @@ use Rattle.header.proofs.writer.write_header.Tie as tie
 returns : tie.Need-returns
 returns c = write-header-unsound _ _ (asked-false (c .before .is-header-sound .ensures) (c .if1 .taken))
 
-mul-n : tie.Need-mul-n
-mul-n c = omega (arith, holidays-fit (c .before .before .before .before .args .h) (asked-true (c .before .before .is-header-sound .ensures) (c .before .if1 .left)))
-
-add-n : tie.Need-add-n
-add-n c = omega (arith, holidays-fit (c .before .before .before .before .args .h) (asked-true (c .before .before .is-header-sound .ensures) (c .before .if1 .left)))
-
-mul-n-2 : tie.Need-mul-n-2
-mul-n-2 c = omega (arith, members-fit (c .before .before .before .before .before .args .h) (asked-true (c .before .before .before .is-header-sound .ensures) (c .before .before .if1 .left)))
-
-add-n-2 : tie.Need-add-n-2
-add-n-2 c =
-    let test1 = c .before .before .if1 in
-    let is-header-sound = c .before .before .before .is-header-sound in
-    let start = c .before .before .before .before .before in
-    omega (arith, holidays-fit (start .args .h) (asked-true (is-header-sound .ensures) (test1 .left)), members-fit (start .args .h) (asked-true (is-header-sound .ensures) (test1 .left)))
+header-length-requires : tie.Need-header-length-requires
+header-length-requires c κs =
+    let sound = asked-true (c .before .is-header-sound .ensures) (c .if1 .left) in
+    let start = c .before .before .before in
+    omega (arith, holidays-fit (start .args .h) sound, members-fit (start .args .h) sound)
 
 returns-2 : tie.Need-returns-2
 returns-2 c =
-    let test1 = c .before .before .before .if1 in
-    let is-header-sound = c .before .before .before .before .is-header-sound in
-    let start = c .before .before .before .before .before .before in
-    write-header-short _ _ (asked-true (is-header-sound .ensures) (test1 .left)) (omega (arith, length-header (start .args .h)))
+    let sound = asked-true (c .before .before .before .is-header-sound .ensures) (c .before .before .if1 .left) in
+    let start = c .before .before .before .before .before in
+    write-header-short _ _ sound (omega (arith, length-header (start .args .h)))
 
 put-header-requires : tie.Need-put-header-requires
 put-header-requires c κs =
-    let test1 = c .before .before .before .before .if1 in
-    let is-header-sound = c .before .before .before .before .before .is-header-sound in
-    let start = c .before .before .before .before .before .before .before in
-    omega (arith, holidays-fit (start .args .h) (asked-true (is-header-sound .ensures) (test1 .left)), members-fit (start .args .h) (asked-true (is-header-sound .ensures) (test1 .left)))
+    let sound = asked-true (c .before .before .before .before .is-header-sound .ensures) (c .before .before .before .if1 .left) in
+    let start = c .before .before .before .before .before .before in
+    omega (arith, holidays-fit (start .args .h) sound, members-fit (start .args .h) sound)
 
 returns-3 : tie.Need-returns-3
 returns-3 c =
     let put-header = c .before .before .put-header in
-    let test1 = c .before .before .before .before .before .before .before .if1 in
-    let at-8 = c .before .before .before .before .before .before .before .before in
-    let is-header-sound = at-8 .is-header-sound in
-    let start = at-8 .before .before in
-    write-header-whole _ _ (asked-true (is-header-sound .ensures) (test1 .left)) _ _ (sym (length-header (start .args .h))) (omega (arith, length-header (start .args .h))) (put-header .ensures)
+    let test1 = c .before .before .before .before .before .before .if1 in
+    let at-7 = c .before .before .before .before .before .before .before in
+    let start = at-7 .before .before in
+    let size = c .before .before .before .before .before .header-length .ensures ∙ sym (length-header (start .args .h)) in
+    write-header-whole _ _ (asked-true (at-7 .is-header-sound .ensures) (test1 .left)) _ _ size (omega (arith, length-header (start .args .h))) (put-header .ensures)
 
 pub write-header-spec : {M : Type 1} → statement M
 write-header-spec =
-    tie.close
-    (tie.spec (λ c κs. search needs) returns mul-n add-n mul-n-2 add-n-2 returns-2 put-header-requires
-    (λ c. search needs) returns-3)
+    tie.close (tie.spec (λ c κs. search needs) returns header-length-requires returns-2 put-header-requires (λ c. search needs) returns-3)

@@ -5,14 +5,14 @@ use Rattle.records.proofs.beginning.begin.Statement.{statement}
 use Rattle.records.proofs.beginning.begin.Tie as tie
 
 returns : tie.Need-returns
-returns c = start-cut _ _ _ _ _ (omega (arith, c .before .before .before .before .before .before .before .pre .0)) (rw (c .before .header-length .ensures .0) at (c .if1 .taken))
+returns c = start-cut _ _ _ _ _ (omega (arith, c .before .before .before .before .before .before .before .pre .0)) (rw (c .before .length-of .ensures .0) at (c .if1 .taken))
 
 returns-2 : tie.Need-returns-2
 returns-2 c =
     let earlier = c .before .before .before .before .before .before .before .before .before .before in
     let earlier-still = earlier .before .before .before .before .before .before .before .before .before .before in
     let pre = earlier-still .before .before .before .before .before .before .pre in
-    let header-length = earlier .before .before .before .before .before .before .before .before .before .before .header-length in
+    let length-of = earlier .before .before .before .before .before .before .before .before .before .before .length-of in
     let if1 = earlier .before .before .before .before .before .before .before .before .before .if1 in
     let make = earlier .before .before .before .before .make in
     let told-of = c .before .before .before .before .before .before .before .told-of in
@@ -20,12 +20,12 @@ returns-2 c =
     let put-head = c .before .before .put-head in
     start-made _ _ _ _ _ _ _ _ (make .ensures
     _) (rw
-    (header-length .ensures .0) at
+    (length-of .ensures .0) at
     (if1 .left))
     _ _ (told-of .ensures .0)
     (pre .0)
     _
-    (header-length .ensures .0)
+    (length-of .ensures .0)
     (if2 .taken)
     (put-head .ensures .0) (put-head .ensures .1)
 
@@ -34,7 +34,7 @@ returns-3 c =
     let earlier = c .before .before .before .before .before .before .before .before .before .before in
     let earlier-still = earlier .before .before .before .before .before .before .before .before .before .before in
     let pre = earlier-still .before .before .before .before .before .pre in
-    let header-length = earlier .before .before .before .before .before .before .before .before .before .header-length in
+    let length-of = earlier .before .before .before .before .before .before .before .before .before .length-of in
     let if1 = earlier .before .before .before .before .before .before .before .before .if1 in
     let make = earlier .before .before .before .make in
     let told-of = c .before .before .before .before .before .before .told-of in
@@ -42,7 +42,7 @@ returns-3 c =
     let put-refusal = c .before .before .put-refusal in
     start-refused _ _ _ _ _ _ _ _ (make .ensures _)
     (rw
-    (header-length .ensures .0) at
+    (length-of .ensures .0) at
     (if1 .left))
     _ _ (told-of .ensures .0)
     (pre .0)
