@@ -39,15 +39,21 @@ module _ (p : Place) (l : List ℕ) (s : Stands p) (few : p .turns < mostTurns) 
   pub turn-counts : Counts (p .stage) (2 ^ 62)
   turn-counts = counts-most (p .stage) (bufferLength * p .turns) (2 ^ 62) (omega arith) (s .counts)
 
-  pub turn-stands : (used end : ℕ) (stage : Stage) → used ≤ length (take (p .end - p .from) (drop (p .from) l)) → end ≤ bufferLength
+  pub turn-bytes : length (take (p .end - p .from) (drop (p .from) l)) < 2 ^ 62
+  turn-bytes = omega (arith, part-length p l, s .inside)
+
+  pub turn-printed : {room : ℕ} → room ≡ bufferLength → p .filled ≤ room
+  turn-printed h = omega (arith, s .printed)
+
+  pub turn-stands : (used end : ℕ) (stage : Stage) {room : ℕ} → room ≡ bufferLength → used ≤ length (take (p .end - p .from) (drop (p .from) l)) → end ≤ room
       → ((most : ℕ) → Counts (p .stage) most → Counts stage (most + length (take (p .end - p .from) (drop (p .from) l))))
       → Stands (record { turns = p .turns + 1; from = p .from + used; end = p .end; «is_last» = p .«is_last»; filled = end; stage = stage })
-  turn-stands used end stage h e counts =
+  turn-stands used end stage sized h e counts =
       let short = part-length p l in
       record {
         before = omega (arith, s .before);
         inside = s .inside;
-        printed = e;
+        printed = rw sized at e;
         counts =
             counts-most stage (bufferLength * p .turns + length (take (p .end - p .from) (drop (p .from) l))) (bufferLength * (p .turns + 1)) (omega (arith, s .inside))
             (counts (bufferLength * p .turns) (s .counts));

@@ -147,6 +147,18 @@ fn go_on(place: Place, output: &[u8]) -> Next
     Next::Ended(Ending::WriteFailed)
 }
 
+// What an advance wants is done.
+fn follow(wants: Wants, place: Place, input: &mut [u8], output: &[u8]) -> Next
+    requires { ⌜ Stands place × (length (now input) ≡ bufferLength) × (length (now output) ≡ bufferLength) ⌝ }
+    ensures { λ r. ⌜ nextStands (place .turns) r ⌝ }
+{
+    match wants {
+        Wants::Nothing => go_on(place, output),
+        Wants::Bytes => read_more(place, input, output),
+        Wants::Room => write_out(place, output),
+    }
+}
+
 fn turn(
     place: Place,
     input: &mut [u8],
@@ -188,11 +200,7 @@ fn turn(
         stage: stage,
     };
     let wants = done.wants;
-    match wants {
-        Wants::Nothing => go_on(next, &*output),
-        Wants::Bytes => read_more(next, input, &*output),
-        Wants::Room => write_out(next, &*output),
-    }
+    follow(wants, next, input, &*output)
 }
 
 fn run_turns(
