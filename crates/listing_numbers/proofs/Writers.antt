@@ -3,7 +3,7 @@ use Prim.Native.Nat.{ℕ, _+_, _%_, _^_, _≤_, _<_}
 use mathlib.Core.List.{List, [], _++_}
 use mathlib.Core.Path.{_≡_}
 use native.Mathlib.Omega.{arith}
-use lib.ListN.{length, take}
+use lib.ListN.{length}
 use lib.Dec.{eqb, leb}
 use Rattle.arith.proofs.Tests.{true-or}
 use Rattle.rules.specs.Contracts.{termOf}
@@ -11,9 +11,7 @@ use Rattle.rules.specs.Text.{decimal}
 use Rattle.text.specs.Wrote.{Wrote}
 use Rattle.text.proofs.Writing.{then, wrote-none}
 use Rattle.text.proofs.Decimals.{decimal-20}
-use Rattle.listing_words.specs.declared.names.Word.{Word}
-use Rattle.listing_words.specs.Short.{Short}
-use Rattle.listing_words.specs.Word.{IsWord}
+use Rattle.listing_numbers.specs.Short.{Short}
 
 pub next : {j k a b c : ℕ} {xs ys l m n : List ℕ} → Short j a xs l m b → Short k b ys m n c → a + j ≤ length l → Short (j + k) a (xs ++ ys) l n c
 next p q h = record { wrote = then (p .wrote) (q .wrote) (omega (arith, p .wrote .after, p .short)); short = omega (arith, p .short, q .short) }
@@ -34,9 +32,6 @@ number w = record { wrote = w .0; short = w .1 }
 
 pub digits : {a r : ℕ} {l m : List ℕ} (n : ℕ) → n < 2 ^ 64 → Wrote a (decimal n) l m r → Short 20 a (decimal n) l m r
 digits n f w = record { wrote = w; short = omega (arith, w .after, decimal-20 n f) }
-
-pub worded : {a r : ℕ} {l m text : List ℕ} {w : Word} → IsWord text w → Short 24 a (take (w .length) (w .letters)) l m r → Short 24 a text l m r
-worded {text = text} i p = within-room 24 text p (i .spells) (omega arith)
 
 pub decimal-room : (n place room : ℕ) → n < 2 ^ 64 → place + 20 ≤ room → place + length (decimal n) ≤ room
 decimal-room n place room f h = omega (arith, decimal-20 n f)

@@ -3,8 +3,8 @@ use native.Mathlib.Omega.{arith}
 use lib.Seq.{length-take-le}
 use lib.ListN.{length}
 use borrow.Author.Needs.{needs}
-use Rattle.listing_words.proofs.numbers.put_word.Statement.{statement}
-use Rattle.listing_words.proofs.numbers.put_word.Tie as tie
+use Rattle.listing_words.proofs.names.put_word.Statement.{statement}
+use Rattle.listing_words.proofs.names.put_word.Tie as tie
 
 slice-aggregate-put-bytes : tie.Need-slice-aggregate-put-bytes
 slice-aggregate-put-bytes c = sym (length-take-le (c .before .before .before .before .args .word .length) (c .before .before .before .before .args .word .letters) (omega arith))

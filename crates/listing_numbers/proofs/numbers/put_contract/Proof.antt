@@ -1,13 +1,13 @@
 use mathlib.Core.Path.{refl}
 use native.Mathlib.Omega.{arith}
-use Rattle.listing_words.proofs.Writers.{next, exactly, number, term-small, within-room}
+use Rattle.listing_numbers.proofs.Writers.{next, exactly, number, term-small, within-room}
 use mathlib.Core.List.{append-assoc}
 use mathlib.Core.Path.{_≡_}
 use Rattle.rules.specs.Contracts.{termOf}
-use Rattle.listing_words.specs.Words.{contractText}
+use Rattle.listing_numbers.specs.Numbers.{contractText}
 use borrow.Author.Needs.{needs}
-use Rattle.listing_words.proofs.numbers.put_contract.Statement.{statement}
-use Rattle.listing_words.proofs.numbers.put_contract.Tie as tie
+use Rattle.listing_numbers.proofs.numbers.put_contract.Statement.{statement}
+use Rattle.listing_numbers.proofs.numbers.put_contract.Tie as tie
 
 put-term-requires : tie.Need-put-term-requires
 put-term-requires c κs =

@@ -1,11 +1,11 @@
 use mathlib.Core.Path.{refl}
 use native.Mathlib.Omega.{arith}
-use Rattle.listing_words.proofs.Writers.{next, exactly, number, within-room}
+use Rattle.listing_numbers.proofs.Writers.{next, exactly, number, within-room}
 use mathlib.Core.List.{append-assoc}
-use Rattle.listing_words.specs.Words.{priceText}
+use Rattle.listing_numbers.specs.Numbers.{priceText}
 use borrow.Author.Needs.{needs}
-use Rattle.listing_words.proofs.numbers.put_price.Statement.{statement}
-use Rattle.listing_words.proofs.numbers.put_price.Tie as tie
+use Rattle.listing_numbers.proofs.numbers.put_price.Statement.{statement}
+use Rattle.listing_numbers.proofs.numbers.put_price.Tie as tie
 
 returns : tie.Need-returns
 unfolding priceText

@@ -1,11 +1,11 @@
 use mathlib.Core.Path.{refl}
 use native.Mathlib.Omega.{arith}
-use Rattle.listing_words.proofs.Writers.{next, exactly, within-room}
+use Rattle.listing_numbers.proofs.Writers.{next, exactly, within-room}
 use mathlib.Core.List.{append-assoc}
-use Rattle.listing_words.specs.Words.{timeText}
+use Rattle.listing_numbers.specs.Numbers.{timeText}
 use borrow.Author.Needs.{needs}
-use Rattle.listing_words.proofs.numbers.put_time.Statement.{statement}
-use Rattle.listing_words.proofs.numbers.put_time.Tie as tie
+use Rattle.listing_numbers.proofs.numbers.put_time.Statement.{statement}
+use Rattle.listing_numbers.proofs.numbers.put_time.Tie as tie
 
 returns : tie.Need-returns
 unfolding timeText

@@ -1,27 +1,16 @@
 // Numbers in words: times, prices and names of contracts.
-ghost use mathlib.Core.Path.{_≡_};
 ghost use mathlib.Core.List.{_∷_};
 ghost use Prim.Native.Nat.{_+_, _^_, _≤_, _<_};
-ghost use lib.ListN.{length, take};
+ghost use lib.ListN.{length};
 ghost use Rattle.rules.specs.Text.{space};
-ghost use Rattle.listing_words.specs.Short.{Short};
-ghost use Rattle.listing_words.specs.Words.{twoDigits, timeText, priceText, quarterText, monthText, termName, contractText};
-use crate::names::Word;
+ghost use Rattle.listing_numbers.specs.Short.{Short};
+ghost use Rattle.listing_numbers.specs.Numbers.{twoDigits, timeText, priceText, quarterText, monthText, termName, contractText};
 use calendar::term_of;
 use rules::ContractKind;
 use text::put_byte;
 use text::put_bytes;
 use text::put_decimal;
 use text::put_field;
-
-pub fn put_word(out: &mut [u8], place: usize, word: Word) -> usize
-    requires { ⌜ (place + 24 ≤ length (now out)) × (word .length ≤ 24) × (length (word .letters) ≡ 24) ⌝ }
-    ensures { λ r. ⌜ Short 24 place (take (word .length) (word .letters)) (now (out .entry)) (now (out .exit)) r ⌝ }
-{
-    let letters = word.letters;
-    let length = word.length;
-    put_bytes(out, place, &letters[..length])
-}
 
 fn put_two_digits(out: &mut [u8], place: usize, n: u64) -> usize
     requires { ⌜ place + 2 ≤ length (now out) ⌝ }

@@ -1,10 +1,10 @@
 use mathlib.Core.Path.{refl}
 use native.Mathlib.Omega.{arith}
-use Rattle.listing_words.proofs.Writers.{next, digits, decimal-room, within-room}
-use Rattle.listing_words.specs.Words.{termName}
+use Rattle.listing_numbers.proofs.Writers.{next, digits, decimal-room, within-room}
+use Rattle.listing_numbers.specs.Numbers.{termName}
 use borrow.Author.Needs.{needs}
-use Rattle.listing_words.proofs.numbers.put_term.Statement.{statement}
-use Rattle.listing_words.proofs.numbers.put_term.Tie as tie
+use Rattle.listing_numbers.proofs.numbers.put_term.Statement.{statement}
+use Rattle.listing_numbers.proofs.numbers.put_term.Tie as tie
 
 put-decimal-requires : tie.Need-put-decimal-requires
 put-decimal-requires c κs = decimal-room _ _ _ (omega arith) (omega arith)
