@@ -1,9 +1,10 @@
-// Places of the lent tables, with the index tested.
+// Places of the lent tables, with the index tested, and the steps that lend or show them.
 ghost use Prim.Native.Nat.{_≤_};
 use crate::show::at_most;
 use crate::show::number;
 use crate::show::show_signed;
 use crate::show::text;
+use crate::steps::Step;
 use rules::Order;
 use rules::Side;
 use rules::layout::CONTRACTS;
@@ -24,7 +25,7 @@ use rules::ranges::MOST_LOTS_RUN;
 
 const MOST_ORDERS: usize = 256;
 
-pub fn put(table: &mut [u64], place: usize, n: u64) {
+fn put(table: &mut [u64], place: usize, n: u64) {
     if place < table.len() {
         table[place] = n;
     } else {
@@ -50,7 +51,7 @@ fn row_place(contract: usize, member: usize) -> usize {
     0
 }
 
-pub fn put_row(lots: &mut [i64], contract: usize, member: usize, n: u64) {
+fn put_row(lots: &mut [i64], contract: usize, member: usize, n: u64) {
     let place = row_place(contract, member);
     if n <= MOST_LOTS_RUN {
         if place < lots.len() {
@@ -60,7 +61,7 @@ pub fn put_row(lots: &mut [i64], contract: usize, member: usize, n: u64) {
 }
 
 // Lots and value.
-pub fn show_row(lots: &[i64], value: &[i64], contract: usize, member: usize) {
+fn show_row(lots: &[i64], value: &[i64], contract: usize, member: usize) {
     let place = row_place(contract, member);
     text(b" [");
     show_signed(lots, place);
@@ -68,7 +69,7 @@ pub fn show_row(lots: &[i64], value: &[i64], contract: usize, member: usize) {
     text(b" ]");
 }
 
-pub fn ggf_place(contract: usize) -> usize {
+fn ggf_place(contract: usize) -> usize {
     if contract < CONTRACTS {
         return contract * PRICE_WIDTH + GGF;
     }
@@ -93,7 +94,7 @@ fn order_place(i: usize) -> usize
     0
 }
 
-pub fn put_order(book: &mut [u64], i: usize, o: Order) {
+fn put_order(book: &mut [u64], i: usize, o: Order) {
     let place = order_place(i);
     let side = o.side;
     put(&mut *book, place + ORDER_NUMBER, o.number);
@@ -107,7 +108,7 @@ pub fn put_order(book: &mut [u64], i: usize, o: Order) {
 }
 
 // Each order's number and lots, in the order of places.
-pub fn show_book(head: &[u64], book: &[u64]) {
+fn show_book(head: &[u64], book: &[u64]) {
     let count = at_most(MOST_ORDERS, read(head, ORDER_COUNT));
     text(b" orders");
     let mut i: usize = 0;
@@ -117,5 +118,31 @@ pub fn show_book(head: &[u64], book: &[u64]) {
         text(b":");
         number(read(book, place + ORDER_LOTS));
         i += 1;
+    }
+}
+
+// What a host lends, and what is shown.
+pub fn take_table_step(
+    head: &mut [u64],
+    prices: &mut [u64],
+    lots: &mut [i64],
+    value: &mut [i64],
+    book: &mut [u64],
+    step: Step,
+) {
+    match step {
+        Step::LentHead { place, number } => put(head, place, number),
+        Step::LentGgf { contract, price } => put(prices, ggf_place(contract), price),
+        Step::LentRow {
+            contract,
+            member,
+            lots: n,
+        } => put_row(lots, contract, member, n),
+        Step::LentOrder { place, order } => put_order(book, place, order),
+        Step::ShowHead(place) => number(read(&*head, place)),
+        Step::ShowGgf(contract) => number(read(&*prices, ggf_place(contract))),
+        Step::ShowRow { contract, member } => show_row(&*lots, &*value, contract, member),
+        Step::ShowBook => show_book(&*head, &*book),
+        _ => text(b" unknown line"),
     }
 }

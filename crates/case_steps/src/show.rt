@@ -19,7 +19,7 @@ pub fn number(n: u64) {
     io::print_decimal(STDOUT_FILENO, n);
 }
 
-pub fn signed(n: i64) {
+fn signed(n: i64) {
     if n < 0 {
         let size = -1 - n;
         text(b" -");
@@ -66,13 +66,6 @@ pub fn show_answer(answer: Answer) {
         Answer::SixthSubmit => number(8),
         Answer::AboveLimit => number(9),
         _ => show_later_cause(answer),
-    }
-}
-
-pub fn line_count(answer: Answer) -> u64 {
-    match answer {
-        Answer::Accepted(lines) => lines,
-        _ => 0,
     }
 }
 
