@@ -1,10 +1,9 @@
 // An event as a record, written by the codec, applied to the lent tables.
-use crate::places::read;
-use crate::show::line_count;
-use crate::show::number;
-use crate::show::show_answer;
-use crate::show::show_lines;
-use crate::show::text;
+use case_steps::number;
+use case_steps::read;
+use case_steps::show_answer;
+use case_steps::show_lines;
+use case_steps::text;
 use codec::Legs;
 use rules::Answer;
 use rules::Event;
@@ -16,6 +15,13 @@ const RECORD_LENGTH: usize = 122;
 const SUBMIT_LENGTH: usize = 15;
 
 const LAST_SECOND: u64 = 86399;
+
+fn line_count(answer: Answer) -> u64 {
+    match answer {
+        Answer::Accepted(lines) => lines,
+        _ => 0,
+    }
+}
 
 fn byte_of(n: u64) -> u8 {
     if n < 256 { n as u8 } else { 0 }

@@ -7,21 +7,14 @@ use crate::applied::ask_for_count;
 use crate::applied::give;
 use crate::applied::give_series;
 use crate::ledgers::header_of;
-use crate::places::ggf_place;
-use crate::places::put;
-use crate::places::put_order;
-use crate::places::put_row;
-use crate::places::read;
-use crate::places::show_book;
-use crate::places::show_row;
-use crate::show::number;
-use crate::show::show_answer;
-use crate::show::text;
-use crate::steps::Step;
-use crate::steps::step_of;
-use crate::words::is_word;
-use crate::words::line_end;
-use crate::words::numbers_in;
+use case_steps::Step;
+use case_steps::is_word;
+use case_steps::line_end;
+use case_steps::numbers_in;
+use case_steps::show_answer;
+use case_steps::step_of;
+use case_steps::take_table_step;
+use case_steps::text;
 use codec::Legs;
 use rules::Answer;
 use rules::Leg;
@@ -88,32 +81,6 @@ fn make(
     let mut bytes = [0u8; 379];
     header::write_header(header_of(n), &mut bytes);
     show_made(engine::make(head, prices, lots, value, book, &bytes));
-}
-
-// What a host lends, and what is shown.
-fn take_table_step(
-    head: &mut [u64],
-    prices: &mut [u64],
-    lots: &mut [i64],
-    value: &mut [i64],
-    book: &mut [u64],
-    step: Step,
-) {
-    match step {
-        Step::LentHead { place, number } => put(head, place, number),
-        Step::LentGgf { contract, price } => put(prices, ggf_place(contract), price),
-        Step::LentRow {
-            contract,
-            member,
-            lots: n,
-        } => put_row(lots, contract, member, n),
-        Step::LentOrder { place, order } => put_order(book, place, order),
-        Step::ShowHead(place) => number(read(&*head, place)),
-        Step::ShowGgf(contract) => number(read(&*prices, ggf_place(contract))),
-        Step::ShowRow { contract, member } => show_row(&*lots, &*value, contract, member),
-        Step::ShowBook => show_book(&*head, &*book),
-        _ => text(b" unknown line"),
-    }
 }
 
 fn take_step(

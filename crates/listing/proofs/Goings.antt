@@ -15,9 +15,9 @@ use Rattle.listing_words.specs.declared.field.Verdict.{Verdict}
 use Rattle.listing_words.specs.declared.field.Verdict.the-variants.{Passes, Cut, OutOfRange, NoBusinessDay, OnStartDay}
 use Rattle.listing_words.specs.Fields.{sizeOf, numberAt, verdictOf, passes, faultPlace, isNone, faultIn}
 use Rattle.listing.specs.Lines.{ListedAs, Going}
-use Rattle.listing_words.specs.Short.{Short}
+use Rattle.listing_numbers.specs.Short.{Short}
 use Rattle.listing_words.specs.Words.{fieldWords, faultWords, wordsIn}
-use Rattle.listing_words.proofs.Writers.{next, nothing, within-room}
+use Rattle.listing_numbers.proofs.Writers.{next, nothing, within-room}
 
 not-cut : (n : ℕ) (s : List ℕ) (place : ℕ) (f : Field) → passes (verdictOf n s place f) ≡ true → place + sizeOf f ≤ length s
 unfolding verdictOf

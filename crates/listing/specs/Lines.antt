@@ -7,7 +7,7 @@ use Rattle.listing_words.specs.declared.field.Field.{Field}
 use Rattle.listing_words.specs.declared.field.Shape.{Shape}
 use Rattle.listing.specs.declared.lines.Listed.{Listed}
 use Rattle.listing_words.specs.Fields.{fieldsOf, Fault, isNone, faultIn}
-use Rattle.listing_words.specs.Short.{Short}
+use Rattle.listing_numbers.specs.Short.{Short}
 use Rattle.listing_words.specs.Words.{wordsIn}
 
 -- The text is written, in at most so many places, and the answer says whether there is no fault.

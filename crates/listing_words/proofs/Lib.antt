@@ -1,2 +1,1 @@
-mod Spelled
-pub mod Writers
+pub mod Spelled

@@ -5,9 +5,10 @@ use mathlib.Core.List.{List, [], _∷_, map}
 use Rattle.rules.specs.Contracts.{termOf}
 use Rattle.rules.specs.Header.{u16At, u32At}
 use Rattle.rules.specs.Text.{decimal, digits}
+use Rattle.listing_numbers.specs.Numbers.{twoDigits, timeText, priceText, quarterText, termName, contractText}
 use Rattle.listing_words.specs.declared.field.Field.the-variants.{Side, Lots}
 use Rattle.listing_words.specs.Fields.{fieldsOfKind, fieldsOf, numberAt, within, verdictOf, none, at, faultIn, faultOf}
-use Rattle.listing_words.specs.Words.{kindWord, sideWord, orderKindWord, quantityWords, twoDigits, timeText, priceText, quarterText, termName, contractText, otherWayRound, hint}
+use Rattle.listing_words.specs.Words.{kindWord, sideWord, orderKindWord, quantityWords, otherWayRound, hint}
 use Rattle.listing_words.specs.Words.{outOfRange, faultText, faultWords, wordsIn, recordLine, headerLine}
 
 -- A submit of 36010 s, member 1, contract 18, with a side, OEYE, 26005 kuruş and the two bytes of its lots.

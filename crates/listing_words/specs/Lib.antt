@@ -1,5 +1,4 @@
 pub mod Fields
 pub mod Words
 pub mod Word
-pub mod Short
 pub mod Examples

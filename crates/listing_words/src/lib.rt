@@ -1,7 +1,6 @@
-// The words and numbers that a line of the listing is made of.
+// The words that a line of the listing is made of.
 mod field;
 mod names;
-mod numbers;
 
 pub use field::Field;
 pub use field::Quantity;
@@ -12,8 +11,5 @@ pub use names::Word;
 pub use names::kind_word;
 pub use names::name_of;
 pub use names::order_kind_word;
+pub use names::put_word;
 pub use names::side_word;
-pub use numbers::put_contract;
-pub use numbers::put_price;
-pub use numbers::put_time;
-pub use numbers::put_word;

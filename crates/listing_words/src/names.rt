@@ -1,5 +1,8 @@
 // The names of fields, and the words for what a byte stands for.
 ghost use mathlib.Core.Path.{_≡_};
+ghost use Prim.Native.Nat.{_+_, _≤_};
+ghost use lib.ListN.{length, take};
+ghost use Rattle.listing_numbers.specs.Short.{Short};
 ghost use Rattle.listing_words.specs.Word.{IsWord};
 ghost use Rattle.listing_words.specs.Words.{nameOf, kindWord, sideWord, orderKindWord};
 use crate::field::Field;
@@ -9,6 +12,7 @@ use rules::kinds::DAY_LIMITS;
 use rules::kinds::DEFAULT;
 use rules::kinds::PROPOSAL;
 use rules::kinds::SUBMIT;
+use text::put_bytes;
 
 // At most 24 letters; the places past them are blank.
 pub struct Word {
@@ -86,4 +90,13 @@ pub fn order_kind_word(kind: u64) -> Word
         1 => spelled(*b" OEYE                   ", 5),
         _ => spelled(*b" TEYE                   ", 5),
     }
+}
+
+pub fn put_word(out: &mut [u8], place: usize, word: Word) -> usize
+    requires { ⌜ (place + 24 ≤ length (now out)) × (word .length ≤ 24) × (length (word .letters) ≡ 24) ⌝ }
+    ensures { λ r. ⌜ Short 24 place (take (word .length) (word .letters)) (now (out .entry)) (now (out .exit)) r ⌝ }
+{
+    let letters = word.letters;
+    let length = word.length;
+    put_bytes(out, place, &letters[..length])
 }

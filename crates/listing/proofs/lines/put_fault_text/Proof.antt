@@ -1,6 +1,7 @@
 use mathlib.Core.Path.{refl}
 use native.Mathlib.Omega.{arith}
-use Rattle.listing_words.proofs.Writers.{next, exactly, number, worded, within-room}
+use Rattle.listing_numbers.proofs.Writers.{next, exactly, number, within-room}
+use Rattle.listing_words.proofs.Spelled.{worded}
 use mathlib.Core.List.{append-assoc}
 use Rattle.listing_words.specs.Words.{faultText}
 use borrow.Author.Needs.{needs}

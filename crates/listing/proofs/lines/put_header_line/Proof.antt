@@ -1,6 +1,6 @@
 use mathlib.Core.Path.{refl, sym}
 use native.Mathlib.Omega.{arith}
-use Rattle.listing_words.proofs.Writers.{next, exactly, within-room}
+use Rattle.listing_numbers.proofs.Writers.{next, exactly, within-room}
 use Rattle.listing_words.specs.Words.{headerLine}
 use Rattle.listing.proofs.FieldPlaces.{header-length}
 use borrow.Author.Needs.{needs}

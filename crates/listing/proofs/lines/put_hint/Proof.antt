@@ -1,6 +1,6 @@
 use mathlib.Core.Path.{refl}
 use native.Mathlib.Omega.{arith}
-use Rattle.listing_words.proofs.Writers.{next, exactly, number, nothing, within-room}
+use Rattle.listing_numbers.proofs.Writers.{next, exactly, number, nothing, within-room}
 use Rattle.listing_words.specs.Words.{hint}
 use borrow.Author.Needs.{needs}
 use Rattle.listing.proofs.lines.put_hint.Statement.{statement}

@@ -1,6 +1,6 @@
 use mathlib.Core.Path.{refl}
 use native.Mathlib.Omega.{arith}
-use Rattle.listing_words.proofs.Writers.{next, exactly, number, within-room}
+use Rattle.listing_numbers.proofs.Writers.{next, exactly, number, within-room}
 use mathlib.Core.List.{append-assoc}
 use Rattle.listing_words.specs.Words.{outOfRange}
 use borrow.Author.Needs.{needs}

@@ -1,6 +1,7 @@
 use mathlib.Core.Path.{refl}
 use native.Mathlib.Omega.{arith}
-use Rattle.listing_words.proofs.Writers.{exactly, worded, within-room}
+use Rattle.listing_numbers.proofs.Writers.{exactly, within-room}
+use Rattle.listing_words.proofs.Spelled.{worded}
 use Rattle.listing_words.specs.Words.{quantityWords}
 use borrow.Author.Needs.{needs}
 use Rattle.listing.proofs.lines.put_quantity.Statement.{statement}

@@ -1,6 +1,6 @@
 use mathlib.Core.Path.{refl}
 use native.Mathlib.Omega.{arith}
-use Rattle.listing_words.proofs.Writers.{next, exactly, number, nothing, within-room}
+use Rattle.listing_numbers.proofs.Writers.{next, exactly, number, nothing, within-room}
 use borrow.Author.Needs.{needs}
 use Rattle.listing.proofs.lines.put_reason.Statement.{statement}
 use Rattle.listing.proofs.lines.put_reason.Tie as tie

@@ -1,6 +1,6 @@
 use mathlib.Core.Path.{refl}
 use native.Mathlib.Omega.{arith}
-use Rattle.listing_words.proofs.Writers.{next, exactly, digits, decimal-room, within-room}
+use Rattle.listing_numbers.proofs.Writers.{next, exactly, digits, decimal-room, within-room}
 use mathlib.Core.List.{append-assoc}
 use Rattle.listing_words.specs.Fields.{fieldsOf}
 use Rattle.listing_words.specs.Words.{recordLine}
