@@ -16,8 +16,8 @@ lent ms xs = held xs (marked ms (inPrices (withGgf 17 26000) (inPrices (withDeal
 unfoldable pub closedOut : List ℕ → List (ℕ × ℕ × ℤ) → ℕ → Printed
 closedOut ms xs ratio = printed (applySpec (lent ms xs) (closeOut 17 ratio))
 
--- L = 1 and t = 2. Each has one lot here. By days times lots member 1 weighs 365 and 10 times 31, 675, member 2 two times 365, 730.
--- Members 3 and 4 have defaulted and take nothing.
+-- L = 1 and t = 2. Each has one lot here. By days times lots member 1 weighs 365 and 10 times 31, 675, member 2 two times 365,
+-- 730. Members 3 and 4 have defaulted and take nothing.
 abbrev pub two : List (ℕ × ℕ × ℤ)
 two = (0, 17, pos 1) ∷ (1, 17, negsuc 0) ∷ (1, 22, pos 10) ∷ (2, 17, negsuc 0) ∷ (2, 34, pos 1) ∷ (3, 34, pos 9) ∷ []
 
