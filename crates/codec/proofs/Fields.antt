@@ -36,10 +36,6 @@ module _ (k : ℕ) (a : k ≡ 1 → ⊥) (b : k ≡ 2 → ⊥) (c : k ≡ 3 → 
   unfolding fieldsByKind
   unknown-kind s = simp (ne-eqb _ _ a, ne-eqb _ _ b, ne-eqb _ _ c, ne-eqb _ _ d, ne-eqb _ _ e, ne-eqb _ _ f, ne-eqb _ _ g)
 
-  pub unknown-length : (n : ℕ) → 0 ≡ recordLength k n
-  unfolding recordLength
-  unknown-length n = simp (ne-eqb _ _ a, ne-eqb _ _ b, ne-eqb _ _ c, ne-eqb _ _ d, ne-eqb _ _ e, ne-eqb _ _ f, ne-eqb _ _ g)
-
 module _ (s : List ℕ) where
   pub submit-side : 1 < getD s 7 0 → Unsound ≡ submitOf s
   submit-side h = rw (lt-leb (getD s 7 0) 1 h) refl

@@ -28,7 +28,8 @@ use Rattle.rules.specs.Records.{legPlace, recordLength, frontLength, sideSound,
 use Rattle.rules.specs.Records.{writeSpec, fieldsByKind, fieldsOf, legAt, legsOf, readOf, frontOf}
 use Rattle.rules.proofs.Writing.{written, not-refused}
 use Rattle.big_endian.proofs.Numbers.{bytes-small, u16-wide, u32-wide, u16-back, u32-back, all-back, u8-again, u16-again, u32-again, u8-last, u16-last, u32-last, u8-first, none-past, all-again}
-use Rattle.codec.specs.Columns.{legRows, legCount}
+use Rattle.record_kinds.specs.LegCount.{legCount}
+use Rattle.codec.specs.Columns.{legRows}
 use Rattle.codec.specs.Trips.{WrittenIsRead, ReadIsWritten, SoundStandsWhole}
 use Rattle.codec.proofs.Fields.{Says, submits, cancels, limits, proposes, defaults, closes-out, closes, says, said}
 use Rattle.codec.proofs.LegColumns.{legs-to, rows-said}

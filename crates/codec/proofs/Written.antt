@@ -18,7 +18,8 @@ use Rattle.rules.specs.declared.event.Leg.{Leg}
 use Rattle.rules.specs.Ranges.{mostMembers, lastSecond, leastLegs, mostLegs}
 use Rattle.rules.specs.Header.{u16Bytes, u32Bytes, membersSound}
 use Rattle.rules.specs.Records.{recordLength, eventSound, legBytes, kindNumber, fieldBytes, bytesOf, writeSpec}
-use Rattle.codec.specs.Columns.{legCount, OneByteFields}
+use Rattle.record_kinds.specs.LegCount.{legCount}
+use Rattle.codec.specs.Columns.{OneByteFields}
 
 pub leg-wide : (g : Leg) → length (legBytes g) ≡ 10
 unfolding u16Bytes u32Bytes

@@ -22,16 +22,6 @@ legRow l i = record { order = getD (l .orders) i 0; lots = record { 0 = getD (l 
 unfoldable pub legRows : ℕ → Legs → List Leg
 legRows n l = map (legRow l) (from 0 n)
 
--- How many legs stand beside an event.
-abbrev pub legCount : Event → ℕ
-legCount (Submit e) = 0
-legCount (Cancel e) = 0
-legCount (DayLimits e) = 0
-legCount (Proposal k) = k
-legCount (Default m) = 0
-legCount (CloseOut e) = 0
-legCount (CloseOfDay s) = 0
-
 -- The fields of one byte fit it.
 abbrev pub OneByteFields : Event → Type 0
 OneByteFields (Submit e) = (e .member < 256) × (e .contract < 256)

@@ -1,6 +1,5 @@
 // The records of a journal: read, written, and found one after the other.
 mod legs;
-mod lengths;
 mod read;
 mod sound;
 mod stream;
@@ -9,10 +8,7 @@ mod write;
 pub use legs::Legs;
 pub use legs::leg_of;
 pub use legs::read_legs;
-pub use lengths::leg_count;
-pub use read::order_kind_of;
 pub use read::read_record;
 pub use sound::is_proposal_sound;
 pub use stream::front_record;
-pub use write::order_kind_number;
 pub use write::write_record;

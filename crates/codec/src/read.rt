@@ -4,11 +4,8 @@ ghost use Prim.Native.Nat.{_≤_};
 ghost use lib.ListN.{length};
 ghost use Rattle.rules.specs.declared.event.Reading.the-variants.{Sound};
 ghost use Rattle.rules.specs.Records.{submitLength, cancelLength, dayLimitsLength, closeOutLength};
-ghost use Rattle.rules.specs.Records.{orderKindOf, submitOf, cancellationOf, newDayLimitsOf, closeOutOf, fieldsOf, legsOf, eventSound, readOf};
+ghost use Rattle.rules.specs.Records.{submitOf, cancellationOf, newDayLimitsOf, closeOutOf, fieldsOf, legsOf, eventSound, readOf};
 use crate::legs::read_legs;
-use crate::lengths::kind_number;
-use crate::lengths::leg_count;
-use crate::lengths::record_length;
 use crate::sound::is_legless_sound;
 use crate::sound::is_proposal_sound;
 use big_endian::u8_at;
@@ -16,13 +13,16 @@ use big_endian::u8_or_zero;
 use big_endian::u16_at;
 use big_endian::u32_at;
 use header::is_member_count_sound;
+use record_kinds::kind_number;
+use record_kinds::leg_count;
+use record_kinds::order_kind_of;
+use record_kinds::record_length;
 use rules::Cancellation;
 use rules::CloseOutTerms;
 use rules::Event;
 use rules::Kurus;
 use rules::Lots;
 use rules::NewDayLimits;
-use rules::OrderKind;
 use rules::Reading;
 use rules::Side;
 use rules::Submission;
@@ -34,18 +34,6 @@ use rules::kinds::DEFAULT;
 use rules::kinds::PROPOSAL;
 use rules::kinds::SUBMIT;
 use sides::side_of;
-
-pub fn order_kind_of(b: u64) -> OrderKind
-    ensures { λ r. ⌜ r ≡ orderKindOf b ⌝ }
-{
-    if b == 0 {
-        return OrderKind::Resting;
-    }
-    if b == 1 {
-        return OrderKind::Oeye;
-    }
-    OrderKind::Teye
-}
 
 fn submit_of(bytes: &[u8]) -> Reading
     requires { ⌜ submitLength ≤ length (now bytes) ⌝ }

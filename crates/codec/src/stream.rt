@@ -1,8 +1,8 @@
 // Records one after the other: where the first ends.
 ghost use mathlib.Core.Path.{_≡_};
 ghost use Rattle.rules.specs.Records.{frontOf};
-use crate::lengths::record_length;
 use big_endian::u8_or_zero;
+use record_kinds::record_length;
 use rules::Front;
 
 // The record at the front: its length follows from its kind and, of a proposal, its number of legs.

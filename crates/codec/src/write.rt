@@ -7,39 +7,30 @@ ghost use Rattle.arith.specs.Lists.{over};
 ghost use Rattle.rules.specs.declared.event.Event.the-variants.{Submit, Cancel, DayLimits, Proposal, Default, CloseOut, CloseOfDay};
 ghost use Rattle.rules.specs.Ranges.{mostLegs};
 ghost use Rattle.rules.specs.Records.{submitLength, cancelLength, dayLimitsLength, defaultLength, closeOutLength, closeOfDayLength, legPlace, recordLength};
-ghost use Rattle.rules.specs.Records.{orderKindNumber, legBytes, kindNumber, fieldBytes, writeSpec};
-ghost use Rattle.codec.specs.Columns.{legRows, legCount, OneByteFields};
+ghost use Rattle.rules.specs.Records.{legBytes, kindNumber, fieldBytes, writeSpec};
+ghost use Rattle.record_kinds.specs.LegCount.{legCount};
+ghost use Rattle.codec.specs.Columns.{legRows, OneByteFields};
 use crate::legs::Legs;
 use crate::legs::leg_of;
-use crate::lengths::kind_number;
-use crate::lengths::leg_count;
-use crate::lengths::leg_place;
-use crate::lengths::record_length;
 use crate::sound::is_event_sound;
 use big_endian::put_u8;
 use big_endian::put_u16;
 use big_endian::put_u32;
 use header::is_member_count_sound;
+use record_kinds::kind_number;
+use record_kinds::leg_count;
+use record_kinds::leg_place;
+use record_kinds::order_kind_number;
+use record_kinds::record_length;
 use rules::Answer;
 use rules::Cancellation;
 use rules::CloseOutTerms;
 use rules::Event;
 use rules::Leg;
 use rules::NewDayLimits;
-use rules::OrderKind;
 use rules::Side;
 use rules::Submission;
 use sides::side_number;
-
-pub fn order_kind_number(kind: OrderKind) -> u64
-    ensures { λ r. ⌜ (r ≡ orderKindNumber kind) × (r < 256) ⌝ }
-{
-    match kind {
-        OrderKind::Resting => 0,
-        OrderKind::Oeye => 1,
-        OrderKind::Teye => 2,
-    }
-}
 
 fn put_submit(out: &mut [u8], e: Submission)
     requires { ⌜ (submitLength ≤ length (now out)) × (e .member < 256) × (e .contract < 256) ⌝ }

@@ -13,7 +13,7 @@ use Rattle.rules.specs.declared.event.Event.the-variants.{Submit, Cancel, DayLi
 use Rattle.rules.specs.declared.event.Event.{Event}
 use Rattle.rules.specs.declared.event.Reading.the-variants.{Sound}
 use Rattle.rules.specs.Ranges.{mostLegs}
-use Rattle.codec.specs.Columns.{legCount}
+use Rattle.record_kinds.specs.LegCount.{legCount}
 use Rattle.codec.proofs.Fields.{nothing, if-true}
 use Rattle.fields.specs.RecordFields.{kindField, submitSide, submitOrderKind, proposalLegs, defaultMember, closeOfDayTime, submissionIn, cancellationIn, newDayLimitsIn}
 use Rattle.fields.specs.RecordFields.{closeOutIn, submitIn, proposalIn, eventByKind, eventIn, firstLegs, legsIn}

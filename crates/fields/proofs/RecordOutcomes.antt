@@ -12,7 +12,8 @@ use Rattle.rules.specs.declared.event.Reading.the-variants.{Sound, Unsound}
 use Rattle.rules.specs.Answers.{Outcome}
 use Rattle.rules.specs.Ranges.{mostLegs}
 use Rattle.rules.specs.Records.{writeSpec, legsOf, readOf}
-use Rattle.codec.specs.Columns.{legRows, legCount, legColumns, heldLegs}
+use Rattle.record_kinds.specs.LegCount.{legCount}
+use Rattle.codec.specs.Columns.{legRows, legColumns, heldLegs}
 use Rattle.codec.specs.declared.legs.Legs.{Legs}
 use Rattle.codec.proofs.Fields.{said}
 use Rattle.codec.proofs.LegColumns.{rows-of-columns, rows-said}

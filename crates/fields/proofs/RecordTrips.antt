@@ -27,7 +27,8 @@ use Rattle.rules.specs.Records.{writeSpec, legsOf, readOf}
 use Rattle.big_endian.proofs.Numbers.{all-back, all-again}
 use Rattle.header.specs.Journal.{firsts}
 use Rattle.header.proofs.Headers.{take-firsts}
-use Rattle.codec.specs.Columns.{legRows, legCount, legColumns, heldLegs}
+use Rattle.record_kinds.specs.LegCount.{legCount}
+use Rattle.codec.specs.Columns.{legRows, legColumns, heldLegs}
 use Rattle.codec.proofs.LegColumns.{length-rows, rows-of-columns}
 use Rattle.codec.proofs.Trips as codec
 use Rattle.fields.specs.RecordFields.{recordFields, proposalLegs, legField, legNumbers, numbersOf, eventByKind, eventIn, legIn, firstLegs, legsIn, readFields, writeFields}

@@ -27,7 +27,7 @@ use crate::places::SUBMIT_PRICE;
 use crate::places::SUBMIT_SIDE;
 use crate::places::SUBMIT_TIME;
 use codec::Legs;
-use codec::order_kind_of;
+use record_kinds::order_kind_of;
 use rules::Cancellation;
 use rules::CloseOutTerms;
 use rules::Event;

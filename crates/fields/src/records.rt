@@ -5,10 +5,10 @@ use crate::event::event_in;
 use crate::event::legs_in;
 use crate::numbers::put_event;
 use crate::places::RECORD_FIELDS;
-use codec::leg_count;
 use codec::read_legs;
 use codec::read_record;
 use codec::write_record;
+use record_kinds::leg_count;
 use rules::Answer;
 use rules::Reading;
 

@@ -1,3 +1,4 @@
+pub mod Cases
 pub mod FullBook
 pub mod Numbers
 pub mod JournalExample

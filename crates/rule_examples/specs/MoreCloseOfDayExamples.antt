@@ -2,14 +2,60 @@
 use Prim.Native.Nat.{ℕ}
 use mathlib.Core.Path.{_≡_, refl}
 use mathlib.Core.List.{List, [], _∷_, _++_, map}
-use lib.IntN.{pos}
+use lib.IntN.{ℤ, pos, negsuc}
+use Rattle.arith.specs.Lists.{from}
 use Rattle.rules.specs.declared.order.Side.the-variants.{Buy, Sell}
 use Rattle.rules.specs.declared.units.Day.the-variants.{On}
 use Rattle.rules.specs.Contracts.{termOf, termClosingDay}
-use Rattle.rules.specs.Ledger.{Tables, calendar, withAcceptedSubmits, withLotsRun, withOrders, day, time, submitsThisSecond, orderCount, ggf, dayLots, dayValue, lotsAt, orderAt}
+use Rattle.rules.specs.Ledger.{Tables, calendar, withAcceptedSubmits, withLotsRun, withOrders, day, time, submitsThisSecond, orderCount, ggf, dayLots, dayValue, lotsAt, valueAt, orderAt}
 use Rattle.rules.specs.Refusals.{applySpec}
 use Rattle.rules.specs.Computed.{tablesAfter, computed}
 use Rattle.rules.specs.ExampleRecords.{buy, sell, close, made, monday, inHead, held, order, bought, accepted, refused, Each, Prints}
+use Rattle.rules.specs.CloseOfDayExamples.{Prices, resting, placed, closed}
+
+-- ---- the GGF
+-- V/M from 10, 20, 50 lots on, whatever is quoted; halves round up, less rounds down. One lot less, and no quote: the former GGF.
+-- A contract that is not open keeps its own: the year 2021 has closed, the year 2026 is not among the first four.
+ggf-of-deals : Prices
+    ((17, 25000, 10, 260005, [], 26001)
+    ∷ (51, 25000, 10, 260004, [], 26000)
+    ∷ (68, 25000, 10, 260000, (Buy, 20000, 10, 366, 0) ∷ (Sell, 21000, 10, 366, 0) ∷ [], 26000)
+    ∷ (34, 25000, 9, 234000, [], 25000)
+    ∷ (18, 25000, 20, 520000, [], 26000)
+    ∷ (19, 25000, 19, 494000, [], 25000)
+    ∷ (22, 25000, 50, 1300000, [], 26000)
+    ∷ (23, 0, 49, 1274000, [], 0)
+    ∷ (0, 25000, 10, 260000, [], 25000)
+    ∷ (85, 25000, 10, 260000, [], 25000)
+    ∷ [])
+unfolding computed closed placed resting
+ggf-of-deals = refl
+
+-- Below the threshold, with quotes: (6V + M(b+s))/(8M) if there are deals, (b+s)/2 if not, of the best buy and the best sell.
+-- Without one of the two the former GGF.
+ggf-of-quotes : Prices
+    ((24, 25000, 20, 558000, (Buy, 27500, 50, 366, 0) ∷ (Sell, 27600, 50, 366, 0) ∷ [], 27813)
+    ∷ (25, 25000, 0, 0, (Buy, 27500, 50, 366, 0) ∷ (Sell, 27601, 50, 366, 0) ∷ [], 27551)
+    ∷ (6, 25000, 0, 0, (Buy, 27400, 50, 366, 0) ∷ (Buy, 27500, 50, 366, 0) ∷ (Sell, 27600, 50, 366, 0) ∷ (Sell, 27700, 50, 366, 0) ∷ [], 27550)
+    ∷ (7, 25000, 0, 0, (Buy, 27500, 50, 366, 0) ∷ [], 25000)
+    ∷ (8, 25000, 0, 0, (Sell, 27500, 50, 366, 0) ∷ [], 25000)
+    ∷ [])
+unfolding computed closed placed resting
+ggf-of-quotes = refl
+
+-- An order quotes from 10, 20, 50 lots on, if it entered on an earlier day, whenever, or at 35700 s at the latest.
+which-orders-quote : Prices
+    ((17, 0, 0, 0, (Buy, 27500, 10, 366, 0) ∷ (Sell, 27600, 10, 366, 0) ∷ [], 27550)
+    ∷ (34, 0, 0, 0, (Buy, 27500, 9, 366, 0) ∷ (Sell, 27600, 10, 366, 0) ∷ [], 0)
+    ∷ (18, 0, 0, 0, (Buy, 27500, 20, 366, 0) ∷ (Sell, 27600, 20, 366, 0) ∷ [], 27550)
+    ∷ (19, 0, 0, 0, (Buy, 27500, 20, 366, 0) ∷ (Sell, 27600, 19, 366, 0) ∷ [], 0)
+    ∷ (22, 0, 0, 0, (Buy, 27500, 50, 366, 0) ∷ (Buy, 27550, 49, 366, 0) ∷ (Sell, 27600, 50, 366, 0) ∷ [], 27550)
+    ∷ (23, 0, 0, 0, (Buy, 27500, 50, 368, 86399) ∷ (Sell, 27600, 50, 369, 35700) ∷ [], 27550)
+    ∷ (24, 0, 0, 0, (Buy, 27500, 50, 368, 86399) ∷ (Sell, 27600, 50, 369, 35701) ∷ [], 0)
+    ∷ (25, 0, 0, 0, (Buy, 27500, 50, 368, 86399) ∷ (Sell, 27600, 50, 370, 0) ∷ [], 0)
+    ∷ [])
+unfolding computed closed placed resting
+which-orders-quote = refl
 
 -- Orders enter with the ledger's day and their own time: at 36000 s of Monday, 300 s and 299 s before the close, and the day before.
 entered-at : Each (λ rs. ggf (tablesAfter monday (buy 0 22 27500 50 ∷ sell 1 22 27601 50 ∷ rs)) 22)
@@ -23,6 +69,11 @@ figures t = ggf t 17 ∷ dayLots t 17 ∷ dayValue t 17 ∷ day t ∷ time t ∷
 
 abbrev deals : List (List ℕ)
 deals = sell 0 17 26000 5 ∷ sell 0 17 27000 5 ∷ buy 1 17 27000 10 ∷ []
+
+-- M and V become 0 in a contract that is not open too.
+closed-figures : (let t = closed ((0, 0, 10, 260000, [], 0) ∷ []) in dayLots t 0 ∷ dayValue t 0 ∷ []) ≡ 0 ∷ 0 ∷ []
+unfolding computed closed placed resting
+closed-figures = refl
 
 -- Tuesday, 370, is a holiday.
 days-figures : Each (λ rs. figures (tablesAfter (made 2021 369 (370 ∷ []) (1000 ∷ 1000 ∷ [])) (deals ++ rs)))
@@ -87,3 +138,22 @@ limit-passed-by-a-close : Prints (made 2020 359 [] (5 ∷ 1000 ∷ []))
     ∷ [])
 unfolding computed
 limit-passed-by-a-close = refl
+
+-- ---- cascades
+-- Lots that net to zero carry their value: member 0 bought 4 of the year 2021 at 30000 and sold 4 of its first quarter at 31000.
+abbrev yearAndQuarter : List (List ℕ)
+yearAndQuarter = sell 1 17 30000 4 ∷ buy 0 17 30000 4 ∷ buy 1 18 31000 4 ∷ sell 0 18 31000 4 ∷ []
+
+-- Member 0's lots and value in these contracts, after so many closes: the first is of day 359, the year's closing day, the
+-- third of 363, the quarter's.
+abbrev rowsAfter : ℕ × List ℕ → List (ℤ × ℤ)
+rowsAfter (n, cs) =
+    let t = tablesAfter (made 2020 359 [] (1000 ∷ 1000 ∷ [])) (yearAndQuarter ++ map (λ i. close 61200) (from 0 n)) in
+    map (λ c. (lotsAt t c 0, valueAt t c 0)) cs
+
+rows-that-cascade : Each rowsAfter
+    (((1, 17 ∷ 18 ∷ 19 ∷ []), (pos 0, pos 0) ∷ (pos 0, negsuc 3999) ∷ (pos 4, pos 120000) ∷ [])
+    ∷ ((3, 18 ∷ 22 ∷ 24 ∷ []), (pos 0, pos 0) ∷ (pos 0, negsuc 3999) ∷ (pos 0, negsuc 3999) ∷ [])
+    ∷ [])
+unfolding computed
+rows-that-cascade = refl

@@ -9,13 +9,12 @@ use Rattle.rules.specs.Computed.{printed, tablesAfter, computed}
 use Rattle.rules.specs.ExampleRecords.{limits, proposal, monday, inHead, order, line, accepted, refused, Each, EachPrints}
 use Rattle.rules.specs.ProposalExamples.{ones, quarterBy, fourLines, usedInPart}
 
--- From the sell order's price to the buy order's; the legs of an hour have one value.
+-- From the sell order's price to the buy order's.
 prices-of-legs : EachPrints (quarterBy 0 1)
     ((ones 31199 31199 31199 31199, refused 13)
     ∷ (ones 31200 31200 31200 31200, fourLines 31200)
     ∷ (ones 31500 31500 31500 31500, fourLines 31500)
     ∷ (ones 31501 31501 31501 31501, refused 13)
-    ∷ (ones 31300 31300 31300 31301, refused 13)
     ∷ [])
 unfolding computed
 prices-of-legs = refl

@@ -18,7 +18,6 @@ pub mod Journal
 pub mod Bytes
 pub mod Computed
 pub mod ExampleRecords
-pub mod Cases
 pub mod MatchingExamples
 pub mod ProposalExamples
 pub mod CloseOfDayExamples

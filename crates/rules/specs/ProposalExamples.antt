@@ -5,10 +5,10 @@ use mathlib.Core.List.{List, [], _∷_}
 use lib.IntN.{pos, negsuc}
 use Rattle.rules.specs.declared.order.Side.the-variants.{Buy, Sell}
 use Rattle.rules.specs.Answers.{Outcome}
-use Rattle.rules.specs.Ledger.{Tables, withAcceptedSubmits, withOrders, orders, dayLots}
+use Rattle.rules.specs.Ledger.{Tables, withAcceptedSubmits, withDayLimits, withOrders, dayLots}
 use Rattle.rules.specs.Refusals.{applySpec}
-use Rattle.rules.specs.Computed.{Printed, tablesAfter, computed}
-use Rattle.rules.specs.ExampleRecords.{limits, proposal, monday, inHead, order, line, accepted, refused, EachPrints}
+use Rattle.rules.specs.Computed.{Printed, computed}
+use Rattle.rules.specs.ExampleRecords.{proposal, monday, inHead, inPrices, order, line, accepted, refused, EachPrints}
 
 -- A proposal of one lot of each of orders 0 to 3, at these prices.
 abbrev pub ones : ℕ → ℕ → ℕ → ℕ → List ℕ
@@ -32,16 +32,16 @@ usedInPart = applySpec (quarterBy 0 1) (proposal ((0, 2, 31300) ∷ (1, 2, 31300
 abbrev pub fourLines : ℕ → Printed
 fourLines p = accepted (line 0 18 (pos 1) p ∷ line 1 22 (negsuc 0) p ∷ line 1 23 (negsuc 0) p ∷ line 1 24 (negsuc 0) p ∷ [])
 
--- A high of 31400 for a month that is sold.
-highs-of-legs : EachPrints (tablesAfter (quarterBy 0 1) (limits 24 1 31400 ∷ []))
-    ((ones 31400 31400 31400 31400, fourLines 31400) ∷ (ones 31401 31401 31401 31401, refused 13) ∷ [])
+-- A high of 31400 for a month that is sold, met and passed; an hour whose legs differ in value; order 4 as a leg, without order
+-- 3, which has better priority.
+legs-of-a-quarter : EachPrints (inPrices (withDayLimits 24 1 31400) (quarterBy 0 1))
+    ((ones 31400 31400 31400 31400, fourLines 31400)
+    ∷ (ones 31401 31401 31401 31401, refused 13)
+    ∷ (ones 31300 31300 31300 31301, refused 13)
+    ∷ (proposal ((0, 1, 31300) ∷ (1, 1, 31300) ∷ (2, 1, 31300) ∷ (4, 1, 31300) ∷ []), refused 13)
+    ∷ [])
 unfolding computed
-highs-of-legs = refl
-
--- The order with better priority is a leg in full: order 3, before order 4.
-priority-of-legs : EachPrints (quarterBy 0 1) ((proposal ((0, 1, 31300) ∷ (1, 1, 31300) ∷ (2, 1, 31300) ∷ (4, 1, 31300) ∷ []), refused 13) ∷ [])
-unfolding computed
-priority-of-legs = refl
+legs-of-a-quarter = refl
 
 -- Synthetic lots do not count in M.
 synthetic-lots : (let t = usedInPart .after in dayLots t 18 ∷ dayLots t 22 ∷ []) ≡ 0 ∷ 0 ∷ []

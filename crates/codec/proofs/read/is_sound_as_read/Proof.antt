@@ -1,6 +1,7 @@
 use mathlib.Core.Path.{sym, ap, _∙_}
 use Rattle.rules.specs.Records.{eventSound}
-use Rattle.codec.specs.Columns.{legRows, legCount, legColumns, heldLegs}
+use Rattle.record_kinds.specs.LegCount.{legCount}
+use Rattle.codec.specs.Columns.{legRows, legColumns, heldLegs}
 use Rattle.codec.proofs.LegColumns.{judged-proposal, judged-legless, rows-judged}
 use borrow.Author.Needs.{needs}
 use Rattle.codec.proofs.read.is_sound_as_read.Statement.{statement}

@@ -1,10 +1,11 @@
-// Kinds of record and how many bytes each takes, said once for reader, writer and splitter.
+// Kinds of record and of order by their numbers, and how many bytes a record takes: said once for reader, writer and splitter.
 ghost use mathlib.Core.Path.{_≡_};
 ghost use Prim.Native.Nat.{_<_, _≤_};
 ghost use Rattle.rules.specs.Ranges.{mostLegs};
-ghost use Rattle.rules.specs.Records.{kindNumber, legPlace, recordLength};
-ghost use Rattle.codec.specs.Columns.{legCount};
+ghost use Rattle.rules.specs.Records.{orderKindNumber, orderKindOf, kindNumber, legPlace, recordLength};
+ghost use Rattle.record_kinds.specs.LegCount.{legCount};
 use rules::Event;
+use rules::OrderKind;
 use rules::kinds::CANCEL;
 use rules::kinds::CLOSE_OF_DAY;
 use rules::kinds::CLOSE_OUT;
@@ -13,6 +14,30 @@ use rules::kinds::DEFAULT;
 use rules::kinds::PROPOSAL;
 use rules::kinds::SUBMIT;
 
+pub fn order_kind_of(b: u64) -> OrderKind
+    ensures { λ r. ⌜ r ≡ orderKindOf b ⌝ }
+{
+    if b == 0 {
+        return OrderKind::Resting;
+    }
+    if b == 1 {
+        return OrderKind::Oeye;
+    }
+    OrderKind::Teye
+}
+
+// It fits a byte.
+pub fn order_kind_number(kind: OrderKind) -> u64
+    ensures { λ r. ⌜ (r ≡ orderKindNumber kind) × (r < 256) ⌝ }
+{
+    match kind {
+        OrderKind::Resting => 0,
+        OrderKind::Oeye => 1,
+        OrderKind::Teye => 2,
+    }
+}
+
+// It fits a byte.
 pub fn kind_number(event: Event) -> u64
     ensures { λ r. ⌜ (r ≡ kindNumber event) × (r < 256) ⌝ }
 {

@@ -1,9 +1,9 @@
 use mathlib.Core.Path.{refl}
 use Rattle.rules.specs.Records.{recordLength}
-use Rattle.codec.proofs.Fields.{unknown-length}
+use borrow.Author.Tests.{ne-eqb}
 use borrow.Author.Needs.{needs}
-use Rattle.codec.proofs.lengths.record_length.Statement.{statement}
-use Rattle.codec.proofs.lengths.record_length.Tie as tie
+use Rattle.record_kinds.proofs.record_length.Statement.{statement}
+use Rattle.record_kinds.proofs.record_length.Tie as tie
 
 returns : tie.Need-returns
 unfolding recordLength
@@ -34,9 +34,18 @@ unfolding recordLength
 returns-7 c = rw (c .match .keys7) refl
 
 returns-8 : tie.Need-returns-8
+unfolding recordLength
 returns-8 c =
     let r = c .match .rest in
-    unknown-length _ (r .0 .0 .0 .0 .0 .0 .1) (r .0 .0 .0 .0 .0 .1) (r .0 .0 .0 .0 .1) (r .0 .0 .0 .1) (r .0 .0 .1) (r .0 .1) (r .1) _
+    simp (
+      ne-eqb _ _ (r .0 .0 .0 .0 .0 .0 .1),
+      ne-eqb _ _ (r .0 .0 .0 .0 .0 .1),
+      ne-eqb _ _ (r .0 .0 .0 .0 .1),
+      ne-eqb _ _ (r .0 .0 .0 .1),
+      ne-eqb _ _ (r .0 .0 .1),
+      ne-eqb _ _ (r .0 .1),
+      ne-eqb _ _ (r .1),
+    )
 
 pub record-length-spec : {M : Type 1} → statement M
 record-length-spec =
