@@ -10,6 +10,7 @@ pub use show::number;
 pub use show::show_answer;
 pub use show::show_lines;
 pub use show::text;
+pub use steps::Shown;
 pub use steps::Step;
 pub use steps::step_of;
 pub use words::Numbers;

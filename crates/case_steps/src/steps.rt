@@ -13,20 +13,27 @@ use rules::OrderKind;
 use rules::Side;
 use rules::Submission;
 
+// What is shown of the answer to a record.
+pub enum Shown {
+    // A record that is accepted: only a refusal is shown.
+    Refusal,
+    Lines,
+    // Of the lines only how many they are.
+    LineCount,
+}
+
 pub enum Step {
     // No such line.
     Unknown,
-    // A record that is accepted; only a refusal is shown.
-    Given(Event),
+    Record {
+        event: Event,
+        shown: Shown,
+    },
     // As many submits, each a second after the one before it.
     Series {
         first: Submission,
         count: u64,
     },
-    // A record whose answer and lines are shown.
-    Asked(Event),
-    // The same where only the number of lines is shown.
-    Counted(Event),
     // A leg of the next proposal.
     WithLeg(Leg),
     // What a host lends that no record of the case led to.
@@ -137,18 +144,13 @@ fn event_named(line: &[u8], at: usize, n: [u64; 16]) -> Named {
     submit_named(line, at, n)
 }
 
-fn given(line: &[u8], n: [u64; 16]) -> Step {
-    let named = event_named(line, 6, n);
+fn record_step(line: &[u8], at: usize, n: [u64; 16], shown: Shown) -> Step {
+    let named = event_named(line, at, n);
     match named {
-        Named::Event(event) => Step::Given(event),
-        Named::Nothing => Step::Unknown,
-    }
-}
-
-fn asked(line: &[u8], n: [u64; 16]) -> Step {
-    let named = event_named(line, 6, n);
-    match named {
-        Named::Event(event) => Step::Asked(event),
+        Named::Event(event) => Step::Record {
+            event: event,
+            shown: shown,
+        },
         Named::Nothing => Step::Unknown,
     }
 }
@@ -237,23 +239,15 @@ fn show(line: &[u8], n: [u64; 16]) -> Step {
     Step::Unknown
 }
 
-fn counted(line: &[u8], n: [u64; 16]) -> Step {
-    let named = event_named(line, 8, n);
-    match named {
-        Named::Event(event) => Step::Counted(event),
-        Named::Nothing => Step::Unknown,
-    }
-}
-
 pub fn step_of(line: &[u8], n: [u64; 16]) -> Step {
     if is_word(line, 0, b"given ") {
-        return given(line, n);
+        return record_step(line, 6, n, Shown::Refusal);
     }
     if is_word(line, 0, b"asked ") {
-        return asked(line, n);
+        return record_step(line, 6, n, Shown::Lines);
     }
     if is_word(line, 0, b"counted ") {
-        return counted(line, n);
+        return record_step(line, 8, n, Shown::LineCount);
     }
     if is_word(line, 0, b"series ") {
         return series(line, n);

@@ -1,4 +1,5 @@
 // An event as a record, written by the codec, applied to the lent tables.
+use case_steps::Shown;
 use case_steps::number;
 use case_steps::read;
 use case_steps::show_answer;
@@ -61,18 +62,7 @@ fn apply(
     written
 }
 
-// A record that is accepted: only a refusal is shown.
-pub fn give(
-    head: &mut [u64],
-    prices: &mut [u64],
-    lots: &mut [i64],
-    value: &mut [i64],
-    book: &mut [u64],
-    lines: &mut [i64],
-    legs: Legs,
-    event: Event,
-) {
-    let answer = apply(head, prices, lots, value, book, lines, legs, event);
+fn show_refusal(answer: Answer) {
     match answer {
         Answer::Accepted(_) => {}
         _ => {
@@ -82,7 +72,22 @@ pub fn give(
     }
 }
 
-pub fn ask(
+fn show_told(lines: &[i64], answer: Answer, shown: Shown) {
+    match shown {
+        Shown::Refusal => show_refusal(answer),
+        Shown::Lines => {
+            show_answer(answer);
+            show_lines(lines, line_count(answer));
+        }
+        Shown::LineCount => {
+            show_answer(answer);
+            text(b", lines");
+            number(line_count(answer));
+        }
+    }
+}
+
+pub fn take_record(
     head: &mut [u64],
     prices: &mut [u64],
     lots: &mut [i64],
@@ -91,10 +96,10 @@ pub fn ask(
     lines: &mut [i64],
     legs: Legs,
     event: Event,
+    shown: Shown,
 ) {
     let answer = apply(head, prices, lots, value, book, &mut *lines, legs, event);
-    show_answer(answer);
-    show_lines(&*lines, line_count(answer));
+    show_told(&*lines, answer, shown);
 }
 
 // A submit whose bytes are numbers of the case file.
@@ -110,24 +115,7 @@ pub fn ask_bytes(
     let mut bytes = [0u8; 15];
     put_submit(&mut bytes, n);
     let answer = engine::apply(head, prices, lots, value, book, &mut *lines, &bytes);
-    show_answer(answer);
-    show_lines(&*lines, line_count(answer));
-}
-
-pub fn ask_for_count(
-    head: &mut [u64],
-    prices: &mut [u64],
-    lots: &mut [i64],
-    value: &mut [i64],
-    book: &mut [u64],
-    lines: &mut [i64],
-    legs: Legs,
-    event: Event,
-) {
-    let answer = apply(head, prices, lots, value, book, lines, legs, event);
-    show_answer(answer);
-    text(b", lines");
-    number(line_count(answer));
+    show_told(&*lines, answer, Shown::Lines);
 }
 
 fn a_second_later(s: Submission) -> Submission {
@@ -164,7 +152,7 @@ pub fn give_series(
     let mut order = first;
     let mut i: u64 = 0;
     while i < count {
-        give(
+        take_record(
             &mut *head,
             &mut *prices,
             &mut *lots,
@@ -173,6 +161,7 @@ pub fn give_series(
             &mut *lines,
             legs,
             Event::Submit(order),
+            Shown::Refusal,
         );
         order = a_second_later(order);
         i += 1;

@@ -1,11 +1,9 @@
 // The lines of the case file, taken one after the other.
 ghost use Prim.Native.Nat.{_≤_};
 ghost use lib.ListN.{length};
-use crate::applied::ask;
 use crate::applied::ask_bytes;
-use crate::applied::ask_for_count;
-use crate::applied::give;
 use crate::applied::give_series;
+use crate::applied::take_record;
 use crate::ledgers::header_of;
 use case_steps::Step;
 use case_steps::is_word;
@@ -96,21 +94,13 @@ fn take_step(
     let legs = g.legs;
     match step {
         Step::WithLeg(leg) => with_leg(g, leg),
-        Step::Given(event) => {
-            give(head, prices, lots, value, book, lines, legs, event);
+        Step::Record { event, shown } => {
+            take_record(head, prices, lots, value, book, lines, legs, event, shown);
             no_legs()
         }
         Step::Series { first, count } => {
             give_series(head, prices, lots, value, book, lines, legs, first, count);
             g
-        }
-        Step::Asked(event) => {
-            ask(head, prices, lots, value, book, lines, legs, event);
-            no_legs()
-        }
-        Step::Counted(event) => {
-            ask_for_count(head, prices, lots, value, book, lines, legs, event);
-            no_legs()
         }
         _ => {
             take_table_step(head, prices, lots, value, book, step);
