@@ -20,7 +20,10 @@ pub fn apply(head: &mut [u64], book: &mut [u64], e: Cancellation) -> Answer
         return Answer::TimeBelowLedger;
     }
     let count = head[ORDER_COUNT] as usize;
-    let leaving = Leaving::Numbered(e.order, e.member);
+    let leaving = Leaving::Numbered {
+        number: e.order,
+        member: e.member,
+    };
     if !tables::would_any_leave(&*book, count, leaving) {
         return Answer::NoSuchOrder;
     }

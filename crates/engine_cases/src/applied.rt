@@ -1,10 +1,10 @@
 // An event as a record, written by the codec, applied to the lent tables.
-use case_steps::Shown;
-use case_steps::number;
-use case_steps::read;
-use case_steps::show_answer;
-use case_steps::show_lines;
-use case_steps::text;
+use crate::places::read;
+use crate::show::number;
+use crate::show::show_answer;
+use crate::show::show_lines;
+use crate::show::text;
+use crate::steps::Shown;
 use codec::Legs;
 use rules::Answer;
 use rules::Event;

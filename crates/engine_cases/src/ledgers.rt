@@ -1,5 +1,5 @@
 // The header of the ledger that a case begins with.
-use case_steps::text;
+use crate::show::text;
 use header::JournalHeader;
 use rules::DayNo;
 use rules::ranges::MOST_HOLIDAYS;

@@ -5,7 +5,11 @@ use libc::STDIN_FILENO;
 
 mod applied;
 mod ledgers;
+mod places;
 mod run;
+mod show;
+mod steps;
+mod words;
 
 fn main() {
     let mut bytes = io::large_buffer();

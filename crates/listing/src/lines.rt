@@ -255,7 +255,10 @@ pub fn put_header_line(bytes: &[u8], out: &mut [u8], start: usize) -> Listed
     let members = u8_or_zero(bytes, MEMBERS_PLACE);
     let holidays = u8_or_zero(bytes, HOLIDAY_COUNT_PLACE);
     let count = 8 + (holidays + members);
-    let shape = Shape::Header(holidays, members);
+    let shape = Shape::Header {
+        holidays: holidays,
+        members: members,
+    };
     let listed = put_fields(shape, count, 0, 0, 0, bytes, &mut *out, start);
     Listed {
         end: put_byte(out, listed.end, b'\n'),
@@ -281,7 +284,10 @@ pub fn put_record_line(
     let legs = u8_or_zero(bytes, 1);
     let count = 1 + count_of_kind(kind, legs);
     let i = put_decimal(&mut *out, start, number);
-    let shape = Shape::Record(kind, legs);
+    let shape = Shape::Record {
+        kind: kind,
+        legs: legs,
+    };
     let listed = put_fields(shape, count, members, first_year, base, bytes, &mut *out, i);
     Listed {
         end: put_byte(out, listed.end, b'\n'),

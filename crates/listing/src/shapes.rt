@@ -137,8 +137,8 @@ pub fn field_at(shape: Shape, i: u64) -> Field
     ensures { λ r. ⌜ r ≡ getD (fieldsOf shape) i firstField ⌝ }
 {
     match shape {
-        Shape::Header(holidays, _) => header_field(holidays, i),
-        Shape::Record(kind, legs) => {
+        Shape::Header { holidays, members } => header_field(holidays, i),
+        Shape::Record { kind, legs } => {
             if i == 0 {
                 Field::Kind
             } else {

@@ -43,10 +43,9 @@ pub enum Quantity {
 
 // Which fields the bytes have, one after the other.
 pub enum Shape {
-    // With how many holidays and members.
-    Header(u64, u64),
-    // With its kind and, of a proposal, how many legs.
-    Record(u64, u64),
+    Header { holidays: u64, members: u64 },
+    // Only a proposal has legs.
+    Record { kind: u64, legs: u64 },
 }
 
 pub struct Range {

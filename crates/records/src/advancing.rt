@@ -68,7 +68,7 @@ pub fn advance(
             &*book,
             &*lines,
         ),
-        Stage::Records(counted, accepted) => run_records(
+        Stage::Records { counted, accepted } => run_records(
             counted,
             accepted,
             bytes,
@@ -82,8 +82,8 @@ pub fn advance(
             book,
             lines,
         ),
-        Stage::Read(counted, accepted) => end_read(out, filled, counted, accepted, &*head),
-        Stage::Stopped(counted, accepted) => end_stopped(out, filled, counted, accepted, &*head),
+        Stage::Read { counted, accepted } => end_read(out, filled, counted, accepted, &*head),
+        Stage::Stopped { counted, accepted } => end_stopped(out, filled, counted, accepted, &*head),
         Stage::ReadToEnd => standing(filled, stage, Wants::Nothing),
         Stage::RecordUnsound => standing(filled, stage, Wants::Nothing),
         Stage::HeaderUnsound => standing(filled, stage, Wants::Nothing),

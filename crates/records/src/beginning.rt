@@ -72,7 +72,10 @@ pub fn begin(
         return Progress {
             used: length,
             end: put_head(out, filled, &*head),
-            stage: Stage::Records(0, 0),
+            stage: Stage::Records {
+                counted: 0,
+                accepted: 0,
+            },
             wants: Wants::Nothing,
         };
     }

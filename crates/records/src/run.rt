@@ -16,15 +16,27 @@ fn stage_after(counted: u64, accepted: u64, is_stopped: bool, is_read: bool, roo
     ensures { λ r. ⌜ r ≡ stageAfter counted accepted «is_stopped» «is_read» room ⌝ }
 {
     if is_stopped {
-        return Stage::Stopped(counted, accepted);
+        return Stage::Stopped {
+            counted: counted,
+            accepted: accepted,
+        };
     }
     if room < ROOM {
-        return Stage::Records(counted, accepted);
+        return Stage::Records {
+            counted: counted,
+            accepted: accepted,
+        };
     }
     if is_read {
-        return Stage::Read(counted, accepted);
+        return Stage::Read {
+            counted: counted,
+            accepted: accepted,
+        };
     }
-    Stage::Records(counted, accepted)
+    Stage::Records {
+        counted: counted,
+        accepted: accepted,
+    }
 }
 
 fn wants_after(is_stopped: bool, is_read: bool, room: usize) -> Wants

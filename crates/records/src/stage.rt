@@ -7,16 +7,16 @@ use rules::layout::LINES_LENGTH;
 // The most that one record prints, 200 lines, and one line more.
 pub const ROOM: usize = (LINES_LENGTH / LINE_WIDTH + 1) * LINE_ROOM;
 
-// Where there are two numbers: the records counted so far, and those of them that were accepted.
+// With the records counted so far, and those of them that were accepted.
 pub enum Stage {
     // The header is to be read.
     Header,
     // Records are to be read.
-    Records(u64, u64),
+    Records { counted: u64, accepted: u64 },
     // Every record was run, and E is left.
-    Read(u64, u64),
+    Read { counted: u64, accepted: u64 },
     // A record was number 3, and E is left.
-    Stopped(u64, u64),
+    Stopped { counted: u64, accepted: u64 },
     // All is printed: of a journal that was read to its end,
     ReadToEnd,
     // of one with a record that was number 3,

@@ -24,8 +24,7 @@ use rules::layout::ORDERS;
 
 // Which orders leave the book: the one of a number if it is the member's, or all of a member.
 pub enum Leaving {
-    // The order's number, then the member.
-    Numbered(u64, u64),
+    Numbered { number: u64, member: u64 },
     OfMember(u64),
 }
 
@@ -33,7 +32,7 @@ fn does_leave(w: Leaving, o: Order) -> bool
     ensures { λ r. ⌜ r ≡ leaves w o ⌝ }
 {
     match w {
-        Leaving::Numbered(number, member) => (o.number == number) & (o.member == member),
+        Leaving::Numbered { number, member } => (o.number == number) & (o.member == member),
         Leaving::OfMember(member) => o.member == member,
     }
 }

@@ -1,7 +1,7 @@
 use Prim.Native.Nat.{_-_, _≤_}
 use borrow.Author.Needs.{needs}
-use Rattle.case_steps.proofs.places.show_book.Statement.{statement}
-use Rattle.case_steps.proofs.places.show_book.Tie as tie
+use Rattle.engine_cases.proofs.places.show_book.Statement.{statement}
+use Rattle.engine_cases.proofs.places.show_book.Tie as tie
 
 abbrev Inv-loop : tie.InvT-loop
 Inv-loop head book count i₀ t7 i = i ≤ count

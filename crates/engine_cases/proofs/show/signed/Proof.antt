@@ -1,7 +1,7 @@
 use Rattle.arith.proofs.Negatives.{flip-fits, flip-cast, flip-more, positive-cast}
 use borrow.Author.Needs.{needs}
-use Rattle.case_steps.proofs.show.signed.Statement.{statement}
-use Rattle.case_steps.proofs.show.signed.Tie as tie
+use Rattle.engine_cases.proofs.show.signed.Statement.{statement}
+use Rattle.engine_cases.proofs.show.signed.Tie as tie
 
 sub-size : tie.Need-sub-size
 sub-size c = flip-fits (c .before .args .n) (c .before .fits .n) (c .if1 .taken)

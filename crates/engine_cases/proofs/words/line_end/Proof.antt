@@ -1,8 +1,8 @@
 use Prim.Native.Nat.{_-_, _≤_}
 use lib.ListN.{length}
 use borrow.Author.Needs.{needs}
-use Rattle.case_steps.proofs.words.line_end.Statement.{statement}
-use Rattle.case_steps.proofs.words.line_end.Tie as tie
+use Rattle.engine_cases.proofs.words.line_end.Statement.{statement}
+use Rattle.engine_cases.proofs.words.line_end.Tie as tie
 
 abbrev Inv-loop : tie.InvT-loop
 Inv-loop bytes start i₀ i = (start ≤ i) × (i ≤ length bytes)

@@ -1,8 +1,8 @@
 use Prim.Native.Nat.{_-_, _≤_}
 use lib.ListN.{length}
 use borrow.Author.Needs.{needs}
-use Rattle.case_steps.proofs.words.numbers_in.Statement.{statement}
-use Rattle.case_steps.proofs.words.numbers_in.Tie as tie
+use Rattle.engine_cases.proofs.words.numbers_in.Statement.{statement}
+use Rattle.engine_cases.proofs.words.numbers_in.Tie as tie
 
 abbrev Inv-loop : tie.InvT-loop
 Inv-loop line n₀ i₀ n i = i ≤ length line

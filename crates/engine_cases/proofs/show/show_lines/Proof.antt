@@ -1,7 +1,7 @@
 use Prim.Native.Nat.{_-_, _≤_}
 use borrow.Author.Needs.{needs}
-use Rattle.case_steps.proofs.show.show_lines.Statement.{statement}
-use Rattle.case_steps.proofs.show.show_lines.Tie as tie
+use Rattle.engine_cases.proofs.show.show_lines.Statement.{statement}
+use Rattle.engine_cases.proofs.show.show_lines.Tie as tie
 
 abbrev Inv-loop : tie.InvT-loop
 Inv-loop lines line-count count i₀ t5 t6 i = i ≤ count
