@@ -1,5 +1,4 @@
 pub mod Cases
-pub mod FullBook
 pub mod Numbers
 pub mod JournalExample
 pub mod MoreProposalExamples
