@@ -40,7 +40,8 @@ fn put_list(row: &mut [u64], at: usize, list: &[u64])
 fn put_header(row: &mut [u64], first_year: u64, start: DayNo, holidays: &[u64], limits: &[u64])
     requires { ⌜ (headerFields ≤ length (now row)) × (length (now holidays) ≤ mostHolidays) × (length (now limits) ≤ mostMembers) ⌝ }
     ensures { λ r. ⌜ now (row .exit)
-        ≡ withHeader (record { firstYear = «first_year»; startDay = start .0; members = length (now (limits .entry)); holidays = now (holidays .entry); limits = now (limits .entry) }) (now (row .entry)) ⌝ }
+        ≡ withHeader (record { firstYear = «first_year»; startDay = start .0; members = length (now (limits .entry)); holidays = now (holidays .entry); limits = now (limits .entry) })
+        (now (row .entry)) ⌝ }
 {
     row[FIRST_YEAR] = first_year;
     row[START_DAY] = start.0;
