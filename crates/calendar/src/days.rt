@@ -12,8 +12,8 @@ use crate::months::Span;
 use crate::months::months_span;
 use rules::Day;
 use rules::DayNo;
-use rules::ranges::LEAST_FIRST_YEAR;
 use rules::ranges::MONTHS_IN_SPAN;
+use rules::ranges::YEAR_OF_DAY_ZERO;
 
 // Days of the week, counted from Wednesday, which day 0 is.
 const SATURDAY: u64 = 3;
@@ -84,7 +84,7 @@ pub fn first_month(first_year: u64) -> u64
     requires { ⌜ FirstYear «first_year» ⌝ }
     ensures { λ r. ⌜ r ≡ 12 * («first_year» - leastFirstYear) ⌝ }
 {
-    12 * (first_year - LEAST_FIRST_YEAR)
+    12 * (first_year - YEAR_OF_DAY_ZERO)
 }
 
 // The ledger's span, whatever the holidays.

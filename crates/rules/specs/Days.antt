@@ -6,7 +6,7 @@ use lib.Dec.{eqb, leb, ltb}
 use Rattle.arith.specs.Lists.{any, total, from}
 use Rattle.rules.specs.declared.units.Day.{Day}
 use Rattle.rules.specs.declared.units.Day.the-variants.{On, NoDay}
-use Rattle.rules.specs.Ranges.{leastFirstYear, monthsInSpan}
+use Rattle.rules.specs.Ranges.{yearOfDayZero, monthsInSpan}
 
 -- What a ledger knows of days: its first year and its holiday list.
 pub record Calendar : Type 0 where
@@ -23,14 +23,14 @@ monthDays y m = cond (eqb m 1) (cond (leapYear y) 29 28) (cond (eqb m 3 || eqb m
 -- The first day of the nth year from 2020 on; 1 January 2020 is day 0.
 unfoldable pub yearStart : ℕ → ℕ
 yearStart zero = 0
-yearStart (suc n) = yearStart n + cond (leapYear (leastFirstYear + n)) 366 365
+yearStart (suc n) = yearStart n + cond (leapYear (yearOfDayZero + n)) 366 365
 
 -- Months are counted from January 2020, month 0.
 unfoldable pub monthLength : ℕ → ℕ
-monthLength i = monthDays (leastFirstYear + i / 12) (i % 12)
+monthLength i = monthDays (yearOfDayZero + i / 12) (i % 12)
 
 unfoldable pub monthStart : ℕ → ℕ
-monthStart i = yearStart (i / 12) + total (monthDays (leastFirstYear + i / 12)) (from 0 (i % 12))
+monthStart i = yearStart (i / 12) + total (monthDays (yearOfDayZero + i / 12)) (from 0 (i % 12))
 
 -- Day 0 is a Wednesday.
 abbrev pub saturday : ℕ → Bool
@@ -46,7 +46,7 @@ businessDay k d = not (saturday d) && not (sunday d) && not (any (λ x. eqb x d)
 
 -- The span: six years from the first year; its first day, and the first day after its last.
 abbrev pub firstMonth : Calendar → ℕ
-firstMonth k = 12 * (k .firstYear - leastFirstYear)
+firstMonth k = 12 * (k .firstYear - yearOfDayZero)
 
 unfoldable pub spanStart : Calendar → ℕ
 spanStart k = monthStart (firstMonth k)

@@ -11,6 +11,10 @@ contractsInYear = 17
 abbrev pub monthsInSpan : ℕ
 monthsInSpan = 72
 
+-- Day 0 is 1 January of this year; that a first year may be it too is another sentence.
+abbrev pub yearOfDayZero : ℕ
+yearOfDayZero = 2020
+
 abbrev pub leastFirstYear : ℕ
 leastFirstYear = 2020
 

@@ -8,6 +8,9 @@ pub const CONTRACT_COUNT: u64 = 102;
 
 pub const LAST_CONTRACT: u64 = CONTRACT_COUNT - 1;
 
+// Day 0 is 1 January of this year.
+pub const YEAR_OF_DAY_ZERO: u64 = 2020;
+
 pub const LEAST_FIRST_YEAR: u64 = 2020;
 
 pub const MOST_FIRST_YEAR: u64 = 2094;
