@@ -4,7 +4,7 @@
 set -uo pipefail
 cd "$(dirname "$0")/../.."
 tests/library.sh host || exit 1
-tests=(make ranges guarded replay any_bytes record_fields header_fields)
+tests=(make ranges cases guarded replay any_bytes record_fields header_fields)
 entries=(make apply is_damaged read_header write_header read_record write_record front_record)
 for test in "${tests[@]}"; do
   gcc -std=c11 -Wall -Wextra -Werror -O1 -fsanitize=address,undefined -I include "${entries[@]/#/-Wl,--wrap=ledger_}" \
@@ -13,6 +13,7 @@ done
 passes() {
   case $1 in
   ranges) target/ranges_misled | diff - tests/host/ranges.out ;;
+  cases) target/cases_misled tests/host/cases.txt | diff - tests/host/cases.out ;;
   replay)
     target/replay_misled printed tests/journals/*.vjr && target/replay_misled places tests/host/stored/*.places &&
       target/replay_misled digests tests/host/stored/*.digests
