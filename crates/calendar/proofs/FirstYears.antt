@@ -8,7 +8,7 @@ use Rattle.arith.proofs.Tests.{and-left, and-right}
 use Rattle.rules.specs.Ranges.{leastFirstYear, mostFirstYear}
 use Rattle.rules.specs.Days.{Calendar}
 use Rattle.rules.specs.Header.{firstYearSound, calendarSound}
-use Rattle.calendar.specs.Bounds.{FirstYear}
+use Rattle.months.specs.Bounds.{FirstYear}
 
 pub first-year-holds : (y : ℕ) → firstYearSound y ≡ true → FirstYear y
 first-year-holds y e =

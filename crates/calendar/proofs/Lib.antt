@@ -1,4 +1,2 @@
-pub mod Table
-pub mod Steps
 pub mod FirstYears
-pub mod InLedger
+mod Steps

@@ -1,19 +1,13 @@
-// Business days and the span.
+// Business days.
 ghost use mathlib.Core.Path.{_≡_};
-ghost use mathlib.Core.List.{List};
-ghost use Prim.Native.Nat.{ℕ, _*_, _-_};
+ghost use Prim.Native.Nat.{ℕ, _-_};
 ghost use lib.Dec.{eqb};
 ghost use Rattle.arith.specs.Lists.{any};
-ghost use Rattle.rules.specs.Ranges.{leastFirstYear};
-ghost use Rattle.rules.specs.Days.{Calendar, businessDay, inSpan, firstBusinessDay, nextBusinessDay, businessDayBefore};
-ghost use Rattle.calendar.specs.Bounds.{FirstYear};
-ghost use Rattle.calendar.specs.Spans.{IsSpan};
-use crate::months::Span;
-use crate::months::months_span;
+ghost use Rattle.rules.specs.Days.{businessDay, firstBusinessDay, nextBusinessDay, businessDayBefore};
+ghost use Rattle.months.specs.Bounds.{FirstYear};
+use months::span_of;
 use rules::Day;
 use rules::DayNo;
-use rules::ranges::MONTHS_IN_SPAN;
-use rules::ranges::YEAR_OF_DAY_ZERO;
 
 // Days of the week, counted from Wednesday, which day 0 is.
 const SATURDAY: u64 = 3;
@@ -77,30 +71,6 @@ pub fn business_day_before(holidays: &[u64], n: u64, day: DayNo) -> Day
         }
     }
     Day::NoDay
-}
-
-// The span's first month.
-pub fn first_month(first_year: u64) -> u64
-    requires { ⌜ FirstYear «first_year» ⌝ }
-    ensures { λ r. ⌜ r ≡ 12 * («first_year» - leastFirstYear) ⌝ }
-{
-    12 * (first_year - YEAR_OF_DAY_ZERO)
-}
-
-// The ledger's span, whatever the holidays.
-pub fn span_of(first_year: u64) -> Span
-    requires { ⌜ FirstYear «first_year» ⌝ }
-    ensures { λ r. ⌜ ((h : List ℕ) → IsSpan r (record { firstYear = «first_year»; holidays = h })) ⌝ }
-{
-    let month = first_month(first_year);
-    months_span(month, month + MONTHS_IN_SPAN)
-}
-
-// Whether a day is in a ledger's span.
-pub fn is_in(span: Span, day: DayNo) -> bool
-    ensures { λ r. ⌜ ((k : Calendar) → IsSpan span k → r ≡ inSpan k (day .0)) ⌝ }
-{
-    (span.start.0 <= day.0) & (day.0 < span.end.0)
 }
 
 pub fn next_business_day(first_year: u64, holidays: &[u64], day: DayNo) -> Day

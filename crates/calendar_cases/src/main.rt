@@ -1,10 +1,12 @@
-// The closing days of document 01's cases, and business days with holidays. What it prints is held to the file stdout.
+// The closing days of document 01's cases, open contracts, and business days with holidays. What it prints is held to the file stdout.
 ghost use mathlib.Core.Path.{_≡_};
-ghost use Prim.Native.Nat.{_≤_};
+ghost use Prim.Native.Nat.{_<_};
 ghost use Rattle.rules.specs.Answers.{toldNextDay};
+ghost use Rattle.rules.specs.Ranges.{contractCount};
 use libc::STDOUT_FILENO;
 use rules::Day;
 use rules::DayNo;
+use rules::layout::CONTRACTS;
 
 // 25, 29 and 30 December 2020: a Friday, a Tuesday, a Wednesday.
 const HOLIDAYS: [u64; 3] = [359, 363, 364];
@@ -59,19 +61,31 @@ fn print_next(holidays: &[u64], day: DayNo) {
     print(next_day_number(next));
 }
 
-// The closing day of a contract of a ledger that begins in 2020.
+// The last day up to 500 on which a contract of a ledger that begins in 2020 is open: its closing day.
 fn print_closing(holidays: &[u64], contract: u64)
-    requires { ⌜ contract ≤ 101 ⌝ }
+    requires { ⌜ contract < contractCount ⌝ }
 {
-    print_day(calendar::closing_day(2020, holidays, contract));
+    let mut last = Day::NoDay;
+    let mut day: u64 = 0;
+    while day <= 500 {
+        if contracts::is_open(2020, holidays, DayNo(day), contract) {
+            last = Day::On(DayNo(day));
+        }
+        day += 1;
+    }
+    print_day(last);
 }
 
-// The numbers of the contracts that are open on a day.
+// The contracts that are open on a day, each with the number of its delivery days.
 fn print_open(holidays: &[u64], day: DayNo) {
-    let mut c: u64 = 0;
-    while c <= 101 {
-        if calendar::is_open(2020, holidays, day, c) {
-            print(c);
+    let mut days = [0u64; CONTRACTS];
+    open_days::find_open_days(2020, holidays, day, &mut days);
+    let mut c: usize = 0;
+    while c < CONTRACTS {
+        if 0 < days[c] {
+            io::print_decimal(STDOUT_FILENO, c as u64);
+            io::write_all(STDOUT_FILENO, b" ");
+            print(days[c]);
         }
         c += 1;
     }
@@ -105,10 +119,8 @@ fn main() {
     print_next(&holidays, DayNo(2));
     print_next(&holidays, DayNo(358));
     print_next(&holidays, DayNo(2191));
-    // A year of 366 days, a February of 29, a first quarter of 90.
-    print(calendar::days_of(2020, 0));
-    print(calendar::days_of(2020, 6));
-    print(calendar::days_of(2020, 18));
+    // A February of 29 days and a year of 366 among them; then the day on which January and first quarter 2021 close.
+    print_open(&holidays[..0], DayNo(1));
     print_open(&holidays[..0], DayNo(363));
     let feasts = FEASTS;
     print_business_days(&feasts, 366, 731);

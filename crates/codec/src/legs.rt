@@ -3,12 +3,16 @@ ghost use mathlib.Core.Path.{_≡_};
 ghost use Prim.Native.Nat.{_+_, _<_, _≤_};
 ghost use lib.ListN.{length};
 ghost use Rattle.rules.specs.Ranges.{mostLegs};
-ghost use Rattle.rules.specs.Records.{legAt};
+ghost use Rattle.rules.specs.Records.{legLength, legAt};
 ghost use Rattle.codec.specs.Columns.{legRow, Held, heldLegs, legColumns};
 use big_endian::u8_or_zero;
 use big_endian::u16_at;
 use big_endian::u32_at;
 use record_kinds::leg_place;
+use record_kinds::places::KIND;
+use record_kinds::places::LEG_LOTS;
+use record_kinds::places::LEG_PRICE;
+use record_kinds::places::PROPOSAL_LEGS;
 use record_kinds::record_length;
 use rules::Kurus;
 use rules::Leg;
@@ -38,12 +42,12 @@ pub fn leg_of(legs: Legs, i: usize) -> Leg
 
 // The leg whose bytes start at a place.
 fn leg_at(bytes: &[u8], at: usize) -> Leg
-    requires { ⌜ at + 10 ≤ length (now bytes) ⌝ }
+    requires { ⌜ at + legLength ≤ length (now bytes) ⌝ }
     ensures { λ r. ⌜ r ≡ legAt (now (bytes .entry)) at ⌝ }
 {
     let order = u32_at(bytes, at);
-    let lots = u16_at(bytes, at + 4);
-    let price = u32_at(bytes, at + 6);
+    let lots = u16_at(bytes, at + LEG_LOTS);
+    let price = u32_at(bytes, at + LEG_PRICE);
     Leg {
         order: order,
         lots: Lots(lots),
@@ -55,10 +59,10 @@ fn leg_at(bytes: &[u8], at: usize) -> Leg
 fn legs_held(bytes: &[u8]) -> usize
     ensures { λ r. ⌜ Held (now (bytes .entry)) r ⌝ }
 {
-    if u8_or_zero(bytes, 0) != PROPOSAL {
+    if u8_or_zero(bytes, KIND) != PROPOSAL {
         return 0;
     }
-    let count = u8_or_zero(bytes, 1);
+    let count = u8_or_zero(bytes, PROPOSAL_LEGS);
     if MOST_LEGS < count {
         return 0;
     }

@@ -16,6 +16,24 @@ use header::is_member_count_sound;
 use record_kinds::kind_number;
 use record_kinds::leg_count;
 use record_kinds::order_kind_of;
+use record_kinds::places::CANCEL_MEMBER;
+use record_kinds::places::CANCEL_ORDER;
+use record_kinds::places::CANCEL_TIME;
+use record_kinds::places::CLOSE_OF_DAY_TIME;
+use record_kinds::places::CLOSE_OUT_CONTRACT;
+use record_kinds::places::CLOSE_OUT_RATIO;
+use record_kinds::places::DAY_LIMITS_CONTRACT;
+use record_kinds::places::DAY_LIMITS_HIGH;
+use record_kinds::places::DAY_LIMITS_LOW;
+use record_kinds::places::KIND;
+use record_kinds::places::PROPOSAL_LEGS;
+use record_kinds::places::SUBMIT_CONTRACT;
+use record_kinds::places::SUBMIT_LOTS;
+use record_kinds::places::SUBMIT_MEMBER;
+use record_kinds::places::SUBMIT_ORDER_KIND;
+use record_kinds::places::SUBMIT_PRICE;
+use record_kinds::places::SUBMIT_SIDE;
+use record_kinds::places::SUBMIT_TIME;
 use record_kinds::record_length;
 use rules::Cancellation;
 use rules::CloseOutTerms;
@@ -39,8 +57,8 @@ fn submit_of(bytes: &[u8]) -> Reading
     requires { ⌜ submitLength ≤ length (now bytes) ⌝ }
     ensures { λ r. ⌜ r ≡ submitOf (now (bytes .entry)) ⌝ }
 {
-    let side = u8_at(bytes, 7);
-    let kind = u8_at(bytes, 8);
+    let side = u8_at(bytes, SUBMIT_SIDE);
+    let kind = u8_at(bytes, SUBMIT_ORDER_KIND);
     if 1 < side {
         return Reading::Unsound;
     }
@@ -48,13 +66,13 @@ fn submit_of(bytes: &[u8]) -> Reading
         return Reading::Unsound;
     }
     Reading::Sound(Event::Submit(Submission {
-        time: u32_at(bytes, 1),
-        member: u8_at(bytes, 5),
-        contract: u8_at(bytes, 6),
+        time: u32_at(bytes, SUBMIT_TIME),
+        member: u8_at(bytes, SUBMIT_MEMBER),
+        contract: u8_at(bytes, SUBMIT_CONTRACT),
         side: side_of(side),
         kind: order_kind_of(kind),
-        price: Kurus(u32_at(bytes, 9)),
-        lots: Lots(u16_at(bytes, 13)),
+        price: Kurus(u32_at(bytes, SUBMIT_PRICE)),
+        lots: Lots(u16_at(bytes, SUBMIT_LOTS)),
     }))
 }
 
@@ -63,9 +81,9 @@ fn cancellation_of(bytes: &[u8]) -> Cancellation
     ensures { λ r. ⌜ r ≡ cancellationOf (now (bytes .entry)) ⌝ }
 {
     Cancellation {
-        time: u32_at(bytes, 1),
-        member: u8_at(bytes, 5),
-        order: u32_at(bytes, 6),
+        time: u32_at(bytes, CANCEL_TIME),
+        member: u8_at(bytes, CANCEL_MEMBER),
+        order: u32_at(bytes, CANCEL_ORDER),
     }
 }
 
@@ -74,9 +92,9 @@ fn new_day_limits_of(bytes: &[u8]) -> NewDayLimits
     ensures { λ r. ⌜ r ≡ newDayLimitsOf (now (bytes .entry)) ⌝ }
 {
     NewDayLimits {
-        contract: u8_at(bytes, 1),
-        low: Kurus(u32_at(bytes, 2)),
-        high: Kurus(u32_at(bytes, 6)),
+        contract: u8_at(bytes, DAY_LIMITS_CONTRACT),
+        low: Kurus(u32_at(bytes, DAY_LIMITS_LOW)),
+        high: Kurus(u32_at(bytes, DAY_LIMITS_HIGH)),
     }
 }
 
@@ -85,8 +103,8 @@ fn close_out_of(bytes: &[u8]) -> CloseOutTerms
     ensures { λ r. ⌜ r ≡ closeOutOf (now (bytes .entry)) ⌝ }
 {
     CloseOutTerms {
-        contract: u8_at(bytes, 1),
-        ratio: u16_at(bytes, 2),
+        contract: u8_at(bytes, CLOSE_OUT_CONTRACT),
+        ratio: u16_at(bytes, CLOSE_OUT_RATIO),
     }
 }
 
@@ -94,8 +112,8 @@ fn close_out_of(bytes: &[u8]) -> CloseOutTerms
 fn fields_of(bytes: &[u8]) -> Reading
     ensures { λ r. ⌜ r ≡ fieldsOf (now (bytes .entry)) ⌝ }
 {
-    let kind = u8_or_zero(bytes, 0);
-    let second = u8_or_zero(bytes, 1);
+    let kind = u8_or_zero(bytes, KIND);
+    let second = u8_or_zero(bytes, PROPOSAL_LEGS);
     if bytes.len() as u64 != record_length(kind, second) {
         return Reading::Unsound;
     }
@@ -106,7 +124,7 @@ fn fields_of(bytes: &[u8]) -> Reading
         PROPOSAL => Reading::Sound(Event::Proposal(second)),
         DEFAULT => Reading::Sound(Event::Default(second)),
         CLOSE_OUT => Reading::Sound(Event::CloseOut(close_out_of(bytes))),
-        CLOSE_OF_DAY => Reading::Sound(Event::CloseOfDay(u32_at(bytes, 1))),
+        CLOSE_OF_DAY => Reading::Sound(Event::CloseOfDay(u32_at(bytes, CLOSE_OF_DAY_TIME))),
         _ => Reading::Unsound,
     }
 }

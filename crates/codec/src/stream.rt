@@ -2,6 +2,8 @@
 ghost use mathlib.Core.Path.{_≡_};
 ghost use Rattle.rules.specs.Records.{frontOf};
 use big_endian::u8_or_zero;
+use record_kinds::places::KIND;
+use record_kinds::places::PROPOSAL_LEGS;
 use record_kinds::record_length;
 use rules::Front;
 
@@ -12,7 +14,7 @@ pub fn front_record(bytes: &[u8]) -> Front
     if bytes.len() == 0 {
         return Front::Cut;
     }
-    let n = record_length(u8_or_zero(bytes, 0), u8_or_zero(bytes, 1));
+    let n = record_length(u8_or_zero(bytes, KIND), u8_or_zero(bytes, PROPOSAL_LEGS));
     if n == 0 {
         return Front::UnknownKind;
     }

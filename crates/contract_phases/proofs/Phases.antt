@@ -1,8 +1,8 @@
 -- What a column of phases says: which contracts close on the day and which are open. Assumes nothing.
 use mathlib.Core.Path.{_≡_, refl, sym, ap, _∙_}
-use mathlib.Core.Bool.{Bool, true, _&&_, _||_}
+use mathlib.Core.Bool.{Bool, true, cond, _&&_, _||_}
 use mathlib.Core.List.{List, [], _∷_, _++_}
-use Prim.Native.Nat.{ℕ, zero, suc, _+_, _≤_, _<_}
+use Prim.Native.Nat.{ℕ, zero, suc, _+_, _*_, _≤_, _<_}
 use native.Mathlib.Omega.{arith}
 use native.Mathlib.Nat.{zero-add}
 use lib.Dec.{eqb, ltb}
@@ -15,14 +15,35 @@ use Rattle.arith.proofs.Tests.{true-or, le-or-lt, same-or, and-true, and-false,
 use Rattle.arith.proofs.Appends.{map-at, from-at, from-length}
 use Rattle.rules.specs.declared.contract.ContractKind.{ContractKind}
 use Rattle.rules.specs.declared.contract.ContractKind.the-variants.{Year, Quarter, Month}
+use Rattle.rules.specs.declared.contract.Term.{Term}
 use Rattle.rules.specs.declared.units.Day.{Day}
 use Rattle.rules.specs.declared.units.Day.the-variants.{On, NoDay}
-use Rattle.rules.specs.Days.{Calendar}
-use Rattle.rules.specs.Contracts.{kindOf, termOf, sameKind, contractsOf, closingDay, closesOn, isOn, notBefore, stillToClose, openOfKind, openContracts}
+use Rattle.rules.specs.Days.{Calendar, businessDayBefore}
+use Rattle.rules.specs.Contracts.{kindOf, termOf, sameKind, contractsOf, monthsIn, closingDistance, termFirstDay, termClosingDay, closingDay, closesOn, isOn, notBefore, stillToClose, openOfKind, openContracts}
 use Rattle.rules.specs.OtherForms.{numberOf, sizeOf}
-use Rattle.contract_phases.specs.Phases.{phaseOf, phases, closes, waits, openIn, allOpenIn, closing}
+use Rattle.months.specs.Spans.{startsOf}
+use Rattle.contracts.specs.InLedger.{InLedger}
+use Rattle.contract_phases.specs.Least.{IsLeast}
+use Rattle.contract_phases.proofs.Least.{first-read, in-span}
+use Rattle.contract_phases.specs.Phases.{phaseOf, phaseFrom, termPhase, phases, closes, waits, openIn, allOpenIn, closing}
 
 -- ---- one contract
+-- A contract's phase by its first delivery day, beside the least ones still to close on the day and on the day after.
+by-days : (z : Day) (d : ℕ) → cond (notBefore z d) (cond (notBefore z (d + 1)) 2 1) 0 ≡ phaseOf z d
+by-days (On x) d =
+    le-or-lt d (x .0)
+    (λ l. same-or (x .0) d (λ e. rw (le-leb d (x .0) l, lt-leb (d + 1) (x .0) (omega arith), le-ltb (x .0) d l, eq-eqb (x .0) d e))
+    (λ e. rw (le-leb d (x .0) l, le-leb (d + 1) (x .0) (omega arith), le-ltb (x .0) d l, ne-eqb (x .0) d e)))
+    (λ l. rw (lt-leb d (x .0) l, lt-ltb (x .0) d l))
+by-days NoDay d = refl
+
+pub phase-by-first : (k : Calendar) (d : ℕ) (t : Term) → InLedger t → (least later : ℕ) → IsLeast k d (closingDistance (t .kind)) least → IsLeast k (d + 1) (closingDistance (t .kind)) later
+    → phaseFrom (getD (startsOf k) (monthsIn (t .kind) * t .index) 0) least later ≡ termPhase k d t
+unfolding termClosingDay
+phase-by-first k d t w least later g h =
+    rw (first-read k t w, ← (g (termFirstDay k t) (in-span k t w)), ← (h (termFirstDay k t) (in-span k t w)))
+    (by-days (businessDayBefore k (closingDistance (t .kind)) (termFirstDay k t)) d)
+
 pub number-below : (s : ContractKind) (i : ℕ) → i < sizeOf s → numberOf s i < 102
 number-below Year i h = omega arith
 number-below Quarter i h = omega arith

@@ -1,8 +1,10 @@
-// The contracts of each kind, and the phase of each contract on a day: closed, closing or later.
-mod contracts;
+// Which contracts are still to close on a day, and the phase of each: closed, closing or later.
+mod column;
+mod least_days;
 
-pub use contracts::CLOSED;
-pub use contracts::CLOSING;
-pub use contracts::contract_of;
-pub use contracts::contracts_in;
-pub use contracts::write_phases;
+pub use column::CLOSED;
+pub use column::CLOSING;
+pub use column::write_phases;
+pub use least_days::LeastDays;
+pub use least_days::find_least;
+pub use least_days::least_of;

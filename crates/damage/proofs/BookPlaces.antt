@@ -12,8 +12,8 @@ use Rattle.rules.specs.Days.{Calendar, spanStart, dayAfterSpan, inSpan}
 use Rattle.rules.proofs.CalendarLaws.{month-le}
 use Rattle.rules.specs.Ledger.{Tables, calendar, members, acceptedSubmits, orderCount, orderAt, sideAt, orders}
 use Rattle.rules.specs.Refusals.{distinct, orderSound, sidesSound, bookSound}
-use Rattle.calendar.specs.declared.months.Span.{Span}
-use Rattle.calendar.specs.Spans.{IsSpan}
+use Rattle.months.specs.declared.months.Span.{Span}
+use Rattle.months.specs.Spans.{IsSpan}
 use Rattle.damage.specs.Orders.{numberAt, restSound, placeSound, placesSound}
 use Rattle.damage.proofs.InTurn.{up-to}
 

@@ -1,8 +1,8 @@
 -- The span of a first year.
 use Prim.Native.Nat.{ℕ}
 use mathlib.Core.List.{List}
-use Rattle.calendar.specs.declared.months.Span.{Span}
-use Rattle.calendar.specs.Spans.{IsSpan}
+use Rattle.months.specs.declared.months.Span.{Span}
+use Rattle.months.specs.Spans.{IsSpan}
 
 -- Whatever the holidays.
 abbrev pub IsSpanOf : Span → ℕ → Type 0

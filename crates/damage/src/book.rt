@@ -13,7 +13,7 @@ ghost use Rattle.rules.specs.Refusals.{distinct, bookSound};
 ghost use Rattle.damage.specs.Orders.{numberAt, restSound, placesSound};
 ghost use Rattle.damage.specs.Spans.{IsSpanOf};
 use crate::between::is_between;
-use calendar::Span;
+use months::Span;
 use rules::layout;
 use rules::ranges;
 

@@ -9,7 +9,7 @@ use crate::lengths::is_lines_short;
 use crate::prices::are_prices_sound;
 use crate::rows::are_rows_within;
 use calendar::is_first_year_sound;
-use calendar::span_of;
+use months::span_of;
 use rules::layout;
 use rules::ranges;
 

@@ -81,7 +81,7 @@ fn are_days_sound(
     if !calendar::is_first_year_sound(first_year) {
         return false;
     }
-    let span = calendar::span_of(first_year);
+    let span = months::span_of(first_year);
     let calendar_sound = calendar::is_calendar_sound(first_year, span, &list[..count]);
     calendar_sound & calendar::is_day_sound(span, &list[..count], start_day)
 }

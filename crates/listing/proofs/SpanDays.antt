@@ -6,7 +6,7 @@ use mathlib.Core.Path.{_≡_}
 use borrow.Author.Tests.{leb-true}
 use lib.Dec.{leb}
 use Rattle.arith.proofs.Tests.{and-left, and-right}
-use Rattle.calendar.specs.Bounds.{FirstYear}
+use Rattle.months.specs.Bounds.{FirstYear}
 use Rattle.rules.specs.Header.{firstYearSound}
 use Rattle.rules.specs.Ranges.{leastFirstYear, mostFirstYear}
 use Rattle.rules.specs.Days.{Calendar, firstMonth, dayAfterSpan}

@@ -36,6 +36,8 @@ use listing_words::name_of;
 use listing_words::order_kind_word;
 use listing_words::put_word;
 use listing_words::side_word;
+use record_kinds::places::KIND;
+use record_kinds::places::PROPOSAL_LEGS;
 use text::put_byte;
 use text::put_bytes;
 use text::put_decimal;
@@ -280,8 +282,8 @@ pub fn put_record_line(
     requires { ⌜ («first_year» ≤ 2 ^ 32) × (base ≤ 2 ^ 62) ⌝ }
     ensures { λ r. ⌜ ListedAs lineRoom start (recordLine members «first_year» number base (now (bytes .entry))) (faultOf members (now (bytes .entry))) (now (out .entry)) (now (out .exit)) r ⌝ }
 {
-    let kind = u8_or_zero(bytes, 0);
-    let legs = u8_or_zero(bytes, 1);
+    let kind = u8_or_zero(bytes, KIND);
+    let legs = u8_or_zero(bytes, PROPOSAL_LEGS);
     let count = 1 + count_of_kind(kind, legs);
     let i = put_decimal(&mut *out, start, number);
     let shape = Shape::Record {

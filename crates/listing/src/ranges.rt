@@ -10,7 +10,6 @@ ghost use Rattle.listing.specs.Sizes.{mostBytes};
 ghost use Rattle.listing_words.specs.Words.{otherWayRound};
 use big_endian::u8_or_zero;
 use calendar::is_first_year_sound;
-use calendar::span_of;
 use header::FIRST_HOLIDAY_PLACE;
 use header::FIRST_YEAR_PLACE;
 use header::START_DAY_PLACE;
@@ -18,6 +17,8 @@ use listing_words::Field;
 use listing_words::Quantity;
 use listing_words::Range;
 use listing_words::Verdict;
+use months::span_of;
+use record_kinds::places::DAY_LIMITS_LOW;
 use rules::kinds::CLOSE_OF_DAY;
 use rules::kinds::SUBMIT;
 use rules::ranges::LAST_CONTRACT;
@@ -32,9 +33,6 @@ use rules::ranges::MOST_LOTS;
 use rules::ranges::MOST_MEMBERS;
 use rules::ranges::MOST_PRICE;
 use rules::ranges::MOST_RATIO;
-
-// Where a day limits' low stands.
-const LOW_PLACE: usize = 2;
 
 const LAST_ORDER_NUMBER: u64 = 4294967295;
 
@@ -192,7 +190,7 @@ pub fn range_of(members: u64, bytes: &[u8], place: usize, field: Field) -> Range
         Field::Lots => range(1, MOST_LOTS),
         Field::Order => range(0, LAST_ORDER_NUMBER),
         Field::Low => range(1, MOST_PRICE),
-        Field::High => range(u32_or_zero(bytes, LOW_PLACE), MOST_PRICE),
+        Field::High => range(u32_or_zero(bytes, DAY_LIMITS_LOW), MOST_PRICE),
         Field::Legs => range(LEAST_LEGS, MOST_LEGS),
         Field::Ratio => range(1, MOST_RATIO),
     }

@@ -5,7 +5,7 @@ ghost use lib.ListN.{length};
 ghost use Rattle.rules.specs.Text.{space};
 ghost use Rattle.listing_numbers.specs.Short.{Short};
 ghost use Rattle.listing_numbers.specs.Numbers.{twoDigits, timeText, priceText, quarterText, monthText, termName, contractText};
-use calendar::term_of;
+use contracts::term_of;
 use rules::ContractKind;
 use text::put_byte;
 use text::put_bytes;

@@ -1,9 +1,13 @@
 // Kinds of record and of order by their numbers, and how many bytes a record takes: said once for reader, writer and splitter.
+pub mod places;
+
 ghost use mathlib.Core.Path.{_≡_};
 ghost use Prim.Native.Nat.{_<_, _≤_};
 ghost use Rattle.rules.specs.Ranges.{mostLegs};
 ghost use Rattle.rules.specs.Records.{orderKindNumber, orderKindOf, kindNumber, legPlace, recordLength};
 ghost use Rattle.record_kinds.specs.LegCount.{legCount};
+use places::FIRST_LEG;
+use places::LEG_LENGTH;
 use rules::Event;
 use rules::OrderKind;
 use rules::kinds::CANCEL;
@@ -67,16 +71,12 @@ pub fn leg_count(event: Event) -> u64
     }
 }
 
-const FIRST_LEG: u64 = 2;
-
-const LEG_LENGTH: u64 = 10;
-
 // Where a leg of a proposal begins.
 pub fn leg_place(leg: usize) -> usize
     requires { ⌜ leg ≤ mostLegs ⌝ }
     ensures { λ r. ⌜ r ≡ legPlace leg ⌝ }
 {
-    (FIRST_LEG + LEG_LENGTH * (leg as u64)) as usize
+    FIRST_LEG + LEG_LENGTH * leg
 }
 
 pub fn record_length(kind: u64, legs: u64) -> u64
@@ -87,7 +87,7 @@ pub fn record_length(kind: u64, legs: u64) -> u64
         SUBMIT => 15,
         CANCEL => 10,
         DAY_LIMITS => 10,
-        PROPOSAL => FIRST_LEG + LEG_LENGTH * legs,
+        PROPOSAL => FIRST_LEG as u64 + LEG_LENGTH as u64 * legs,
         DEFAULT => 2,
         CLOSE_OUT => 4,
         CLOSE_OF_DAY => 5,

@@ -10,8 +10,8 @@ ghost use Rattle.rules.specs.CloseOfDay.{roundedHalfUp, withoutDeals};
 ghost use Rattle.contract_phases.specs.Phases.{openIn, allOpenIn};
 ghost use Rattle.reference_price.specs.Columns.{DealsFit, ColumnFit, quotedFrom, priceFrom, ggfFrom, ggfsFrom};
 use contract_phases::CLOSED;
-use contract_phases::contract_of;
-use contract_phases::contracts_in;
+use contracts::contract_of;
+use contracts::contracts_in;
 use rules::ContractKind;
 use rules::Lots;
 use rules::layout::CONTRACTS;
@@ -58,7 +58,7 @@ fn write_ggf(prices: &mut [u64], buys: &[u64], sells: &[u64], contract: usize)
     ensures { λ _. ⌜ now (prices .exit) ≡ set (now (prices .entry)) (ggfPlace contract) (ggfFrom (now (buys .entry)) (now (sells .entry)) (now (prices .entry)) contract) ⌝ }
 {
     let at = contract * PRICE_WIDTH;
-    let kind = calendar::kind_of(contract as u64);
+    let kind = contracts::kind_of(contract as u64);
     let threshold = kind.threshold();
     let ggf = reference_price(
         threshold,

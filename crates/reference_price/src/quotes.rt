@@ -19,7 +19,7 @@ fn does_quote(o: Order, side: Side, day: DayNo, time: u64) -> bool
 {
     let own = o.side;
     let entered = (o.day.0 < day.0) | ((o.day.0 == day.0) & (o.time + SECONDS_TO_QUOTE <= time));
-    let kind = calendar::kind_of(o.contract);
+    let kind = contracts::kind_of(o.contract);
     let threshold = kind.threshold();
     is_same_side(own, side) & (entered & (threshold.0 <= o.lots.0))
 }

@@ -67,9 +67,13 @@ closeOutLength = 4
 abbrev pub closeOfDayLength : ℕ
 closeOfDayLength = 5
 
--- Where leg j of a proposal begins, and so where a proposal of j legs ends: after kind and count, 10 bytes for each.
+-- A leg: order number u32, lots u16, price u32.
+abbrev pub legLength : ℕ
+legLength = 10
+
+-- Where leg j of a proposal begins, and so where a proposal of j legs ends: after kind and count.
 abbrev pub legPlace : ℕ → ℕ
-legPlace j = 2 + 10 * j
+legPlace j = 2 + legLength * j
 
 -- The length by a record's kind and, of a proposal, its number of legs; 0 where no kind has that number.
 unfoldable pub recordLength : ℕ → ℕ → ℕ

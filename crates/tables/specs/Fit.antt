@@ -14,7 +14,7 @@ use Rattle.rules.specs.Ledger.{Tables, firstYearPlace, membersPlace, holidayCou
 use Rattle.rules.specs.Ledger.{limitsFrom, marksFrom, submitsFrom, headLength, pricesLength, rowsLength, bookLength, linesLength, ggfPlace, lowPlace, highPlace, dayLotsPlace}
 use Rattle.rules.specs.Ledger.{dayValuePlace, rowPlace, sideAt, orderAt}
 use Rattle.rules.specs.Refusals.{distinct}
-use Rattle.calendar.specs.Bounds.{FirstYear}
+use Rattle.months.specs.Bounds.{FirstYear}
 
 abbrev pub membersIn : List ℕ → ℕ
 membersIn head = getD head membersPlace 0

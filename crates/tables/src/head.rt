@@ -21,7 +21,7 @@ pub fn is_contract_open(head: &[u64], contract: u64) -> bool
     ensures { λ r. ⌜ ((t : Tables) → r ≡ isOpen (withHead (now (head .entry)) t) contract) ⌝ }
 {
     let end = HOLIDAYS + head[HOLIDAY_COUNT] as usize;
-    calendar::is_open(
+    contracts::is_open(
         head[FIRST_YEAR],
         &head[HOLIDAYS..end],
         DayNo(head[DAY]),

@@ -2,7 +2,8 @@ use mathlib.Core.Path.{sym, _∙_}
 use native.Mathlib.Omega.{arith}
 use borrow.Author.Needs.{needs}
 use borrow.Author.Tests.{not-true, not-false}
-use Rattle.open_days.proofs.OpenDays.{first-read, after-read}
+use Rattle.contract_phases.proofs.Least.{first-read}
+use Rattle.open_days.proofs.OpenDays.{after-read}
 use Rattle.open_days.proofs.days_if_open.Statement.{statement}
 use Rattle.open_days.proofs.days_if_open.Tie as tie
 

@@ -4,8 +4,9 @@ use native.Mathlib.Omega.{arith}
 use borrow.Author.Needs.{needs}
 use borrow.Author.Tests.{le-leb, lt-leb}
 use Rattle.rules.proofs.CalendarLaws.{open-closed, open-first}
-use Rattle.calendar.proofs.InLedger.{earlier}
-use Rattle.open_days.proofs.OpenDays.{to-close-from, open-from}
+use Rattle.contract_phases.proofs.Least.{to-close-from}
+use Rattle.contracts.proofs.InLedger.{earlier}
+use Rattle.open_days.proofs.OpenDays.{open-from}
 use Rattle.open_days.proofs.is_open_from.Statement.{statement}
 use Rattle.open_days.proofs.is_open_from.Tie as tie
 

@@ -11,8 +11,10 @@ use Rattle.rules.specs.declared.contract.ContractKind.{ContractKind}
 use Rattle.rules.specs.Ranges.{contractCount}
 use Rattle.rules.specs.Days.{Calendar}
 use Rattle.rules.specs.Contracts.{closingDistance, daysOf, openOn}
-use Rattle.open_days.specs.OpenDays.{openDays, startsOf, IsLeast, leastOf}
-use Rattle.calendar.proofs.InLedger.{numbered}
+use Rattle.months.specs.Spans.{startsOf}
+use Rattle.contract_phases.specs.Least.{IsLeast, leastOf}
+use Rattle.open_days.specs.OpenDays.{openDays}
+use Rattle.contracts.proofs.InLedger.{numbered}
 use Rattle.open_days.proofs.OpenDays.{days-by-number}
 use Rattle.open_days.proofs.write_open_days.Statement.{statement}
 use Rattle.open_days.proofs.write_open_days.Tie as tie

@@ -7,7 +7,7 @@ use lib.ListN.{length, drop}
 use Rattle.arith.specs.Lists.{every}
 use Rattle.arith.proofs.Scans.{every-next, every-end}
 use Rattle.rules.specs.Days.{Calendar, inSpan}
-use Rattle.calendar.specs.Spans.{IsSpan}
+use Rattle.months.specs.Spans.{IsSpan}
 use Rattle.calendar.proofs.sound.are_in.Statement.{statement}
 use Rattle.calendar.proofs.sound.are_in.Tie as tie
 

@@ -1,7 +1,7 @@
 use native.Mathlib.Omega.{arith}
 use mathlib.Core.Path.{_≡_, sym, _∙_}
 use mathlib.Core.Bool.{true, false}
-use Rattle.calendar.specs.Bounds.{FirstYear}
+use Rattle.months.specs.Bounds.{FirstYear}
 use Rattle.calendar.proofs.FirstYears.{first-year-holds}
 use Rattle.rules.specs.Ledger.{Tables, lent, firstYear, ledgerShort, linesShort}
 use Rattle.rules.specs.Refusals.{headSound, pricesSound}

@@ -1,0 +1,64 @@
+// Which contracts are still to close on a day, by their first delivery days: business days are counted once for each kind,
+// where `is_open` of `contracts` looks for two closing days of one contract.
+ghost use mathlib.Core.Path.{_≡_};
+ghost use Prim.Native.Nat.{ℕ, _≤_, _<_};
+ghost use lib.Dec.{leb};
+ghost use Rattle.rules.specs.Days.{businessDayBefore};
+ghost use Rattle.rules.specs.declared.contract.ContractKind.{ContractKind};
+ghost use Rattle.rules.specs.Contracts.{closingDistance, notBefore};
+ghost use Rattle.months.specs.Spans.{lastMonthStart};
+ghost use Rattle.contract_phases.specs.Least.{leastOf};
+use calendar::is_business_day;
+use rules::ContractKind;
+use rules::DayNo;
+
+// Of each kind, the least first delivery day of a contract that is still to close.
+pub struct LeastDays {
+    pub year: DayNo,
+    pub quarter: DayNo,
+    pub month: DayNo,
+}
+
+pub fn least_of(least: LeastDays, kind: ContractKind) -> DayNo
+    ensures { λ r. ⌜ r .0 ≡ leastOf least kind ⌝ }
+{
+    match kind {
+        ContractKind::Year => least.year,
+        ContractKind::Quarter => least.quarter,
+        ContractKind::Month => least.month,
+    }
+}
+
+// The day after the nth business day from `day` on, or the day after `end` where fewer lie before `end`.
+fn least_first_day(holidays: &[u64], day: DayNo, n: u64, end: DayNo) -> DayNo
+    requires { ⌜ (0 < n) × (end .0 ≤ lastMonthStart) ⌝ }
+    ensures { λ r. ⌜ ((y f : ℕ) → f ≤ end .0 → notBefore (businessDayBefore (record { firstYear = y; holidays = now (holidays .entry) }) n f) (day .0) ≡ leb (r .0) f) ⌝ }
+{
+    let mut x = day.0;
+    let mut left = n;
+    while x < end.0 {
+        if is_business_day(holidays, DayNo(x)) {
+            if left <= 1 {
+                return DayNo(x + 1);
+            }
+            left -= 1;
+        }
+        x += 1;
+    }
+    DayNo(end.0 + 1)
+}
+
+pub fn find_least(holidays: &[u64], day: DayNo, end: DayNo) -> LeastDays
+    requires { ⌜ end .0 ≤ lastMonthStart ⌝ }
+    ensures { λ r. ⌜ ((y : ℕ) (s : ContractKind) (f : ℕ) → f ≤ end .0
+        → notBefore (businessDayBefore (record { firstYear = y; holidays = now (holidays .entry) }) (closingDistance s) f) (day .0) ≡ leb (leastOf r s) f) ⌝ }
+{
+    let year = least_first_day(holidays, day, ContractKind::YEAR_DISTANCE, end);
+    let quarter = least_first_day(holidays, day, ContractKind::QUARTER_DISTANCE, end);
+    let month = least_first_day(holidays, day, ContractKind::MONTH_DISTANCE, end);
+    LeastDays {
+        year,
+        quarter,
+        month,
+    }
+}

@@ -1,0 +1,18 @@
+use mathlib.Core.Path.{sym, _∙_}
+use native.Mathlib.Omega.{arith}
+use Rattle.rules.proofs.CalendarLaws.{open-by-count}
+use Rattle.contracts.proofs.InLedger.{numbered}
+use borrow.Author.Needs.{needs}
+use Rattle.contracts.proofs.opening.is_open.Statement.{statement}
+use Rattle.contracts.proofs.opening.is_open.Tie as tie
+
+is-open-term-requires : tie.Need-is-open-term-requires
+is-open-term-requires c κs = (c .before .before .pre .0, rw (c .term-of .ensures) (numbered _ (c .before .before .pre .1)))
+
+returns : tie.Need-returns
+returns c = rw (c .before .term-of .ensures) at (c .is-open-term .ensures) ∙ sym (open-by-count _ _ _ (omega arith))
+
+pub is-open-spec : {M : Type 1} → statement M
+is-open-spec =
+    tie.close
+    (tie.spec (λ c κs. search needs) is-open-term-requires returns)

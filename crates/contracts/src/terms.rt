@@ -1,0 +1,72 @@
+// A contract as its kind and its place by delivery, and its number.
+ghost use mathlib.Core.Path.{_≡_};
+ghost use Prim.Native.Nat.{_<_};
+ghost use Rattle.rules.specs.Contracts.{monthsIn, termOf, kindOf};
+ghost use Rattle.rules.specs.OtherForms.{numberOf, sizeOf};
+use rules::ContractKind;
+use rules::Term;
+use rules::ranges::CONTRACTS_IN_YEAR;
+use rules::ranges::MONTHS_IN_SPAN;
+
+pub fn term_of(contract: u64) -> Term
+    ensures { λ r. ⌜ r ≡ termOf contract ⌝ }
+{
+    let year = contract / CONTRACTS_IN_YEAR;
+    let k = contract % CONTRACTS_IN_YEAR;
+    if k == 0 {
+        return Term {
+            kind: ContractKind::Year,
+            index: year,
+        };
+    }
+    if k <= 4 {
+        return Term {
+            kind: ContractKind::Quarter,
+            index: 4 * year + (k - 1),
+        };
+    }
+    Term {
+        kind: ContractKind::Month,
+        index: 12 * year + (k - 5),
+    }
+}
+
+pub fn kind_of(contract: u64) -> ContractKind
+    ensures { λ r. ⌜ r ≡ kindOf contract ⌝ }
+{
+    let t = term_of(contract);
+    t.kind
+}
+
+pub fn months_in(kind: ContractKind) -> u64
+    ensures { λ r. ⌜ r ≡ monthsIn kind ⌝ }
+{
+    match kind {
+        ContractKind::Year => 12,
+        ContractKind::Quarter => 3,
+        ContractKind::Month => 1,
+    }
+}
+
+// How many contracts of a kind a ledger has.
+pub fn contracts_in(kind: ContractKind) -> u64
+    ensures { λ r. ⌜ r ≡ sizeOf kind ⌝ }
+{
+    match kind {
+        ContractKind::Year => 6,
+        ContractKind::Quarter => 24,
+        ContractKind::Month => MONTHS_IN_SPAN,
+    }
+}
+
+// The number of a kind's contract by its place in delivery.
+pub fn contract_of(kind: ContractKind, index: u64) -> u64
+    requires { ⌜ index < sizeOf kind ⌝ }
+    ensures { λ r. ⌜ r ≡ numberOf kind index ⌝ }
+{
+    match kind {
+        ContractKind::Year => CONTRACTS_IN_YEAR * index,
+        ContractKind::Quarter => CONTRACTS_IN_YEAR * (index / 4) + 1 + index % 4,
+        ContractKind::Month => CONTRACTS_IN_YEAR * (index / 12) + 5 + index % 12,
+    }
+}

@@ -1,0 +1,20 @@
+-- A ledger's span as two days, and the first days of its months.
+use Prim.Native.Nat.{ℕ, _+_}
+use mathlib.Core.Path.{_≡_}
+use mathlib.Core.List.{List, map}
+use Rattle.arith.specs.Lists.{from}
+use Rattle.rules.specs.Ranges.{monthsInSpan}
+use Rattle.rules.specs.Days.{Calendar, monthStart, firstMonth, spanStart, dayAfterSpan}
+use Rattle.months.specs.declared.months.Span.{Span}
+
+pub record IsSpan (s : Span) (k : Calendar) : Type 0 where
+  pub starts : s .start .0 ≡ spanStart k
+  pub ends : s .end .0 ≡ dayAfterSpan k
+
+-- The first days of the ledger's months, then the first day after them.
+unfoldable pub startsOf : Calendar → List ℕ
+startsOf k = map (λ i. monthStart (firstMonth k + i)) (from 0 (monthsInSpan + 1))
+
+-- January 2100 begins on this day, and no month of the table later.
+abbrev pub lastMonthStart : ℕ
+lastMonthStart = 29220

@@ -1,0 +1,12 @@
+// The first days of the months, a constant table, and a ledger's span among them. Callers, which are all proved code, hold the
+// first year to 2020 .. 2094: what reads a header or lent tables tests it first.
+mod months;
+mod span;
+
+pub use months::Span;
+pub use months::month_start;
+pub use span::SPAN_STARTS;
+pub use span::first_month;
+pub use span::is_in;
+pub use span::read_starts;
+pub use span::span_of;
