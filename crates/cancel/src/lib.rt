@@ -3,11 +3,11 @@ ghost use mathlib.Core.Path.{_≡_};
 ghost use Rattle.rules.specs.Ledger.{Tables, withHead, withBook};
 ghost use Rattle.rules.specs.Refusals.{cancelSpec};
 ghost use Rattle.tables.specs.Fit.{HeadFit, BookFit};
+use order_book::Leaving;
 use rules::Answer;
 use rules::Cancellation;
 use rules::layout::ORDER_COUNT;
 use rules::layout::TIME;
-use tables::Leaving;
 
 // The order leaves the book, and the record's time is the ledger's.
 pub fn apply(head: &mut [u64], book: &mut [u64], e: Cancellation) -> Answer
@@ -24,10 +24,10 @@ pub fn apply(head: &mut [u64], book: &mut [u64], e: Cancellation) -> Answer
         number: e.order,
         member: e.member,
     };
-    if !tables::would_any_leave(&*book, count, leaving) {
+    if !order_book::would_any_leave(&*book, count, leaving) {
         return Answer::NoSuchOrder;
     }
     tables::set_time(&mut *head, time);
-    tables::remove_orders(&mut *head, &mut *book, leaving);
+    order_book::remove_orders(&mut *head, &mut *book, leaving);
     Answer::Accepted(0)
 }

@@ -21,7 +21,7 @@ use Rattle.rules.specs.Ledger.{Tables, withPrices, withRows, members, day, time
 use Rattle.rules.specs.CloseOfDay.{priced, withoutDeals, closingContracts, allCascaded, isOfAny, withClosed, onDay, hasNextDay, nextDay, closeBooked}
 use Rattle.rules.specs.Refusals.{closeSpec}
 use Rattle.tables.specs.Fit.{HeadFit, PricesFit, BookFit, orderCountIn, lotsRunIn, ordersIn}
-use Rattle.tables.proofs.Left.{all-orders}
+use Rattle.order_book.proofs.Left.{all-orders}
 use Rattle.contract_phases.specs.Phases.{phases, waits, closes, closing, openIn, allOpenIn}
 use Rattle.reference_price.specs.Columns.{BookReads, DealsFit, bestPrice, ggfsFrom}
 use Rattle.reference_price.proofs.Ggfs.{ggf-is, ggfs-are}

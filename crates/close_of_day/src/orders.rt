@@ -8,7 +8,7 @@ ghost use Rattle.arith.specs.Lists.{kept};
 ghost use Rattle.rules.specs.Ranges.{contractCount};
 ghost use Rattle.rules.specs.Ledger.{Tables, withHead, withBook, headLength, withOrders};
 ghost use Rattle.tables.specs.Fit.{orderCountIn, ordersIn};
-ghost use Rattle.tables.specs.Left.{staying};
+ghost use Rattle.order_book.specs.Left.{staying};
 ghost use Rattle.contract_phases.specs.Phases.{closes};
 ghost use Rattle.reference_price.specs.Columns.{BookReads};
 use contract_phases::CLOSING;
@@ -32,7 +32,7 @@ fn write_left(book: &[u64], column: &[u64], left: &mut [u64])
 {
     let mut i: usize = 0;
     while i < left.len() {
-        let o = tables::order_at(book, i);
+        let o = order_book::order_at(book, i);
         let contract = o.contract as usize;
         left[i] = left_of(o, column[contract]);
         i += 1;
@@ -48,5 +48,5 @@ pub fn remove_closing(head: &mut [u64], book: &mut [u64], column: &[u64])
     let count = head[ORDER_COUNT] as usize;
     let mut left = [0u64; ORDERS];
     write_left(&*book, column, &mut left[..count]);
-    tables::keep_orders(&mut *head, &mut *book, &left[..count]);
+    order_book::keep_orders(&mut *head, &mut *book, &left[..count]);
 }

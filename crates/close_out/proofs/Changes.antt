@@ -18,8 +18,9 @@ use Rattle.rules.specs.declared.order.Side.the-variants.{Buy, Sell}
 use Rattle.rules.specs.Default.{sumOf, changeLines}
 use Rattle.rules.specs.Ledger.{Tables, Line, booked}
 use Rattle.rules.specs.Sides.{signed}
-use Rattle.tables.proofs.Booked.{booked-none, booked-more}
-use Rattle.tables.specs.Lines.{withLine}
+use Rattle.rules.proofs.LinesRun.{booked-none}
+use Rattle.deal_lines.proofs.Booked.{booked-more}
+use Rattle.deal_lines.specs.Lines.{withLine}
 use Rattle.close_out.specs.Booking.{withEach, changes}
 
 -- ---- gains less losses

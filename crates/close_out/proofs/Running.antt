@@ -9,10 +9,10 @@ use Rattle.rules.specs.Default.{sumOf, changeLines}
 use Rattle.rules.specs.Ledger.{Tables, Line, withHead, withRows, withLines}
 use Rattle.rules.specs.Ranges.{contractCount, mostPrice, leastLines}
 use Rattle.tables.specs.Fit.{membersIn}
-use Rattle.tables.specs.Room.{Bookable}
+use Rattle.deal_lines.specs.Room.{Bookable}
 use Rattle.close_out.specs.Booking.{withEach, changes}
 use Rattle.close_out.proofs.Changes.{minus-size, change-most, each-append, lines-next, sum-next}
-use Rattle.tables.proofs.Takes.{Takes, less-room}
+use Rattle.deal_lines.proofs.Takes.{Takes, less-room}
 use Rattle.close_out.proofs.Takes.{takes-change, each-members}
 
 -- The lent tables put into others.

@@ -18,7 +18,7 @@ use Rattle.rules.proofs.Netting.{sum-cons, sum-none, sum-zeros, given-sum, give
 use Rattle.dealing.proofs.Dealt.{all-dealt}
 use Rattle.close_out.specs.Booking.{withEach, changes, takerLines}
 use Rattle.close_out.proofs.Changes.{minus-size, change-most, change-cons, each-append}
-use Rattle.tables.proofs.Takes.{Takes}
+use Rattle.deal_lines.proofs.Takes.{Takes}
 use Rattle.close_out.proofs.Takes.{takes-change, each-members}
 use Rattle.arith.proofs.Sizes.{abs-neg}
 

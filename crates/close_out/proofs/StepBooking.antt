@@ -13,10 +13,10 @@ use Rattle.rules.specs.Ranges.{contractCount, mostPrice, leastLines, mostMember
 use Rattle.rules.proofs.Netting.{given-length}
 use Rattle.tables.specs.Fit.{membersIn}
 use Rattle.dealing.specs.Levels.{mostWeight, Column}
-use Rattle.tables.specs.Room.{Bookable}
+use Rattle.deal_lines.specs.Room.{Bookable}
 use Rattle.close_out.specs.Booking.{withEach, changes, nettingLines, defaultedLines, takerLines, stepLines, Dealable}
 use Rattle.close_out.proofs.Changes.{each-append}
-use Rattle.tables.proofs.Takes.{Takes, less-room}
+use Rattle.deal_lines.proofs.Takes.{Takes, less-room}
 use Rattle.close_out.proofs.Takes.{each-members}
 use Rattle.close_out.proofs.Running.{put, blank}
 use Rattle.close_out.proofs.StepColumns.{netting-room}

@@ -24,10 +24,10 @@ use Rattle.dealing.specs.Levels.{mostWeight, Column}
 use Rattle.close_out_weights.specs.declared.columns.Part.{Part}
 use Rattle.close_out_weights.specs.declared.columns.Part.the-variants.{DefaultedLongs, DefaultedShorts}
 use Rattle.close_out_weights.specs.Columns.{columnOf}
-use Rattle.tables.specs.Room.{Bookable}
+use Rattle.deal_lines.specs.Room.{Bookable}
 use Rattle.close_out.specs.Booking.{withEach, changes, nettingLines, defaultedLines, takerLines, stepLines, Dealable}
 use Rattle.close_out.proofs.Changes.{each-booked}
-use Rattle.tables.proofs.Takes.{rows-wider}
+use Rattle.deal_lines.proofs.Takes.{rows-wider}
 use Rattle.close_out.proofs.Running.{blank}
 use Rattle.close_out.proofs.Runs.{left-sum, change-run, Apart, apart-run, takers-run}
 use Rattle.close_out.proofs.StepBooking.{less-length, less-le}

@@ -8,7 +8,7 @@ use lib.IntN.{ℤ, pos, negℤ, _-ℤ_}
 use lib.ListN.{length}
 use Rattle.rules.specs.Default.{sumOf, givenUp, less, changeLines, dealtOut}
 use Rattle.rules.specs.Ledger.{Tables, Line}
-use Rattle.tables.specs.Lines.{withLine}
+use Rattle.deal_lines.specs.Lines.{withLine}
 use Rattle.dealing.specs.Levels.{mostWeight, Column}
 
 -- Lines booked one after the other, the first as line i.

@@ -8,12 +8,12 @@ ghost use Rattle.rules.specs.Default.{sumOf, changeLines};
 ghost use Rattle.rules.specs.Ledger.{Tables, withHead, withRows, withLines};
 ghost use Rattle.rules.specs.Ranges.{contractCount, mostPrice, leastLines};
 ghost use Rattle.tables.specs.Fit.{membersIn};
-ghost use Rattle.tables.specs.Room.{Bookable};
+ghost use Rattle.deal_lines.specs.Room.{Bookable};
 ghost use Rattle.close_out.specs.Booking.{withEach, changes};
+use deal_lines::DealLine;
 use rules::Kurus;
 use rules::Lots;
 use rules::Side;
-use tables::DealLine;
 
 // The change of one member as line i, if there is one; the number of lines then.
 fn book_change(
@@ -47,7 +47,7 @@ fn book_change(
             lots: Lots(gain - loss),
             price,
         };
-        tables::book_line(head, lots, value, lines, i, line);
+        deal_lines::book_line(head, lots, value, lines, i, line);
         return i + 1;
     }
     let side = Side::Sell;
@@ -58,7 +58,7 @@ fn book_change(
         lots: Lots(loss - gain),
         price,
     };
-    tables::book_line(head, lots, value, lines, i, line);
+    deal_lines::book_line(head, lots, value, lines, i, line);
     i + 1
 }
 

@@ -7,7 +7,7 @@ ghost use Rattle.rules.specs.Ledger.{Tables, withHead, withRows, withLines};
 ghost use Rattle.rules.specs.Ranges.{contractCount, mostPrice, leastLines};
 ghost use Rattle.tables.specs.Fit.{membersIn};
 ghost use Rattle.dealing.specs.Levels.{mostWeight, Column};
-ghost use Rattle.tables.specs.Room.{Bookable};
+ghost use Rattle.deal_lines.specs.Room.{Bookable};
 ghost use Rattle.close_out.specs.Booking.{withEach, takerLines};
 use crate::booking::book_changes;
 use dealing::deal_out;

@@ -2,11 +2,8 @@
 mod between;
 mod book;
 mod head;
-mod lengths;
 mod prices;
 mod rows;
 mod unsound;
 
-pub use lengths::is_ledger_short;
-pub use lengths::is_lines_short;
 pub use unsound::is_unsound;

@@ -4,14 +4,14 @@ ghost use Rattle.rules.specs.Ledger.{lent};
 ghost use Rattle.rules.specs.Refusals.{unsound};
 use crate::book::is_book_sound;
 use crate::head::is_head_sound;
-use crate::lengths::is_ledger_short;
-use crate::lengths::is_lines_short;
 use crate::prices::are_prices_sound;
 use crate::rows::are_rows_within;
 use calendar::is_first_year_sound;
 use months::span_of;
 use rules::layout;
 use rules::ranges;
+use tables::is_ledger_short;
+use tables::is_lines_short;
 
 // Whatever the tables hold: each is read only where its length and the head's counts allow it.
 pub fn is_unsound(

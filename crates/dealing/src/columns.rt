@@ -1,9 +1,9 @@
 // Columns with one number for each member.
 ghost use mathlib.Core.Path.{_≡_};
-ghost use Prim.Native.Nat.{min, max};
 ghost use lib.ListN.{length};
 ghost use Rattle.rules.specs.Default.{sumOf, givenUp};
 ghost use Rattle.dealing.specs.Levels.{mostWeight, Column};
+use numbers::smaller;
 
 pub fn sum_of(numbers: &[u64]) -> u64
     requires { ⌜ Column mostWeight (now numbers) ⌝ }
@@ -16,18 +16,6 @@ pub fn sum_of(numbers: &[u64]) -> u64
         i += 1;
     }
     sum
-}
-
-pub fn smaller(a: u64, b: u64) -> u64
-    ensures { λ r. ⌜ r ≡ min a b ⌝ }
-{
-    if a < b { a } else { b }
-}
-
-pub fn larger(a: u64, b: u64) -> u64
-    ensures { λ r. ⌜ r ≡ max a b ⌝ }
-{
-    if a < b { b } else { a }
 }
 
 // Lots given up, lowest member first.

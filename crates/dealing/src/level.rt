@@ -5,8 +5,8 @@ ghost use lib.ListN.{length, getD};
 ghost use Rattle.rules.specs.Default.{sumOf};
 ghost use Rattle.rules.specs.Ranges.{mostMembers, mostLotsRun};
 ghost use Rattle.dealing.specs.Levels.{atLevel, Highest};
-use crate::columns::larger;
-use crate::columns::smaller;
+use numbers::larger;
+use numbers::smaller;
 
 pub fn lots_at_level(level: u64, minima: &[u64]) -> u64
     requires { ⌜ (level ≤ mostLotsRun) × (length (now minima) ≤ mostMembers) ⌝ }

@@ -6,6 +6,5 @@ mod order;
 mod turns;
 
 pub use columns::give_up;
-pub use columns::smaller;
 pub use columns::sum_of;
 pub use turns::deal_out;

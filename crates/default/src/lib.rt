@@ -4,9 +4,9 @@ ghost use Prim.Native.Nat.{_<_};
 ghost use Rattle.rules.specs.Ledger.{Tables, withHead, withBook};
 ghost use Rattle.rules.specs.Refusals.{defaultSpec};
 ghost use Rattle.tables.specs.Fit.{HeadFit, BookFit, membersIn};
+use order_book::Leaving;
 use rules::Answer;
 use rules::layout::MARKS;
-use tables::Leaving;
 
 // The member is marked and its orders leave the book.
 pub fn apply(head: &mut [u64], book: &mut [u64], member: u64) -> Answer
@@ -19,6 +19,6 @@ pub fn apply(head: &mut [u64], book: &mut [u64], member: u64) -> Answer
         return Answer::MemberDefaulted(member);
     }
     head[at] = 1;
-    tables::remove_orders(&mut *head, &mut *book, Leaving::OfMember(member));
+    order_book::remove_orders(&mut *head, &mut *book, Leaving::OfMember(member));
     Answer::Accepted(0)
 }

@@ -18,7 +18,7 @@ pub fn make(
     ensures { λ r. ⌜ ((n : List ℤ) → record { answer = r; after = lent (now (head .exit)) (now (prices .exit)) (now (lots .exit)) (now (value .exit)) (now (book .entry)) n }
         ≡ makeSpec (lent (now (head .entry)) (now (prices .entry)) (now (lots .entry)) (now (value .entry)) (now (book .entry)) n) (now (bytes .entry))) ⌝ }
 {
-    if damage::is_ledger_short(&*head, &*prices, &*lots, &*value, book) {
+    if tables::is_ledger_short(&*head, &*prices, &*lots, &*value, book) {
         return Answer::TableUnsound;
     }
     let reading = header::read_header(bytes);

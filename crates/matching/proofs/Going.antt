@@ -18,7 +18,8 @@ use Rattle.rules.specs.Ranges.{mostLots, mostOrders}
 use Rattle.rules.specs.Ledger.{bookLength, orderAt}
 use Rattle.rules.specs.Matching.{opposes, meetsPrice, meets}
 use Rattle.matching.specs.declared.deals.Counterparty.{Counterparty}
-use Rattle.matching.specs.Ranks.{Ranked, rankOf, noRank, rankIn, ranksOf, lotsOf, firstRank, Lowest, LowestOf, Placed, BlockLows, BestPlace}
+use Rattle.order_priority.specs.Priority.{Ranked, rankOf}
+use Rattle.matching.specs.Ranks.{noRank, rankIn, ranksOf, lotsOf, firstRank, Lowest, LowestOf, Placed, BlockLows, BestPlace}
 use Rattle.matching.specs.Deals.{counterparty, dealWidth, dealPlaces, dealAt, dealsIn, FromBook}
 use Rattle.matching.specs.Matching.{DealMade, Matchable, Ended, MatchMade}
 use Rattle.tables.specs.Fit.{ordersIn}
@@ -26,7 +27,7 @@ use Rattle.arith.proofs.Alls.{all-place}
 use Rattle.matching.proofs.Best.{ranks-length, ranks-at, live, rank-live, rank-room}
 use Rattle.matching.proofs.Running.{Running, running-start, running-deal, ranks-set, ended-full, ended-far, ended-none}
 use Rattle.matching.proofs.Lows.{placed-gone, best-is}
-use Rattle.tables.proofs.Left.{orders-length, all-orders}
+use Rattle.order_book.proofs.Left.{orders-length, all-orders}
 use Rattle.matching.proofs.Passes.{order-here}
 use Rattle.rules.proofs.Distinct.{Distinct, distinct-orders}
 

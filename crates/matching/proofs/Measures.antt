@@ -14,8 +14,9 @@ use Rattle.arith.proofs.Tests.{by-bool, true-or, le-or-lt}
 use Rattle.rules.specs.declared.order.Order.{Order}
 use Rattle.rules.specs.Matching.{opposes, meets, matched}
 use Rattle.matching.specs.declared.deals.Counterparty.{Counterparty}
-use Rattle.tables.specs.Left.{leftOver}
-use Rattle.matching.specs.Ranks.{Ranked, rankOf, noRank, rankIn, ranksOf, Lowest, crossing}
+use Rattle.order_book.specs.Left.{leftOver}
+use Rattle.order_priority.specs.Priority.{Ranked, rankOf}
+use Rattle.matching.specs.Ranks.{noRank, rankIn, ranksOf, Lowest, crossing}
 use Rattle.matching.specs.Crossing.{crosses}
 use Rattle.matching.specs.Matching.{Ended}
 use Rattle.matching.proofs.Best.{ranks-length, ranks-at, live, rank-live, rank-below, meets-far}

@@ -11,7 +11,7 @@ use lib.Dec.{eqb}
 use Rattle.arith.proofs.Tests.{by-bool, and-false}
 use Rattle.rules.specs.Matching.{opposes}
 use Rattle.arith.proofs.Appends.{from-length, map-at, from-at}
-use Rattle.tables.proofs.Left.{orders-more, orders-length}
+use Rattle.order_book.proofs.Left.{orders-more, orders-length}
 use Rattle.rules.specs.declared.order.Order.{Order}
 use Rattle.rules.specs.Ledger.{orderAt}
 use Rattle.matching.specs.Ranks.{lotsOf, rankIn, firstRank}

@@ -13,8 +13,9 @@ use Rattle.arith.proofs.Tests.{true-or}
 use Rattle.rules.specs.declared.order.Order.{Order}
 use Rattle.rules.specs.Matching.{best, opposes, meets, withLots, stopped, afterDeal, matching, matched}
 use Rattle.matching.specs.declared.deals.Counterparty.{Counterparty}
-use Rattle.tables.specs.Left.{leftOver}
-use Rattle.matching.specs.Ranks.{Ranked, rankOf, noRank, rankIn, ranksOf, lotsOf, Lowest}
+use Rattle.order_book.specs.Left.{leftOver}
+use Rattle.order_priority.specs.Priority.{Ranked, rankOf}
+use Rattle.matching.specs.Ranks.{noRank, rankIn, ranksOf, lotsOf, Lowest}
 use Rattle.matching.specs.Deals.{counterparty, counterpartyOf}
 use Rattle.matching.specs.Matching.{Ended}
 use Rattle.matching.proofs.Best.{best-lowest, best-none, ranks-length, ranks-at, live}

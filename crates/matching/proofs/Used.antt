@@ -13,7 +13,7 @@ use Rattle.arith.proofs.Alls.{all-place}
 use Rattle.arith.proofs.Tests.{by-eqb, true-or, le-or-lt}
 use Rattle.rules.specs.declared.order.Order.{Order}
 use Rattle.rules.specs.Matching.{best, opposes, meets, withLots, used, stopped, afterDeal, matching}
-use Rattle.tables.specs.Left.{leftOver}
+use Rattle.order_book.specs.Left.{leftOver}
 use Rattle.rules.proofs.Distinct.{Distinct}
 
 -- ---- lots used

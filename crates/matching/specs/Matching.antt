@@ -13,9 +13,10 @@ use Rattle.rules.specs.Matching.{matched}
 use Rattle.rules.specs.Refusals.{distinct}
 use Rattle.matching.specs.declared.deals.Counterparty.{Counterparty}
 use Rattle.tables.specs.Fit.{ordersIn}
-use Rattle.tables.specs.Left.{leftOver}
+use Rattle.order_book.specs.Left.{leftOver}
 use Rattle.matching.specs.declared.levels.Matched.{Matched}
-use Rattle.matching.specs.Ranks.{Ranked, noRank}
+use Rattle.order_priority.specs.Priority.{Ranked}
+use Rattle.matching.specs.Ranks.{noRank}
 use Rattle.matching.specs.Deals.{counterparty, counterpartyOf, dealWidth, dealPlaces, dealAt, dealsIn, FromBook}
 
 -- Deal k is with the order at i, for what is wanted or what is left of it; then so much is still wanted.

@@ -1,33 +1,15 @@
--- Priority as one number: of the orders that an incoming one may meet, the first has the lowest rank.
-use Prim.Native.Nat.{ℕ, _+_, _*_, _-_, _%_, _≤_, _<_}
+-- Ranks in a column: of the orders that an incoming one may meet, the first has the lowest rank.
+use Prim.Native.Nat.{ℕ, _+_, _*_, _%_, _≤_, _<_}
 use mathlib.Core.Path.{_≡_}
 use mathlib.Core.Bool.{cond, _&&_}
 use mathlib.Core.List.{List, [], _∷_, map}
 use lib.Dec.{ltb}
 use lib.ListN.{length, getD}
 use Rattle.rules.specs.declared.order.Order.{Order}
-use Rattle.rules.specs.declared.order.Side.{Side}
-use Rattle.rules.specs.declared.order.Side.the-variants.{Buy, Sell}
-use Rattle.rules.specs.Ranges.{mostPrice, mostOrders}
+use Rattle.rules.specs.Ranges.{mostOrders}
 use Rattle.rules.specs.Matching.{opposes}
+use Rattle.order_priority.specs.Priority.{rankOf}
 use Rattle.matching.specs.Crossing.{crosses}
-
--- Order numbers are below it.
-abbrev pub numbersEnd : ℕ
-numbersEnd = 4294967296
-
--- An order whose price and number are in their ranges.
-pub record Ranked (r : Order) : Type 0 where
-  pub price : r .price .0 ≤ mostPrice
-  pub number : r .number < numbersEnd
-
-abbrev pub priceRank : Side → ℕ → ℕ
-priceRank Buy p = mostPrice - p
-priceRank Sell p = p
-
--- Best price first, then lower number.
-unfoldable pub rankOf : Order → ℕ
-rankOf r = priceRank (r .side) (r .price .0) * numbersEnd + r .number
 
 -- The rank of an order that the incoming one does not meet, for its contract or its side, or because it is used up.
 abbrev pub noRank : ℕ

@@ -9,12 +9,14 @@ ghost use lib.ListN.{length, getD, set, replicate};
 ghost use Rattle.tables.specs.Fit.{ordersIn};
 ghost use Rattle.rules.specs.Ranges.{mostOrders};
 ghost use Rattle.rules.specs.Ledger.{bookLength, orderAt};
-ghost use Rattle.matching.specs.Ranks.{Ranked, noRank, lotsOf, rankIn, firstRank, placedRank, Placed, LowestAmong, blockSize, blockCount, BlockLows, BestPlace};
-use crate::priority::does_oppose;
-use crate::priority::rank_of;
+ghost use Rattle.order_priority.specs.Priority.{Ranked};
+ghost use Rattle.matching.specs.Ranks.{noRank, lotsOf, rankIn, firstRank, placedRank, Placed, LowestAmong, blockSize, blockCount, BlockLows, BestPlace};
+use numbers::smaller;
+use order_book::order_at;
+use order_priority::does_oppose;
+use order_priority::rank_of;
 use rules::Order;
 use rules::ranges::MOST_ORDERS;
-use tables::order_at;
 
 // The rank of an order that is not to be met.
 pub const NO_RANK: u64 = 18446744073709551615;
@@ -49,22 +51,13 @@ pub fn write_columns(book: &[u64], o: Order, left: &mut [u64], ranks: &mut [u64]
     }
 }
 
-pub fn least(a: u64, b: u64) -> u64
-    ensures { λ r. ⌜ r ≡ min a b ⌝ }
-{
-    if a <= b {
-        return a;
-    }
-    b
-}
-
 fn lowest_of_four(ranks: &[u64], at: usize) -> u64
     requires { ⌜ at + 4 ≤ length (now ranks) ⌝ }
     ensures { λ r. ⌜ LowestAmong (now (ranks .entry)) at 4 r ⌝ }
 {
-    least(
-        least(ranks[at], ranks[at + 1]),
-        least(ranks[at + 2], ranks[at + 3]),
+    smaller(
+        smaller(ranks[at], ranks[at + 1]),
+        smaller(ranks[at + 2], ranks[at + 3]),
     )
 }
 
@@ -77,7 +70,7 @@ fn lowest_of_block(ranks: &[u64], at: usize) -> u64
     let second = lowest_of_four(ranks, at + 4);
     let third = lowest_of_four(ranks, at + 8);
     let fourth = lowest_of_four(ranks, at + 12);
-    least(least(first, second), least(third, fourth))
+    smaller(smaller(first, second), smaller(third, fourth))
 }
 
 // The lowest rank of every block.

@@ -6,11 +6,11 @@ ghost use Rattle.tables.specs.Fit.{ordersIn};
 ghost use Rattle.rules.specs.Ranges.{mostLots, mostOrders};
 ghost use Rattle.rules.specs.Ledger.{bookLength, orderAt};
 ghost use Rattle.matching.specs.Crossing.{ownLots, crossingLots, ownIn, crossingIn};
-use crate::priority::does_meet;
-use crate::priority::does_oppose;
+use order_book::order_at;
+use order_priority::does_meet;
+use order_priority::does_oppose;
 use rules::Order;
 use sides::is_same_side;
-use tables::order_at;
 
 // The member's own resting lots of the order's contract and side, and the lots that cross.
 pub struct Crossing {

@@ -12,18 +12,18 @@ ghost use Rattle.matching.specs.Matching.{DealMade, Matchable, MatchMade
 ghost use Rattle.matching.specs.Ranks.{lotsOf, firstRank, Placed, BlockLows};
 use crate::columns::NO_RANK;
 use crate::columns::best_place;
-use crate::columns::least;
 use crate::columns::use_lots;
 use crate::columns::write_columns;
 use crate::columns::write_lows;
 use crate::deals::Counterparty;
 use crate::deals::put_deal;
-use crate::priority::does_meet;
+use numbers::smaller;
+use order_book::order_at;
+use order_priority::does_meet;
 use rules::Kurus;
 use rules::Lots;
 use rules::Order;
 use rules::layout::ORDERS;
-use tables::order_at;
 
 // The number of deals, and what is left of the incoming order.
 pub struct Matched {
@@ -48,7 +48,7 @@ fn deal(
     ensures { λ _. ⌜ BlockLows (now (ranks .exit)) (now (lows .exit)) ⌝ }
 {
     let resting = order_at(book, i);
-    let lots = least(wanted, left[i]);
+    let lots = smaller(wanted, left[i]);
     use_lots(&mut *left, &mut *ranks, &mut *lows, i, lots);
     put_deal(
         &mut *deals,

@@ -3,9 +3,7 @@ mod columns;
 mod crossing;
 mod deals;
 mod levels;
-mod priority;
 
-pub use columns::least;
 pub use crossing::Crossing;
 pub use crossing::measure;
 pub use deals::Counterparty;
@@ -13,4 +11,3 @@ pub use deals::DEAL_WIDTH;
 pub use deals::deal_at;
 pub use levels::Matched;
 pub use levels::match_orders;
-pub use priority::rank_of;

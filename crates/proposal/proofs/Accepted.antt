@@ -17,7 +17,7 @@ use Rattle.rules.specs.Ledger.{Tables, Line, lotsRun, orders, withOrders, lineR
 use Rattle.rules.specs.Refusals.{distinct, runWouldPass}
 use Rattle.rules.specs.Synthetic.{namedLegs, legLine, acceptable, proposalLines, usedByLegs}
 use Rattle.tables.specs.Fit.{ordersIn}
-use Rattle.tables.specs.Left.{leftOver}
+use Rattle.order_book.specs.Left.{leftOver}
 use Rattle.proposal_check.specs.Columns.{LegsFit, PlacesFit, columnLegs, placesOf}
 use Rattle.proposal.specs.Booking.{linesTo, leftAfter, lotsIn}
 use Rattle.proposal_check.proofs.Named.{found-fit}

@@ -11,14 +11,15 @@ use Rattle.arith.proofs.Scans.{from-next}
 use Rattle.rules.specs.declared.order.Order.{Order}
 use Rattle.rules.specs.Ledger.{Tables, withHead, withRows, withLines, lent, orderAt, booked}
 use Rattle.rules.specs.Sides.{signed}
-use Rattle.tables.specs.declared.lines.DealLine.{DealLine}
+use Rattle.deal_lines.specs.declared.lines.DealLine.{DealLine}
 use Rattle.tables.specs.Fit.{BookFit, OrderFit, membersIn, orderCountIn}
-use Rattle.tables.specs.Lines.{LineFit, lineOf, withLine}
-use Rattle.tables.proofs.Booked.{booked-none, booked-more}
+use Rattle.deal_lines.specs.Lines.{LineFit, lineOf, withLine}
+use Rattle.rules.proofs.LinesRun.{booked-none}
+use Rattle.deal_lines.proofs.Booked.{booked-more}
 use Rattle.proposal_check.specs.Columns.{LegsFit, PlacesFit}
-use Rattle.tables.specs.Room.{Bookable}
+use Rattle.deal_lines.specs.Room.{Bookable}
 use Rattle.proposal.specs.Booking.{lineAt, linesTo}
-use Rattle.tables.proofs.Takes.{Sound, takes-line, line-members}
+use Rattle.deal_lines.proofs.Takes.{Sound, takes-line, line-members}
 use Rattle.proposal.proofs.Printed.{lines-length, lines-more}
 use Rattle.rules.proofs.Sides.{abs-signed}
 

@@ -21,8 +21,8 @@ use Rattle.rules.specs.Matching.{withLots, used}
 use Rattle.rules.specs.Refusals.{distinct}
 use Rattle.rules.specs.Synthetic.{usedByLegs}
 use Rattle.tables.specs.Fit.{ordersIn}
-use Rattle.tables.specs.Left.{leftOver}
-use Rattle.tables.proofs.Left.{orders-length}
+use Rattle.order_book.specs.Left.{leftOver}
+use Rattle.order_book.proofs.Left.{orders-length}
 use Rattle.proposal_check.specs.Columns.{PlacesFit, columnLeg, columnLegs, placeOf, placesOf}
 use Rattle.proposal.specs.Booking.{leftAfter, lotsIn}
 use Rattle.proposal_check.proofs.Named.{order-there}

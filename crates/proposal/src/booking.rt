@@ -6,18 +6,18 @@ ghost use Rattle.arith.specs.Lists.{total, from};
 ghost use Rattle.rules.specs.Ranges.{mostOrders};
 ghost use Rattle.rules.specs.Ledger.{Tables, withHead, withRows, withBook, withLines, withOrders, headLength, bookLength, sideAt, booked};
 ghost use Rattle.tables.specs.Fit.{BookFit, ordersIn, orderCountIn};
-ghost use Rattle.tables.specs.Left.{leftOver};
+ghost use Rattle.order_book.specs.Left.{leftOver};
 ghost use Rattle.proposal_check.specs.Columns.{LegsFit, PlacesFit};
-ghost use Rattle.tables.specs.Room.{Bookable};
+ghost use Rattle.deal_lines.specs.Room.{Bookable};
 ghost use Rattle.proposal.specs.Booking.{linesTo, leftAfter, lotsIn};
+use deal_lines::DealLine;
+use deal_lines::book_line;
+use order_book::keep_orders;
+use order_book::order_at;
 use rules::Kurus;
 use rules::Lots;
 use rules::layout::ORDER_COUNT;
 use rules::layout::ORDERS;
-use tables::DealLine;
-use tables::book_line;
-use tables::keep_orders;
-use tables::order_at;
 
 // The lots of all legs together.
 pub fn total_lots(lots: &[u64], prices: &[u64]) -> u64

@@ -18,8 +18,8 @@ use Rattle.rules.specs.Sides.{sameSide}
 use Rattle.rules.specs.Matching.{precedes}
 use Rattle.rules.specs.Ledger.{orderAt}
 use Rattle.tables.specs.Fit.{HeadFit, BookFit, ordersIn, orderCountIn}
-use Rattle.matching.specs.Ranks.{Ranked, rankOf}
-use Rattle.matching.proofs.Best.{precedes-rank}
+use Rattle.order_priority.specs.Priority.{Ranked, rankOf}
+use Rattle.order_priority.proofs.Ranks.{precedes-rank}
 use Rattle.proposal_check.specs.Columns.{PlacesFit, isBefore, isAhead, isFullLeg}
 use Rattle.proposal_check.specs.SidePlaces.{sidePlaces, sidePlaceOf}
 use Rattle.proposal_check.specs.LastRanks.{OrdersRanked, LegsRanked, LastRanks, isBehind, keptBy}
@@ -27,8 +27,8 @@ use Rattle.proposal_check.proofs.Lists.{each-same}
 use Rattle.proposal_check.proofs.SidePlaces.{side-below, place-same}
 
 -- ---- leg by leg
-below-greatest : (x a b : ℕ) → ltb x (max a b) ≡ ltb x a || ltb x b
-below-greatest x a b =
+below-larger : (x a b : ℕ) → ltb x (max a b) ≡ ltb x a || ltb x b
+below-larger x a b =
     le-or-lt (max a b) x
     (λ h. rw (le-ltb x (max a b) h, le-ltb x a (omega arith), le-ltb x b (omega arith)))
     (λ h. rw (lt-ltb x (max a b) h) (le-or-lt a x (λ k. rw (le-ltb x a k, lt-ltb x b (omega arith))) (λ k. rw (lt-ltb x a k))))
@@ -54,7 +54,7 @@ module _ (book places : List ℕ) where
       grown k x =
           rw (← e, ← f)
           (same-or at k
-          (λ d. rw (eq-eqb at k d, ← d, getD-set-same lasts at (max (getD lasts at 0) r) 0 (omega (arith, s .long))) (below-greatest x (getD lasts at 0) r))
+          (λ d. rw (eq-eqb at k d, ← d, getD-set-same lasts at (max (getD lasts at 0) r) 0 (omega (arith, s .long))) (below-larger x (getD lasts at 0) r))
           (λ d. rw (ne-eqb at k d, getD-set-other lasts at k (max (getD lasts at 0) r) 0 (λ c. d (sym c))) (sym (or-false (ltb x (getD lasts k 0))))))
 
   pub lasts-end : (i : ℕ) (lasts : List ℕ) → LastRanksTo i lasts → length places ≤ i → LastRanks book places lasts

@@ -21,7 +21,7 @@ use Rattle.rules.specs.declared.order.Order.{Order}
 use Rattle.rules.specs.Ledger.{Tables, orderAt}
 use Rattle.rules.specs.Synthetic.{numbered, namedLegs, hasLots, priceAllowed}
 use Rattle.tables.specs.Fit.{BookFit, orderCountIn, ordersIn}
-use Rattle.tables.proofs.Left.{orders-length}
+use Rattle.order_book.proofs.Left.{orders-length}
 use Rattle.proposal_check.specs.Columns.{PlacesFit, ContractsFit, columnLeg, columnLegs, placeOf, placesOf, namedTo}
 use Rattle.proposal_check.proofs.Lists.{map-from, map-places}
 

@@ -9,7 +9,7 @@ use Rattle.arith.specs.Lists.{any}
 use Rattle.rules.specs.declared.order.Order.{Order}
 use Rattle.rules.specs.Ranges.{contractCount, mostOrders}
 use Rattle.rules.specs.Ledger.{bookLength, orderAt}
-use Rattle.matching.specs.Ranks.{Ranked, rankOf}
+use Rattle.order_priority.specs.Priority.{Ranked, rankOf}
 use Rattle.proposal_check.specs.Columns.{isFullLeg}
 use Rattle.proposal_check.specs.SidePlaces.{sidePlaces, sidePlaceOf}
 

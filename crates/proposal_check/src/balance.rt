@@ -15,9 +15,9 @@ ghost use Rattle.proposal_check.specs.Sums.{SumsTo, SumsFit, monthSum, b
 use crate::side_places::SIDE_PLACES;
 use crate::side_places::SIDES;
 use crate::side_places::side_place;
+use order_book::order_at;
 use rules::ranges::CONTRACTS_IN_YEAR;
 use rules::ranges::MONTHS_IN_SPAN;
-use tables::order_at;
 
 // What a lot adds to a sum beside its price: more than the values of all legs together, so that sums are equal exactly if
 // lots and values both are.

@@ -9,6 +9,7 @@ ghost use Rattle.rules.specs.Ranges.{contractCount, mostOrders};
 ghost use Rattle.rules.specs.Ledger.{Tables, withPrices, pricesLength, bookLength, orderWidth};
 ghost use Rattle.rules.specs.Synthetic.{hasLots, priceAllowed};
 ghost use Rattle.proposal_check.specs.Columns.{LegsFit, PlacesFit, ContractsFit, columnLeg, namedTo};
+use order_book::order_at;
 use rules::Kurus;
 use rules::Leg;
 use rules::Lots;
@@ -18,7 +19,6 @@ use rules::layout::HIGH;
 use rules::layout::LOW;
 use rules::layout::ORDER_WIDTH;
 use rules::layout::PRICE_WIDTH;
-use tables::order_at;
 
 // Whether a field of the legs' orders, their member or contract, is not the same in all of them.
 pub fn do_two_occur(book: &[u64], places: &[usize], field: usize) -> bool

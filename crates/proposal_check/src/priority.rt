@@ -6,24 +6,16 @@ ghost use lib.ListN.{length, replicate};
 ghost use Rattle.arith.specs.Lists.{every};
 ghost use Rattle.rules.specs.Ranges.{contractCount};
 ghost use Rattle.tables.specs.Fit.{ordersIn};
-ghost use Rattle.matching.specs.Ranks.{Ranked};
+ghost use Rattle.order_priority.specs.Priority.{Ranked};
 ghost use Rattle.proposal_check.specs.Columns.{PlacesFit, isAhead, isFullLeg};
 ghost use Rattle.proposal_check.specs.SidePlaces.{sidePlaces};
 ghost use Rattle.proposal_check.specs.LastRanks.{OrdersRanked, LegsRanked, LastRanks, keptBy};
 use crate::side_places::SIDE_PLACES;
 use crate::side_places::side_place;
-use matching::rank_of;
+use numbers::larger;
+use order_book::order_at;
+use order_priority::rank_of;
 use rules::Order;
-use tables::order_at;
-
-fn greatest(a: u64, b: u64) -> u64
-    ensures { λ r. ⌜ r ≡ max a b ⌝ }
-{
-    if a <= b {
-        return b;
-    }
-    a
-}
 
 // The last rank among the legs of each contract and side; a place with no leg has 0, and no rank is below that.
 fn write_last_ranks(book: &[u64], places: &[usize], lasts: &mut [u64])
@@ -34,7 +26,7 @@ fn write_last_ranks(book: &[u64], places: &[usize], lasts: &mut [u64])
     while i < places.len() {
         let order = order_at(book, places[i]);
         let at = side_place(order);
-        let last = greatest(lasts[at], rank_of(order));
+        let last = larger(lasts[at], rank_of(order));
         lasts[at] = last;
         i += 1;
     }

@@ -72,7 +72,7 @@ pub fn write_quotes(
     let mut i = count;
     while 0 < i {
         i -= 1;
-        let o = tables::order_at(book, i);
+        let o = order_book::order_at(book, i);
         note_quote(&mut *quotes, o, side, day, time);
     }
 }

@@ -14,8 +14,8 @@ use Rattle.rules.specs.Ledger.{Tables, lent, orders, orderCount}
 use Rattle.rules.specs.Matching.{incoming, submitBooked}
 use Rattle.rules.specs.Refusals.{submitCauses, submitSpec}
 use Rattle.tables.specs.Fit.{HeadFit, BookFit, orderCountIn, ordersIn}
-use Rattle.tables.proofs.Left.{orders-length, all-orders}
-use Rattle.matching.specs.Ranks.{Ranked}
+use Rattle.order_book.proofs.Left.{orders-length, all-orders}
+use Rattle.order_priority.specs.Priority.{Ranked}
 use Rattle.matching.specs.Crossing.{ownIn, crossingIn}
 use Rattle.submit_causes.specs.declared.causes.Verdict.{Verdict}
 use Rattle.submit_causes.specs.declared.causes.Verdict.the-variants.{Refused, Sound}

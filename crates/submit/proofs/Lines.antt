@@ -17,14 +17,15 @@ use Rattle.rules.specs.declared.order.Side.{Side}
 use Rattle.rules.specs.Sides.{signed}
 use Rattle.matching.specs.declared.deals.Counterparty.{Counterparty}
 use Rattle.matching.specs.Deals.{dealAt, dealsIn, lineIn, lineOut, linesWith}
-use Rattle.tables.specs.declared.lines.DealLine.{DealLine}
+use Rattle.deal_lines.specs.declared.lines.DealLine.{DealLine}
 use Rattle.tables.specs.Fit.{membersIn, lotsRunIn}
-use Rattle.tables.specs.Lines.{LineFit, lineOf, withLine}
-use Rattle.tables.proofs.Booked.{rows-fit-line, booked-none, booked-more}
+use Rattle.deal_lines.specs.Lines.{LineFit, lineOf, withLine}
+use Rattle.rules.proofs.LinesRun.{booked-none}
+use Rattle.deal_lines.proofs.Booked.{rows-fit-line, booked-more}
 use Rattle.submit.specs.Deals.{Bookable, DealBooked, lotsDealt}
 use Rattle.submit.proofs.Kept.{total-next, lines-next, lines-length}
 use Rattle.rules.proofs.Sides.{abs-signed}
-use Rattle.tables.proofs.Takes.{rows-wider}
+use Rattle.deal_lines.proofs.Takes.{rows-wider}
 
 module _ (head : List ℕ) (lots value lines : List ℤ) (head′ : List ℕ) (lots′ value′ lines′ : List ℤ) (i : ℕ) (l : DealLine)
     (b : Bookable head lots value lines) (f : LineFit head l) (h : i < leastLines)

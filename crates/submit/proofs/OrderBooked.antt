@@ -17,7 +17,7 @@ use Rattle.rules.specs.Ranges.{mostOrders, mostLotsRun}
 use Rattle.rules.specs.Ledger.{Tables, Line, lineRun, lent, orderWidth, withHead, withBook, withPrices, withRows, withLines, withOrderCount, orderPlaces, orders, withOrders, booked}
 use Rattle.rules.specs.Matching.{isResting, withLots, matched, dealLines, withDeals}
 use Rattle.tables.specs.Fit.{membersIn, lotsRunIn, orderCountIn, ordersIn}
-use Rattle.tables.proofs.Booked.{booked-none}
+use Rattle.rules.proofs.LinesRun.{booked-none}
 use Rattle.matching.specs.declared.levels.Matched.{Matched}
 use Rattle.matching.specs.Crossing.{crossingIn}
 use Rattle.matching.specs.Deals.{dealAt, dealsIn, linesWith}

@@ -14,7 +14,7 @@ use Rattle.arith.proofs.Writes.{over-more}
 use Rattle.rules.specs.declared.order.Order.{Order}
 use Rattle.rules.specs.Ledger.{Tables, withHead, withBook, withOrderCount, sideAt, orderAt, orderPlaces, withOrders}
 use Rattle.tables.specs.Fit.{ordersIn, orderCountIn}
-use Rattle.tables.proofs.Left.{orders-more, places-length}
+use Rattle.order_book.proofs.Left.{orders-more, places-length}
 use Rattle.rules.proofs.Sides.{side-again}
 
 -- ---- orders written where they stand

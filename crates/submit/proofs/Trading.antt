@@ -12,10 +12,11 @@ use Rattle.rules.specs.Ranges.{mostLots}
 use Rattle.rules.specs.Ledger.{Tables, lent, withHead, withBook, withOrders, withDealt, dayLotsPlace, dayValuePlace}
 use Rattle.rules.specs.Matching.{matched, Deal}
 use Rattle.tables.specs.Fit.{orderCountIn, ordersIn}
-use Rattle.tables.specs.Left.{leftOver}
-use Rattle.tables.proofs.Left.{orders-length, all-orders}
+use Rattle.order_book.specs.Left.{leftOver}
+use Rattle.order_book.proofs.Left.{orders-length, all-orders}
 use Rattle.matching.specs.declared.levels.Matched.{Matched}
-use Rattle.matching.specs.Ranks.{Ranked, lotsOf}
+use Rattle.order_priority.specs.Priority.{Ranked}
+use Rattle.matching.specs.Ranks.{lotsOf}
 use Rattle.matching.specs.Crossing.{crossingIn}
 use Rattle.matching.specs.Deals.{dealWidth, dealsIn, counterpartyOf}
 use Rattle.matching.specs.Matching.{Matchable, Ended, MatchMade}

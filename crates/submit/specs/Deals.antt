@@ -13,10 +13,10 @@ use Rattle.rules.specs.Ledger.{sideAt, orderAt, orderPlaces}
 use Rattle.rules.specs.Matching.{matched}
 use Rattle.rules.specs.Refusals.{distinct}
 use Rattle.tables.specs.Fit.{RowsFit, membersIn, lotsRunIn, orderCountIn, ordersIn}
-use Rattle.tables.specs.Lines.{withLine}
+use Rattle.deal_lines.specs.Lines.{withLine}
 use Rattle.matching.specs.declared.deals.Counterparty.{Counterparty}
 use Rattle.matching.specs.declared.levels.Matched.{Matched}
-use Rattle.matching.specs.Ranks.{Ranked}
+use Rattle.order_priority.specs.Priority.{Ranked}
 use Rattle.matching.specs.Deals.{dealWidth, dealAt, dealsIn, lineIn, lineOut, counterpartyOf, FromBook}
 
 abbrev pub lotsDealt : Counterparty → ℕ

@@ -8,14 +8,14 @@ ghost use Rattle.rules.specs.Ledger.{Tables, withHead, withRows, withLines, boo
 ghost use Rattle.tables.specs.Fit.{membersIn, lotsRunIn};
 ghost use Rattle.matching.specs.Deals.{dealAt, dealsIn, linesWith};
 ghost use Rattle.submit.specs.Deals.{DealsFit, Bookable, DealBooked, lotsDealt, worthOf};
+use deal_lines::DealLine;
+use deal_lines::book_line;
 use matching::Counterparty;
 use matching::deal_at;
 use rules::Kurus;
 use rules::Lots;
 use rules::Order;
 use sides::other_side;
-use tables::DealLine;
-use tables::book_line;
 
 // Lots times price over all deals.
 pub fn worth_of(deals: &[u64], count: usize) -> u64

@@ -34,7 +34,7 @@ fn rest_order(head: &mut [u64], book: &mut [u64], kind: OrderKind, o: Order, lef
 {
     if is_resting(kind) & (0 < left) {
         let count = head[ORDER_COUNT];
-        tables::put_order(&mut *book, count as usize, tables::with_lots(o, left));
+        order_book::put_order(&mut *book, count as usize, order_book::with_lots(o, left));
         head[ORDER_COUNT] = count + 1;
     }
 }

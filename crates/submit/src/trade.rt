@@ -6,7 +6,7 @@ ghost use Rattle.rules.specs.Ranges.{contractCount, mostLots, mostLotsRun, most
 ghost use Rattle.rules.specs.Ledger.{pricesLength, dayLotsPlace, dayValuePlace, withDealt};
 ghost use Rattle.rules.specs.Matching.{matched};
 ghost use Rattle.tables.specs.Fit.{orderCountIn, ordersIn};
-ghost use Rattle.tables.specs.Left.{leftOver};
+ghost use Rattle.order_book.specs.Left.{leftOver};
 ghost use Rattle.matching.specs.Deals.{dealWidth};
 ghost use Rattle.submit.specs.Deals.{DealsFit, Tradable, Traded};
 use crate::deals::worth_of;
@@ -49,6 +49,6 @@ pub fn settle(
     let m = match_orders(&*book, o, &mut *left, &mut *deals);
     let worth = worth_of(&*deals, m.deals);
     add_dealt(&mut *prices, o.contract, o.lots.0 - m.left, worth);
-    tables::keep_orders(&mut *head, &mut *book, &*left);
+    order_book::keep_orders(&mut *head, &mut *book, &*left);
     m
 }

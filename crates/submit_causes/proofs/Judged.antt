@@ -20,7 +20,8 @@ use Rattle.rules.specs.Ranges.{mostSubmitsInSecond, mostOrders, mostLotsRun, mo
 use Rattle.rules.specs.Ledger.{Tables, time, acceptedSubmits, lotsRun, orderCount, orders, limit, lotsAt, lineRun}
 use Rattle.rules.specs.Matching.{isTeye, isResting, mirrored, matched, incoming, submitMatched, submitLines, wouldRest, submitsAt, restingLots, aboveLimit}
 use Rattle.rules.specs.Refusals.{submitCauses, runWouldPass}
-use Rattle.matching.specs.Ranks.{Ranked, lotsOf}
+use Rattle.order_priority.specs.Priority.{Ranked}
+use Rattle.matching.specs.Ranks.{lotsOf}
 use Rattle.matching.specs.Crossing.{isOwn, ownLots, ownIn, crossingIn}
 use Rattle.matching.specs.Deals.{counterpartyOf, linesWith}
 use Rattle.matching.specs.Matching.{Ended}

@@ -14,7 +14,7 @@ ghost use Rattle.submit_causes.specs.Causes.{outcome, firstCauses, measu
 use crate::position::is_above;
 use crate::position::position;
 use matching::Crossing;
-use matching::least;
+use numbers::smaller;
 use rules::Answer;
 use rules::OrderKind;
 use rules::Submission;
@@ -130,7 +130,7 @@ pub fn measured_cause(head: &[u64], lots: &[i64], e: Submission, found: Crossing
     if is_resting(kind) & ((crossing == 0) & (MOST_ORDERS <= head[ORDER_COUNT])) {
         return Verdict::Refused(Answer::BookFull);
     }
-    let run = head[LOTS_RUN] + 2 * least(wanted, crossing);
+    let run = head[LOTS_RUN] + 2 * smaller(wanted, crossing);
     if (MOST_LOTS_RUN < run) | (MOST_ACCEPTED_SUBMITS <= head[ACCEPTED_SUBMITS]) {
         return Verdict::Refused(Answer::TotalPassed);
     }

@@ -1,4 +1,1 @@
 pub mod Fit
-pub mod Left
-pub mod Lines
-pub mod Room

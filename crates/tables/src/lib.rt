@@ -1,17 +1,8 @@
-// The lent tables: what is read and written in them. docs/LAYOUT.md has every place.
-mod book;
+// The lent tables: whether they are long enough, and what is read and written in the head. docs/LAYOUT.md has every place.
 mod head;
-mod leaving;
-mod lines;
+mod lengths;
 
-pub use book::order_at;
-pub use book::put_order;
 pub use head::is_contract_open;
 pub use head::set_time;
-pub use leaving::Leaving;
-pub use leaving::keep_orders;
-pub use leaving::remove_orders;
-pub use leaving::with_lots;
-pub use leaving::would_any_leave;
-pub use lines::DealLine;
-pub use lines::book_line;
+pub use lengths::is_ledger_short;
+pub use lengths::is_lines_short;

@@ -7,7 +7,7 @@ use lib.ListN.{getD}
 use borrow.Author.Tests.{lt-ltb, le-ltb, not-true, not-false}
 use Rattle.rules.specs.Ledger.{orders, withHead, withBook}
 use Rattle.rules.specs.Refusals.{cancelSpec}
-use Rattle.tables.proofs.Booked.{booked-none}
+use Rattle.rules.proofs.LinesRun.{booked-none}
 use Rattle.tables.proofs.Heads.{orders-fit, timed-place}
 use borrow.Author.Needs.{needs}
 use Rattle.cancel.proofs.apply.Statement.{statement}

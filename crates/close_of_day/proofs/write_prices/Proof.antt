@@ -3,7 +3,7 @@ use Prim.Native.Nat.{_≤_}
 use lib.ListN.{getD, length}
 use Rattle.rules.specs.Ledger.{withHead, withPrices, withBook, orders}
 use Rattle.rules.specs.CloseOfDay.{priced, withoutDeals}
-use Rattle.tables.proofs.Left.{all-orders}
+use Rattle.order_book.proofs.Left.{all-orders}
 use Rattle.contract_phases.specs.Phases.{allOpenIn}
 use Rattle.reference_price.specs.Columns.{ggfsFrom}
 use Rattle.contract_phases.proofs.Phases.{phases-length}

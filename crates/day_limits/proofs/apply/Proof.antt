@@ -4,7 +4,7 @@ use lib.ListN.{length-set}
 use native.Mathlib.Omega.{arith}
 use Rattle.rules.specs.Ledger.{withPrices}
 use Rattle.rules.specs.Refusals.{dayLimitsSpec}
-use Rattle.tables.proofs.Booked.{booked-none}
+use Rattle.rules.proofs.LinesRun.{booked-none}
 use borrow.Author.Needs.{needs}
 use Rattle.day_limits.proofs.apply.Statement.{statement}
 use Rattle.day_limits.proofs.apply.Tie as tie

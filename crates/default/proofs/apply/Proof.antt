@@ -8,7 +8,7 @@ use Prim.Native.Nat.{_+_}
 use Rattle.rules.specs.Ledger.{orders}
 use Rattle.rules.specs.Default.{defaultBooked}
 use Rattle.rules.specs.Refusals.{defaultSpec}
-use Rattle.tables.proofs.Booked.{booked-none}
+use Rattle.rules.proofs.LinesRun.{booked-none}
 use Rattle.tables.proofs.Heads.{orders-fit}
 use borrow.Author.Needs.{needs}
 use Rattle.default.proofs.apply.Statement.{statement}

@@ -7,7 +7,7 @@ use Rattle.arith.specs.Lists.{total, from}
 use Rattle.rules.specs.Ledger.{lent, withHead, withPrices, withRows, withBook, withLines, withOrders, orders, booked}
 use Rattle.rules.specs.Synthetic.{proposalLines, usedByLegs, proposalBooked}
 use Rattle.rules.specs.Refusals.{proposalSpec}
-use Rattle.tables.proofs.Left.{all-orders}
+use Rattle.order_book.proofs.Left.{all-orders}
 use Rattle.proposal_check.specs.Columns.{LegsFit, PlacesFit, columnLegs}
 use Rattle.proposal.specs.Booking.{linesTo}
 use Rattle.proposal_check.proofs.Checks.{places-many}

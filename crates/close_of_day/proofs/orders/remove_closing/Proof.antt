@@ -6,7 +6,7 @@ use lib.ListN.{getD, replicate}
 use lib.Seq.{length-take-le}
 use Rattle.rules.specs.declared.order.Order.{Order}
 use Rattle.rules.specs.Ledger.{withHead, withBook, withOrders}
-use Rattle.tables.proofs.Left.{all-orders, column-long, column-many, column-kept}
+use Rattle.order_book.proofs.Left.{all-orders, column-long, column-many, column-kept}
 use Rattle.contract_phases.specs.Phases.{closes}
 use borrow.Author.Needs.{needs}
 use Rattle.close_of_day.proofs.orders.remove_closing.Statement.{statement}

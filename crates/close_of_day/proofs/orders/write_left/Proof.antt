@@ -8,8 +8,8 @@ use lib.ListN.{length, take, drop, getD, length-set}
 use Rattle.arith.proofs.Writes.{front-next, front-end}
 use Rattle.rules.specs.declared.order.Order.{Order}
 use Rattle.tables.specs.Fit.{ordersIn}
-use Rattle.tables.specs.Left.{staying}
-use Rattle.tables.proofs.Left.{staying-length, staying-at}
+use Rattle.order_book.specs.Left.{staying}
+use Rattle.order_book.proofs.Left.{staying-length, staying-at}
 use Rattle.contract_phases.specs.Phases.{closes}
 use Rattle.close_of_day.proofs.orders.write_left.Statement.{statement}
 use Rattle.close_of_day.proofs.orders.write_left.Tie as tie

@@ -4,7 +4,7 @@ use native.Mathlib.Omega.{arith}
 use lib.ListN.{length}
 use borrow.Author.Needs.{needs}
 use Rattle.close_out.proofs.Changes.{lines-end, sum-next, each-none}
-use Rattle.tables.proofs.Takes.{less-room}
+use Rattle.deal_lines.proofs.Takes.{less-room}
 use Rattle.close_out.proofs.Running.{put, Running, running-next}
 use Rattle.close_out.proofs.booking.book_changes.Statement.{statement}
 use Rattle.close_out.proofs.booking.book_changes.Tie as tie

@@ -2,7 +2,7 @@ use mathlib.Core.Path.{sym, _∙_}
 use native.Mathlib.Omega.{arith}
 use borrow.Author.Needs.{needs}
 use Rattle.close_out.proofs.StepColumns.{netting-count, netting-tables, netting-room, left-is, given-fits}
-use Rattle.tables.proofs.Takes.{less-room}
+use Rattle.deal_lines.proofs.Takes.{less-room}
 use Rattle.close_out.proofs.netting.net_columns.Statement.{statement}
 use Rattle.close_out.proofs.netting.net_columns.Tie as tie
 

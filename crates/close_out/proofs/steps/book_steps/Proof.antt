@@ -1,6 +1,6 @@
 use native.Mathlib.Omega.{arith}
 use borrow.Author.Needs.{needs}
-use Rattle.tables.proofs.Takes.{less-room}
+use Rattle.deal_lines.proofs.Takes.{less-room}
 use Rattle.close_out.proofs.StepBooking.{left-column, second-requires, takers-requires, finish, done}
 use Rattle.close_out.proofs.steps.book_steps.Statement.{statement}
 use Rattle.close_out.proofs.steps.book_steps.Tie as tie

@@ -6,7 +6,7 @@ use Rattle.rules.specs.Default.{sumOf}
 use Rattle.rules.proofs.Netting.{sum-zeros}
 use Rattle.tables.specs.Fit.{membersIn}
 use Rattle.dealing.proofs.Dealt.{all-dealt}
-use Rattle.tables.proofs.Takes.{less-room}
+use Rattle.deal_lines.proofs.Takes.{less-room}
 use Rattle.close_out.proofs.StepColumns.{takers-buy, takers-sell}
 use Rattle.close_out.proofs.takers.deal_columns.Statement.{statement}
 use Rattle.close_out.proofs.takers.deal_columns.Tie as tie

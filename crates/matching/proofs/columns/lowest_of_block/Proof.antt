@@ -11,9 +11,9 @@ returns c =
     let at-second = at-third .before in
     let at-first = at-second .before in
     lowest-both _ _ 8 _ 8 _ _ _
-    (lowest-both _ _ 4 _ 4 _ _ _ (at-first .lowest-of-four .ensures) (at-second .lowest-of-four2 .ensures) (omega arith) (c .before .before .least .ensures))
-    (lowest-both _ _ 4 _ 4 _ _ _ (at-third .lowest-of-four3 .ensures) (at-fourth .lowest-of-four4 .ensures) (omega arith) (c .before .least2 .ensures))
-    (omega arith) (c .least3 .ensures)
+    (lowest-both _ _ 4 _ 4 _ _ _ (at-first .lowest-of-four .ensures) (at-second .lowest-of-four2 .ensures) (omega arith) (c .before .before .smaller .ensures))
+    (lowest-both _ _ 4 _ 4 _ _ _ (at-third .lowest-of-four3 .ensures) (at-fourth .lowest-of-four4 .ensures) (omega arith) (c .before .smaller2 .ensures))
+    (omega arith) (c .smaller3 .ensures)
 
 pub lowest-of-block-spec : {M : Type 1} → statement M
 lowest-of-block-spec =

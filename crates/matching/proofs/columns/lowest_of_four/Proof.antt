@@ -7,12 +7,12 @@ use Rattle.matching.proofs.columns.lowest_of_four.Tie as tie
 
 returns : tie.Need-returns
 returns c =
-    let at-least = c .before .before .before .before in
-    let start = at-least .before .before .before .before in
+    let at-smaller = c .before .before .before .before in
+    let start = at-smaller .before .before .before .before in
     let at = start .args .at in
     let l = start .args .ranks .now in
-    lowest-both l at 2 (at + 2) 2 _ _ _ (lowest-both l at 1 (at + 1) 1 _ _ _ (lowest-one l at) (lowest-one l (at + 1)) (omega arith) (at-least .least .ensures))
-    (lowest-both l (at + 2) 1 (at + 3) 1 _ _ _ (lowest-one l (at + 2)) (lowest-one l (at + 3)) (omega arith) (c .before .least2 .ensures)) (omega arith) (c .least3 .ensures)
+    lowest-both l at 2 (at + 2) 2 _ _ _ (lowest-both l at 1 (at + 1) 1 _ _ _ (lowest-one l at) (lowest-one l (at + 1)) (omega arith) (at-smaller .smaller .ensures))
+    (lowest-both l (at + 2) 1 (at + 3) 1 _ _ _ (lowest-one l (at + 2)) (lowest-one l (at + 3)) (omega arith) (c .before .smaller2 .ensures)) (omega arith) (c .smaller3 .ensures)
 
 pub lowest-of-four-spec : {M : Type 1} → statement M
 lowest-of-four-spec =

@@ -1,6 +1,7 @@
 use native.Mathlib.Omega.{arith}
 use borrow.Author.Tests.{lt-ltb}
-use Rattle.matching.specs.Ranks.{noRank, rankOf, rankIn, placedRank}
+use Rattle.order_priority.specs.Priority.{rankOf}
+use Rattle.matching.specs.Ranks.{noRank, rankIn, placedRank}
 use Rattle.matching.proofs.Best.{rank-below, rank-room}
 use borrow.Author.Needs.{needs}
 use Rattle.matching.proofs.columns.rank_at.Statement.{statement}

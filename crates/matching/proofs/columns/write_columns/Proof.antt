@@ -8,7 +8,7 @@ use Rattle.arith.proofs.Writes.{front-next, front-end}
 use Rattle.matching.specs.Ranks.{lotsOf, firstRank, rankIn, placedRank}
 use Rattle.matching.proofs.Best.{ranks-length}
 use Rattle.tables.specs.Fit.{ordersIn}
-use Rattle.tables.proofs.Left.{orders-length}
+use Rattle.order_book.proofs.Left.{orders-length}
 use Rattle.matching.proofs.Passes.{lots-here, rank-here}
 use Rattle.matching.proofs.Lows.{PlacedTo, placed-start, placed-next, placed-all}
 use Rattle.matching.proofs.columns.write_columns.Statement.{statement}

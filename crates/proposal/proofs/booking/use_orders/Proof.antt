@@ -4,7 +4,7 @@ use lib.ListN.{getD, length, replicate}
 use lib.Seq.{length-take-le}
 use Rattle.rules.specs.Ledger.{withHead, withBook, withOrders}
 use Rattle.tables.specs.Fit.{ordersIn}
-use Rattle.tables.specs.Left.{leftOver}
+use Rattle.order_book.specs.Left.{leftOver}
 use Rattle.proposal_check.specs.Columns.{PlacesFit}
 use Rattle.proposal.proofs.Taken.{left-long, left-many, left-front}
 use borrow.Author.Needs.{needs}

@@ -3,7 +3,7 @@ use native.Mathlib.Omega.{arith}
 use mathlib.Core.Path.{_≡_, refl, ap, _∙_}
 use Prim.Native.Nat.{_-_, _≤_}
 use lib.ListN.{length, length-set}
-use Rattle.matching.specs.Ranks.{rankOf}
+use Rattle.order_priority.specs.Priority.{rankOf}
 use Rattle.proposal_check.specs.SidePlaces.{sidePlaceOf}
 use Rattle.proposal_check.proofs.LastRanks.{LastRanksTo, lasts-start, lasts-next, lasts-end}
 use Rattle.proposal_check.proofs.priority.write_last_ranks.Statement.{statement}
@@ -27,8 +27,8 @@ side-place-requires : tie.Need-side-place-requires Inv-loop μ-loop
 side-place-requires c κs = rw (c .order-at .ensures)
     (c .before .before .before .before .before .before .before .pre .0 .contract-below (c .before .before .before .loop .i) (c .before .before .loop-test .taken))
 
-slice-read-greatest : tie.Need-slice-read-greatest Inv-loop μ-loop
-slice-read-greatest c = omega (arith, c .before .side-place .ensures .1, c .before .before .before .before .before .loop .inv .2 .long)
+slice-read-larger : tie.Need-slice-read-larger Inv-loop μ-loop
+slice-read-larger c = omega (arith, c .before .side-place .ensures .1, c .before .before .before .before .before .loop .inv .2 .long)
 
 rank-of-requires : tie.Need-rank-of-requires Inv-loop μ-loop
 rank-of-requires c κs =
@@ -49,7 +49,7 @@ loop-again c =
     let read = c .before .before .before .before .order-at .ensures in (
       length-set (at-loop .loop .lasts) _ _ ∙ at-loop .loop .inv .0,
       omega arith,
-      rw (c .greatest .ensures)
+      rw (c .larger .ensures)
           (lasts-next (a .book .now) (a .places .now) (at-loop .loop .i) (at-side-place .side-place .result) (c .before .rank-of .result) (at-loop .loop .lasts)
           (at-loop .loop .inv .2) (at-loop-test .loop-test .taken)
           (at-side-place .side-place .ensures .0 ∙ ap sidePlaceOf read) (at-side-place .side-place .ensures .1) (c .before .rank-of .ensures ∙ ap rankOf read)),
@@ -63,5 +63,5 @@ pub write-last-ranks-spec : {M : Type 1} → statement M
 write-last-ranks-spec =
     tie.close
     (tie.spec Inv-loop μ-loop loop-holds (λ c. search needs) (λ c. search needs) order-at-requires side-place-requires
-    (λ c. search needs) slice-read-greatest rank-of-requires (λ c κs. search needs) (λ c. search needs)
+    (λ c. search needs) slice-read-larger rank-of-requires (λ c κs. search needs) (λ c. search needs)
     slice-write-lasts (λ c. search needs) (λ c. search needs) loop-again (λ c. search needs) returns)

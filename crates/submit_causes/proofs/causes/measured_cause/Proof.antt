@@ -79,7 +79,7 @@ returns-4 c =
       ← (at-is-resting .is-resting .ensures),
       at-if3 .if3 .left,
       ←
-          (c .before .before .least .ensures),
+          (c .before .before .smaller .ensures),
       c .if4 .taken,
     )
 
@@ -105,7 +105,7 @@ returns-5 c =
       ← (at-is-resting .is-resting .ensures),
       at-if3 .if3 .left,
       ←
-          (c .before .before .least .ensures),
+          (c .before .before .smaller .ensures),
       c .if4 .left,
     )
 

@@ -1,0 +1,3 @@
+mod Amounts
+pub mod Booked
+pub mod Takes
