@@ -8,8 +8,8 @@ use lib.ListN.{length, take, drop, length-take}
 use Rattle.records.specs.declared.stage.Stage.{Stage}
 use Rattle.records.specs.declared.stage.Stage.the-variants.{Header, Records, Read, Stopped, ReadToEnd, RecordUnsound, HeaderUnsound}
 use Rattle.records.specs.Stages.{Counts}
-use Rattle.journal.specs.declared.input.Filled.{Filled}
-use Rattle.journal.specs.declared.input.Filled.the-variants.{Until}
+use Rattle.journal.specs.declared.shell.Filled.{Filled}
+use Rattle.journal.specs.declared.shell.Filled.the-variants.{Until}
 use Rattle.journal.specs.declared.shell.Next.{Next}
 use Rattle.journal.specs.declared.shell.Next.the-variants.{Going}
 use Rattle.journal.specs.declared.shell.Place.{Place}

@@ -4,8 +4,8 @@ use mathlib.Core.Path.{_≡_}
 use lib.IntN.{ℤ, pos}
 use Rattle.records.specs.Stages.{Counts}
 use Rattle.rules.specs.Ledger.{rowsLength}
-use Rattle.journal.specs.declared.input.Filled.{Filled}
-use Rattle.journal.specs.declared.input.Filled.the-variants.{Until, End, Failed}
+use Rattle.journal.specs.declared.shell.Filled.{Filled}
+use Rattle.journal.specs.declared.shell.Filled.the-variants.{Until, End, Failed}
 use Rattle.journal.specs.declared.shell.Ending.{Ending}
 use Rattle.journal.specs.declared.shell.Ending.the-variants.{ReadToEnd, HeaderUnsound, RecordUnsound, ReadFailed, WriteFailed}
 use Rattle.journal.specs.declared.shell.Next.{Next}

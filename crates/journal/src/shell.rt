@@ -4,11 +4,11 @@ ghost use mathlib.Core.Path.{_≡_};
 ghost use Prim.Native.Nat.{_+_, _≤_, _<_};
 ghost use lib.ListN.{length};
 ghost use Rattle.rules.specs.Ledger.{headLength, linesLength};
-ghost use Rattle.journal.specs.Places.{bufferLength, rowsRoom, mostTurns, Stands, nextStands};
-use crate::input::Filled;
-use crate::input::fill;
-use crate::output::flush;
+ghost use Rattle.journal.specs.Places.{bufferLength, rowsRoom, mostTurns, Stands, nextStands, filledTo, statusOf};
+ghost use Rattle.journal.specs.declared.shell.Ending.{Ending};
 use libc::STDERR_FILENO;
+use libc::STDIN_FILENO;
+use libc::STDOUT_FILENO;
 use records::Stage;
 use records::Wants;
 use records::advance;
@@ -27,12 +27,51 @@ const ROWS: usize = ROWS_LENGTH + 2;
 // Nothing says that standard input ends, so turns are counted: this many take years.
 const MOST_TURNS: u64 = 70368744177664;
 
-pub enum Ending {
+enum Ending {
     ReadToEnd,
     HeaderUnsound,
     RecordUnsound,
     ReadFailed,
     WriteFailed,
+}
+
+// What a read of standard input brought.
+enum Filled {
+    // Bytes came, and the buffer holds bytes up to here.
+    Until(usize),
+    // No more bytes come.
+    End,
+    Failed,
+}
+
+// One read, to the bytes from end on. A read that a signal broke off brings nothing.
+fn fill(input: &mut [u8], end: usize) -> Filled
+    requires { ⌜ end ≤ length (now input) ⌝ }
+    ensures { λ r. ⌜ filledTo r (length (now (input .entry))) ⌝ }
+{
+    let got = libc::read(STDIN_FILENO, &mut input[end..]);
+    if got < 0 {
+        if os::errno() == libc::EINTR {
+            return Filled::Until(end);
+        }
+        os::fail(b"journal: standard input");
+        return Filled::Failed;
+    }
+    if got == 0 {
+        return Filled::End;
+    }
+    Filled::Until(end + io::count(got, &input[end..]))
+}
+
+// Whether all of the buffer's first bytes were written.
+fn flush(output: &[u8], filled: usize) -> bool
+    requires { ⌜ filled ≤ length (now output) ⌝ }
+{
+    if io::write_all(STDOUT_FILENO, &output[..filled]) {
+        return true;
+    }
+    os::fail(b"journal: standard output");
+    false
 }
 
 // The bytes from a place to end are still to be run, those below filled still to be written.
@@ -269,7 +308,7 @@ fn run_on_rows(
     )
 }
 
-pub fn run() -> Ending {
+fn run() -> Ending {
     let mut input = [0u8; BUFFER];
     let mut output = [0u8; BUFFER];
     let mut head = [0u64; HEAD_LENGTH];
@@ -288,4 +327,25 @@ pub fn run() -> Ending {
         &mut book,
         &mut lines,
     )
+}
+
+fn status(ending: Ending) -> i32
+    ensures { λ r. ⌜ r ≡ statusOf ending ⌝ }
+{
+    match ending {
+        Ending::ReadToEnd => 0,
+        Ending::HeaderUnsound => 2,
+        Ending::RecordUnsound => 3,
+        Ending::ReadFailed => 4,
+        Ending::WriteFailed => 5,
+    }
+}
+
+// The exit status: 0 if the journal was read to its end, 2 after a header and 3 after a record that is unsound, 4 if it could
+// not be read, 5 if its output could not be written. After 4 and 5 a message stands on standard error.
+#[no_mangle]
+pub extern "C" fn journal_run() -> i32
+    ensures { λ r. ⌜ ((ending : Ending) × (r ≡ statusOf ending)) ⌝ }
+{
+    status(run())
 }

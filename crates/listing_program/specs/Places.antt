@@ -4,8 +4,8 @@ use mathlib.Core.List.{List}
 use mathlib.Core.Path.{_≡_}
 use lib.IntN.{ℤ, pos}
 use Rattle.rules.specs.Header.{headerLength, headerOf}
-use Rattle.listing_program.specs.declared.input.Filled.{Filled}
-use Rattle.listing_program.specs.declared.input.Filled.the-variants.{Until, End, Failed}
+use Rattle.listing_program.specs.declared.shell.Filled.{Filled}
+use Rattle.listing_program.specs.declared.shell.Filled.the-variants.{Until, End, Failed}
 use Rattle.listing_program.specs.declared.shell.Ending.{Ending}
 use Rattle.listing_program.specs.declared.shell.Ending.the-variants.{Listed, HeaderUnsound, RecordUnsound, ReadFailed, WriteFailed}
 use Rattle.listing_program.specs.declared.shell.Ledger.{Ledger}

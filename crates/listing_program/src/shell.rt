@@ -4,10 +4,8 @@ ghost use mathlib.Core.Path.{_≡_};
 ghost use Prim.Native.Nat.{_+_, _≤_, _<_};
 ghost use lib.ListN.{length};
 ghost use Rattle.listing.specs.Sizes.{lineRoom};
-ghost use Rattle.listing_program.specs.Places.{inputLength, outputLength, mostTurns, mostInTwoBytes, filledTo, LedgerOf, Stands, nextStands};
-use crate::input::Filled;
-use crate::input::fill;
-use crate::output::flush;
+ghost use Rattle.listing_program.specs.Places.{inputLength, outputLength, mostTurns, mostInTwoBytes, filledTo, LedgerOf, Stands, nextStands, statusOf};
+ghost use Rattle.listing_program.specs.declared.shell.Ending.{Ending};
 use big_endian::u8_or_zero;
 use header::FIRST_HOLIDAY_PLACE;
 use header::FIRST_YEAR_PLACE;
@@ -17,6 +15,8 @@ use header::LIMIT_LENGTH;
 use header::MEMBERS_PLACE;
 use header::header_length;
 use libc::STDERR_FILENO;
+use libc::STDIN_FILENO;
+use libc::STDOUT_FILENO;
 use listing::Piece;
 use listing::ROOM;
 use listing::next_piece;
@@ -39,12 +39,51 @@ const LONGEST_HEADER: usize = FIRST_HOLIDAY_PLACE
 // Nothing says that standard input ends, so turns are counted: this many take years.
 const MOST_TURNS: u64 = 70368744177664;
 
-pub enum Ending {
+enum Ending {
     Listed,
     HeaderUnsound,
     RecordUnsound,
     ReadFailed,
     WriteFailed,
+}
+
+// What a read of standard input brought.
+enum Filled {
+    // Bytes came, and the buffer holds bytes up to here.
+    Until(usize),
+    // No more bytes come.
+    End,
+    Failed,
+}
+
+// One read, to the bytes from end on. A read that a signal broke off brings nothing.
+fn fill(input: &mut [u8], end: usize) -> Filled
+    requires { ⌜ end ≤ length (now input) ⌝ }
+    ensures { λ r. ⌜ filledTo r (length (now (input .entry))) ⌝ }
+{
+    let got = libc::read(STDIN_FILENO, &mut input[end..]);
+    if got < 0 {
+        if os::errno() == libc::EINTR {
+            return Filled::Until(end);
+        }
+        os::fail(b"listing: standard input");
+        return Filled::Failed;
+    }
+    if got == 0 {
+        return Filled::End;
+    }
+    Filled::Until(end + io::count(got, &input[end..]))
+}
+
+// Whether all of the buffer's first bytes were written.
+fn flush(output: &[u8], filled: usize) -> bool
+    requires { ⌜ filled ≤ length (now output) ⌝ }
+{
+    if io::write_all(STDOUT_FILENO, &output[..filled]) {
+        return true;
+    }
+    os::fail(b"listing: standard output");
+    false
 }
 
 // What the header says of the records.
@@ -265,7 +304,7 @@ fn list_from(end: usize, input: &mut [u8], output: &mut [u8]) -> Ending
     list_records(ledger, first, input, output)
 }
 
-pub fn run() -> Ending {
+fn run() -> Ending {
     let mut input = [0u8; INPUT];
     let mut output = [0u8; OUTPUT];
     match fill_header(&mut input) {
@@ -273,4 +312,25 @@ pub fn run() -> Ending {
         Filled::End => list_from(0, &mut input, &mut output),
         Filled::Failed => Ending::ReadFailed,
     }
+}
+
+fn status(ending: Ending) -> i32
+    ensures { λ r. ⌜ r ≡ statusOf ending ⌝ }
+{
+    match ending {
+        Ending::Listed => 0,
+        Ending::HeaderUnsound => 2,
+        Ending::RecordUnsound => 3,
+        Ending::ReadFailed => 4,
+        Ending::WriteFailed => 5,
+    }
+}
+
+// The exit status: 0 if the journal was listed to its end, 2 after a header and 3 after a record that is unsound, 4 if it could
+// not be read, 5 if the lines could not be written. After 4 and 5 a message stands on standard error.
+#[no_mangle]
+pub extern "C" fn listing_run() -> i32
+    ensures { λ r. ⌜ ((ending : Ending) × (r ≡ statusOf ending)) ⌝ }
+{
+    status(run())
 }
