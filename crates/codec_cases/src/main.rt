@@ -150,6 +150,7 @@ fn record(members: u64, bytes: &[u8]) {
     text(b"\n");
 }
 
+// Fields at their most, and one past it.
 fn submits() {
     record(
         3,
@@ -183,6 +184,10 @@ fn submits() {
         3,
         b"\x01\x00\x01\x51\x7f\x00\x65\x00\x00\x00\x0f\x42\x41\x00\x01",
     );
+}
+
+// Fields at their least, lots at both ends, a byte less and a byte more.
+fn least_submits() {
     record(
         3,
         b"\x01\x00\x00\x00\x00\x00\x00\x00\x01\x00\x00\x00\x01\x00\x01",
@@ -377,6 +382,7 @@ fn fronts() {
 
 fn main() {
     submits();
+    least_submits();
     cancels_and_limits();
     proposals();
     legs(1);

@@ -19,7 +19,8 @@ use Rattle.rules.specs.declared.contract.Term.{Term}
 use Rattle.rules.specs.declared.units.Day.{Day}
 use Rattle.rules.specs.declared.units.Day.the-variants.{On, NoDay}
 use Rattle.rules.specs.Days.{Calendar, businessDayBefore}
-use Rattle.rules.specs.Contracts.{kindOf, termOf, sameKind, contractsOf, monthsIn, closingDistance, termFirstDay, termClosingDay, closingDay, closesOn, isOn, notBefore, stillToClose, openOfKind, openContracts}
+use Rattle.rules.specs.Contracts.{kindOf, termOf, sameKind, contractsOf, monthsIn, closingDistance, termFirstDay, termClosingDay}
+use Rattle.rules.specs.Contracts.{closingDay, closesOn, isOn, notBefore, stillToClose, openOfKind, openContracts}
 use Rattle.rules.specs.OtherForms.{numberOf, sizeOf}
 use Rattle.months.specs.Spans.{startsOf}
 use Rattle.contracts.specs.InLedger.{InLedger}

@@ -14,7 +14,8 @@ same-length c = rw (c .before .before .read-months .ensures) (mapped-length _ 0 
 returns : tie.Need-returns
 returns c =
     let start = c .before .before .before .before .before .before in
-    λ h. starts-made (record { firstYear = start .args .first-year; holidays = h }) _ _ (rw (start .pre .1) at (c .before .before .read-months .ensures)) (c .before .before .before .before .first-month .ensures)
+    let read = rw (start .pre .1) at (c .before .before .read-months .ensures) in
+    λ h. starts-made (record { firstYear = start .args .first-year; holidays = h }) _ _ read (c .before .before .before .before .first-month .ensures)
 
 pub read-starts-spec : {M : Type 1} → statement M
 read-starts-spec =
