@@ -2,12 +2,13 @@
 ghost use mathlib.Core.Path.{_≡_};
 ghost use mathlib.Core.List.{List};
 ghost use Prim.Native.Nat.{_≤_, _<_};
-ghost use lib.IntN.{ℤ, natAbs};
+ghost use lib.IntN.{ℤ};
 ghost use lib.ListN.{length, getD};
 ghost use Rattle.arith.specs.Ints.{up, dn};
 ghost use Rattle.rules.specs.Ledger.{Tables, membersPlace, withHead, withRows, headLength, rowsLength};
 ghost use Rattle.rules.specs.Ranges.{contractCount, mostMembers};
 ghost use Rattle.close_out_weights.specs.Columns.{lotsIn, columnOf};
+use numbers::size;
 use rules::layout::MARKS;
 use rules::layout::ROW_WIDTH;
 
@@ -31,12 +32,6 @@ fn short_lots(net: i64) -> u64
         return size as u64 + 1;
     }
     0
-}
-
-pub fn size(net: i64) -> u64
-    ensures { λ r. ⌜ r ≡ natAbs net ⌝ }
-{
-    long_lots(net) + short_lots(net)
 }
 
 fn lots_in(part: Part, marked: bool, net: i64) -> u64

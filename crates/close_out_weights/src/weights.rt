@@ -12,7 +12,7 @@ ghost use Rattle.dealing.specs.Levels.{mostDays};
 ghost use Rattle.rules.specs.Ledger.{Tables, withHead, withRows, marksFrom, rowPlace};
 ghost use Rattle.tables.specs.Fit.{HeadFit, RowsFit, membersIn};
 ghost use Rattle.close_out_weights.specs.Columns.{weightBy, daysWeights};
-use crate::columns::size;
+use numbers::size;
 use rules::DayNo;
 use rules::layout::CONTRACTS;
 use rules::layout::DAY;

@@ -18,6 +18,7 @@ use crate::ranges::quantity_of;
 use crate::ranges::range_of;
 use crate::ranges::size_of;
 use crate::ranges::verdict_of;
+use crate::shapes::FIXED_FIELDS;
 use crate::shapes::count_of_kind;
 use crate::shapes::field_at;
 use big_endian::u8_or_zero;
@@ -256,7 +257,7 @@ pub fn put_header_line(bytes: &[u8], out: &mut [u8], start: usize) -> Listed
 {
     let members = u8_or_zero(bytes, MEMBERS_PLACE);
     let holidays = u8_or_zero(bytes, HOLIDAY_COUNT_PLACE);
-    let count = 8 + (holidays + members);
+    let count = FIXED_FIELDS + (holidays + members);
     let shape = Shape::Header {
         holidays: holidays,
         members: members,

@@ -16,7 +16,7 @@ use rules::kinds::PROPOSAL;
 use rules::kinds::SUBMIT;
 
 // How many fields a header has before its holidays.
-const FIXED_FIELDS: u64 = 8;
+pub const FIXED_FIELDS: u64 = 8;
 
 const LEG_FIELDS: u64 = 3;
 

@@ -7,6 +7,7 @@ ghost use Rattle.rules.specs.Ledger.{Tables, lineWidth, headLength, withHead, f
 ghost use Rattle.rules.specs.Text.{decimal, lineText};
 ghost use Rattle.text.specs.Wrote.{Wrote};
 ghost use Rattle.printing.specs.Room.{lineRoom};
+use numbers::size;
 use rules::layout::DAY;
 use rules::layout::FIRST_YEAR;
 use rules::layout::LINE_CONTRACT;
@@ -19,7 +20,6 @@ use rules::layout::MEMBERS;
 use text::put_byte;
 use text::put_field;
 use text::put_signed_field;
-use text::size;
 
 // The most bytes of a line: a letter, four fields of 21 bytes and the end of the line.
 pub const LINE_ROOM: usize = 86;

@@ -2,10 +2,10 @@
 ghost use mathlib.Core.List.{[], _∷_, _++_};
 ghost use mathlib.Core.Path.{_≡_};
 ghost use Prim.Native.Nat.{_+_, _-_, _<_, _≤_};
-ghost use lib.IntN.{natAbs};
 ghost use lib.ListN.{length, take, drop};
 ghost use Rattle.rules.specs.Text.{decimal, signedDecimal, space};
 ghost use Rattle.text.specs.Wrote.{Wrote};
+use numbers::size;
 
 pub fn put_byte(out: &mut [u8], place: usize, byte: u8) -> usize
     requires { ⌜ place < length (now out) ⌝ }
@@ -40,19 +40,8 @@ pub fn put_decimal(out: &mut [u8], place: usize, n: u64) -> usize
     put_byte(out, end, b'0' + (n % 10) as u8)
 }
 
-// The least i64 has a size too, which -x would not have.
-pub fn size(x: i64) -> u64
-    ensures { λ r. ⌜ r ≡ natAbs x ⌝ }
-{
-    if x < 0 {
-        let less_one = -1 - x;
-        return less_one as u64 + 1;
-    }
-    x as u64
-}
-
 // The digits of a number, after a minus if it is below 0.
-pub fn put_signed(out: &mut [u8], place: usize, x: i64) -> usize
+fn put_signed(out: &mut [u8], place: usize, x: i64) -> usize
     requires { ⌜ place + length (signedDecimal x) ≤ length (now out) ⌝ }
     ensures { λ r. ⌜ Wrote place (signedDecimal x) (now (out .entry)) (now (out .exit)) r ⌝ }
 {

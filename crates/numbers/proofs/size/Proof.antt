@@ -1,8 +1,8 @@
 use native.Mathlib.Omega.{arith}
 use borrow.Author.Needs.{needs}
 use Rattle.arith.proofs.Negatives.{size-parts, flip-fits, flip-cast, flip-more, flip-size, up-below, positive-cast}
-use Rattle.text.proofs.size.Statement.{statement}
-use Rattle.text.proofs.size.Tie as tie
+use Rattle.numbers.proofs.size.Statement.{statement}
+use Rattle.numbers.proofs.size.Tie as tie
 
 sub-less-one : tie.Need-sub-less-one
 sub-less-one c = flip-fits (c .before .args .x) (c .before .fits .x) (c .if1 .taken)
