@@ -25,7 +25,7 @@ use Rattle.close_out.proofs.Runs.{change-length, most-run, no-takers, t
 changes-length : (xs ys : List ℕ) → length xs ≡ length ys → length (changes xs ys) ≡ length xs
 changes-length xs ys e = zip-length (λ s l. pos s -ℤ pos l) xs ys e
 
-pub less-length : (xs ys : List ℕ) → length ys ≡ length xs → length (less xs ys) ≡ length xs
+less-length : (xs ys : List ℕ) → length ys ≡ length xs → length (less xs ys) ≡ length xs
 less-length xs ys e = zip-length (λ x y. x - y) xs ys (sym e)
 
 pub less-le : (xs ys : List ℕ) (i : ℕ) → getD (less xs ys) i 0 ≤ getD xs i 0
@@ -35,7 +35,7 @@ less-le (x ∷ xs) [] i = omega arith
 less-le (x ∷ xs) (y ∷ ys) zero = omega arith
 less-le (x ∷ xs) (y ∷ ys) (suc i) = less-le xs ys i
 
-left-length : (q : ℕ) (held : List ℕ) → length (less held (givenUp q held)) ≡ length held
+pub left-length : (q : ℕ) (held : List ℕ) → length (less held (givenUp q held)) ≡ length held
 left-length q held = less-length held (givenUp q held) (given-length q held)
 
 pub left-column : (q : ℕ) (held left : List ℕ) → left ≡ less held (givenUp q held) → Column mostWeight held → Column mostWeight left

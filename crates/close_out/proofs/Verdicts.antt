@@ -15,24 +15,27 @@ use Rattle.rules.specs.declared.answer.Answer.the-variants.{Accepted, ContractN
 use Rattle.rules.specs.declared.event.CloseOutTerms.{CloseOutTerms}
 use Rattle.rules.specs.Default.{sumOf, givenUp, less, defaultedLongs, defaultedShorts, smallerTotal, nettedLongs, nettedShorts, nettingChanges, longsLeft, shortsLeft, lotsLeft}
 use Rattle.rules.specs.Default.{weights, taken, defaultedChanges, takerChanges, closeOutLines, closeOutBooked}
-use Rattle.rules.specs.Ledger.{Tables, members, lotsRun, defaulted, lotsAt, isOpen, ggf, lineRun, booked, withHead, withRows}
+use Rattle.rules.specs.Ledger.{Tables, members, lotsRun, defaulted, lotsAt, isOpen, ggf, lineRun, booked, withHead, withRows, withLines}
 use Rattle.rules.specs.Ranges.{contractCount, mostMembers, mostLotsRun}
 use Rattle.rules.specs.Refusals.{closeOutSpec}
 use Rattle.rules.proofs.Netting.{given-sum, given-length, given-le}
-use Rattle.tables.specs.Fit.{membersIn}
+use Rattle.tables.specs.Fit.{HeadFit, RowsFit, membersIn}
 use Rattle.dealing.specs.Levels.{mostWeight, Column}
 use Rattle.close_out_weights.specs.declared.columns.Part.{Part}
 use Rattle.close_out_weights.specs.declared.columns.Part.the-variants.{DefaultedLongs, DefaultedShorts}
 use Rattle.close_out_weights.specs.Columns.{columnOf}
 use Rattle.deal_lines.specs.Room.{Bookable}
-use Rattle.close_out.specs.Booking.{withEach, changes, nettingLines, defaultedLines, takerLines, stepLines, Dealable}
+use Rattle.close_out.specs.Booking.{withEach, changes, nettingLines, defaultedLines, takerLines, stepLines, Defaulted, Dealable}
 use Rattle.close_out.proofs.Changes.{each-booked}
 use Rattle.deal_lines.proofs.Takes.{rows-wider}
-use Rattle.close_out.proofs.Running.{blank}
+use Rattle.close_out.proofs.Running.{put, blank}
 use Rattle.close_out.proofs.Runs.{left-sum, change-run, Apart, apart-run, takers-run}
-use Rattle.close_out.proofs.StepBooking.{less-length, less-le}
+use Rattle.close_out.proofs.StepBooking.{left-length, less-le}
 use Rattle.close_out_weights.proofs.ColumnFits.{column-length, column-fits, column-sum}
 use Rattle.rules.proofs.LinesRun.{run-append}
+
+pub rows-fit : {head : List ℕ} {lots value lines : List ℤ} → Bookable 0 head lots value lines → RowsFit (membersIn head) mostLotsRun lots
+rows-fit f = rows-wider _ _ mostLotsRun _ (f .head-fit .most-run) (f .lots-fit)
 
 -- ---- a column that was read
 pub record Read (head column : List ℕ) : Type 0 where
@@ -40,14 +43,50 @@ pub record Read (head column : List ℕ) : Type 0 where
   pub most : sumOf column ≤ mostMembers * mostLotsRun
   pub long : length column ≡ membersIn head
 
-pub read-fits : (part : Part) (head : List ℕ) (lots value lines : List ℤ) (c : ℕ) (column : List ℕ) → Bookable 0 head lots value lines → c < contractCount
+pub read-fits : (part : Part) (head : List ℕ) (lots : List ℤ) (c : ℕ) (column : List ℕ) → HeadFit head → RowsFit (membersIn head) mostLotsRun lots → c < contractCount
     → ((t : Tables) (v : List ℤ) → column ≡ columnOf part (withHead head (withRows lots v t)) c) → Read head column
-read-fits part head lots value lines c column f h e =
+read-fits part head lots c column fit rows h e =
     let t = withHead head (withRows lots [] blank) in
-    let few = f .head-fit .most-members in
-    let rows = rows-wider (membersIn head) _ mostLotsRun lots (f .head-fit .most-run) (f .lots-fit) in
+    let few = fit .most-members in
     let q = e blank [] in
     record { fits = rw q (column-fits t few rows part c h); most = rw q (column-sum t few rows part c h); long = rw q (column-length t few rows part c) }
+
+longs-column : (t : Tables) (c : ℕ) → defaultedLongs t c ≡ columnOf DefaultedLongs t c
+unfolding defaultedLongs columnOf
+longs-column t c = refl
+
+shorts-column : (t : Tables) (c : ℕ) → defaultedShorts t c ≡ columnOf DefaultedShorts t c
+unfolding defaultedShorts columnOf
+shorts-column t c = refl
+
+-- Of what is left: the smaller of two numbers taken from each.
+less-smaller : (q a b : ℕ) → q ≡ min a b → (a - min q a) + (b - min q b) ≡ (a - q) + (b - q)
+less-smaller q a b e = let left : min q a ≡ q = omega arith in let right : min q b ≡ q = omega arith in rw (left, right)
+
+-- What the columns and their sums tell of the defaulted.
+module _ (head : List ℕ) (lots : List ℤ) (c : ℕ) (longs shorts : List ℕ)
+    (el : (t : Tables) (v : List ℤ) → longs ≡ columnOf DefaultedLongs (withHead head (withRows lots v t)) c)
+    (es : (t : Tables) (v : List ℤ) → shorts ≡ columnOf DefaultedShorts (withHead head (withRows lots v t)) c)
+    (long short q : ℕ) (nl : long ≡ sumOf longs) (ns : short ≡ sumOf shorts) (nq : q ≡ min long short) where
+  abbrev put-in : Tables → List ℤ → Tables
+  put-in t v = withHead head (withRows lots v t)
+
+  longs-of : (t : Tables) (v : List ℤ) → defaultedLongs (put-in t v) c ≡ longs
+  longs-of t v = longs-column (put-in t v) c ∙ sym (el t v)
+
+  shorts-of : (t : Tables) (v : List ℤ) → defaultedShorts (put-in t v) c ≡ shorts
+  shorts-of t v = shorts-column (put-in t v) c ∙ sym (es t v)
+
+  netted-of : (t : Tables) (v : List ℤ) → smallerTotal (put-in t v) c ≡ q
+  unfolding smallerTotal
+  netted-of t v = rw (longs-of t v, shorts-of t v, ← nl, ← ns) (sym nq)
+
+  left-of : (t : Tables) (v : List ℤ) → lotsLeft (put-in t v) c ≡ (long - q) + (short - q)
+  unfolding lotsLeft longsLeft shortsLeft nettedLongs nettedShorts
+  left-of t v = rw (netted-of t v, longs-of t v, shorts-of t v) (rw (left-sum q longs, left-sum q shorts, ← nl, ← ns) (less-smaller q long short nq))
+
+  pub defaulted-found : Defaulted head lots c q ((long - q) + (short - q)) longs shorts
+  defaulted-found = record { longs-are = longs-of; shorts-are = shorts-of; netted = netted-of; left = left-of }
 
 -- ---- longs and shorts apart
 up-or-dn : (z : ℤ) → min (dn z) (up z) ≡ 0
@@ -64,19 +103,13 @@ mapped-apart f g [] h i = omega arith
 mapped-apart f g (x ∷ l) h zero = h x
 mapped-apart f g (x ∷ l) h (suc i) = mapped-apart f g l h i
 
-columns-apart : (t : Tables) (c : ℕ) → Apart (columnOf DefaultedShorts t c) (columnOf DefaultedLongs t c)
-unfolding columnOf
+columns-apart : (t : Tables) (c : ℕ) → Apart (defaultedShorts t c) (defaultedLongs t c)
+unfolding defaultedShorts defaultedLongs
 columns-apart t c = mapped-apart (λ m. cond (defaulted t m) (dn (lotsAt t c m)) 0) (λ m. cond (defaulted t m) (up (lotsAt t c m)) 0) (from 0 (members t))
     (λ m. marked-apart (defaulted t m) (lotsAt t c m))
 
 apart-less : (xs ys xs′ ys′ : List ℕ) → ((i : ℕ) → getD xs′ i 0 ≤ getD xs i 0) → ((i : ℕ) → getD ys′ i 0 ≤ getD ys i 0) → Apart xs ys → Apart xs′ ys′
 apart-less xs ys xs′ ys′ f g a i = omega (arith, f i, g i, a i)
-
-least-left : (q a b : ℕ) → q ≡ min a b → min q a ≡ q
-least-left q a b e = omega arith
-
-least-right : (q a b : ℕ) → q ≡ min a b → min q b ≡ q
-least-right q a b e = omega arith
 
 -- ---- the lines in the code's terms
 spec-lines : (t : Tables) (e : CloseOutTerms) → closeOutLines t e
@@ -84,38 +117,42 @@ spec-lines : (t : Tables) (e : CloseOutTerms) → closeOutLines t e
 unfolding closeOutLines nettingChanges defaultedChanges takerChanges taken nettedLongs nettedShorts longsLeft shortsLeft stepLines nettingLines defaultedLines takerLines
 spec-lines t e = refl
 
-module _ (t : Tables) (e : CloseOutTerms) (longs shorts : List ℕ) (el : longs ≡ columnOf DefaultedLongs t (e .contract)) (es : shorts ≡ columnOf DefaultedShorts t (e .contract))
-    (wide : length longs ≡ length shorts) (long short : ℕ) (nl : long ≡ sumOf longs) (ns : short ≡ sumOf shorts) (q : ℕ) (nq : q ≡ min long short) (l : ℕ) (nr : l ≡ (long - q) + (short - q)) where
+module _ (head : List ℕ) (lots value lines : List ℤ) (f : Bookable 0 head lots value lines) (e : CloseOutTerms) (below : e .contract < contractCount)
+    (q l : ℕ) (longs shorts : List ℕ) (d : Defaulted head lots (e .contract) q l longs shorts) where
   abbrev c : ℕ
   c = e .contract
 
-  dl : defaultedLongs t c ≡ longs
-  unfolding defaultedLongs columnOf
-  dl = sym el
+  abbrev here : Tables
+  here = withHead head (withRows lots [] blank)
 
-  ds : defaultedShorts t c ≡ shorts
-  unfolding defaultedShorts columnOf
-  ds = sym es
+  longs-read : Read head longs
+  longs-read = read-fits DefaultedLongs head lots c longs (f .head-fit) (rows-fit f) below (λ t v. sym (d .longs-are t v) ∙ longs-column _ c)
 
-  pub lots-are : sumOf (defaultedLongs t c) + sumOf (defaultedShorts t c) ≡ long + short
-  lots-are = rw (dl, ds, nl, ns)
+  shorts-read : Read head shorts
+  shorts-read = read-fits DefaultedShorts head lots c shorts (f .head-fit) (rows-fit f) below (λ t v. sym (d .shorts-are t v) ∙ shorts-column _ c)
 
-  smaller-is : smallerTotal t c ≡ q
+  netted-is : min (sumOf longs) (sumOf shorts) ≡ q
   unfolding smallerTotal
-  smaller-is = rw (dl, ds, ← nl, ← ns) (sym nq)
+  netted-is = rw (d .longs-are blank [], d .shorts-are blank []) at (d .netted blank [])
 
-  left-of : sumOf (less longs (givenUp q longs)) + sumOf (less shorts (givenUp q shorts)) ≡ l
-  left-of =
-      let ll : sumOf (less longs (givenUp q longs)) ≡ long - q = left-sum q longs ∙ rw (← nl, least-left q long short nq) in
-      let ls : sumOf (less shorts (givenUp q shorts)) ≡ short - q = left-sum q shorts ∙ rw (← ns, least-right q long short nq) in
-      rw (ll, ls) (sym nr)
-
-  pub left-is : lotsLeft t c ≡ l
+  left-is : sumOf (less longs (givenUp q longs)) + sumOf (less shorts (givenUp q shorts)) ≡ l
   unfolding lotsLeft longsLeft shortsLeft nettedLongs nettedShorts
-  left-is = rw (smaller-is, dl, ds) left-of
+  left-is = rw (d .netted blank [], d .longs-are blank [], d .shorts-are blank []) at (d .left blank [])
+
+  all-lots : sumOf longs + sumOf shorts ≡ (q + q) + l
+  all-lots = omega (arith, left-is, left-sum q longs, left-sum q shorts, netted-is)
+
+  pub most-netted : q ≤ mostMembers * mostLotsRun
+  most-netted = omega (arith, netted-is, longs-read .most)
+
+  pub most-left : l ≤ mostMembers * mostLotsRun
+  most-left = omega (arith, all-lots, netted-is, longs-read .most, shorts-read .most)
 
   apart : Apart shorts longs
-  apart = rw (el, es) (columns-apart t c)
+  apart = rw (d .longs-are blank [], d .shorts-are blank []) at (columns-apart here c)
+
+  wide : length shorts ≡ length longs
+  wide = shorts-read .long ∙ sym (longs-read .long)
 
   netting-run : (p : ℕ) → lineRun (nettingLines c p q longs shorts) ≡ q + q
   unfolding nettingLines
@@ -123,8 +160,8 @@ module _ (t : Tables) (e : CloseOutTerms) (longs shorts : List ℕ) (el : longs 
       let gs = givenUp q shorts in
       let gl = givenUp q longs in
       change-run c p 0 (changes gs gl)
-      ∙ apart-run gs gl (given-length q shorts ∙ sym (given-length q longs ∙ wide)) (apart-less shorts longs gs gl (given-le q shorts) (given-le q longs) apart)
-      ∙ rw (given-sum q shorts, given-sum q longs, ← nl, ← ns, least-left q long short nq, least-right q long short nq)
+      ∙ apart-run gs gl (given-length q shorts ∙ wide ∙ sym (given-length q longs)) (apart-less shorts longs gs gl (given-le q shorts) (given-le q longs) apart)
+      ∙ omega (arith, given-sum q shorts, given-sum q longs, netted-is)
 
   defaulted-run : (p : ℕ) → lineRun (defaultedLines c p q longs shorts) ≡ l
   unfolding defaultedLines
@@ -132,58 +169,83 @@ module _ (t : Tables) (e : CloseOutTerms) (longs shorts : List ℕ) (el : longs 
       let ls = less shorts (givenUp q shorts) in
       let ll = less longs (givenUp q longs) in
       change-run c p 0 (changes ls ll)
-      ∙ apart-run ls ll (less-length shorts (givenUp q shorts) (given-length q shorts) ∙ sym (less-length longs (givenUp q longs) (given-length q longs) ∙ wide))
+      ∙ apart-run ls ll (left-length q shorts ∙ wide ∙ sym (left-length q longs))
       (apart-less shorts longs ls ll (less-le shorts (givenUp q shorts)) (less-le longs (givenUp q longs)) apart)
-      ∙ omega (arith, left-of)
+      ∙ omega (arith, left-is)
 
-  takers-there : (ws : List ℕ) → ltb 0 l && eqb (sumOf ws) 0 ≡ false → 0 < l → 0 < sumOf ws
-  takers-there ws h k = le-or-lt 1 (sumOf ws) (λ p. p) (λ p. never (rw (lt-ltb 0 l k, eq-eqb (sumOf ws) 0 (omega arith)) at h))
+  takers-there : (ws : List ℕ) (sum : ℕ) → sum ≡ sumOf ws → ltb 0 l && eqb sum 0 ≡ false → 0 < l → 0 < sumOf ws
+  takers-there ws sum e h k = le-or-lt 1 (sumOf ws) (λ p. p) (λ p. never (rw (lt-ltb 0 l k, eq-eqb sum 0 (omega arith)) at h))
 
-  pub dealable : (ws : List ℕ) → ltb 0 l && eqb (sumOf ws) 0 ≡ false → length longs ≡ members t → length ws ≡ members t → Column mostWeight longs → Column mostWeight ws
-      → Dealable q l (members t) longs shorts ws
-  dealable ws h a b f g =
-      record { longs-length = a; shorts-length = sym wide ∙ a; weights-length = b; longs-column = f; weights-column = g; left = sym left-of; takers = takers-there ws h }
+  pub dealable : (ws : List ℕ) (sum : ℕ) → sum ≡ sumOf ws → ltb 0 l && eqb sum 0 ≡ false → length ws ≡ membersIn head → Column mostWeight ws → Dealable q l (membersIn head) longs shorts ws
+  dealable ws sum e h long g =
+      record {
+        longs-length = longs-read .long;
+        shorts-length = shorts-read .long;
+        weights-length = long;
+        longs-column = longs-read .fits;
+        weights-column = g;
+        left = sym left-is;
+        takers = takers-there ws sum e h;
+      }
 
-  module _ (price : ℕ) (priced : ggf t c ≡ price) (ws : List ℕ) (ew : ws ≡ weights t e) where
-    lines-are : closeOutLines t e ≡ stepLines c price q l longs shorts ws
-    lines-are = spec-lines t e ∙ rw (priced, smaller-is, left-is, dl, ds, ← ew)
+  -- for every t, with the lent tables put into it
+  module _ (price : ℕ) (some : 0 < price) (t : Tables) (opened : isOpen (put head lots value lines t) (e .contract) ≡ true) (priced : ggf t (e .contract) ≡ price) where
+    abbrev lent : Tables
+    lent = put head lots value lines t
 
-    run-is : (0 < l → 0 < sumOf ws) → lineRun (closeOutLines t e) ≡ (q + q) + (l + l)
-    unfolding stepLines
-    run-is h =
-        let ns′ = nettingLines c price q longs shorts in
-        let fs = defaultedLines c price q longs shorts in
-        let ts = takerLines c price (sumOf (less longs (givenUp q longs))) l ws in
-        rw lines-are (omega (arith, run-append ns′ (fs ++ ts), run-append fs ts, netting-run price, defaulted-run price, takers-run c price (sumOf (less longs (givenUp q longs))) l ws h))
+    longs-here : defaultedLongs lent c ≡ longs
+    longs-here = d .longs-are (withLines lines t) value
 
-    booked-is : 6 < length (t .head) → (n : ℕ) (t′ : Tables) → n ≡ length (stepLines c price q l longs shorts ws) → t′ ≡ withEach 0 (stepLines c price q l longs shorts ws) t
-        → record { answer = Accepted n; after = t′ } ≡ closeOutBooked t e
-    unfolding closeOutBooked booked
-    booked-is six n t′ en et = rw (en, et, each-booked (stepLines c price q l longs shorts ws) t six, lines-are)
+    shorts-here : defaultedShorts lent c ≡ shorts
+    shorts-here = d .shorts-are (withLines lines t) value
 
-    module _ (opened : isOpen t c ≡ true) (some : 0 < price) where
-      no-price : eqb (ggf t c) 0 ≡ false
-      no-price = rw priced (ne-eqb price 0 (λ z. omega arith))
+    left-here : lotsLeft lent c ≡ l
+    left-here = d .left (withLines lines t) value
 
-      pub no-lots : long + short ≡ 0 → record { answer = NoDefaultedLots; after = t } ≡ closeOutSpec t e
+    no-price : eqb (ggf lent c) 0 ≡ false
+    no-price = rw priced (ne-eqb price 0 (λ z. omega arith))
+
+    pub no-lots : q + l ≡ 0 → record { answer = NoDefaultedLots; after = lent } ≡ closeOutSpec lent e
+    unfolding closeOutSpec
+    no-lots h = rw (opened, no-price, longs-here, shorts-here, eq-eqb (sumOf longs + sumOf shorts) 0 (omega (arith, all-lots)))
+
+    -- there are lots of the defaulted, and ws are the weights
+    module _ (there : q + l ≡ 0 → ⊥) (ws : List ℕ) (sum : ℕ) (summed : sum ≡ sumOf ws)
+        (weighed : (s : Tables) (v : List ℤ) → lotsLeft (withHead head (withRows lots v s)) (e .contract) ≡ l → ws ≡ weights (withHead head (withRows lots v s)) e) where
+      weights-here : weights lent e ≡ ws
+      weights-here = sym (weighed (withLines lines t) value left-here)
+
+      some-lots : eqb (sumOf longs + sumOf shorts) 0 ≡ false
+      some-lots = ne-eqb (sumOf longs + sumOf shorts) 0 (λ z. there (omega (arith, all-lots)))
+
+      lines-are : closeOutLines lent e ≡ stepLines c price q l longs shorts ws
+      lines-are = spec-lines lent e ∙ rw (priced, d .netted (withLines lines t) value, left-here, longs-here, shorts-here, weights-here)
+
+      pub no-taker : ltb 0 l && eqb sum 0 ≡ true → record { answer = NoTaker; after = lent } ≡ closeOutSpec lent e
       unfolding closeOutSpec
-      no-lots h = rw (opened, no-price, lots-are, eq-eqb (long + short) 0 h)
+      no-taker h = rw (opened, no-price, longs-here, shorts-here, some-lots, left-here, weights-here, ← summed, h)
 
-      module _ (there : long + short ≡ 0 → ⊥) where
-        pub no-taker : ltb 0 l && eqb (sumOf ws) 0 ≡ true → record { answer = NoTaker; after = t } ≡ closeOutSpec t e
-        unfolding closeOutSpec
-        no-taker h = rw (opened, no-price, lots-are, ne-eqb (long + short) 0 there, left-is, ← ew, h)
+      module _ (taker : ltb 0 l && eqb sum 0 ≡ false) where
+        run-is : lineRun (closeOutLines lent e) ≡ (q + q) + (l + l)
+        unfolding stepLines
+        run-is =
+            let ns = nettingLines c price q longs shorts in
+            let fs = defaultedLines c price q longs shorts in
+            let long = sumOf (less longs (givenUp q longs)) in
+            let ts = takerLines c price long l ws in
+            rw lines-are
+            (omega (arith, run-append ns (fs ++ ts), run-append fs ts, netting-run price, defaulted-run price, takers-run c price long l ws (takers-there ws sum summed taker)))
 
-        pub passed : ltb 0 l && eqb (sumOf ws) 0 ≡ false → mostLotsRun < lotsRun t + ((q + q) + (l + l)) → record { answer = TotalPassed; after = t } ≡ closeOutSpec t e
+        pub passed : mostLotsRun < lotsRun lent + ((q + q) + (l + l)) → record { answer = TotalPassed; after = lent } ≡ closeOutSpec lent e
         unfolding closeOutSpec
-        passed h k = rw (opened, no-price, lots-are, ne-eqb (long + short) 0 there, left-is, ← ew, h, run-is (takers-there ws h), lt-ltb mostLotsRun (lotsRun t + ((q + q) + (l + l))) k)
+        passed k = rw (opened, no-price, longs-here, shorts-here, some-lots, left-here, weights-here, ← summed, taker, run-is, lt-ltb mostLotsRun (lotsRun lent + ((q + q) + (l + l))) k)
 
-        pub booked-so : ltb 0 l && eqb (sumOf ws) 0 ≡ false → lotsRun t + ((q + q) + (l + l)) ≤ mostLotsRun → 6 < length (t .head) → (n : ℕ) (t′ : Tables)
-            → n ≡ length (stepLines c price q l longs shorts ws) → t′ ≡ withEach 0 (stepLines c price q l longs shorts ws) t → record { answer = Accepted n; after = t′ } ≡ closeOutSpec t e
-        unfolding closeOutSpec
-        booked-so h k six n t′ en et =
-            booked-is six n t′ en et
-            ∙ rw (opened, no-price, lots-are, ne-eqb (long + short) 0 there, left-is, ← ew, h, run-is (takers-there ws h), le-ltb mostLotsRun (lotsRun t + ((q + q) + (l + l))) k)
+        pub booked-so : lotsRun lent + ((q + q) + (l + l)) ≤ mostLotsRun → (n : ℕ) (t′ : Tables) → n ≡ length (stepLines c price q l longs shorts ws)
+            → t′ ≡ withEach 0 (stepLines c price q l longs shorts ws) lent → record { answer = Accepted n; after = t′ } ≡ closeOutSpec lent e
+        unfolding closeOutSpec closeOutBooked booked
+        booked-so k n t′ en et =
+            rw (en, et, each-booked (stepLines c price q l longs shorts ws) lent (omega (arith, f .head-fit .long)), ← lines-are)
+            (rw (opened, no-price, longs-here, shorts-here, some-lots, left-here, weights-here, ← summed, taker, run-is, le-ltb mostLotsRun (lotsRun lent + ((q + q) + (l + l))) k))
 
 -- ---- the causes that need no lots
 pub not-open : (t : Tables) (e : CloseOutTerms) → isOpen t (e .contract) ≡ false → record { answer = ContractNotOpen (e .contract); after = t } ≡ closeOutSpec t e

@@ -6,8 +6,8 @@ use mathlib.Core.List.{List, [], _∷_, _++_, map, zipWith}
 use lib.Dec.{ltb}
 use lib.IntN.{ℤ, pos, negℤ, _-ℤ_}
 use lib.ListN.{length}
-use Rattle.rules.specs.Default.{sumOf, givenUp, less, changeLines, dealtOut}
-use Rattle.rules.specs.Ledger.{Tables, Line}
+use Rattle.rules.specs.Default.{sumOf, givenUp, less, changeLines, dealtOut, defaultedLongs, defaultedShorts, smallerTotal, lotsLeft}
+use Rattle.rules.specs.Ledger.{Tables, Line, withHead, withRows}
 use Rattle.deal_lines.specs.Lines.{withLine}
 use Rattle.dealing.specs.Levels.{mostWeight, Column}
 
@@ -33,6 +33,13 @@ takerLines c p long l weights = changeLines c p 0 (map (λ n. cond (ltb 0 long) 
 unfoldable pub stepLines : ℕ → ℕ → ℕ → ℕ → List ℕ → List ℕ → List ℕ → List Line
 stepLines c p q l longs shorts weights =
     nettingLines c p q longs shorts ++ (defaultedLines c p q longs shorts ++ takerLines c p (sumOf (less longs (givenUp q longs))) l weights)
+
+-- What head and lots tell of the defaulted in contract c: their longs and shorts by member, q lots netted, l left.
+pub record Defaulted (head : List ℕ) (lots : List ℤ) (c q l : ℕ) (longs shorts : List ℕ) : Type 0 where
+  pub longs-are : (t : Tables) (v : List ℤ) → defaultedLongs (withHead head (withRows lots v t)) c ≡ longs
+  pub shorts-are : (t : Tables) (v : List ℤ) → defaultedShorts (withHead head (withRows lots v t)) c ≡ shorts
+  pub netted : (t : Tables) (v : List ℤ) → smallerTotal (withHead head (withRows lots v t)) c ≡ q
+  pub left : (t : Tables) (v : List ℤ) → lotsLeft (withHead head (withRows lots v t)) c ≡ l
 
 -- Columns of a close-out: q lots are netted, l are left, and there are weights to deal them out by.
 pub record Dealable (q l members : ℕ) (longs shorts weights : List ℕ) : Type 0 where

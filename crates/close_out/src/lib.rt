@@ -1,6 +1,7 @@
 // The close-out of a contract: netting among the defaulted, lots dealt out to the others. It is handed tables that are
 // long enough and not damaged, and a record that was read.
 mod booking;
+mod defaulted;
 mod netting;
 mod steps;
 mod takers;
@@ -15,10 +16,8 @@ ghost use Rattle.rules.specs.Ledger.{Tables, withHead, withPrices, withRows, wi
 ghost use Rattle.rules.specs.Refusals.{closeOutSpec};
 ghost use Rattle.tables.specs.Fit.{PricesFit, membersIn, lotsRunIn};
 ghost use Rattle.deal_lines.specs.Room.{Bookable};
-use close_out_weights::Part;
-use close_out_weights::read_column;
 use dealing::sum_of;
-use numbers::smaller;
+use defaulted::find_defaulted;
 use rules::Answer;
 use rules::CloseOutTerms;
 use rules::Kurus;
@@ -51,27 +50,12 @@ fn close_out_lots(
         ≡ closeOutSpec (withHead (now (head .entry)) (withRows (now (lots .entry)) (now (value .entry)) (withLines (now (lines .entry)) t))) e) ⌝ }
 {
     let contract = e.contract;
-    read_column(
-        Part::DefaultedLongs,
-        &head[..],
-        &lots[..],
-        contract,
-        &mut *longs,
-    );
-    read_column(
-        Part::DefaultedShorts,
-        &head[..],
-        &lots[..],
-        contract,
-        &mut *shorts,
-    );
-    let long = sum_of(&longs[..]);
-    let short = sum_of(&shorts[..]);
-    if long + short == 0 {
+    let found = find_defaulted(&head[..], &lots[..], contract, &mut *longs, &mut *shorts);
+    let netted = found.netted;
+    let left = found.left;
+    if netted + left == 0 {
         return Answer::NoDefaultedLots;
     }
-    let netted = smaller(long, short);
-    let left = (long - netted) + (short - netted);
     find_weights(&head[..], &lots[..], e, left, &mut *weights);
     if (0 < left) & (sum_of(&weights[..]) == 0) {
         return Answer::NoTaker;

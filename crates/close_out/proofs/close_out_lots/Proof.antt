@@ -1,289 +1,136 @@
-use Prim.Native.Nat.{_-_, _≤_}
-use mathlib.Core.Path.{refl, sym, _∙_}
+use Prim.Native.Nat.{_*_, _≤_}
+use mathlib.Core.Path.{_∙_}
 use native.Mathlib.Omega.{arith}
+use Rattle.rules.specs.Ranges.{mostMembers, mostLotsRun}
+use Rattle.close_out.proofs.Verdicts.{rows-fit, most-netted, most-left, no-lots, no-taker, passed, booked-so, dealable}
 use borrow.Author.Needs.{needs}
-use Rattle.rules.specs.Ledger.{withLines}
-use Rattle.rules.specs.Ranges.{mostLotsRun}
-use Rattle.close_out_weights.specs.declared.columns.Part.the-variants.{DefaultedLongs, DefaultedShorts}
-use Rattle.deal_lines.proofs.Takes.{rows-wider}
-use Rattle.close_out.proofs.Running.{put, blank}
-use Rattle.close_out.proofs.Verdicts.{read-fits, left-is, no-lots, no-taker, passed, booked-so, dealable}
 use Rattle.close_out.proofs.close_out_lots.Statement.{statement}
 use Rattle.close_out.proofs.close_out_lots.Tie as tie
 
-sum-of-requires : tie.Need-sum-of-requires
-sum-of-requires c κs =
-    let pre = c .before .before .before .before .before .before .before .before .before .before .before .before .before .before .before .before .before .pre in
-    let read-column = c .before .before .before .before .before .before .before .before .before .read-column in
-    read-fits DefaultedLongs _ _ _ _ _ _ (pre .0 .0) (pre .0 .1) (read-column .ensures) .fits
+-- What each part of the function knows, from the part after it.
+abbrev start : tie.After-find-defaulted → tie.Start
+start c = c .before .before .before .before .before .before .before .before .before
 
-sum-of-requires-2 : tie.Need-sum-of-requires-2
-sum-of-requires-2 c κs =
-    let pre = c .before .before .before .before .before .before .before .before .before .before .before .before .before .before .before .before .before .before .before .pre in
-    let read-column2 = c .before .before .before .before .before .read-column2 in
-    read-fits DefaultedShorts _ _ _ _ _ _ (pre .0 .0) (pre .0 .1) (read-column2 .ensures) .fits
+abbrev found : tie.Else1 → tie.After-find-defaulted
+found c = c .before .before .before .before .before
+
+abbrev there : tie.After-find-weights → tie.Else1
+there c = c .before .before .before .before
+
+abbrev weighed : tie.Else2 → tie.After-find-weights
+weighed c = c .before .before .before .before .before
+
+abbrev dealt : tie.After-book-steps → tie.Else2
+dealt c = c .before .before .before .before .before .before .before .before .before .before
+
+most : (c : tie.After-find-defaulted) → (c .find-defaulted .result .netted ≤ mostMembers * mostLotsRun) × (c .find-defaulted .result .left ≤ mostMembers * mostLotsRun)
+most c =
+    let pre = start c .pre in
+    let e = start c .args .e in
+    let d = c .find-defaulted .ensures in
+    (most-netted _ _ _ _ (pre .0 .0) e (pre .0 .1) _ _ _ _ d, most-left _ _ _ _ (pre .0 .0) e (pre .0 .1) _ _ _ _ d)
+
+find-defaulted-requires : tie.Need-find-defaulted-requires
+find-defaulted-requires c κs =
+    let pre = c .before .before .before .before .before .before .before .before .pre in
+    ((pre .0 .0 .head-fit, rows-fit (pre .0 .0), pre .0 .1), (pre .1 .0, pre .1 .1))
 
 add-if1 : tie.Need-add-if1
-add-if1 c =
-    let pre = c .before .before .before .before .before .before .before .before .before .before .before .before .before .before .before .before .before .before .before .before .pre in
-    let a = c .before .before .before .before .before .before .before .before .before .before .before .before .before .before .before .before .before .before .before .before .args in
-    let read-column = c .before .before .before .before .before .before .before .before .before .before .before .before .read-column in
-    let read-column2 = c .before .before .before .before .before .before .read-column2 in
-    let sum-of = c .before .before .sum-of in
-    let f = pre .0 .0 in
-    let rl = read-fits DefaultedLongs _ _ _ _ (a .e .contract) _ f (pre .0 .1) (read-column .ensures) in
-    let rs = read-fits DefaultedShorts _ _ _ _ (a .e .contract) _ f (pre .0 .1) (read-column2 .ensures) in
-    let bl : sum-of .result ≤ 160000000 = rw (sum-of .ensures) (rl .most) in
-    let bs : c .sum-of2 .result ≤ 160000000 = rw (c .sum-of2 .ensures) (rs .most) in
-    omega (arith, bl, bs)
+add-if1 c = let m = most (c .before .before .before .before) in omega (arith, m .0, m .1)
 
 returns : tie.Need-returns
 returns c =
-    let pre = c .before .before .before .before .before .before .before .before .before .before .before .before .before .before .before .before .before .before .before .before .before .pre in
-    let a = c .before .before .before .before .before .before .before .before .before .before .before .before .before .before .before .before .before .before .before .before .before .args in
-    let read-column = c .before .before .before .before .before .before .before .before .before .before .before .before .before .read-column in
-    let read-column2 = c .before .before .before .before .before .before .before .read-column2 in
-    let sum-of = c .before .before .before .sum-of in
-    let f = pre .0 .0 in
-    let rl = read-fits DefaultedLongs _ _ _ _ (a .e .contract) _ f (pre .0 .1) (read-column .ensures) in
-    let rs = read-fits DefaultedShorts _ _ _ _ (a .e .contract) _ f (pre .0 .1) (read-column2 .ensures) in
-    λ t o p. no-lots (put (a .head .now) (a .lots .now) (a .value .now) (a .lines .now) t) (a .e) _ _ (read-column .ensures (withLines (a .lines .now) t) (a .value .now))
-    (read-column2 .ensures (withLines (a .lines .now) t) (a .value .now)) (rl .long ∙ sym (rs .long)) _ _ (sum-of .ensures) (c .before .sum-of2 .ensures) _ refl _ refl
-    (a .price .0) p _ refl o (pre .0 .4) (c .if1 .taken)
+    let d = c .before .before .before .before .before in
+    let s = start d in
+    let a = s .args in
+    let f = s .pre .0 in
+    λ t o p. no-lots _ _ _ _ (f .0) (a .e) (f .1) _ _ _ _ (d .find-defaulted .ensures) (a .price .0) (f .4) t o p (c .if1 .taken)
 
 find-weights-requires : tie.Need-find-weights-requires
 find-weights-requires c κs =
-    let earlier = c .before .before .before .before .before .before .before .before .before .before in
-    let earlier-still = earlier .before .before .before .before .before .before .before .before .before .before in
-    let pre = earlier-still .before .before .before .before .before .pre in
-    let a = earlier-still .before .before .before .before .before .args in
-    let read-column = earlier .before .before .before .before .before .before .before .read-column in
-    let read-column2 = earlier .before .read-column2 in
-    let sum-of = c .before .before .before .before .before .before .before .sum-of in
-    let sum-of2 = c .before .before .before .before .before .sum-of2 in
-    let smaller = c .before .before .before .smaller in
-    let f = pre .0 .0 in
-    let rl = read-fits DefaultedLongs _ _ _ _ (a .e .contract) _ f (pre .0 .1) (read-column .ensures) in
-    let rs = read-fits DefaultedShorts _ _ _ _ (a .e .contract) _ f (pre .0 .1) (read-column2 .ensures) in
-    let bl : sum-of .result ≤ 160000000 = rw (sum-of .ensures) (rl .most) in
-    let bs : sum-of2 .result ≤ 160000000 = rw (sum-of2 .ensures) (rs .most) in
-    ((f .head-fit, rows-wider _ _ mostLotsRun _ (f .head-fit .most-run) (f .lots-fit), pre .1 .2), (pre .0 .1, pre .0 .2, omega (arith, smaller .ensures)))
+    let d = c .before .before .before .before .before .before .before .before in
+    let pre = start d .pre in
+    ((pre .0 .0 .head-fit, rows-fit (pre .0 .0), pre .1 .2), (pre .0 .1, pre .0 .2, most d .1))
 
 returns-2 : tie.Need-returns-2
 returns-2 c =
-    let earlier = c .before .before .before .before .before .before .before .before .before .before in
-    let earlier-still = earlier .before .before .before .before .before .before .before .before .before .before in
-    let long-before = earlier-still .before .before .before .before .before .before .before .before .before .before in
-    let pre = long-before .before .pre in
-    let a = long-before .before .args in
-    let read-column = earlier-still .before .before .before .read-column in
-    let read-column2 = earlier .before .before .before .before .before .before .before .read-column2 in
-    let sum-of = earlier .before .before .before .sum-of in
-    let sum-of2 = earlier .before .sum-of2 in
-    let if1 = c .before .before .before .before .before .before .before .before .before .before .if1 in
-    let smaller = c .before .before .before .before .before .before .before .before .before .smaller in
-    let find-weights = c .before .before .before .before .before .find-weights in
-    let f = pre .0 .0 in
-    let rl = read-fits DefaultedLongs _ _ _ _ (a .e .contract) _ f (pre .0 .1) (read-column .ensures) in
-    let rs = read-fits DefaultedShorts _ _ _ _ (a .e .contract) _ f (pre .0 .1) (read-column2 .ensures) in
-    λ t o p. let k = find-weights .ensures .0 (withLines (a .lines .now) t) (a .value .now)
-    (left-is (put (a .head .now) (a .lots .now) (a .value .now) (a .lines .now) t) (a .e) _ _ (read-column .ensures (withLines (a .lines .now) t) (a .value .now))
-    (read-column2 .ensures (withLines (a .lines .now) t) (a .value .now)) (rl .long ∙ sym (rs .long)) _ _ (sum-of .ensures) (sum-of2 .ensures) _ (smaller .ensures) _ refl) in
-    no-taker (put (a .head .now) (a .lots .now) (a .value .now) (a .lines .now) t) (a .e) _ _ (read-column .ensures (withLines (a .lines .now) t) (a .value .now))
-    (read-column2 .ensures (withLines (a .lines .now) t) (a .value .now)) (rl .long ∙ sym (rs .long)) _ _ (sum-of .ensures) (sum-of2 .ensures) _ (smaller .ensures) _ refl
-    (a .price .0) p _ k o (pre .0 .4) (if1 .left) (rw (c .before .sum-of3 .ensures) at (c .if2 .taken))
+    let w = c .before .before .before .before .before in
+    let d = found (there w) in
+    let s = start d in
+    let a = s .args in
+    let f = s .pre .0 in
+    λ t o p. no-taker _ _ _ _ (f .0) (a .e) (f .1) _ _ _ _ (d .find-defaulted .ensures) (a .price .0) (f .4) t o p (there w .if1 .left) _ _ (c .before .sum-of .ensures)
+    (w .find-weights .ensures .0) (c .if2 .taken)
 
 slice-read-if3 : tie.Need-slice-read-if3
-slice-read-if3 c =
-    let earlier = c .before .before .before .before .before .before .before .before .before .before in
-    let earlier-still = earlier .before .before .before .before .before .before .before .before .before .before in
-    let long-before = earlier-still .before .before .before .before .before .before .before .before .before .before in
-    let pre = long-before .before .before .pre in
-    omega (arith, pre .0 .0 .head-fit .long)
+slice-read-if3 c = omega (arith, start (found (there (weighed (c .before)))) .pre .0 .0 .head-fit .long)
 
 add-if3 : tie.Need-add-if3
-add-if3 c =
-    let earlier = c .before .before .before .before .before .before .before .before .before .before in
-    let earlier-still = earlier .before .before .before .before .before .before .before .before .before .before in
-    let long-before = earlier-still .before .before .before .before .before .before .before .before .before .before in
-    let pre = long-before .before .before .pre in
-    let a = long-before .before .before .args in
-    let read-column = earlier-still .before .before .before .before .read-column in
-    let read-column2 = earlier .before .before .before .before .before .before .before .before .read-column2 in
-    let sum-of = earlier .before .before .before .before .sum-of in
-    let sum-of2 = earlier .before .before .sum-of2 in
-    let smaller = c .before .before .before .before .before .before .before .before .before .before .smaller in
-    let f = pre .0 .0 in
-    let rl = read-fits DefaultedLongs _ _ _ _ (a .e .contract) _ f (pre .0 .1) (read-column .ensures) in
-    let rs = read-fits DefaultedShorts _ _ _ _ (a .e .contract) _ f (pre .0 .1) (read-column2 .ensures) in
-    let bl : sum-of .result ≤ 160000000 = rw (sum-of .ensures) (rl .most) in
-    let bs : sum-of2 .result ≤ 160000000 = rw (sum-of2 .ensures) (rs .most) in
-    omega (arith, bl, smaller .ensures)
+add-if3 c = omega (arith, most (found (there (weighed (c .before)))) .0)
 
 add-if3-2 : tie.Need-add-if3-2
-add-if3-2 c =
-    let earlier = c .before .before .before .before .before .before .before .before .before .before in
-    let earlier-still = earlier .before .before .before .before .before .before .before .before .before .before in
-    let long-before = earlier-still .before .before .before .before .before .before .before .before .before .before in
-    let pre = long-before .before .before .pre in
-    let a = long-before .before .before .args in
-    let read-column = earlier-still .before .before .before .before .read-column in
-    let read-column2 = earlier .before .before .before .before .before .before .before .before .read-column2 in
-    let sum-of = earlier .before .before .before .before .sum-of in
-    let sum-of2 = earlier .before .before .sum-of2 in
-    let f = pre .0 .0 in
-    let rl = read-fits DefaultedLongs _ _ _ _ (a .e .contract) _ f (pre .0 .1) (read-column .ensures) in
-    let rs = read-fits DefaultedShorts _ _ _ _ (a .e .contract) _ f (pre .0 .1) (read-column2 .ensures) in
-    let bl : sum-of .result ≤ 160000000 = rw (sum-of .ensures) (rl .most) in
-    let bs : sum-of2 .result ≤ 160000000 = rw (sum-of2 .ensures) (rs .most) in
-    omega (arith, bl, bs)
+add-if3-2 c = omega (arith, most (found (there (weighed (c .before)))) .1)
 
 add-if3-3 : tie.Need-add-if3-3
-add-if3-3 c =
-    let earlier = c .before .before .before .before .before .before .before .before .before .before in
-    let earlier-still = earlier .before .before .before .before .before .before .before .before .before .before in
-    let long-before = earlier-still .before .before .before .before .before .before .before .before .before .before in
-    let pre = long-before .before .before .pre in
-    let a = long-before .before .before .args in
-    let read-column = earlier-still .before .before .before .before .read-column in
-    let read-column2 = earlier .before .before .before .before .before .before .before .before .read-column2 in
-    let sum-of = earlier .before .before .before .before .sum-of in
-    let sum-of2 = earlier .before .before .sum-of2 in
-    let smaller = c .before .before .before .before .before .before .before .before .before .before .smaller in
-    let f = pre .0 .0 in
-    let rl = read-fits DefaultedLongs _ _ _ _ (a .e .contract) _ f (pre .0 .1) (read-column .ensures) in
-    let rs = read-fits DefaultedShorts _ _ _ _ (a .e .contract) _ f (pre .0 .1) (read-column2 .ensures) in
-    let bl : sum-of .result ≤ 160000000 = rw (sum-of .ensures) (rl .most) in
-    let bs : sum-of2 .result ≤ 160000000 = rw (sum-of2 .ensures) (rs .most) in
-    omega (arith, bl, bs, smaller .ensures)
+add-if3-3 c = let m = most (found (there (weighed (c .before)))) in omega (arith, m .0, m .1)
 
 add-if3-4 : tie.Need-add-if3-4
 add-if3-4 c =
-    let earlier = c .before .before .before .before .before .before .before .before .before .before in
-    let earlier-still = earlier .before .before .before .before .before .before .before .before .before .before in
-    let long-before = earlier-still .before .before .before .before .before .before .before .before .before .before in
-    let pre = long-before .before .before .pre in
-    let a = long-before .before .before .args in
-    let read-column = earlier-still .before .before .before .before .read-column in
-    let read-column2 = earlier .before .before .before .before .before .before .before .before .read-column2 in
-    let sum-of = earlier .before .before .before .before .sum-of in
-    let sum-of2 = earlier .before .before .sum-of2 in
-    let smaller = c .before .before .before .before .before .before .before .before .before .before .smaller in
-    let f = pre .0 .0 in
-    let rl = read-fits DefaultedLongs _ _ _ _ (a .e .contract) _ f (pre .0 .1) (read-column .ensures) in
-    let rs = read-fits DefaultedShorts _ _ _ _ (a .e .contract) _ f (pre .0 .1) (read-column2 .ensures) in
-    let bl : sum-of .result ≤ 160000000 = rw (sum-of .ensures) (rl .most) in
-    let bs : sum-of2 .result ≤ 160000000 = rw (sum-of2 .ensures) (rs .most) in
-    omega (arith, bl, bs, smaller .ensures, f .head-fit .most-run)
+    let d = found (there (weighed (c .before))) in
+    omega (arith, most d .0, most d .1, start d .pre .0 .0 .head-fit .most-run)
 
 returns-3 : tie.Need-returns-3
 returns-3 c =
-    let earlier = c .before .before .before .before .before .before .before .before .before .before in
-    let earlier-still = earlier .before .before .before .before .before .before .before .before .before .before in
-    let long-before = earlier-still .before .before .before .before .before .before .before .before .before .before in
-    let pre = long-before .before .before .before .pre in
-    let a = long-before .before .before .before .args in
-    let read-column = earlier-still .before .before .before .before .before .read-column in
-    let read-column2 = earlier .before .before .before .before .before .before .before .before .before .read-column2 in
-    let sum-of = earlier .before .before .before .before .before .sum-of in
-    let sum-of2 = earlier .before .before .before .sum-of2 in
-    let if1 = earlier .before .before .if1 in
-    let smaller = earlier .before .smaller in
-    let find-weights = c .before .before .before .before .before .before .before .find-weights in
-    let sum-of3 = c .before .before .before .sum-of3 in
-    let if2 = c .before .before .if2 in
-    let f = pre .0 .0 in
-    let rl = read-fits DefaultedLongs _ _ _ _ (a .e .contract) _ f (pre .0 .1) (read-column .ensures) in
-    let rs = read-fits DefaultedShorts _ _ _ _ (a .e .contract) _ f (pre .0 .1) (read-column2 .ensures) in
-    λ t o p. let k = find-weights .ensures .0 (withLines (a .lines .now) t) (a .value .now)
-    (left-is (put (a .head .now) (a .lots .now) (a .value .now) (a .lines .now) t) (a .e) _ _ (read-column .ensures (withLines (a .lines .now) t) (a .value .now))
-    (read-column2 .ensures (withLines (a .lines .now) t) (a .value .now)) (rl .long ∙ sym (rs .long)) _ _ (sum-of .ensures) (sum-of2 .ensures) _ (smaller .ensures) _ refl) in
-    passed (put (a .head .now) (a .lots .now) (a .value .now) (a .lines .now) t) (a .e) _ _ (read-column .ensures (withLines (a .lines .now) t) (a .value .now))
-    (read-column2 .ensures (withLines (a .lines .now) t) (a .value .now)) (rl .long ∙ sym (rs .long)) _ _ (sum-of .ensures) (sum-of2 .ensures) _ (smaller .ensures) _ refl
-    (a .price .0) p _ k o (pre .0 .4) (if1 .left) (rw (sum-of3 .ensures) at (if2 .left)) (c .if3 .taken)
+    let k = c .before .before in
+    let w = weighed k in
+    let d = found (there w) in
+    let s = start d in
+    let a = s .args in
+    let f = s .pre .0 in
+    λ t o p. passed _ _ _ _ (f .0) (a .e) (f .1) _ _ _ _ (d .find-defaulted .ensures) (a .price .0) (f .4) t o p (there w .if1 .left) _ _ (k .before .sum-of .ensures)
+    (w .find-weights .ensures .0) (k .if2 .left) (c .if3 .taken)
 
 book-steps-requires : tie.Need-book-steps-requires
 book-steps-requires c κs =
-    let earlier = c .before .before .before .before .before .before .before .before .before .before in
-    let earlier-still = earlier .before .before .before .before .before .before .before .before .before .before in
-    let long-before = earlier-still .before .before .before .before .before .before .before .before .before .before in
-    let pre = long-before .before .before .before .before .before .before .before .before .before .before .pre in
-    let a = long-before .before .before .before .before .before .before .before .before .before .before .args in
-    let read-column = long-before .before .before .read-column in
-    let read-column2 = earlier-still .before .before .before .before .before .before .read-column2 in
-    let sum-of = earlier-still .before .before .sum-of in
-    let sum-of2 = earlier .before .before .before .before .before .before .before .before .before .before .sum-of2 in
-    let smaller = earlier .before .before .before .before .before .before .before .before .smaller in
-    let find-weights = earlier .before .before .before .before .find-weights in
-    let sum-of3 = c .before .before .before .before .before .before .before .before .before .before .sum-of3 in
-    let if2 = c .before .before .before .before .before .before .before .before .before .if2 in
-    let if3 = c .before .before .before .before .before .before .before .if3 in
-    let f = pre .0 .0 in
-    let rl = read-fits DefaultedLongs _ _ _ _ (a .e .contract) _ f (pre .0 .1) (read-column .ensures) in
-    let rs = read-fits DefaultedShorts _ _ _ _ (a .e .contract) _ f (pre .0 .1) (read-column2 .ensures) in
-    let t = blank in (
-      (record { head-fit = f .head-fit; lots-fit = f .lots-fit; value-fit = f .value-fit; lines-long = f .lines-long; most-run = if3 .left }, pre .0 .1, pre .0 .3),
-      dealable (put (a .head .now) (a .lots .now) (a .value .now) (a .lines .now) t) (a .e) _ _ (read-column .ensures (withLines (a .lines .now) t) (a .value .now))
-          (read-column2 .ensures (withLines (a .lines .now) t) (a .value .now)) (rl .long ∙ sym (rs .long)) _ _ (sum-of .ensures) (sum-of2 .ensures) _ (smaller .ensures) _ refl _
-          (rw (sum-of3 .ensures) at (if2 .left)) (rl .long) (find-weights .kept .1 .1 .1 .1 .0 ∙ pre .1 .2) (rl .fits) (find-weights .ensures .1),
+    let k = c .before .before .before .before .before .before .before .before .before in
+    let w = weighed k in
+    let d = found (there w) in
+    let s = start d in
+    let f = s .pre .0 .0 in
+    let room = c .before .before .before .before .before .before .before .if3 .left in (
+      (record { head-fit = f .head-fit; lots-fit = f .lots-fit; value-fit = f .value-fit; lines-long = f .lines-long; most-run = room }, s .pre .0 .1, s .pre .0 .3),
+      dealable _ _ _ _ f (s .args .e) (s .pre .0 .1) _ _ _ _ (d .find-defaulted .ensures) _ _ (k .before .sum-of .ensures) (k .if2 .left)
+          (w .find-weights .kept .1 .1 .1 .1 .0 ∙ s .pre .1 .2) (w .find-weights .ensures .1),
     )
 
 same-length-19 : tie.Need-same-length-19
 same-length-19 c =
-    let earlier = c .before .before .before .before .before .before .before .before .before .before in
-    let earlier-still = earlier .before .before .before .before .before .before .before .before .before .before in
-    let long-before = earlier-still .before .before .before .before .before .before .before .before .before .before in
-    let at-first = long-before .before .before .before .before .before .before .before .before .before .before in
-    let read-column = at-first .before .before .read-column in
-    let book-steps = c .before .before .before .before .before .before .before .before .before .book-steps in
-    book-steps .kept .1 .1 .1 .1 .1 .1 .1 .1 .0 ∙ read-column .kept .1 .1 .1 .1 .0
+    let b = c .before .before .before .before .before .before .before .before .before in
+    b .book-steps .kept .1 .1 .1 .1 .1 .1 .1 .1 .0 ∙ found (there (weighed (dealt b))) .find-defaulted .kept .1 .1 .1 .0
 
 same-length-20 : tie.Need-same-length-20
 same-length-20 c =
-    let earlier = c .before .before .before .before .before .before .before .before .before .before in
-    let earlier-still = earlier .before .before .before .before .before .before .before .before .before .before in
-    let long-before = earlier-still .before .before .before .before .before .before .before .before .before .before in
-    let read-column2 = long-before .before .before .before .before .before .before .read-column2 in
-    let book-steps = c .before .before .before .before .before .before .before .before .before .book-steps in
-    book-steps .kept .1 .1 .1 .1 .1 .1 .1 .1 .1 .0 ∙ read-column2 .kept .1 .1 .1 .1 .0
+    let b = c .before .before .before .before .before .before .before .before .before in
+    b .book-steps .kept .1 .1 .1 .1 .1 .1 .1 .1 .1 .0 ∙ found (there (weighed (dealt b))) .find-defaulted .kept .1 .1 .1 .1 .0
 
 returns-4 : tie.Need-returns-4
 returns-4 c =
-    let earlier = c .before .before .before .before .before .before .before .before .before .before in
-    let earlier-still = earlier .before .before .before .before .before .before .before .before .before .before in
-    let long-before = earlier-still .before .before .before .before .before .before .before .before .before .before in
-    let at-first = long-before .before .before .before .before .before .before .before .before .before .before in
-    let pre = at-first .before .before .before .before .before .before .before .before .before .before .pre in
-    let a = at-first .before .before .before .before .before .before .before .before .before .before .args in
-    let read-column = at-first .before .before .read-column in
-    let read-column2 = long-before .before .before .before .before .before .before .read-column2 in
-    let sum-of = long-before .before .before .sum-of in
-    let sum-of2 = earlier-still .before .before .before .before .before .before .before .before .before .before .sum-of2 in
-    let if1 = earlier-still .before .before .before .before .before .before .before .before .before .if1 in
-    let smaller = earlier-still .before .before .before .before .before .before .before .before .smaller in
-    let find-weights = earlier-still .before .before .before .before .find-weights in
-    let sum-of3 = earlier .before .before .before .before .before .before .before .before .before .before .sum-of3 in
-    let if2 = earlier .before .before .before .before .before .before .before .before .before .if2 in
-    let if3 = earlier .before .before .before .before .before .before .before .if3 in
-    let book-steps = c .before .before .before .before .before .before .before .before .before .book-steps in
-    let f = pre .0 .0 in
-    let rl = read-fits DefaultedLongs _ _ _ _ (a .e .contract) _ f (pre .0 .1) (read-column .ensures) in
-    let rs = read-fits DefaultedShorts _ _ _ _ (a .e .contract) _ f (pre .0 .1) (read-column2 .ensures) in
-    λ t o p. let k = find-weights .ensures .0 (withLines (a .lines .now) t) (a .value .now)
-    (left-is (put (a .head .now) (a .lots .now) (a .value .now) (a .lines .now) t) (a .e) _ _ (read-column .ensures (withLines (a .lines .now) t) (a .value .now))
-    (read-column2 .ensures (withLines (a .lines .now) t) (a .value .now)) (rl .long ∙ sym (rs .long)) _ _ (sum-of .ensures) (sum-of2 .ensures) _ (smaller .ensures) _ refl) in
-    booked-so (put (a .head .now) (a .lots .now) (a .value .now) (a .lines .now) t) (a .e) _ _ (read-column .ensures (withLines (a .lines .now) t) (a .value .now))
-    (read-column2 .ensures (withLines (a .lines .now) t) (a .value .now)) (rl .long ∙ sym (rs .long)) _ _ (sum-of .ensures) (sum-of2 .ensures) _ (smaller .ensures) _ refl
-    (a .price .0) p _ k o (pre .0 .4) (if1 .left) (rw (sum-of3 .ensures) at (if2 .left)) (if3 .left) (omega (arith, f .head-fit .long)) _ _ (book-steps .ensures .0)
-    (book-steps .ensures .1 .1 .1 t)
+    let b = c .before .before .before .before .before .before .before .before .before in
+    let k = dealt b in
+    let w = weighed k in
+    let d = found (there w) in
+    let s = start d in
+    let a = s .args in
+    let f = s .pre .0 in
+    λ t o p. booked-so _ _ _ _ (f .0) (a .e) (f .1) _ _ _ _ (d .find-defaulted .ensures) (a .price .0) (f .4) t o p (there w .if1 .left) _ _ (k .before .sum-of .ensures)
+    (w .find-weights .ensures .0) (k .if2 .left) (b .before .before .before .before .before .before .before .before .if3 .left) _ _ (b .book-steps .ensures .0) (b .book-steps .ensures .1 .1 .1 t)
 
 pub close-out-lots-spec : {M : Type 1} → statement M
 close-out-lots-spec =
     tie.close
-    (tie.spec (λ c κs. search needs) (λ c κs. search needs) sum-of-requires sum-of-requires-2 add-if1
-    (λ c. search needs) (λ c. search needs) (λ c. search needs) (λ c. search needs) returns (λ c κs. search needs)
-    (λ c. search needs) (λ c. search needs) (λ c. search needs) find-weights-requires (λ c κs. search needs)
-    (λ c. search needs) (λ c. search needs) (λ c. search needs) (λ c. search needs) (λ c. search needs) returns-2
-    slice-read-if3 add-if3 add-if3-2 add-if3-3 add-if3-4 (λ c. search needs) (λ c. search needs) (λ c. search needs)
-    (λ c. search needs) (λ c. search needs) returns-3 book-steps-requires (λ c. search needs) (λ c. search needs)
-    (λ c. search needs) (λ c. search needs) same-length-19 same-length-20 (λ c. search needs) returns-4)
+    (tie.spec find-defaulted-requires add-if1 (λ c. search needs) (λ c. search needs) (λ c. search needs)
+    (λ c. search needs) returns find-weights-requires (λ c κs. search needs) (λ c. search needs) (λ c. search needs)
+    (λ c. search needs) (λ c. search needs) (λ c. search needs) returns-2 slice-read-if3 add-if3 add-if3-2 add-if3-3
+    add-if3-4 (λ c. search needs) (λ c. search needs) (λ c. search needs) (λ c. search needs) (λ c. search needs)
+    returns-3 book-steps-requires (λ c. search needs) (λ c. search needs) (λ c. search needs) (λ c. search needs)
+    same-length-19 same-length-20 (λ c. search needs) returns-4)
