@@ -1,13 +1,41 @@
-use mathlib.Core.Path.{sym, ap, _∙_}
-use Prim.Native.Nat.{_+_}
-use lib.ListN.{getD}
+use Prim.Native.Nat.{ℕ, _+_}
+use mathlib.Core.Path.{_≡_, sym, ap, _∙_}
+use mathlib.Core.Bool.{Bool}
+use lib.ListN.{drop}
+use native.Mathlib.Omega.{arith}
 use lib.IntN.{pos, _+ℤ_}
 use lib.Signed.{ltZ}
-use native.Mathlib.Omega.{arith}
-use mathlib.Core.Path.{sym, _∙_}
+use Rattle.rules.specs.Answers.{Outcome, decide}
+use Rattle.rules.specs.Ledger.{Tables, withHead, withRows, limit, lotsAt}
+use Rattle.rules.specs.Matching.{mirrored}
+use Rattle.submit_causes.specs.Causes.{measuredCauses}
 use borrow.Author.Needs.{needs}
 use Rattle.submit_causes.proofs.causes.measured_cause.Statement.{statement}
 use Rattle.submit_causes.proofs.causes.measured_cause.Tie as tie
+
+abbrev tables : tie.Start → Tables → Tables
+tables s t = withHead (s .args .head .now) (withRows (s .args .lots .now) (t .value) t)
+
+-- The first n causes do not hold: what those after them decide is decided.
+abbrev Past : ℕ → tie.Start → Type 0
+Past n s = (t : Tables) (b o : Outcome Tables) →
+    let a = s .args in
+    let causes = measuredCauses (a .found .own) (a .found .lots) (tables s t) (a .e) in o ≡ decide (drop n causes) (tables s t) b → o ≡ decide causes (tables s t) b
+
+above : (c : tie.After-is-above) (t : Tables) →
+    let s = c .before .before .before .before .before in
+    let e = s .args .e in
+    ltZ (pos (limit (tables s t) (e .member))) (mirrored (e .side) (lotsAt (tables s t) (e .contract) (e .member)) +ℤ pos (s .args .found .own + e .lots .0)) ≡ c .is-above .result
+above c t = ap (λ z. ltZ (pos (limit (tables (c .before .before .before .before .before) t) (c .before .before .before .before .before .args .e .member))) (z +ℤ pos (c .before .before .before .before .before .args .found .own + c .before .before .before .before .before .args .e .lots .0))) (sym (c .before .before .position .ensures .0)) ∙ sym (c .is-above .ensures)
+
+past-limit : (c : tie.Else1) → Past 1 (c .before .before .before .before .before .before)
+past-limit c t b o h = rw (above (c .before) t, c .if1 .left) h
+
+past-match : (c : tie.Else2) → Past 2 (c .before .before .before .before .before .before .before .before)
+past-match c t b o h = past-limit (c .before .before) t b o (rw (← (c .before .is-teye .ensures), c .if2 .left) h)
+
+past-full : (c : tie.Else3) → Past 3 (c .before .before .before .before .before .before .before .before .before .before .before)
+past-full c t b o h = past-match (c .before .before .before) t b o (rw (← (c .before .before .is-resting .ensures), c .if3 .left) h)
 
 position-requires : tie.Need-position-requires
 position-requires c κs =
@@ -26,88 +54,19 @@ is-above-requires c κs =
     (f .0 .member-fit (start .args .e .member) (f .2 .member-below) .most-limit, c .before .position .ensures .1, omega (arith, start .pre .1, f .2 .most-lots))
 
 returns : tie.Need-returns
-returns c =
-    let start = c .before .before .before .before .before .before in
-    λ t b.
-    let a = start .args in
-    let above = ap (λ z. ltZ (pos (getD (a .head .now) (128 + a .e .member) 0)) (z +ℤ pos (a .found .own + a .e .lots .0)))
-    (sym (c .before .before .before .position .ensures .0)) ∙ sym (c .before .is-above .ensures) in
-    rw (above, c .if1 .taken)
+returns c = λ t b. rw (above (c .before) t, c .if1 .taken)
 
 returns-2 : tie.Need-returns-2
-returns-2 c =
-    let at-position = c .before .before .before .before .before in
-    let start = at-position .before .before .before in
-    λ t b.
-    let a = start .args in
-    let above = ap (λ z. ltZ (pos (getD (a .head .now) (128 + a .e .member) 0)) (z +ℤ pos (a .found .own + a .e .lots .0))) (sym (at-position .position .ensures .0)) ∙ sym
-    (c .before .before .before .is-above .ensures) in
-    rw (above, c .before .before .if1 .left, ← (c .before .is-teye .ensures), c .if2 .taken)
+returns-2 c = λ t b. past-limit (c .before .before) t b _ (rw (← (c .before .is-teye .ensures), c .if2 .taken))
 
 returns-3 : tie.Need-returns-3
-returns-3 c =
-    let at-is-teye = c .before .before .before .before in
-    let at-if1 = at-is-teye .before in
-    let at-is-above = at-if1 .before in
-    let at-position = at-is-above .before .before in
-    let start = at-position .before .before .before in
-    λ t b.
-    let a = start .args in
-    let above = ap (λ z. ltZ (pos (getD (a .head .now) (128 + a .e .member) 0)) (z +ℤ pos (a .found .own + a .e .lots .0))) (sym (at-position .position .ensures .0)) ∙ sym
-    (at-is-above .is-above .ensures) in
-    rw (above, at-if1 .if1 .left, ← (at-is-teye .is-teye .ensures), c .before .before .before .if2 .left, ← (c .before .before .is-resting .ensures), c .if3 .taken)
+returns-3 c = λ t b. past-match (c .before .before .before) t b _ (rw (← (c .before .before .is-resting .ensures), c .if3 .taken))
 
 returns-4 : tie.Need-returns-4
-returns-4 c =
-    let at-if3 = c .before .before .before .before in
-    let at-is-resting = at-if3 .before .before in
-    let at-if2 = at-is-resting .before in
-    let at-is-teye = at-if2 .before in
-    let at-if1 = at-is-teye .before in
-    let at-is-above = at-if1 .before in
-    let at-position = at-is-above .before .before in
-    let start = at-position .before .before .before in
-    λ t b.
-    let a = start .args in
-    let above = ap (λ z. ltZ (pos (getD (a .head .now) (128 + a .e .member) 0)) (z +ℤ pos (a .found .own + a .e .lots .0))) (sym (at-position .position .ensures .0)) ∙ sym
-    (at-is-above .is-above .ensures) in
-    rw (
-      above,
-      at-if1 .if1 .left,
-      ← (at-is-teye .is-teye .ensures),
-      at-if2 .if2 .left,
-      ← (at-is-resting .is-resting .ensures),
-      at-if3 .if3 .left,
-      ←
-          (c .before .before .smaller .ensures),
-      c .if4 .taken,
-    )
+returns-4 c = λ t b. past-full (c .before .before .before .before) t b _ (rw (← (c .before .before .smaller .ensures), c .if4 .taken))
 
 returns-5 : tie.Need-returns-5
-returns-5 c =
-    let at-if3 = c .before .before .before .before in
-    let at-is-resting = at-if3 .before .before in
-    let at-if2 = at-is-resting .before in
-    let at-is-teye = at-if2 .before in
-    let at-if1 = at-is-teye .before in
-    let at-is-above = at-if1 .before in
-    let at-position = at-is-above .before .before in
-    let start = at-position .before .before .before in
-    λ t b.
-    let a = start .args in
-    let above = ap (λ z. ltZ (pos (getD (a .head .now) (128 + a .e .member) 0)) (z +ℤ pos (a .found .own + a .e .lots .0))) (sym (at-position .position .ensures .0)) ∙ sym
-    (at-is-above .is-above .ensures) in
-    rw (
-      above,
-      at-if1 .if1 .left,
-      ← (at-is-teye .is-teye .ensures),
-      at-if2 .if2 .left,
-      ← (at-is-resting .is-resting .ensures),
-      at-if3 .if3 .left,
-      ←
-          (c .before .before .smaller .ensures),
-      c .if4 .left,
-    )
+returns-5 c = λ t b. past-full (c .before .before .before .before) t b _ (rw (← (c .before .before .smaller .ensures), c .if4 .left))
 
 pub measured-cause-spec : {M : Type 1} → statement M
 measured-cause-spec =
