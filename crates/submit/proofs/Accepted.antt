@@ -3,12 +3,11 @@ use mathlib.Core.Path.{_≡_, refl, sym, ap, subst, _∙_}
 use mathlib.Core.List.{List}
 use Prim.Native.Nat.{ℕ, _+_, _*_, _-_, _≤_, _<_}
 use native.Mathlib.Omega.{arith}
-use lib.IntN.{ℤ}
 use lib.ListN.{length, getD}
 use Rattle.rules.specs.declared.event.Submission.{Submission}
 use Rattle.rules.specs.declared.order.Order.{Order}
 use Rattle.rules.specs.Ranges.{mostMembers, mostPrice, mostSubmitsInSecond, mostAcceptedSubmits}
-use Rattle.rules.specs.Ledger.{Tables, lent, withAcceptedSubmits, withSubmitsThisSecond, submitsFrom, withHead, headLength, linesLength, orders, timed}
+use Rattle.rules.specs.Ledger.{Tables, timePlace, acceptedSubmitsPlace, membersPlace, lotsRunPlace, orderCountPlace, withAcceptedSubmits, withSubmitsThisSecond, submitsFrom, withHead, headLength, linesLength, orders, timed}
 use Rattle.rules.specs.Matching.{incoming, submitMatched, submitLines, wouldRest, submitOrders, counted, submitBooked}
 use Rattle.tables.specs.Fit.{HeadFit, PricesFit, RowsFit, BookFit, membersIn, acceptedIn, lotsRunIn, orderCountIn, ordersIn}
 use Rattle.matching.specs.Crossing.{crossingIn}
@@ -18,19 +17,16 @@ use Rattle.submit.specs.Deals.{Tradable}
 use Rattle.submit.specs.Placing.{Placeable, orderBooked}
 use Rattle.submit.proofs.Heads.{timed-submits, counted-length, counted-place}
 
-module _ (head prices : List ℕ) (lots value : List ℤ) (book : List ℕ) (lines : List ℤ) (e : Submission)
-    (h : HeadFit head) (p : PricesFit (lotsRunIn head) prices) (b : BookFit head book) (f : SubmissionFit head e) where
-  abbrev t : Tables
-  t = lent head prices lots value book lines
-
+module _ (t : Tables) (e : Submission)
+    (h : HeadFit (t .head)) (p : PricesFit (lotsRunIn (t .head)) (t .prices)) (b : BookFit (t .head) (t .book)) (f : SubmissionFit (t .head) e) where
   abbrev o : Order
   o = incoming t e
 
   abbrev os : List Order
-  os = ordersIn (orderCountIn head) book
+  os = ordersIn (orderCountIn (t .head)) (t .book)
 
   -- ---- the head with the time
-  module _ (lotsCrossing : ℕ) (a : Acceptable t e lotsCrossing) (timedHead : List ℕ) (clock : (u : Tables) → withHead timedHead u ≡ timed (e .time) (withHead head u)) where
+  module _ (lotsCrossing : ℕ) (a : Acceptable t e lotsCrossing) (timedHead : List ℕ) (clock : (u : Tables) → withHead timedHead u ≡ timed (e .time) (withHead (t .head) u)) where
     time-is : timedHead ≡ timed (e .time) t .head
     time-is = ap (λ x. x .head) (clock t)
 
@@ -40,7 +36,7 @@ module _ (head prices : List ℕ) (lots value : List ℤ) (book : List ℕ) (lin
       omega (arith, h .long, ap length time-is ∙ timed-length (e .time) t (h .long) (h .most-members)),
       omega (arith, f .member-below, h .most-members),
       omega (arith, ap (λ l. getD l (submitsFrom + e .member) 0) time-is ∙ timed-submits (e .time) t (e .member) (h .long) (h .most-members) (f .member-below), a .most-submits),
-      omega (arith, ap (λ l. getD l 5 0) time-is ∙ timed-place (e .time) t (h .long) (h .most-members) 5 (omega arith) (λ z. omega arith), h .most-accepted),
+      omega (arith, ap (λ l. acceptedIn l) time-is ∙ timed-place (e .time) t (h .long) (h .most-members) acceptedSubmitsPlace (omega arith) (λ z. omega arith), h .most-accepted),
     )
 
     pub counted-is : (head₁ : List ℕ)
@@ -57,19 +53,23 @@ module _ (head prices : List ℕ) (lots value : List ℤ) (book : List ℕ) (lin
     pub head-long : headLength ≤ length head₁
     head-long = omega (arith, h .long, ap length head-is ∙ counted-length (e .time) t (e .member) (h .long) (h .most-members) (f .member-below))
 
-    place : (i : ℕ) → i < 192 → (i ≡ 4 → ⊥) → (i ≡ 5 → ⊥) → getD head₁ i 0 ≡ getD head i 0
+    place : (i : ℕ) → i < submitsFrom → (i ≡ timePlace → ⊥) → (i ≡ acceptedSubmitsPlace → ⊥) → getD head₁ i 0 ≡ getD (t .head) i 0
     place i below other next = ap (λ l. getD l i 0) head-is ∙ counted-place (e .time) t (e .member) (h .long) (h .most-members) (f .member-below) i below other next
 
-    pub count-same : orderCountIn head₁ ≡ orderCountIn head
-    count-same = place 7 (omega arith) (λ z. omega arith) (λ z. omega arith)
+    pub count-same : orderCountIn head₁ ≡ orderCountIn (t .head)
+    count-same = place orderCountPlace (omega arith) (λ z. omega arith) (λ z. omega arith)
 
-    pub members-same : membersIn head₁ ≡ membersIn head
-    members-same = place 1 (omega arith) (λ z. omega arith) (λ z. omega arith)
+    orders-same : orders (withHead head₁ t) ≡ orders t
+    unfolding orders
+    orders-same = rw count-same
 
-    pub run-same : lotsRunIn head₁ ≡ lotsRunIn head
-    run-same = place 6 (omega arith) (λ z. omega arith) (λ z. omega arith)
+    pub members-same : membersIn head₁ ≡ membersIn (t .head)
+    members-same = place membersPlace (omega arith) (λ z. omega arith) (λ z. omega arith)
 
-    tradable : Tradable head₁ prices book o
+    pub run-same : lotsRunIn head₁ ≡ lotsRunIn (t .head)
+    run-same = place lotsRunPlace (omega arith) (λ z. omega arith) (λ z. omega arith)
+
+    tradable : Tradable head₁ (t .prices) (t .book) o
     tradable =
         let c = p .contract-fit (e .contract) (f .contract-below) in
         record {
@@ -88,8 +88,8 @@ module _ (head prices : List ℕ) (lots value : List ℤ) (book : List ℕ) (lin
           numbers-distinct = rw count-same (b .numbers-distinct);
         }
 
-    placeable : (lotsCrossing : ℕ) → Acceptable t e lotsCrossing → RowsFit (membersIn head) (lotsRunIn head) lots → RowsFit (membersIn head) (mostPrice * lotsRunIn head) value
-        → linesLength ≤ length lines → Placeable head₁ prices lots value book lines (e .kind) o
+    placeable : (lotsCrossing : ℕ) → Acceptable t e lotsCrossing → RowsFit (membersIn (t .head)) (lotsRunIn (t .head)) (t .lots) → RowsFit (membersIn (t .head)) (mostPrice * lotsRunIn (t .head)) (t .value)
+        → linesLength ≤ length (t .lines) → Placeable head₁ (t .prices) (t .lots) (t .value) (t .book) (t .lines) (e .kind) o
     unfolding orders submitMatched submitLines wouldRest
     placeable lotsCrossing a l v n =
         record {
@@ -107,19 +107,19 @@ module _ (head prices : List ℕ) (lots value : List ℤ) (book : List ℕ) (lin
           place = rw count-same (a .place);
         }
 
-    crosses : (lotsCrossing : ℕ) → Acceptable t e lotsCrossing → lotsCrossing ≡ crossingIn o (ordersIn (orderCountIn head₁) book)
+    crosses : (lotsCrossing : ℕ) → Acceptable t e lotsCrossing → lotsCrossing ≡ crossingIn o (ordersIn (orderCountIn head₁) (t .book))
     unfolding orders
     crosses lotsCrossing a = rw count-same (a .crosses)
 
     -- with the order as the code has it
     module _ (o′ : Order) (s : o′ ≡ o) where
-      pub placed : (lotsCrossing : ℕ) → Acceptable t e lotsCrossing → RowsFit (membersIn head) (lotsRunIn head) lots → RowsFit (membersIn head) (mostPrice * lotsRunIn head) value
-          → linesLength ≤ length lines → Placeable head₁ prices lots value book lines (e .kind) o′ × (lotsCrossing ≡ crossingIn o′ (ordersIn (orderCountIn head₁) book))
+      pub placed : (lotsCrossing : ℕ) → Acceptable t e lotsCrossing → RowsFit (membersIn (t .head)) (lotsRunIn (t .head)) (t .lots) → RowsFit (membersIn (t .head)) (mostPrice * lotsRunIn (t .head)) (t .value)
+          → linesLength ≤ length (t .lines) → Placeable head₁ (t .prices) (t .lots) (t .value) (t .book) (t .lines) (e .kind) o′ × (lotsCrossing ≡ crossingIn o′ (ordersIn (orderCountIn head₁) (t .book)))
       placed lotsCrossing a l v n =
-          subst (λ y. Placeable head₁ prices lots value book lines (e .kind) y × (lotsCrossing ≡ crossingIn y (ordersIn (orderCountIn head₁) book))) (sym s)
+          subst (λ y. Placeable head₁ (t .prices) (t .lots) (t .value) (t .book) (t .lines) (e .kind) y × (lotsCrossing ≡ crossingIn y (ordersIn (orderCountIn head₁) (t .book)))) (sym s)
           (placeable lotsCrossing a l v n, crosses lotsCrossing a)
 
       -- what is booked with the time and the counts is what the rules book
       pub submitted : orderBooked (e .kind) o′ (withHead head₁ t) ≡ submitBooked t e
-      unfolding orderBooked submitBooked submitLines submitOrders wouldRest submitMatched orders
-      submitted = ap (λ y. orderBooked (e .kind) y (withHead head₁ t)) s ∙ rw (count-same, same) refl
+      unfolding orderBooked submitBooked submitLines submitOrders wouldRest submitMatched
+      submitted = ap (λ y. orderBooked (e .kind) y (withHead head₁ t)) s ∙ rw (orders-same, same)

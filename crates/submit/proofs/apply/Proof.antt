@@ -1,105 +1,65 @@
-use native.Mathlib.Omega.{arith}
 use mathlib.Core.Path.{_∙_}
-use Rattle.rules.specs.Ledger.{lent}
-use Rattle.submit.proofs.Applied.{refused-first, refused-second, accepted, accepts}
+use native.Mathlib.Omega.{arith}
+use Rattle.rules.specs.Ledger.{Tables, lent}
+use Rattle.submit.proofs.Applied.{Judged, refused-first, judged-both, refused-second, accepted}
 use borrow.Author.Needs.{needs}
 use Rattle.submit.proofs.apply.Statement.{statement}
 use Rattle.submit.proofs.apply.Tie as tie
 
+abbrev tables : tie.Start → Tables
+tables s = let a = s .args in lent (a .head .now) (a .prices .now) (a .lots .now) (a .value .now) (a .book .now) (a .lines .now)
+
+-- What each part of the function knows, from the part after it.
+abbrev start : tie.After-first-cause → tie.Start
+start c = c .before .before .before .before .before .before
+
+abbrev first : tie.After-measure → tie.After-first-cause
+first c = c .before .before .before .before .before .before .before
+
+abbrev measured : tie.After-measured-cause → tie.After-measure
+measured c = c .before .before .before
+
+judged-at : (c : tie.After-measured-cause) →
+    let m = measured c in
+    let s = start (first m) in
+    Judged (tables s) (s .args .e) (first m .first-cause .result) (c .measured-cause .result) (m .measure .result .lots)
+judged-at c =
+    let m = measured c in
+    let s = start (first m) in
+    let f = s .pre .0 in
+    judged-both (tables s) (s .args .e) (f .0) (f .2) (f .3) _ (m .before .order-of .ensures (tables s)) _ _ (m .measure .ensures .0) (m .measure .ensures .1 .1)
+    _ _ (first m .first-cause .ensures (tables s)) (c .measured-cause .ensures (tables s))
+
 returns : tie.Need-returns
 returns c =
-    let start = c .before .before .before .before .before .before .before .before .before in
-    let a = start .args in
-    let f = start .pre .0 in
-    let head = a .head .now in
-    let prices = a .prices .now in
-    let lots = a .lots .now in
-    let value = a .value .now in
-    let book = a .book .now in
-    let lines = a .lines .now in
-    let all = lent head prices lots value book lines in
-    λ t. refused-first head prices lots value book lines (a .e) (f .0) (f .2) (f .3) _ (c .before .before .before .first-cause .ensures all) _ (c .before .first .given .1)
+    let k = c .before .before .before in
+    let s = start k in
+    let f = s .pre .0 in
+    λ t. refused-first (tables s) (s .args .e) (f .0) (f .2) (f .3) _ (k .first-cause .ensures (tables s)) _ (c .before .first .given .1)
 
 measure-requires : tie.Need-measure-requires
 measure-requires c κs =
-    let f = c .before .before .before .before .before .before .before .before .before .before .before .before .pre .0 in
+    let f = start (c .before .before .before .before .before .before) .pre .0 in
     ((f .0 .most-orders, f .2 .long), λ i k. f .2 .order-fit i k .most-lots)
 
 measured-cause-requires : tie.Need-measured-cause-requires
 measured-cause-requires c κs =
-    let start = c .before .before .before .before .before .before .before .before .before .before .before .before .before .before .before in
-    let f = start .pre .0 in
-    ((f .0, start .pre .1 .0, f .3), omega (arith, c .before .before .measure .ensures .1 .0, f .0 .most-orders))
+    let m = c .before .before in
+    let s = start (first m) in
+    let f = s .pre .0 in
+    ((f .0, s .pre .1 .0, f .3), omega (arith, m .measure .ensures .1 .0, f .0 .most-orders))
 
 returns-2 : tie.Need-returns-2
-returns-2 c =
-    let at-measure = c .before .before .before .before .before .before in
-    let at-order-of = at-measure .before in
-    let at-enum-told = at-order-of .before .before .before .before in
-    let at-first-cause = at-enum-told .before .before in
-    let start = at-first-cause .before .before .before .before .before .before in
-    let a = start .args in
-    let f = start .pre .0 in
-    let head = a .head .now in
-    let prices = a .prices .now in
-    let lots = a .lots .now in
-    let value = a .value .now in
-    let book = a .book .now in
-    let lines = a .lines .now in
-    let all = lent head prices lots value book lines in
-    λ t. refused-second head prices lots value book lines (a .e) (f .0) (f .2) (f .3) _ (at-order-of .order-of .ensures all) _ _ (at-measure .measure .ensures .0)
-    (at-measure .measure .ensures .1 .1) _ _ (at-first-cause .first-cause .ensures all) (c .before .before .before .measured-cause .ensures all)
-    (at-enum-told .enum-told .given .1) _ (c .before .second .given .1)
+returns-2 c = λ t. refused-second (judged-at (c .before .before .before)) (c .before .before .before .before .before .before .before .before .before .before .before .enum-told .given .1) _ (c .before .second .given .1)
 
 book-submit-requires : tie.Need-book-submit-requires
 book-submit-requires c κs =
-    let at-enum-told2 = c .before .before .before .before .before .before in
-    let at-measured-cause = at-enum-told2 .before .before in
-    let at-measure = at-measured-cause .before .before .before in
-    let at-order-of = at-measure .before in
-    let at-enum-told = at-order-of .before .before .before .before in
-    let at-first-cause = at-enum-told .before .before in
-    let start = at-first-cause .before .before .before .before .before .before in
-    let a = start .args in
-    let f = start .pre .0 in
-    let head = a .head .now in
-    let prices = a .prices .now in
-    let lots = a .lots .now in
-    let value = a .value .now in
-    let book = a .book .now in
-    let lines = a .lines .now in
-    let all = lent head prices lots value book lines in (
-      f,
-      (
-        start .pre .1,
-        accepts head prices lots value book lines (a .e) (f .0) (f .2) (f .3) _ (at-order-of .order-of .ensures all) _ _ (at-measure .measure .ensures .0)
-            (at-measure .measure .ensures .1 .1) _ _ (at-first-cause .first-cause .ensures all) (at-measured-cause .measured-cause .ensures all) (at-enum-told .enum-told .given .1)
-            (at-enum-told2 .enum-told2 .given .1),
-      ),
-    )
+    let k = c .before .before .before .before .before .before .before .before in
+    let s = start (first (measured k)) in
+    (s .pre .0, (s .pre .1, judged-at k .accepts (c .before .before .before .before .before .before .before .before .before .before .before .before .before .before .before .before .enum-told .given .1) (c .before .before .before .before .before .before .enum-told2 .given .1)))
 
 returns-3 : tie.Need-returns-3
-returns-3 c =
-    let at-book-submit = c .before .before .before .before .before .before .before .before .before in
-    let at-enum-told2 = at-book-submit .before .before .before .before .before .before .before in
-    let at-measured-cause = at-enum-told2 .before .before in
-    let at-measure = at-measured-cause .before .before .before in
-    let at-order-of = at-measure .before in
-    let at-enum-told = at-order-of .before .before .before .before in
-    let at-first-cause = at-enum-told .before .before in
-    let start = at-first-cause .before .before .before .before .before .before in
-    let a = start .args in
-    let f = start .pre .0 in
-    let head = a .head .now in
-    let prices = a .prices .now in
-    let lots = a .lots .now in
-    let value = a .value .now in
-    let book = a .book .now in
-    let lines = a .lines .now in
-    let all = lent head prices lots value book lines in
-    λ t. at-book-submit .book-submit .ensures ∙ accepted head prices lots value book lines (a .e) (f .0) (f .2) (f .3) _ (at-order-of .order-of .ensures all) _ _
-    (at-measure .measure .ensures .0) (at-measure .measure .ensures .1 .1) _ _ (at-first-cause .first-cause .ensures all) (at-measured-cause .measured-cause .ensures all)
-    (at-enum-told .enum-told .given .1) (at-enum-told2 .enum-told2 .given .1)
+returns-3 c = λ t. c .before .before .before .before .before .before .before .before .before .book-submit .ensures ∙ accepted (judged-at (c .before .before .before .before .before .before .before .before .before .before .before .before .before .before .before .before .before .before)) (c .before .before .before .before .before .before .before .before .before .before .before .before .before .before .before .before .before .before .before .before .before .before .before .before .before .before .enum-told .given .1) (c .before .before .before .before .before .before .before .before .before .before .before .before .before .before .before .before .enum-told2 .given .1)
 
 pub apply-spec : {M : Type 1} → statement M
 apply-spec =
