@@ -61,7 +61,7 @@ takes-columns c p hc hp gains losses room i t a b k f =
 module _ (c p q l : ℕ) (longs shorts ws : List ℕ) (hc : c < contractCount) (hp : p ≤ mostPrice) (head : List ℕ) (lots value lines : List ℤ)
     (f : Bookable ((q + q) + (l + l)) head lots value lines) (d : Dealable q l (membersIn head) longs shorts ws) where
   few : membersIn head ≤ mostMembers
-  few = f .head-fit .most-members
+  few = f .most-members
 
   netting-few : length (nettingLines c p q longs shorts) ≤ membersIn head
   unfolding nettingLines

@@ -10,13 +10,13 @@ use Rattle.rules.specs.Default.{changeLines}
 use Rattle.rules.specs.Ledger.{Tables, Line}
 use Rattle.rules.specs.Ranges.{leastLines}
 use Rattle.tables.specs.Fit.{membersIn}
-use Rattle.deal_lines.specs.Lines.{withLine}
+use Rattle.deal_lines.specs.Lines.{LineFit, withLine}
 use Rattle.close_out.specs.Booking.{withEach}
 use Rattle.close_out.proofs.Changes.{change-none, change-one, each-none, each-one}
-use Rattle.deal_lines.proofs.Takes.{Takes, Sound, takes-line, line-members}
+use Rattle.deal_lines.proofs.Takes.{Takes, takes-line, line-members}
 
 -- One member's change: a line or none.
-pub takes-change : (room i c p m : ℕ) (z : ℤ) (t : Tables) → i < leastLines → Sound t (record { member = m; contract = c; lots = z; price = p })
+pub takes-change : (room i c p m : ℕ) (z : ℤ) (t : Tables) → i < leastLines → LineFit (t .head) (record { member = m; contract = c; lots = z; price = p })
     → Takes (natAbs z + room) t → Takes room (withEach i (changeLines c p m (z ∷ [])) t)
 takes-change room i c p m z t below ok f =
     same-or (natAbs z) 0

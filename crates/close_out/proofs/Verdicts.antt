@@ -19,7 +19,7 @@ use Rattle.rules.specs.Ledger.{Tables, members, lotsRun, defaulted, lotsAt, isO
 use Rattle.rules.specs.Ranges.{contractCount, mostMembers, mostLotsRun}
 use Rattle.rules.specs.Refusals.{closeOutSpec}
 use Rattle.rules.proofs.Netting.{given-sum, given-length, given-le}
-use Rattle.tables.specs.Fit.{HeadFit, RowsFit, membersIn}
+use Rattle.tables.specs.Fit.{RowsFit, membersIn}
 use Rattle.dealing.specs.Levels.{mostWeight, Column}
 use Rattle.close_out_weights.specs.declared.columns.Part.{Part}
 use Rattle.close_out_weights.specs.declared.columns.Part.the-variants.{DefaultedLongs, DefaultedShorts}
@@ -35,7 +35,7 @@ use Rattle.close_out_weights.proofs.ColumnFits.{column-length, column-fits, col
 use Rattle.rules.proofs.LinesRun.{run-append}
 
 pub rows-fit : {head : List ℕ} {lots value lines : List ℤ} → Bookable 0 head lots value lines → RowsFit (membersIn head) mostLotsRun lots
-rows-fit f = rows-wider _ _ mostLotsRun _ (f .head-fit .most-run) (f .lots-fit)
+rows-fit f = rows-wider _ _ mostLotsRun _ (omega (arith, f .most-run)) (f .lots-fit)
 
 -- ---- a column that was read
 pub record Read (head column : List ℕ) : Type 0 where
@@ -43,11 +43,10 @@ pub record Read (head column : List ℕ) : Type 0 where
   pub most : sumOf column ≤ mostMembers * mostLotsRun
   pub long : length column ≡ membersIn head
 
-pub read-fits : (part : Part) (head : List ℕ) (lots : List ℤ) (c : ℕ) (column : List ℕ) → HeadFit head → RowsFit (membersIn head) mostLotsRun lots → c < contractCount
+pub read-fits : (part : Part) (head : List ℕ) (lots : List ℤ) (c : ℕ) (column : List ℕ) → membersIn head ≤ mostMembers → RowsFit (membersIn head) mostLotsRun lots → c < contractCount
     → ((t : Tables) (v : List ℤ) → column ≡ columnOf part (withHead head (withRows lots v t)) c) → Read head column
-read-fits part head lots c column fit rows h e =
+read-fits part head lots c column few rows h e =
     let t = withHead head (withRows lots [] blank) in
-    let few = fit .most-members in
     let q = e blank [] in
     record { fits = rw q (column-fits t few rows part c h); most = rw q (column-sum t few rows part c h); long = rw q (column-length t few rows part c) }
 
@@ -126,10 +125,10 @@ module _ (head : List ℕ) (lots value lines : List ℤ) (f : Bookable 0 head lo
   here = withHead head (withRows lots [] blank)
 
   longs-read : Read head longs
-  longs-read = read-fits DefaultedLongs head lots c longs (f .head-fit) (rows-fit f) below (λ t v. sym (d .longs-are t v) ∙ longs-column _ c)
+  longs-read = read-fits DefaultedLongs head lots c longs (f .most-members) (rows-fit f) below (λ t v. sym (d .longs-are t v) ∙ longs-column _ c)
 
   shorts-read : Read head shorts
-  shorts-read = read-fits DefaultedShorts head lots c shorts (f .head-fit) (rows-fit f) below (λ t v. sym (d .shorts-are t v) ∙ shorts-column _ c)
+  shorts-read = read-fits DefaultedShorts head lots c shorts (f .most-members) (rows-fit f) below (λ t v. sym (d .shorts-are t v) ∙ shorts-column _ c)
 
   netted-is : min (sumOf longs) (sumOf shorts) ≡ q
   unfolding smallerTotal
@@ -244,7 +243,7 @@ module _ (head : List ℕ) (lots value lines : List ℤ) (f : Bookable 0 head lo
             → t′ ≡ withEach 0 (stepLines c price q l longs shorts ws) lent → record { answer = Accepted n; after = t′ } ≡ closeOutSpec lent e
         unfolding closeOutSpec closeOutBooked booked
         booked-so k n t′ en et =
-            rw (en, et, each-booked (stepLines c price q l longs shorts ws) lent (omega (arith, f .head-fit .long)), ← lines-are)
+            rw (en, et, each-booked (stepLines c price q l longs shorts ws) lent (omega (arith, f .long)), ← lines-are)
             (rw (opened, no-price, longs-here, shorts-here, some-lots, left-here, weights-here, ← summed, taker, run-is, le-ltb mostLotsRun (lotsRun lent + ((q + q) + (l + l))) k))
 
 -- ---- the causes that need no lots

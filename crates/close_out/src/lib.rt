@@ -14,7 +14,7 @@ ghost use lib.ListN.{length};
 ghost use Rattle.rules.specs.Ranges.{contractCount, mostPrice, mostRatio};
 ghost use Rattle.rules.specs.Ledger.{Tables, withHead, withPrices, withRows, withLines, isOpen, ggf};
 ghost use Rattle.rules.specs.Refusals.{closeOutSpec};
-ghost use Rattle.tables.specs.Fit.{PricesFit, membersIn, lotsRunIn};
+ghost use Rattle.tables.specs.Fit.{HeadFit, PricesFit, membersIn, lotsRunIn};
 ghost use Rattle.deal_lines.specs.Room.{Bookable};
 use dealing::sum_of;
 use defaulted::find_defaulted;
@@ -42,7 +42,8 @@ fn close_out_lots(
     shorts: &mut [u64],
     weights: &mut [u64],
 ) -> Answer
-    requires { ⌜ Bookable 0 (now head) (now lots) (now value) (now lines) × (e .contract < contractCount) × (e .ratio ≤ mostRatio) × (price .0 ≤ mostPrice) × (0 < price .0) ⌝ }
+    requires { ⌜ HeadFit (now head) × Bookable 0 (now head) (now lots) (now value) (now lines) ⌝ }
+    requires { ⌜ (e .contract < contractCount) × (e .ratio ≤ mostRatio) × (price .0 ≤ mostPrice) × (0 < price .0) ⌝ }
     requires { ⌜ (length (now longs) ≡ membersIn (now head)) × (length (now shorts) ≡ membersIn (now head)) × (length (now weights) ≡ membersIn (now head)) ⌝ }
     ensures { λ r. ⌜ ((t : Tables) → isOpen (withHead (now (head .entry)) (withRows (now (lots .entry)) (now (value .entry)) (withLines (now (lines .entry)) t))) (e .contract) ≡ true
         → ggf t (e .contract) ≡ price .0
@@ -87,7 +88,7 @@ pub fn apply(
     lines: &mut [i64],
     e: CloseOutTerms,
 ) -> Answer
-    requires { ⌜ Bookable 0 (now head) (now lots) (now value) (now lines) × PricesFit (lotsRunIn (now head)) (now prices) ⌝ }
+    requires { ⌜ HeadFit (now head) × Bookable 0 (now head) (now lots) (now value) (now lines) × PricesFit (lotsRunIn (now head)) (now prices) ⌝ }
     requires { ⌜ (e .contract < contractCount) × (e .ratio ≤ mostRatio) ⌝ }
     ensures { λ r. ⌜ ((t : Tables) → record {
       answer = r;

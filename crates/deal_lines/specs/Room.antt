@@ -3,12 +3,13 @@ use Prim.Native.Nat.{ℕ, _+_, _*_, _≤_}
 use mathlib.Core.List.{List}
 use lib.IntN.{ℤ}
 use lib.ListN.{length}
-use Rattle.rules.specs.Ledger.{linesLength}
-use Rattle.rules.specs.Ranges.{mostPrice, mostLotsRun}
-use Rattle.tables.specs.Fit.{HeadFit, RowsFit, membersIn, lotsRunIn}
+use Rattle.rules.specs.Ledger.{headLength, linesLength}
+use Rattle.rules.specs.Ranges.{mostMembers, mostPrice, mostLotsRun}
+use Rattle.tables.specs.Fit.{RowsFit, membersIn, lotsRunIn}
 
 pub record Bookable (room : ℕ) (head : List ℕ) (lots value lines : List ℤ) : Type 0 where
-  pub head-fit : HeadFit head
+  pub long : headLength ≤ length head
+  pub most-members : membersIn head ≤ mostMembers
   pub lots-fit : RowsFit (membersIn head) (lotsRunIn head) lots
   pub value-fit : RowsFit (membersIn head) (mostPrice * lotsRunIn head) value
   pub lines-long : linesLength ≤ length lines

@@ -6,10 +6,11 @@ ghost use lib.ListN.{length, getD, set};
 ghost use lib.IntN.{ℤ, pos, natAbs, _+ℤ_};
 ghost use Rattle.arith.specs.Lists.{over};
 ghost use Rattle.rules.specs.Ranges.{contractCount, mostMembers, mostPrice, mostLotsRun, leastLines};
-ghost use Rattle.rules.specs.Ledger.{Tables, withHead, withRows, withLines, headLength, linesLength, lineWidth, linePlaces, lineLots, lineValue, posted};
+ghost use Rattle.rules.specs.Ledger.{Tables, withHead, withRows, withLines, linesLength, lineWidth, linePlaces, lineLots, lineValue, posted};
 ghost use Rattle.rules.specs.Sides.{signed};
-ghost use Rattle.tables.specs.Fit.{RowsFit, membersIn, lotsRunIn};
+ghost use Rattle.tables.specs.Fit.{RowsFit};
 ghost use Rattle.deal_lines.specs.Lines.{LineFit, lineOf, withLine};
+ghost use Rattle.deal_lines.specs.Room.{Bookable};
 use rules::Kurus;
 use rules::Lots;
 use rules::Side;
@@ -96,9 +97,8 @@ pub fn book_line(
     i: usize,
     line: DealLine,
 )
-    requires { ⌜ (headLength ≤ length (now head)) × (membersIn (now head) ≤ mostMembers) × LineFit (now head) line ⌝ }
-    requires { ⌜ RowsFit (membersIn (now head)) (lotsRunIn (now head)) (now lots) × RowsFit (membersIn (now head)) (mostPrice * lotsRunIn (now head)) (now value) ⌝ }
-    requires { ⌜ (i < leastLines) × (linesLength ≤ length (now lines)) ⌝ }
+    requires { ⌜ Bookable (line .lots .0) (now head) (now lots) (now value) (now lines) ⌝ }
+    requires { ⌜ LineFit (now head) (lineOf line) × (i < leastLines) ⌝ }
     ensures { λ _. ⌜ ((t : Tables) → withHead (now (head .exit)) (withRows (now (lots .exit)) (now (value .exit)) (withLines (now (lines .exit)) t))
         ≡ withLine i (lineOf line) (withHead (now (head .entry)) (withRows (now (lots .entry)) (now (value .entry)) (withLines (now (lines .entry)) t)))) ⌝ }
 {

@@ -30,17 +30,17 @@ returns-2 c =
 slice-aggregate-close-out-lots : tie.Need-slice-aggregate-close-out-lots
 slice-aggregate-close-out-lots c =
     let pre = c .before .before .before .before .before .before .before .before .before .before .before .before .before .pre in
-    simp length-take (omega (arith, pre .0 .0 .head-fit .most-members))
+    simp length-take (omega (arith, pre .0 .0 .most-members))
 
 slice-aggregate-close-out-lots-2 : tie.Need-slice-aggregate-close-out-lots-2
 slice-aggregate-close-out-lots-2 c =
     let pre = c .before .before .before .before .before .before .before .before .before .before .before .before .before .before .pre in
-    simp length-take (omega (arith, pre .0 .0 .head-fit .most-members))
+    simp length-take (omega (arith, pre .0 .0 .most-members))
 
 slice-aggregate-close-out-lots-3 : tie.Need-slice-aggregate-close-out-lots-3
 slice-aggregate-close-out-lots-3 c =
     let pre = c .before .before .before .before .before .before .before .before .before .before .before .before .before .before .before .pre in
-    simp length-take (omega (arith, pre .0 .0 .head-fit .most-members))
+    simp length-take (omega (arith, pre .0 .0 .most-members))
 
 close-out-lots-requires : tie.Need-close-out-lots-requires
 close-out-lots-requires c κs =
@@ -49,9 +49,12 @@ close-out-lots-requires c κs =
     let if2 = c .before .before .before .before .before .before .before .before .if2 in
     let same : getD (a .prices .now) (a .e .contract * 5 + 0) 0 ≡ getD (a .prices .now) (a .e .contract * 5) 0 =
     ap (λ i. getD (a .prices .now) i 0) (add-zero (a .e .contract * 5)) in
-    let few = pre .0 .0 .head-fit .most-members in (
-      (pre .0 .0, pre .1 .0, pre .1 .1, omega (arith, same, pre .0 .1 .contract-fit (a .e .contract) (pre .1 .0) .most-ggf), omega (arith, if2 .left)),
-      (simp length-take (omega (arith, few)), simp length-take (omega (arith, few)), simp length-take (omega (arith, few))),
+    let few = pre .0 .0 .most-members in (
+      (pre .0 .0, pre .0 .1),
+      (
+        (pre .1 .0, pre .1 .1, omega (arith, same, pre .0 .2 .contract-fit (a .e .contract) (pre .1 .0) .most-ggf), omega (arith, if2 .left)),
+        (simp length-take (omega (arith, few)), simp length-take (omega (arith, few)), simp length-take (omega (arith, few))),
+      ),
     )
 
 returns-3 : tie.Need-returns-3

@@ -2,6 +2,7 @@ use Prim.Native.Nat.{_*_, _≤_}
 use mathlib.Core.Path.{_∙_}
 use native.Mathlib.Omega.{arith}
 use Rattle.rules.specs.Ranges.{mostMembers, mostLotsRun}
+use Rattle.deal_lines.proofs.Takes.{with-room}
 use Rattle.close_out.proofs.Verdicts.{rows-fit, most-netted, most-left, no-lots, no-taker, passed, booked-so, dealable}
 use borrow.Author.Needs.{needs}
 use Rattle.close_out.proofs.close_out_lots.Statement.{statement}
@@ -28,12 +29,12 @@ most c =
     let pre = start c .pre in
     let e = start c .args .e in
     let d = c .find-defaulted .ensures in
-    (most-netted _ _ _ _ (pre .0 .0) e (pre .0 .1) _ _ _ _ d, most-left _ _ _ _ (pre .0 .0) e (pre .0 .1) _ _ _ _ d)
+    (most-netted _ _ _ _ (pre .0 .1) e (pre .1 .0 .0) _ _ _ _ d, most-left _ _ _ _ (pre .0 .1) e (pre .1 .0 .0) _ _ _ _ d)
 
 find-defaulted-requires : tie.Need-find-defaulted-requires
 find-defaulted-requires c κs =
     let pre = c .before .before .before .before .before .before .before .before .pre in
-    ((pre .0 .0 .head-fit, rows-fit (pre .0 .0), pre .0 .1), (pre .1 .0, pre .1 .1))
+    ((pre .0 .0, rows-fit (pre .0 .1), pre .1 .0 .0), (pre .1 .1 .0, pre .1 .1 .1))
 
 add-if1 : tie.Need-add-if1
 add-if1 c = let m = most (c .before .before .before .before) in omega (arith, m .0, m .1)
@@ -43,14 +44,15 @@ returns c =
     let d = c .before .before .before .before .before in
     let s = start d in
     let a = s .args in
-    let f = s .pre .0 in
-    λ t o p. no-lots _ _ _ _ (f .0) (a .e) (f .1) _ _ _ _ (d .find-defaulted .ensures) (a .price .0) (f .4) t o p (c .if1 .taken)
+    let f = s .pre .0 .1 in
+    let p = s .pre .1 .0 in
+    λ t o g. no-lots _ _ _ _ f (a .e) (p .0) _ _ _ _ (d .find-defaulted .ensures) (a .price .0) (p .3) t o g (c .if1 .taken)
 
 find-weights-requires : tie.Need-find-weights-requires
 find-weights-requires c κs =
     let d = c .before .before .before .before .before .before .before .before in
     let pre = start d .pre in
-    ((pre .0 .0 .head-fit, rows-fit (pre .0 .0), pre .1 .2), (pre .0 .1, pre .0 .2, most d .1))
+    ((pre .0 .0, rows-fit (pre .0 .1), pre .1 .1 .2), (pre .1 .0 .0, pre .1 .0 .1, most d .1))
 
 returns-2 : tie.Need-returns-2
 returns-2 c =
@@ -58,12 +60,13 @@ returns-2 c =
     let d = found (there w) in
     let s = start d in
     let a = s .args in
-    let f = s .pre .0 in
-    λ t o p. no-taker _ _ _ _ (f .0) (a .e) (f .1) _ _ _ _ (d .find-defaulted .ensures) (a .price .0) (f .4) t o p (there w .if1 .left) _ _ (c .before .sum-of .ensures)
+    let f = s .pre .0 .1 in
+    let p = s .pre .1 .0 in
+    λ t o g. no-taker _ _ _ _ f (a .e) (p .0) _ _ _ _ (d .find-defaulted .ensures) (a .price .0) (p .3) t o g (there w .if1 .left) _ _ (c .before .sum-of .ensures)
     (w .find-weights .ensures .0) (c .if2 .taken)
 
 slice-read-if3 : tie.Need-slice-read-if3
-slice-read-if3 c = omega (arith, start (found (there (weighed (c .before)))) .pre .0 .0 .head-fit .long)
+slice-read-if3 c = omega (arith, start (found (there (weighed (c .before)))) .pre .0 .0 .long)
 
 add-if3 : tie.Need-add-if3
 add-if3 c = omega (arith, most (found (there (weighed (c .before)))) .0)
@@ -77,7 +80,7 @@ add-if3-3 c = let m = most (found (there (weighed (c .before)))) in omega (arith
 add-if3-4 : tie.Need-add-if3-4
 add-if3-4 c =
     let d = found (there (weighed (c .before))) in
-    omega (arith, most d .0, most d .1, start d .pre .0 .0 .head-fit .most-run)
+    omega (arith, most d .0, most d .1, start d .pre .0 .0 .most-run)
 
 returns-3 : tie.Need-returns-3
 returns-3 c =
@@ -86,8 +89,9 @@ returns-3 c =
     let d = found (there w) in
     let s = start d in
     let a = s .args in
-    let f = s .pre .0 in
-    λ t o p. passed _ _ _ _ (f .0) (a .e) (f .1) _ _ _ _ (d .find-defaulted .ensures) (a .price .0) (f .4) t o p (there w .if1 .left) _ _ (k .before .sum-of .ensures)
+    let f = s .pre .0 .1 in
+    let p = s .pre .1 .0 in
+    λ t o g. passed _ _ _ _ f (a .e) (p .0) _ _ _ _ (d .find-defaulted .ensures) (a .price .0) (p .3) t o g (there w .if1 .left) _ _ (k .before .sum-of .ensures)
     (w .find-weights .ensures .0) (k .if2 .left) (c .if3 .taken)
 
 book-steps-requires : tie.Need-book-steps-requires
@@ -96,11 +100,11 @@ book-steps-requires c κs =
     let w = weighed k in
     let d = found (there w) in
     let s = start d in
-    let f = s .pre .0 .0 in
-    let room = c .before .before .before .before .before .before .before .if3 .left in (
-      (record { head-fit = f .head-fit; lots-fit = f .lots-fit; value-fit = f .value-fit; lines-long = f .lines-long; most-run = room }, s .pre .0 .1, s .pre .0 .3),
-      dealable _ _ _ _ f (s .args .e) (s .pre .0 .1) _ _ _ _ (d .find-defaulted .ensures) _ _ (k .before .sum-of .ensures) (k .if2 .left)
-          (w .find-weights .kept .1 .1 .1 .1 .0 ∙ s .pre .1 .2) (w .find-weights .ensures .1),
+    let f = s .pre .0 .1 in
+    let p = s .pre .1 .0 in (
+      (with-room _ _ (c .before .before .before .before .before .before .before .if3 .left) f, p .0, p .2),
+      dealable _ _ _ _ f (s .args .e) (p .0) _ _ _ _ (d .find-defaulted .ensures) _ _ (k .before .sum-of .ensures) (k .if2 .left)
+          (w .find-weights .kept .1 .1 .1 .1 .0 ∙ s .pre .1 .1 .2) (w .find-weights .ensures .1),
     )
 
 same-length-19 : tie.Need-same-length-19
@@ -121,8 +125,9 @@ returns-4 c =
     let d = found (there w) in
     let s = start d in
     let a = s .args in
-    let f = s .pre .0 in
-    λ t o p. booked-so _ _ _ _ (f .0) (a .e) (f .1) _ _ _ _ (d .find-defaulted .ensures) (a .price .0) (f .4) t o p (there w .if1 .left) _ _ (k .before .sum-of .ensures)
+    let f = s .pre .0 .1 in
+    let p = s .pre .1 .0 in
+    λ t o g. booked-so _ _ _ _ f (a .e) (p .0) _ _ _ _ (d .find-defaulted .ensures) (a .price .0) (p .3) t o g (there w .if1 .left) _ _ (k .before .sum-of .ensures)
     (w .find-weights .ensures .0) (k .if2 .left) (b .before .before .before .before .before .before .before .before .if3 .left) _ _ (b .book-steps .ensures .0) (b .book-steps .ensures .1 .1 .1 t)
 
 pub close-out-lots-spec : {M : Type 1} → statement M

@@ -1,6 +1,7 @@
 use Prim.Native.Nat.{_<_}
 use mathlib.Core.Path.{sym, _∙_}
 use native.Mathlib.Omega.{arith}
+use Rattle.deal_lines.proofs.Takes.{less-room}
 use borrow.Author.Needs.{needs}
 use Rattle.close_out.proofs.Changes.{same-none, more-bought, more-sold, each-none, each-one}
 use Rattle.close_out.proofs.booking.book_change.Statement.{statement}
@@ -14,14 +15,7 @@ returns c = let a = c .before .before .args in
 book-line-requires : tie.Need-book-line-requires
 book-line-requires c κs =
     let pre = c .before .before .before .before .before .before .before .pre in
-    let f = pre .0 in (
-      (
-        f .head-fit .long,
-        f .head-fit .most-members,
-        record { member-below = pre .1 .3; contract-below = pre .1 .1; most-price = pre .1 .2; most-lots = omega (arith, f .most-run) },
-      ),
-      ((f .lots-fit, f .value-fit), (pre .1 .0, f .lines-long)),
-    )
+    (less-room _ _ (omega arith) (pre .0), (record { member-below = pre .1 .3; contract-below = pre .1 .1; most-price = pre .1 .2 }, pre .1 .0))
 
 returns-2 : tie.Need-returns-2
 returns-2 c = let a = c .before .before .before .before .before .before .before .before .before .before .before .before .before .args in
@@ -31,14 +25,7 @@ returns-2 c = let a = c .before .before .before .before .before .before .before 
 book-line-requires-2 : tie.Need-book-line-requires-2
 book-line-requires-2 c κs =
     let pre = c .before .before .before .before .before .before .before .pre in
-    let f = pre .0 in (
-      (
-        f .head-fit .long,
-        f .head-fit .most-members,
-        record { member-below = pre .1 .3; contract-below = pre .1 .1; most-price = pre .1 .2; most-lots = omega (arith, f .most-run) },
-      ),
-      ((f .lots-fit, f .value-fit), (pre .1 .0, f .lines-long)),
-    )
+    (less-room _ _ (omega arith) (pre .0), (record { member-below = pre .1 .3; contract-below = pre .1 .1; most-price = pre .1 .2 }, pre .1 .0))
 
 returns-3 : tie.Need-returns-3
 returns-3 c =

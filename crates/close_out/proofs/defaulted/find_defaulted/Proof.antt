@@ -7,12 +7,12 @@ use Rattle.close_out.proofs.defaulted.find_defaulted.Tie as tie
 sum-of-requires : tie.Need-sum-of-requires
 sum-of-requires c κs =
     let pre = c .before .before .before .before .before .before .before .before .before .before .before .before .pre in
-    read-fits DefaultedLongs _ _ _ _ (pre .0 .0) (pre .0 .1) (pre .0 .2) (c .before .before .before .before .before .before .before .read-column .ensures) .fits
+    read-fits DefaultedLongs _ _ _ _ (pre .0 .0 .most-members) (pre .0 .1) (pre .0 .2) (c .before .before .before .before .before .before .before .read-column .ensures) .fits
 
 sum-of-requires-2 : tie.Need-sum-of-requires-2
 sum-of-requires-2 c κs =
     let pre = c .before .before .before .before .before .before .before .before .before .before .before .before .before .before .pre in
-    read-fits DefaultedShorts _ _ _ _ (pre .0 .0) (pre .0 .1) (pre .0 .2) (c .before .before .before .before .before .read-column2 .ensures) .fits
+    read-fits DefaultedShorts _ _ _ _ (pre .0 .0 .most-members) (pre .0 .1) (pre .0 .2) (c .before .before .before .before .before .read-column2 .ensures) .fits
 
 returns : tie.Need-returns
 returns c = defaulted-found _ _ _ _ _ (c .before .before .before .before .before .before .before .before .before .before .before .read-column .ensures) (c .before .before .before .before .before .before .before .read-column2 .ensures) _ _ _ (c .before .before .before .sum-of .ensures) (c .before .sum-of2 .ensures) (c .smaller .ensures)

@@ -23,7 +23,7 @@ book-changes-requires c κs =
     let gs = give-up2 .ensures in
     let long = given-fits _ _ _ gl .0 ∙ pre .1 .0 .2 in
     let wide = given-fits _ _ _ gs .0 ∙ pre .1 .0 .3 in
-    (less-room _ _ (netting-room 0 0 _ _ _ _ _ gl gs) (pre .0), ((omega (arith, wide, pre .0 .head-fit .most-members), pre .1 .0 .0, pre .1 .0 .1), (wide, long ∙ sym wide)))
+    (less-room _ _ (netting-room 0 0 _ _ _ _ _ gl gs) (pre .0), ((omega (arith, wide, pre .0 .most-members), pre .1 .0 .0, pre .1 .0 .1), (wide, long ∙ sym wide)))
 
 subtract-requires : tie.Need-subtract-requires
 subtract-requires c κs =
