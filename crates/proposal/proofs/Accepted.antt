@@ -1,5 +1,5 @@
 -- A proposal that is accepted, as a whole. Assumes nothing.
-use mathlib.Core.Path.{_≡_, sym, ap, _∙_}
+use mathlib.Core.Path.{_≡_, refl, sym, ap, _∙_}
 use mathlib.Core.List.{List, map}
 use mathlib.Core.Bool.{true, false}
 use Prim.Native.Nat.{ℕ, _+_, _<_, _≤_}
@@ -13,7 +13,7 @@ use Rattle.arith.proofs.Tests.{never, true-or}
 use Rattle.rules.specs.declared.answer.Answer.the-variants.{Accepted}
 use Rattle.rules.specs.declared.order.Order.{Order}
 use Rattle.rules.specs.Ranges.{mostLotsRun}
-use Rattle.rules.specs.Ledger.{Tables, Line, lotsRun, orders, withOrders, lineRun, booked}
+use Rattle.rules.specs.Ledger.{Tables, Line, lotsRunPlace, orderCountPlace, lotsRun, orderCount, orders, withOrders, lineRun, booked}
 use Rattle.rules.specs.Refusals.{distinct, runWouldPass}
 use Rattle.rules.specs.Synthetic.{namedLegs, legLine, acceptable, proposalLines, usedByLegs}
 use Rattle.tables.specs.Fit.{ordersIn}
@@ -29,11 +29,11 @@ use Rattle.proposal.proofs.Taken.{taken-columns}
 pub orders-after-lines : (ls : List Line) (os : List Order) (t : Tables) → withOrders os (booked ls t .after) ≡ booked ls (withOrders os t) .after
 unfolding booked withOrders
 orders-after-lines ls os t =
-    rw (getD-set-other (t .head) 7 6 (length os) 0 (λ e. omega arith), set-comm (t .head) 6 7 (lotsRun t + lineRun ls) (length os) (λ e. omega arith))
+    rw (getD-set-other (t .head) orderCountPlace lotsRunPlace (length os) 0 (λ e. omega arith), set-comm (t .head) lotsRunPlace orderCountPlace (lotsRun t + lineRun ls) (length os) (λ e. omega arith))
 
-pub count-after-lines : (ls : List Line) (t : Tables) → getD (booked ls t .after .head) 7 0 ≡ getD (t .head) 7 0
+pub count-after-lines : (ls : List Line) (t : Tables) → orderCount (booked ls t .after) ≡ orderCount t
 unfolding booked
-count-after-lines ls t = getD-set-other (t .head) 6 7 (lotsRun t + lineRun ls) 0 (λ e. omega arith)
+count-after-lines ls t = getD-set-other (t .head) lotsRunPlace orderCountPlace (lotsRun t + lineRun ls) 0 (λ e. omega arith)
 
 pub all-booked : (ls : List Line) (os : List Order) (n : ℕ) (t u v : Tables) → n ≡ length ls → u ≡ booked ls t .after → v ≡ withOrders os u
     → record { answer = Accepted n; after = v } ≡ booked ls (withOrders os t)
@@ -43,37 +43,66 @@ all-booked ls os n t u v many lines used =
     ∙ ap (λ x. record { answer = Accepted (length ls); after = x }) (used ∙ ap (withOrders os) lines ∙ orders-after-lines ls os t)
 
 -- ---- the legs as columns
-module _ (t : Tables) (count : ℕ) (book places numbers lots prices : List ℕ) (fit : LegsFit (length numbers) lots prices) (same : orders t ≡ ordersIn count book)
-    (at : places ≡ placesOf count book numbers) (ok : acceptable t (columnLegs numbers lots prices) ≡ true) where
-  found : every (λ p. ltb p count) places ≡ true
-  found = true-or (every (λ p. ltb p count) places) (λ e. e) (λ e. never (sym ok ∙ acceptable-not t count book places numbers lots prices fit same at e))
+-- Legs that name orders of the book: where these stand, the lines, the lots that run, what is left of the orders.
+pub record Named (t : Tables) (places numbers lots prices : List ℕ) : Type 0 where
+  pub there : PlacesFit (orderCount t) places
+  pub many : length places ≡ length numbers
+  pub lines-are : proposalLines t (columnLegs numbers lots prices) ≡ linesTo (t .book) places lots prices (length places)
+  pub run-is : lineRun (proposalLines t (columnLegs numbers lots prices)) ≡ total (λ i. getD lots i 0) (from 0 (length lots))
+  pub used : All (λ o. 1 ≤ o .lots .0) (orders t) → distinct (map (λ o. o .number) (orders t)) ≡ true → (k : ℕ) → k ≡ orderCount t
+      → leftOver (leftAfter places lots (length places) (lotsIn k (t .book))) (ordersIn k (t .book)) ≡ usedByLegs (columnLegs numbers lots prices) (orders t)
 
-  pub places-there : PlacesFit count places
-  places-there = found-fit count places found
+module _ (t : Tables) (places numbers lots prices : List ℕ) (fit : LegsFit (length numbers) lots prices) (at : places ≡ placesOf (orderCount t) (t .book) numbers)
+    (ok : acceptable t (columnLegs numbers lots prices) ≡ true) where
+  same : orders t ≡ ordersIn (orderCount t) (t .book)
+  unfolding orders
+  same = refl
 
-  pub lines-are : proposalLines t (columnLegs numbers lots prices) ≡ linesTo book places lots prices (length places)
+  found : every (λ p. ltb p (orderCount t)) places ≡ true
+  found =
+      true-or (every (λ p. ltb p (orderCount t)) places) (λ e. e)
+      (λ e. never (sym ok ∙ acceptable-not t (orderCount t) (t .book) places numbers lots prices fit same at e))
+
+  there-all : PlacesFit (orderCount t) places
+  there-all = found-fit (orderCount t) places found
+
+  many-all : length places ≡ length numbers
+  many-all = places-many t (orderCount t) (t .book) places numbers lots prices fit same at
+
+  lines-all : proposalLines t (columnLegs numbers lots prices) ≡ linesTo (t .book) places lots prices (length places)
   unfolding proposalLines
-  lines-are =
+  lines-all =
       ap (λ os. map legLine (namedLegs os (columnLegs numbers lots prices))) same
-      ∙ lines-of book places lots prices numbers (ordersIn count book) (places-named t count book places numbers lots prices fit same at found)
-      ∙ ap (linesTo book places lots prices) (sym (places-many t count book places numbers lots prices fit same at))
+      ∙ lines-of (t .book) places lots prices numbers (ordersIn (orderCount t) (t .book)) (places-named t (orderCount t) (t .book) places numbers lots prices fit same at found)
+      ∙ ap (linesTo (t .book) places lots prices) (sym many-all)
 
+  run-all : lineRun (proposalLines t (columnLegs numbers lots prices)) ≡ total (λ i. getD lots i 0) (from 0 (length lots))
+  run-all =
+      ap lineRun lines-all ∙ lines-run (t .book) places lots prices (length places)
+      ∙ ap (λ n. total (λ i. getD lots i 0) (from 0 n)) (many-all ∙ sym (fit .lots-length))
+
+  used-all : All (λ o. 1 ≤ o .lots .0) (orders t) → distinct (map (λ o. o .number) (orders t)) ≡ true → (k : ℕ) → k ≡ orderCount t
+      → leftOver (leftAfter places lots (length places) (lotsIn k (t .book))) (ordersIn k (t .book)) ≡ usedByLegs (columnLegs numbers lots prices) (orders t)
+  unfolding orders
+  used-all each apart k e = rw e (taken-columns (orderCount t) (t .book) numbers lots prices each apart places at there-all)
+
+  pub named : Named t places numbers lots prices
+  named =
+      record {
+        there = there-all;
+        many = many-all;
+        lines-are = lines-all;
+        run-is = run-all;
+        used = used-all;
+      }
+
+module _ {t : Tables} {places numbers lots prices : List ℕ} (n : Named t places numbers lots prices) where
   pub line-count : length numbers ≡ length (proposalLines t (columnLegs numbers lots prices))
-  line-count = sym (ap length lines-are ∙ lines-length book places lots prices (length places) ∙ places-many t count book places numbers lots prices fit same at)
+  line-count = sym (ap length (n .lines-are) ∙ lines-length (t .book) places lots prices (length places) ∙ n .many)
 
-  -- The lots of all legs are what the lots run grows by.
   module _ (sum : ℕ) (e : sum ≡ total (λ i. getD lots i 0) (from 0 (length lots))) where
-    run-grows : lineRun (proposalLines t (columnLegs numbers lots prices)) ≡ sum
-    run-grows =
-        ap lineRun lines-are ∙ lines-run book places lots prices (length places)
-        ∙ ap (λ n. total (λ i. getD lots i 0) (from 0 n)) (places-many t count book places numbers lots prices fit same at ∙ sym (fit .lots-length)) ∙ sym e
-
     pub run-passes : mostLotsRun < lotsRun t + sum → runWouldPass t (proposalLines t (columnLegs numbers lots prices)) ≡ true
-    run-passes h = rw run-grows (lt-ltb mostLotsRun (lotsRun t + sum) h)
+    run-passes h = rw (n .run-is, ← e) (lt-ltb mostLotsRun (lotsRun t + sum) h)
 
     pub run-fits : lotsRun t + sum ≤ mostLotsRun → runWouldPass t (proposalLines t (columnLegs numbers lots prices)) ≡ false
-    run-fits h = rw run-grows (le-ltb mostLotsRun (lotsRun t + sum) h)
-
-  pub orders-used : All (λ o. 1 ≤ o .lots .0) (ordersIn count book) → distinct (map (λ o. o .number) (ordersIn count book)) ≡ true → (k : ℕ) → k ≡ count
-      → leftOver (leftAfter places lots (length places) (lotsIn k book)) (ordersIn k book) ≡ usedByLegs (columnLegs numbers lots prices) (orders t)
-  orders-used each apart k e = rw (e, same) (taken-columns count book numbers lots prices each apart places at places-there)
+    run-fits h = rw (n .run-is, ← e) (le-ltb mostLotsRun (lotsRun t + sum) h)

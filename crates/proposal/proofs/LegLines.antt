@@ -9,7 +9,8 @@ use lib.ListN.{length, getD}
 use Rattle.arith.specs.Lists.{total, from}
 use Rattle.arith.proofs.Scans.{from-next}
 use Rattle.rules.specs.declared.order.Order.{Order}
-use Rattle.rules.specs.Ledger.{Tables, withHead, withRows, withLines, lent, orderAt, booked}
+use Rattle.rules.specs.Ledger.{Tables, withHead, withRows, withLines, lent, lotsRunPlace, orderAt, booked}
+use Rattle.rules.specs.Ranges.{leastLines}
 use Rattle.rules.specs.Sides.{signed}
 use Rattle.deal_lines.specs.declared.lines.DealLine.{DealLine}
 use Rattle.tables.specs.Fit.{BookFit, OrderFit, membersIn, orderCountIn}
@@ -19,7 +20,7 @@ use Rattle.deal_lines.proofs.Booked.{booked-more}
 use Rattle.proposal_check.specs.Columns.{LegsFit, PlacesFit}
 use Rattle.deal_lines.specs.Room.{Bookable}
 use Rattle.proposal.specs.Booking.{lineAt, linesTo}
-use Rattle.deal_lines.proofs.Takes.{Sound, takes-line, line-members}
+use Rattle.deal_lines.proofs.Takes.{takes-line, less-room, line-members}
 use Rattle.proposal.proofs.Printed.{lines-length, lines-more}
 use Rattle.rules.proofs.Sides.{abs-signed}
 
@@ -53,23 +54,20 @@ module _ (book places lots prices : List ℕ) where
           tables = λ t. sym (ap (λ x. x .after) (booked-none (withHead head₀ (withRows rows₀ value₀ (withLines lines₀ t)))));
         }
 
-    module _ (fit : LegsFit (length places) lots prices) (b : BookFit head₀ book) (there : PlacesFit (orderCountIn head₀) places) (long : 6 < length head₀)
+    module _ (fit : LegsFit (length places) lots prices) (b : BookFit head₀ book) (there : PlacesFit (orderCountIn head₀) places) (long : lotsRunPlace < length head₀)
         (i : ℕ) (below : i < length places) (head : List ℕ) (rows value lines : List ℤ) (done : LegsBooked head₀ rows₀ value₀ lines₀ i head rows value lines)
         (o : Order) (at : o ≡ orderAt book (getD places i 0)) where
       abbrev order-fit : OrderFit head₀ book (getD places i 0)
       order-fit = b .order-fit (getD places i 0) (there .below i below)
 
-      pub leg-line-fit : LineFit head (dealLine o (getD lots i 0) (getD prices i 0))
-      leg-line-fit =
-          record {
-            member-below = rw (at, done .same-members) (order-fit .member-below);
-            contract-below = rw at (order-fit .contract-below);
-            most-price = fit .most-price i below;
-            most-lots = omega (arith, done .able .most-run, lots-first i below);
-          }
-
       same-line : lineOf (dealLine o (getD lots i 0) (getD prices i 0)) ≡ lineAt book places lots prices i
       same-line = ap (λ x. lineOf (dealLine x (getD lots i 0) (getD prices i 0))) at
+
+      sound : LineFit head (lineAt book places lots prices i)
+      sound = record { contract-below = order-fit .contract-below; member-below = rw (done .same-members) (order-fit .member-below); most-price = fit .most-price i below }
+
+      pub leg-takes : Bookable (getD lots i 0) head rows value lines × (LineFit head (lineOf (dealLine o (getD lots i 0) (getD prices i 0))) × (i < leastLines))
+      leg-takes = (less-room _ _ (omega (arith, lots-first i below)) (done .able), (rw same-line sound, omega (arith, fit .most-legs)))
 
       pub legs-next : (head′ : List ℕ) (rows′ value′ lines′ : List ℤ)
           → ((t : Tables) → withHead head′ (withRows rows′ value′ (withLines lines′ t)) ≡ withLine i (lineOf (dealLine o (getD lots i 0) (getD prices i 0)))
@@ -89,8 +87,5 @@ module _ (book places lots prices : List ℕ) where
                 ∙ ap (λ ls. booked ls (withHead head₀ (withRows rows₀ value₀ (withLines lines₀ t))) .after) (lines-more book places lots prices i);
           }
         where
-          sound : Sound (lent head [] rows value [] lines) (lineAt book places lots prices i)
-          sound = record { contract-below = order-fit .contract-below; member-below = rw (done .same-members) (order-fit .member-below); most-price = fit .most-price i below }
-
           room : Bookable (natAbs (signed (orderAt book (getD places i 0) .side) (getD lots i 0)) + lotsFrom (i + 1)) head rows value lines
           room = rw (abs-signed (orderAt book (getD places i 0) .side) (getD lots i 0), ← lots-first i below) (done .able)

@@ -45,7 +45,7 @@ pub fn book_legs(
     leg_prices: &[u64],
 )
     requires { ⌜ BookFit (now head) (now book) × PlacesFit (orderCountIn (now head)) (now places) × LegsFit (length (now places)) (now «leg_lots») (now «leg_prices») ⌝ }
-    requires { ⌜ Bookable (total (λ i. getD (now «leg_lots») i 0) (from 0 (length (now places)))) (now head) (now lots) (now value) (now lines) ⌝ }
+    requires { ⌜ Bookable (total (λ i. getD (now «leg_lots») i 0) (from 0 (length (now places)))) (now head) (now lots) (now value) (now lines) × (orderCountIn (now head) ≤ mostOrders) ⌝ }
     ensures { λ _. ⌜ ((t : Tables) → withHead (now (head .exit)) (withRows (now (lots .exit)) (now (value .exit)) (withLines (now (lines .exit)) t))
         ≡ booked (linesTo (now (book .entry)) (now (places .entry)) (now («leg_lots» .entry)) (now («leg_prices» .entry)) (length (now (places .entry))))
         (withHead (now (head .entry)) (withRows (now (lots .entry)) (now (value .entry)) (withLines (now (lines .entry)) t))) .after) ⌝ }

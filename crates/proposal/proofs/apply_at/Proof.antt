@@ -1,144 +1,113 @@
-use native.Mathlib.Omega.{arith}
-use mathlib.Core.Path.{refl, sym, ap, subst, _∙_}
 use Prim.Native.Nat.{_≤_}
-use lib.ListN.{getD, length}
+use mathlib.Core.List.{List}
+use mathlib.Core.Path.{_≡_, sym, ap, subst, _∙_}
+use mathlib.Core.Bool.{true}
+use native.Mathlib.Omega.{arith}
+use lib.ListN.{length, getD}
 use borrow.Author.Tests.{not-true, not-false}
 use Rattle.arith.specs.Lists.{total, from}
-use Rattle.rules.specs.Ledger.{lent, withHead, withPrices, withRows, withBook, withLines, withOrders, orders, booked}
-use Rattle.rules.specs.Synthetic.{proposalLines, usedByLegs, proposalBooked}
+use Rattle.rules.specs.declared.event.Leg.{Leg}
+use Rattle.rules.specs.Ledger.{Tables, lent, orderCount, withHead, withPrices, withRows, withBook, withLines, withOrders, orders, booked}
+use Rattle.rules.specs.Synthetic.{acceptable, proposalLines, usedByLegs, proposalBooked}
 use Rattle.rules.specs.Refusals.{proposalSpec}
+use Rattle.tables.specs.Fit.{orderCountIn}
 use Rattle.order_book.proofs.Left.{all-orders}
 use Rattle.proposal_check.specs.Columns.{LegsFit, PlacesFit, columnLegs}
 use Rattle.proposal.specs.Booking.{linesTo}
-use Rattle.proposal_check.proofs.Checks.{places-many}
-use Rattle.proposal.proofs.Accepted.{count-after-lines, all-booked, places-there, lines-are, line-count, run-passes, run-fits, orders-used}
+use Rattle.proposal.proofs.Accepted.{Named, count-after-lines, all-booked, named, line-count, run-passes, run-fits}
 use borrow.Author.Needs.{needs}
 use Rattle.proposal.proofs.apply_at.Statement.{statement}
 use Rattle.proposal.proofs.apply_at.Tie as tie
 
+abbrev tables : tie.Start → Tables
+tables s = let a = s .args in lent (a .head .now) (a .prices .now) (a .lots .now) (a .value .now) (a .book .now) (a .lines .now)
+
+abbrev legs : tie.Start → List Leg
+legs s = columnLegs (s .args .orders .now) (s .args .leg-lots .now) (s .args .leg-prices .now)
+
+abbrev start : tie.Else1 → tie.Start
+start c = c .before .before .before .before .before .before .before .before .before .before .before
+
+ok : (c : tie.Else1) → acceptable (tables (start c)) (legs (start c)) ≡ true
+ok c = sym (c .before .is-acceptable .ensures (tables (start c))) ∙ not-false _ (c .if1 .left)
+
+named-at : (c : tie.Else1) → let a = start c .args in Named (tables (start c)) (a .places .now) (a .orders .now) (a .leg-lots .now) (a .leg-prices .now)
+named-at c = let s = start c in let a = s .args in
+    named (tables s) (a .places .now) (a .orders .now) (a .leg-lots .now) (a .leg-prices .now) (s .pre .1 .1 .0) (s .pre .1 .1 .1) (ok c)
+
+-- The lines leave the number of orders as it was.
+count-at : (c : tie.After-book-legs) → orderCountIn (c .book-legs .last .0) ≡ orderCountIn (c .before .before .before .before .before .before .before .before .before .before .before .before .before .before .before .before .before .before .before .before .args .head .now)
+count-at c =
+    let s = c .before .before .before .before .before .before .before .before .before .before .before .before .before .before .before .before .before .before .before .before in
+    let a = s .args in
+    let lines = linesTo (a .book .now) (a .places .now) (a .leg-lots .now) (a .leg-prices .now) (length (a .places .now)) in
+    ap orderCount (c .book-legs .ensures (tables s)) ∙ count-after-lines lines (tables s)
+
 returns : tie.Need-returns
 unfolding proposalSpec
-returns c = let a = c .before .before .before .before .before .before .before .before .before .before .before .args in
-    λ t. rw (sym (c .before .is-acceptable .ensures (withRows (a .lots .now) (a .value .now) (withLines (a .lines .now) t))) ∙ not-true _ (c .if1 .taken))
+returns c = λ t. rw (sym (c .before .is-acceptable .ensures (tables (c .before .before .before .before .before .before .before .before .before .before .before))) ∙ not-true _ (c .if1 .taken))
 
 total-lots-requires : tie.Need-total-lots-requires
 total-lots-requires c κs =
-    let start = c .before .before .before .before .before .before .before .before .before .before .before .before in
-    let a = start .args in let fit = start .pre .1 .1 .0 in subst (λ k. LegsFit k (a .leg-lots .now) (a .leg-prices .now)) (sym (fit .lots-length)) fit
+    let s = c .before .before .before .before .before .before .before .before .before .before .before .before in
+    let fit = s .pre .1 .1 .0 in
+    subst (λ k. LegsFit k (s .args .leg-lots .now) (s .args .leg-prices .now)) (sym (fit .lots-length)) fit
 
 returns-2 : tie.Need-returns-2
-unfolding proposalSpec orders
+unfolding proposalSpec
 returns-2 c =
-    let start = c .before .before .before .before .before .before .before .before .before .before .before .before .before .before in
-    let a = start .args in
-    let n = getD (a .head .now) 7 0 in
-    let book = a .book .now in
-    let places = a .places .now in
-    let numbers = a .orders .now in
-    let q = a .leg-lots .now in
-    let p = a .leg-prices .now in
-    let fit = start .pre .1 .1 .0 in
-    let at = start .pre .1 .1 .1 in
-    λ t.
-    let u = (withHead (a .head .now) (withPrices (a .prices .now) (withRows (a .lots .now) (a .value .now) (withBook (a .book .now) (withLines (a .lines .now) t))))) in
-    let ok = sym (c .before .before .before .before .is-acceptable .ensures u) ∙ not-false _ (c .before .before .before .if1 .left) in
-    rw (ok, run-passes u n book places numbers q p fit refl at ok (c .before .total-lots .result) (c .before .total-lots .ensures .0) (c .if2 .taken))
+    let k = c .before .before .before in
+    λ t. rw (ok k, run-passes (named-at k) (c .before .total-lots .result) (c .before .total-lots .ensures .0) (c .if2 .taken))
 
 book-legs-requires : tie.Need-book-legs-requires
-unfolding orders
 book-legs-requires c κs =
-    let at-if2 = c .before .before .before .before .before in
-    let at-total-lots = at-if2 .before in
-    let at-if1 = at-total-lots .before .before in
-    let at-is-acceptable = at-if1 .before in
-    let start = at-is-acceptable .before .before .before .before .before .before .before .before .before .before in
-    let a = start .args in
-    let n = getD (a .head .now) 7 0 in
-    let book = a .book .now in
-    let places = a .places .now in
-    let numbers = a .orders .now in
-    let q = a .leg-lots .now in
-    let p = a .leg-prices .now in
-    let fit = start .pre .1 .1 .0 in
-    let at = start .pre .1 .1 .1 in
-    let u = lent (a .head .now) (a .prices .now) (a .lots .now) (a .value .now) book (a .lines .now) in
-    let ok = sym (at-is-acceptable .is-acceptable .ensures u) ∙ not-false _ (at-if1 .if1 .left) in
-    let there = places-there u n book places numbers q p fit refl at ok in
-    let many = places-many u n book places numbers q p fit refl at in
-    let sum = at-total-lots .total-lots .ensures .0 ∙ ap (λ k. total (λ i. getD q i 0) (from 0 k)) (fit .lots-length ∙ sym many) in (
-      (start .pre .0 .2, there, subst (λ k. LegsFit k q p) (sym many) fit),
-      record {
-        head-fit = start .pre .0 .0;
-        lots-fit = start .pre .1 .0 .0;
-        value-fit = start .pre .1 .0 .1;
-        lines-long = start .pre .0 .3;
-        most-run = rw (← sum) (omega (arith, at-if2 .if2 .left));
-      },
+    let k = c .before .before .before .before .before .before .before .before in
+    let s = start k in
+    let a = s .args in
+    let fit = s .pre .1 .1 .0 in
+    let many = named-at k .many in
+    let sum = c .before .before .before .before .before .before .total-lots .ensures .0 ∙ ap (λ n. total (λ i. getD (a .leg-lots .now) i 0) (from 0 n)) (fit .lots-length ∙ sym many) in
+    let h = s .pre .0 .0 in
+    let rows = s .pre .1 .0 in (
+      (s .pre .0 .2, named-at k .there, subst (λ n. LegsFit n (a .leg-lots .now) (a .leg-prices .now)) (sym many) fit),
+      (
+        record { long = h .long; most-members = h .most-members; lots-fit = rows .0; value-fit = rows .1; lines-long = s .pre .0 .3; most-run = rw (← sum) (omega (arith, c .before .before .before .before .before .if2 .left)) },
+        h .most-orders,
+      ),
     )
 
 use-orders-requires : tie.Need-use-orders-requires
-unfolding orders
 use-orders-requires c κs =
-    let at-if1 = c .before .before .before .before .before .before .before .before .before .before .before .before .before .before .before .before in
-    let at-is-acceptable = at-if1 .before in
-    let at-before = at-is-acceptable .before .before .before .before .before .before .before .before .before in
-    let call = c .before .before .before .before .before .before .before .before .before .before .before .before .before in
-    let start = call .before .before .before .before .before .before .before .before .before .before .before .before .before .before in
-    let at-book-legs = c .before .before .before .before .before .before .before in
-    let a = start .args in
-    let n = getD (a .head .now) 7 0 in
-    let book = a .book .now in
-    let places = a .places .now in
-    let numbers = a .orders .now in
-    let q = a .leg-lots .now in
-    let p = a .leg-prices .now in
-    let fit = start .pre .1 .1 .0 in
-    let at = start .pre .1 .1 .1 in
-    let u = lent (a .head .now) (a .prices .now) (a .lots .now) (a .value .now) book (a .lines .now) in
-    let ok = sym (at-is-acceptable .is-acceptable .ensures u) ∙ not-false _ (at-if1 .if1 .left) in
-    let there = places-there u n book places numbers q p fit refl at ok in
-    let many = places-many u n book places numbers q p fit refl at in
-    let count = ap (λ x. getD (x .head) 7 0) (at-book-legs .book-legs .ensures u) ∙ count-after-lines (linesTo book places q p (length places)) u in (
-      omega (arith, at-book-legs .book-legs .kept .0, start .pre .0 .0 .long),
-      omega (arith, count, start .pre .0 .0 .most-orders),
-      start .pre .0 .2 .long,
-      subst (λ k. PlacesFit k places) (sym count) there,
-      fit .lots-length ∙ sym many,
-      λ i k. start .pre .0 .2 .order-fit i (omega (arith, count)) .most-side,
+    let b = c .before .before .before .before .before .before .before in
+    let k = c .before .before .before .before .before .before .before .before .before .before .before .before .before .before .before .before in
+    let s = start k in
+    let count = count-at b in (
+      omega (arith, b .book-legs .kept .0, s .pre .0 .0 .long),
+      omega (arith, count, s .pre .0 .0 .most-orders),
+      s .pre .0 .2 .long,
+      subst (λ n. PlacesFit n (s .args .places .now)) (sym count) (named-at k .there),
+      s .pre .1 .1 .0 .lots-length ∙ sym (named-at k .many),
+      λ i h. s .pre .0 .2 .order-fit i (omega (arith, count)) .most-side,
     )
 
 returns-3 : tie.Need-returns-3
 unfolding proposalSpec proposalBooked orders
 returns-3 c =
-    let at-book-legs = c .before .before .before .before .before .before .before .before .before .before .before .before in
-    let at-if2 = at-book-legs .before .before .before .before .before .before in
-    let at-total-lots = at-if2 .before in
-    let at-if1 = at-total-lots .before .before in
-    let at-is-acceptable = at-if1 .before in
-    let start = at-is-acceptable .before .before .before .before .before .before .before .before .before .before in
-    let a = start .args in
-    let n = getD (a .head .now) 7 0 in
-    let book = a .book .now in
-    let places = a .places .now in
-    let numbers = a .orders .now in
-    let q = a .leg-lots .now in
-    let p = a .leg-prices .now in
-    let fit = start .pre .1 .1 .0 in
-    let at = start .pre .1 .1 .1 in
+    let b = c .before .before .before .before .before .before .before .before .before .before .before .before in
+    let k = c .before .before .before .before .before .before .before .before .before .before .before .before .before .before .before .before .before .before .before .before .before in
+    let s = start k in
+    let a = s .args in
+    let u = tables s in
+    let n = named-at k in
+    let l = b .book-legs .last in
+    let each = all-orders (λ o. 1 ≤ o .lots .0) (a .book .now) (orderCount u) (λ i h. s .pre .0 .2 .order-fit i h .least-lots) in
+    let used = n .used each (s .pre .0 .2 .numbers-distinct) _ (count-at b) in
     λ t.
-    let u = (withHead (a .head .now) (withPrices (a .prices .now) (withRows (a .lots .now) (a .value .now) (withBook (a .book .now) (withLines (a .lines .now) t))))) in
-    let ok = sym (at-is-acceptable .is-acceptable .ensures u) ∙ not-false _ (at-if1 .if1 .left) in
-    let legs = columnLegs numbers q p in
-    let l = at-book-legs .book-legs .last in
-    let booked-lines = withHead (l .0) (withRows (l .1 .0) (l .1 .1 .0) (withLines (l .1 .1 .1 .0) (withPrices (a .prices .now) (withBook book t)))) in
-    let count = ap (λ x. getD (x .head) 7 0) (at-book-legs .book-legs .ensures u) ∙ count-after-lines (linesTo book places q p (length places)) u in
-    let each = all-orders (λ o. 1 ≤ o .lots .0) book n (λ i h. start .pre .0 .2 .order-fit i h .least-lots) in
-    let used = orders-used u n book places numbers q p fit refl at ok each (start .pre .0 .2 .numbers-distinct) _ count in
-    rw (ok, run-fits u n book places numbers q p fit refl at ok (at-total-lots .total-lots .result) (at-total-lots .total-lots .ensures .0) (at-if2 .if2 .left))
-    (all-booked (proposalLines u legs) (usedByLegs legs (orders u)) (length numbers) u booked-lines _ (line-count u n book places numbers q p fit refl at ok)
-    (at-book-legs .book-legs .ensures (withPrices (a .prices .now) (withBook book t)) ∙ ap (λ ls. booked ls u .after) (sym (lines-are u n book places numbers q p fit refl at ok)))
-    (c .before .before .before .before .use-orders .ensures (withPrices (a .prices .now) (withRows (l .1 .0) (l .1 .1 .0) (withLines (l .1 .1 .1 .0) t)))
-    ∙ ap (λ os. withOrders os booked-lines) used))
+    let after = withHead (l .0) (withRows (l .1 .0) (l .1 .1 .0) (withLines (l .1 .1 .1 .0) (withPrices (a .prices .now) (withBook (a .book .now) t)))) in
+    rw (ok k, run-fits n (c .before .before .before .before .before .before .before .before .before .before .before .before .before .before .before .before .before .before .before .total-lots .result) (c .before .before .before .before .before .before .before .before .before .before .before .before .before .before .before .before .before .before .before .total-lots .ensures .0) (c .before .before .before .before .before .before .before .before .before .before .before .before .before .before .before .before .before .before .if2 .left))
+    (all-booked (proposalLines u (legs s)) (usedByLegs (legs s) (orders u)) (length (a .orders .now)) u after _ (line-count n)
+    (b .book-legs .ensures (withPrices (a .prices .now) (withBook (a .book .now) t)) ∙ ap (λ ls. booked ls u .after) (sym (n .lines-are)))
+    (c .before .before .before .before .use-orders .ensures (withPrices (a .prices .now) (withRows (l .1 .0) (l .1 .1 .0) (withLines (l .1 .1 .1 .0) t))) ∙ ap (λ os. withOrders os after) used))
 
 pub apply-at-spec : {M : Type 1} → statement M
 apply-at-spec =

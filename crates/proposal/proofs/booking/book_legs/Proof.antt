@@ -5,7 +5,7 @@ use Prim.Native.Nat.{_-_, _≤_}
 use lib.ListN.{length}
 use Rattle.rules.specs.Ledger.{withHead, withRows, withLines, booked}
 use Rattle.proposal.specs.Booking.{linesTo}
-use Rattle.proposal.proofs.LegLines.{LegsBooked, legs-start, legs-next, leg-line-fit}
+use Rattle.proposal.proofs.LegLines.{LegsBooked, legs-start, legs-next, leg-takes}
 use Rattle.proposal.proofs.booking.book_legs.Statement.{statement}
 use Rattle.proposal.proofs.booking.book_legs.Tie as tie
 
@@ -21,7 +21,7 @@ loop-holds : tie.Need-loop-holds Inv-loop μ-loop
 loop-holds c = let a = c .before .before .before .before .before .args in (
   omega arith,
   legs-start (a .book .now) (a .places .now) (a .leg-lots .now) (a .leg-prices .now) (a .head .now) (a .lots .now) (a .value .now) (a .lines .now)
-      (c .before .before .before .before .before .pre .1),
+      (c .before .before .before .before .before .pre .1 .0),
   refl,
   refl,
   refl,
@@ -31,7 +31,7 @@ loop-holds c = let a = c .before .before .before .before .before .args in (
 order-at-requires : tie.Need-order-at-requires Inv-loop μ-loop
 order-at-requires c κs =
     let start = c .before .before .before .before .before .before .before .before in
-    (omega (arith, start .pre .0 .1 .below (c .before .before .loop .i) (c .before .loop-test .taken), start .pre .1 .head-fit .most-orders), start .pre .0 .0 .long)
+    (omega (arith, start .pre .0 .1 .below (c .before .before .loop .i) (c .before .loop-test .taken), start .pre .1 .1), start .pre .0 .0 .long)
 
 book-line-requires : tie.Need-book-line-requires Inv-loop μ-loop
 book-line-requires c κs =
@@ -40,11 +40,9 @@ book-line-requires c κs =
     let at-loop = at-loop-test .before in
     let start = at-loop .before .before .before .before .before .before in
     let a = start .args in let l = at-loop .loop in
-    let able = l .inv .1 .able in
-    let fit = leg-line-fit (a .book .now) (a .places .now) (a .leg-lots .now) (a .leg-prices .now) (a .head .now) (a .lots .now) (a .value .now) (a .lines .now) (start .pre .0 .2)
-    (start .pre .0 .0) (start .pre .0 .1) (omega (arith, start .pre .1 .head-fit .long)) (l .i) (at-loop-test .loop-test .taken) (l .head) (l .lots) (l .value) (l .lines)
-    (l .inv .1) (at-order-at .order-at .result) (at-order-at .order-at .ensures) in
-    ((able .head-fit .long, able .head-fit .most-members, fit), ((able .lots-fit, able .value-fit), (omega (arith, at-loop-test .loop-test .taken, start .pre .0 .2 .most-legs), able .lines-long)))
+    leg-takes (a .book .now) (a .places .now) (a .leg-lots .now) (a .leg-prices .now) (a .head .now) (a .lots .now) (a .value .now) (a .lines .now) (start .pre .0 .2)
+    (start .pre .0 .0) (start .pre .0 .1) (omega (arith, start .pre .1 .0 .long)) (l .i) (at-loop-test .loop-test .taken) (l .head) (l .lots) (l .value) (l .lines)
+    (l .inv .1) (at-order-at .order-at .result) (at-order-at .order-at .ensures)
 
 add-i : tie.Need-add-i Inv-loop μ-loop
 add-i c =
@@ -61,7 +59,7 @@ loop-again c =
     let start = at-loop .before .before .before .before .before .before in
     let a = start .args in let l = at-loop .loop in
     let next = legs-next (a .book .now) (a .places .now) (a .leg-lots .now) (a .leg-prices .now) (a .head .now) (a .lots .now) (a .value .now) (a .lines .now) (start .pre .0 .2)
-    (start .pre .0 .0) (start .pre .0 .1) (omega (arith, start .pre .1 .head-fit .long)) (l .i) (at-loop-test .loop-test .taken) (l .head) (l .lots) (l .value) (l .lines)
+    (start .pre .0 .0) (start .pre .0 .1) (omega (arith, start .pre .1 .0 .long)) (l .i) (at-loop-test .loop-test .taken) (l .head) (l .lots) (l .value) (l .lines)
     (l .inv .1) (at-order-at .order-at .result) (at-order-at .order-at .ensures) in
     let kept = at-book-line .book-line .kept in (
       omega (arith, at-loop-test .loop-test .taken),
