@@ -100,10 +100,10 @@ module _ (t : Tables) (e : Submission)
             lots-fit = rw (members-same, run-same) l;
             value-fit = rw (members-same, run-same) v;
             lines-long = n;
+            most-run = rw (run-same, count-same) (a .most-run);
           };
           member-below = omega (arith, members-same, f .member-below);
           members-below = λ i k. omega (arith, members-same, b .order-fit i (omega (arith, count-same)) .member-below);
-          most-run = rw (run-same, count-same) (a .most-run);
           place = rw count-same (a .place);
         }
 

@@ -13,7 +13,7 @@ use Rattle.rules.specs.Ranges.{mostLots, mostPrice}
 use Rattle.matching.specs.declared.deals.Counterparty.{Counterparty}
 use Rattle.matching.specs.Deals.{dealAt, dealsIn, lineIn, lineOut, linesWith}
 use Rattle.matching.proofs.Passes.{total-one}
-use Rattle.submit.specs.Deals.{DealsFit, worthOf}
+use Rattle.submit.specs.Deals.{DealColumnFit, worthOf}
 use Rattle.arith.proofs.Totals.{total-append}
 
 module _ (l : List ℕ) where
@@ -58,7 +58,7 @@ pub worth-start : (l : List ℕ) → Worth l 0 0
 unfolding dealsIn from total
 worth-start l = record { sum = refl; most = omega arith }
 
-pub worth-next : (l : List ℕ) (n k worth : ℕ) → DealsFit n l → k < n → Worth l k worth → (d : Counterparty) → d ≡ dealAt l k → Worth l (k + 1) (worth + d .lots .0 * d .price .0)
+pub worth-next : (l : List ℕ) (n k worth : ℕ) → DealColumnFit n l → k < n → Worth l k worth → (d : Counterparty) → d ≡ dealAt l k → Worth l (k + 1) (worth + d .lots .0 * d .price .0)
 worth-next l n k worth f h w d e =
     rw e
     (record {

@@ -13,8 +13,8 @@ use Rattle.arith.proofs.Tests.{by-bool}
 use Rattle.rules.specs.declared.answer.Answer.the-variants.{Accepted}
 use Rattle.rules.specs.declared.event.OrderKind.{OrderKind}
 use Rattle.rules.specs.declared.order.Order.{Order}
-use Rattle.rules.specs.Ranges.{mostOrders, mostLotsRun}
-use Rattle.rules.specs.Ledger.{Tables, Line, lineRun, lent, orderWidth, withHead, withBook, withPrices, withRows, withLines, withOrderCount, orderPlaces, orders, withOrders, booked}
+use Rattle.rules.specs.Ranges.{mostOrders}
+use Rattle.rules.specs.Ledger.{Tables, Line, lineRun, lent, membersPlace, lotsRunPlace, orderCountPlace, orderWidth, withHead, withBook, withPrices, withRows, withLines, withOrderCount, orderPlaces, orders, withOrders, booked}
 use Rattle.rules.specs.Matching.{isResting, withLots, matched, dealLines, withDeals}
 use Rattle.tables.specs.Fit.{membersIn, lotsRunIn, orderCountIn, ordersIn}
 use Rattle.rules.proofs.LinesRun.{booked-none}
@@ -22,7 +22,8 @@ use Rattle.matching.specs.declared.levels.Matched.{Matched}
 use Rattle.matching.specs.Crossing.{crossingIn}
 use Rattle.matching.specs.Deals.{dealAt, dealsIn, linesWith}
 use Rattle.matching.proofs.Totals.{lines-kept, run-of-lines}
-use Rattle.submit.specs.Deals.{Traded, Bookable, lotsDealt}
+use Rattle.submit.specs.Deals.{Traded, lotsDealt}
+use Rattle.deal_lines.specs.Room.{Bookable}
 use Rattle.submit.specs.Placing.{Placeable, orderBooked}
 use Rattle.submit.proofs.Kept.{lines-length}
 use Rattle.submit.proofs.Orders.{rest-written}
@@ -45,10 +46,10 @@ module _ (head prices : List ℕ) (lots value : List ℤ) (book : List ℕ) (lin
     rests-is = ap (λ n. isResting kind && ltb 0 n) (x .lots-left)
 
     count-after : orderCountIn head₂ ≡ length (matched o os .resting)
-    count-after = ap (λ l. getD l 7 0) (x .head-after) ∙ getD-set-same head 7 _ 0 (omega (arith, p .tradable .head-long))
+    count-after = ap (λ l. orderCountIn l) (x .head-after) ∙ getD-set-same head orderCountPlace _ 0 (omega (arith, p .tradable .head-long))
 
     pub deals-head : length head₂ ≡ length head
-    deals-head = ap length (x .head-after) ∙ length-set head 7 _
+    deals-head = ap length (x .head-after) ∙ length-set head orderCountPlace _
 
     pub room-left : isResting kind && ltb 0 (m .left) ≡ true → orderCountIn head₂ < mostOrders
     room-left w = omega (arith, count-after, p .place (rests-is ∙ w))
@@ -59,32 +60,32 @@ module _ (head prices : List ℕ) (lots value : List ℤ) (book : List ℕ) (lin
     pub deals-members : (j : ℕ) → j < m .deals → dealAt deals j .member < membersIn head
     deals-members j k = let r = x .from-book j k in omega (arith, r .member, p .members-below (r .place) (r .below))
 
-    pub run-fits : lotsRunIn head + 2 * total lotsDealt (dealsIn (m .deals) deals) ≤ mostLotsRun
-    run-fits = omega (arith, p .most-run, ap lineRun lines-is ∙ run-of-lines o (dealsIn (m .deals) deals))
+    run-is : lineRun (flatMap (dealLines o) (matched o os .deals)) ≡ 2 * total lotsDealt (dealsIn (m .deals) deals)
+    run-is = ap lineRun lines-is ∙ run-of-lines o (dealsIn (m .deals) deals)
 
     -- ---- what rests, and the lines
     module _ (head₃ book₃ : List ℕ) (rests : head₃ ≡ cond (isResting kind && ltb 0 (m .left)) (withOrderCount (orderCountIn head₂ + 1) head₂) head₂)
         (put : book₃ ≡ cond (isResting kind && ltb 0 (m .left)) (over (orderCountIn head₂ * orderWidth) (orderPlaces (withLots (m .left) o)) book₂) book₂) where
-      kept-place : (i : ℕ) → (i ≡ 7 → ⊥) → getD head₃ i 0 ≡ getD head i 0
+      kept-place : (i : ℕ) → (i ≡ orderCountPlace → ⊥) → getD head₃ i 0 ≡ getD head i 0
       kept-place i z =
           ap (λ l. getD l i 0) rests
           ∙ by-bool (λ c. getD (cond c (withOrderCount (orderCountIn head₂ + 1) head₂) head₂) i 0 ≡ getD head₂ i 0) (isResting kind && ltb 0 (m .left))
-          (λ _. getD-set-other head₂ 7 i _ 0 z) (λ _. refl)
-          ∙ ap (λ l. getD l i 0) (x .head-after) ∙ getD-set-other head 7 i _ 0 z
+          (λ _. getD-set-other head₂ orderCountPlace i _ 0 z) (λ _. refl)
+          ∙ ap (λ l. getD l i 0) (x .head-after) ∙ getD-set-other head orderCountPlace i _ 0 z
 
-      pub rest-length : length head₃ ≡ length head
+      rest-length : length head₃ ≡ length head
       rest-length =
           ap length rests
           ∙ by-bool (λ c. length (cond c (withOrderCount (orderCountIn head₂ + 1) head₂) head₂) ≡ length head₂) (isResting kind && ltb 0 (m .left))
-          (λ _. length-set head₂ 7 _) (λ _. refl) ∙ deals-head
+          (λ _. length-set head₂ orderCountPlace _) (λ _. refl) ∙ deals-head
 
       pub rest-members : membersIn head₃ ≡ membersIn head
-      rest-members = kept-place 1 (λ z. omega arith)
+      rest-members = kept-place membersPlace (λ z. omega arith)
 
-      pub rest-run : lotsRunIn head₃ ≡ lotsRunIn head
-      rest-run = kept-place 6 (λ z. omega arith)
+      rest-run : lotsRunIn head₃ ≡ lotsRunIn head
+      rest-run = kept-place lotsRunPlace (λ z. omega arith)
 
-      pub bookable : Bookable head₃ lots value lines
+      pub bookable : Bookable (2 * total lotsDealt (dealsIn (m .deals) deals)) head₃ lots value lines
       bookable =
           let b = p .bookable in
           record {
@@ -93,6 +94,7 @@ module _ (head prices : List ℕ) (lots value : List ℤ) (book : List ℕ) (lin
             lots-fit = rw (rest-members, rest-run) (b .lots-fit);
             value-fit = rw (rest-members, rest-run) (b .value-fit);
             lines-long = b .lines-long;
+            most-run = omega (arith, b .most-run, run-is, rest-run);
           }
 
       tables-is : withHead head₃ (withBook book₃ (withPrices prices₂ t)) ≡ withOrders

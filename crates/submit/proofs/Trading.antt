@@ -21,7 +21,7 @@ use Rattle.matching.specs.Crossing.{crossingIn}
 use Rattle.matching.specs.Deals.{dealWidth, dealsIn, counterpartyOf}
 use Rattle.matching.specs.Matching.{Matchable, Ended, MatchMade}
 use Rattle.matching.proofs.Totals.{dealt-and-left, lots-kept, worth-kept}
-use Rattle.submit.specs.Deals.{DealsFit, Tradable, Traded, lotsDealt, worthOf}
+use Rattle.submit.specs.Deals.{DealColumnFit, Tradable, Traded, lotsDealt, worthOf}
 use Rattle.submit_causes.proofs.Judged.{still, resting-still}
 use Rattle.submit.proofs.Kept.{total-at}
 use Rattle.submit.proofs.Orders.{written-back}
@@ -59,7 +59,7 @@ module _ (head prices book : List ℕ) (o : Order) (x : Tradable head prices boo
     pub left-most : m .left ≤ o .lots .0
     left-most = omega (arith, lots-dealt)
 
-    pub deals-fit : DealsFit (m .deals) deals
+    pub deals-fit : DealColumnFit (m .deals) deals
     deals-fit =
         record {
           room = omega (arith, long, room);

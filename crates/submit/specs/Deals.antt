@@ -3,21 +3,19 @@ use Prim.Native.Nat.{ℕ, _+_, _*_, _≤_, _<_}
 use mathlib.Core.Path.{_≡_}
 use mathlib.Core.Bool.{true}
 use mathlib.Core.List.{List, map, flatMap}
-use lib.IntN.{ℤ}
 use lib.ListN.{length, getD}
 use Rattle.arith.specs.Lists.{over, total}
 use Rattle.rules.specs.declared.order.Order.{Order}
-use Rattle.rules.specs.Ranges.{contractCount, mostMembers, mostOrders, mostLots, mostPrice, mostLotsRun}
-use Rattle.rules.specs.Ledger.{Tables, withHead, withRows, withLines, headLength, pricesLength, bookLength, linesLength, dayLotsPlace, dayValuePlace, withOrderCount, withDealt}
+use Rattle.rules.specs.Ranges.{contractCount, mostOrders, mostLots, mostPrice, mostLotsRun}
+use Rattle.rules.specs.Ledger.{headLength, pricesLength, bookLength, dayLotsPlace, dayValuePlace, withOrderCount, withDealt}
 use Rattle.rules.specs.Ledger.{sideAt, orderAt, orderPlaces}
 use Rattle.rules.specs.Matching.{matched}
 use Rattle.rules.specs.Refusals.{distinct}
-use Rattle.tables.specs.Fit.{RowsFit, membersIn, lotsRunIn, orderCountIn, ordersIn}
-use Rattle.deal_lines.specs.Lines.{withLine}
+use Rattle.tables.specs.Fit.{orderCountIn, ordersIn}
 use Rattle.matching.specs.declared.deals.Counterparty.{Counterparty}
 use Rattle.matching.specs.declared.levels.Matched.{Matched}
 use Rattle.order_priority.specs.Priority.{Ranked}
-use Rattle.matching.specs.Deals.{dealWidth, dealAt, dealsIn, lineIn, lineOut, counterpartyOf, FromBook}
+use Rattle.matching.specs.Deals.{dealWidth, dealAt, dealsIn, counterpartyOf, FromBook}
 
 abbrev pub lotsDealt : Counterparty → ℕ
 lotsDealt d = d .lots .0
@@ -26,27 +24,11 @@ abbrev pub worthOf : Counterparty → ℕ
 worthOf d = d .lots .0 * d .price .0
 
 -- So many deals in a column, each at a price and for no more lots than an order has.
-pub record DealsFit (count : ℕ) (deals : List ℕ) : Type 0 where
+pub record DealColumnFit (count : ℕ) (deals : List ℕ) : Type 0 where
   pub room : mostLots * dealWidth ≤ length deals
   pub most : count ≤ mostLots
   pub most-price : (j : ℕ) → j < count → dealAt deals j .price .0 ≤ mostPrice
   pub most-lots : (j : ℕ) → j < count → dealAt deals j .lots .0 ≤ mostLots
-
--- Rows and lines to which lines can be booked.
-pub record Bookable (head : List ℕ) (lots value lines : List ℤ) : Type 0 where
-  pub long : headLength ≤ length head
-  pub most-members : membersIn head ≤ mostMembers
-  pub lots-fit : RowsFit (membersIn head) (lotsRunIn head) lots
-  pub value-fit : RowsFit (membersIn head) (mostPrice * lotsRunIn head) value
-  pub lines-long : linesLength ≤ length lines
-
--- The two lines of deal k are booked.
-pub record DealBooked (o : Order) (d : Counterparty) (k : ℕ) (head : List ℕ) (lots value lines : List ℤ) (head′ : List ℕ) (lots′ value′ lines′ : List ℤ) : Type 0 where
-  pub same : (t : Tables) → withHead head′ (withRows lots′ value′ (withLines lines′ t))
-      ≡ withLine (k * 2 + 1) (lineOut o d) (withLine (k * 2) (lineIn o d) (withHead head (withRows lots value (withLines lines t))))
-  pub bookable : Bookable head′ lots′ value′ lines′
-  pub members-same : membersIn head′ ≡ membersIn head
-  pub run-grown : lotsRunIn head′ ≡ lotsRunIn head + 2 * d .lots .0
 
 -- An order that can be matched with the book of a ledger.
 pub record Tradable (head prices book : List ℕ) (o : Order) : Type 0 where

@@ -3,11 +3,13 @@ ghost use mathlib.Core.Path.{_≡_};
 ghost use mathlib.Core.List.{flatMap};
 ghost use Prim.Native.Nat.{ℕ, _+_, _*_, _≤_, _<_};
 ghost use Rattle.arith.specs.Lists.{total};
-ghost use Rattle.rules.specs.Ranges.{contractCount, mostLots, mostLotsRun, mostPrice};
+ghost use Rattle.rules.specs.Ranges.{contractCount, mostLots, mostPrice};
 ghost use Rattle.rules.specs.Ledger.{Tables, withHead, withRows, withLines, booked};
-ghost use Rattle.tables.specs.Fit.{membersIn, lotsRunIn};
-ghost use Rattle.matching.specs.Deals.{dealAt, dealsIn, linesWith};
-ghost use Rattle.submit.specs.Deals.{DealsFit, Bookable, DealBooked, lotsDealt, worthOf};
+ghost use Rattle.tables.specs.Fit.{membersIn};
+ghost use Rattle.matching.specs.Deals.{dealAt, dealsIn, lineIn, lineOut, linesWith};
+ghost use Rattle.deal_lines.specs.Lines.{LineFit, withLine};
+ghost use Rattle.deal_lines.specs.Room.{Bookable};
+ghost use Rattle.submit.specs.Deals.{DealColumnFit, lotsDealt, worthOf};
 use deal_lines::DealLine;
 use deal_lines::book_line;
 use matching::Counterparty;
@@ -19,7 +21,7 @@ use sides::other_side;
 
 // Lots times price over all deals.
 pub fn worth_of(deals: &[u64], count: usize) -> u64
-    requires { ⌜ DealsFit count (now deals) ⌝ }
+    requires { ⌜ DealColumnFit count (now deals) ⌝ }
     ensures { λ r. ⌜ (r ≡ total worthOf (dealsIn count (now (deals .entry)))) × (r ≤ mostLots * (mostLots * mostPrice)) ⌝ }
 {
     let mut worth: u64 = 0;
@@ -42,11 +44,11 @@ fn book_deal(
     o: Order,
     d: Counterparty,
 )
-    requires { ⌜ Bookable (now head) (now lots) (now value) (now lines) × (k < mostLots) ⌝ }
-    requires { ⌜ (o .member < membersIn (now head)) × (o .contract < contractCount)
-        × (d .member < membersIn (now head)) × (d .price .0 ≤ mostPrice) × (lotsRunIn (now head) + 2 * d .lots .0 ≤ mostLotsRun) ⌝ }
-    ensures { λ _. ⌜ DealBooked o d k (now (head .entry)) (now (lots .entry)) (now (value .entry)) (now (lines .entry))
-        (now (head .exit)) (now (lots .exit)) (now (value .exit)) (now (lines .exit)) ⌝ }
+    requires { ⌜ Bookable (2 * d .lots .0) (now head) (now lots) (now value) (now lines) × (k < mostLots) ⌝ }
+    requires { ⌜ LineFit (now head) (lineIn o d) × LineFit (now head) (lineOut o d) ⌝ }
+    ensures { λ _. ⌜ ((t : Tables) → withHead (now (head .exit)) (withRows (now (lots .exit)) (now (value .exit)) (withLines (now (lines .exit)) t))
+        ≡ withLine (k * 2 + 1) (lineOut o d) (withLine (k * 2) (lineIn o d)
+        (withHead (now (head .entry)) (withRows (now (lots .entry)) (now (value .entry)) (withLines (now (lines .entry)) t))))) ⌝ }
 {
     let side = o.side;
     let against = other_side(side);
@@ -93,9 +95,8 @@ pub fn book_deals(
     deals: &[u64],
     count: usize,
 )
-    requires { ⌜ Bookable (now head) (now lots) (now value) (now lines) × DealsFit count (now deals) ⌝ }
+    requires { ⌜ Bookable (2 * total lotsDealt (dealsIn count (now deals))) (now head) (now lots) (now value) (now lines) × DealColumnFit count (now deals) ⌝ }
     requires { ⌜ (o .member < membersIn (now head)) × (o .contract < contractCount) × ((j : ℕ) → j < count → dealAt (now deals) j .member < membersIn (now head)) ⌝ }
-    requires { ⌜ lotsRunIn (now head) + 2 * total lotsDealt (dealsIn count (now deals)) ≤ mostLotsRun ⌝ }
     ensures { λ _. ⌜ ((t : Tables) → withHead (now (head .exit)) (withRows (now (lots .exit)) (now (value .exit)) (withLines (now (lines .exit)) t))
         ≡ booked (flatMap (linesWith o) (dealsIn count (now (deals .entry))))
         (withHead (now (head .entry)) (withRows (now (lots .entry)) (now (value .entry)) (withLines (now (lines .entry)) t))) .after) ⌝ }

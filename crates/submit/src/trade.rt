@@ -8,7 +8,7 @@ ghost use Rattle.rules.specs.Matching.{matched};
 ghost use Rattle.tables.specs.Fit.{orderCountIn, ordersIn};
 ghost use Rattle.order_book.specs.Left.{leftOver};
 ghost use Rattle.matching.specs.Deals.{dealWidth};
-ghost use Rattle.submit.specs.Deals.{DealsFit, Tradable, Traded};
+ghost use Rattle.submit.specs.Deals.{DealColumnFit, Tradable, Traded};
 use crate::deals::worth_of;
 use matching::Matched;
 use matching::match_orders;
@@ -42,7 +42,7 @@ pub fn settle(
 ) -> Matched
     requires { ⌜ Tradable (now head) (now prices) (now book) o × (length (now left) ≡ orderCountIn (now head)) × (mostLots * dealWidth ≤ length (now deals)) ⌝ }
     ensures { λ r. ⌜ Traded o (now (head .entry)) (now (prices .entry)) (now (book .entry)) r (now (head .exit)) (now (prices .exit)) (now (book .exit)) (now (deals .exit)) ⌝ }
-    ensures { λ r. ⌜ DealsFit (r .deals) (now (deals .exit)) ⌝ }
+    ensures { λ r. ⌜ DealColumnFit (r .deals) (now (deals .exit)) ⌝ }
     ensures { λ _. ⌜ matched o (ordersIn (orderCountIn (now (head .entry))) (now (book .entry))) .resting
         ≡ leftOver (now (left .exit)) (ordersIn (orderCountIn (now (head .entry))) (now (book .entry))) ⌝ }
 {

@@ -1,63 +1,36 @@
-use Prim.Native.Nat.{_<_, _*_, _+_}
-use Rattle.rules.specs.Ranges.{mostLots}
-use Rattle.submit.proofs.Lines.{incoming-fit, resting-fit}
-use mathlib.Core.Path.{_∙_}
+use mathlib.Core.Path.{sym, subst}
+use mathlib.Core.List.{[]}
 use native.Mathlib.Omega.{arith}
-use Rattle.submit.proofs.Lines.{bookable-after, run-after, members-after, lineOfIncoming, lineOfResting}
+use Rattle.rules.specs.Ledger.{Tables, lent}
+use Rattle.matching.specs.Deals.{lineOut}
+use Rattle.deal_lines.specs.Lines.{LineFit}
+use Rattle.deal_lines.proofs.Takes.{Takes, less-room}
+use Rattle.submit.proofs.Lines.{resting-fit, first-takes}
 use borrow.Author.Needs.{needs}
 use Rattle.submit.proofs.deals.book_deal.Statement.{statement}
 use Rattle.submit.proofs.deals.book_deal.Tie as tie
 
 book-line-requires : tie.Need-book-line-requires
 book-line-requires c κs =
-    let start = c .before .before .before .before .before .before in
-    let a = start .args in
-    let b = start .pre .0 .0 in
-    let q = start .pre .1 in
-    let small : a .k < mostLots = start .pre .0 .1 in
-    let first = incoming-fit (a .head .now) (a .o) (a .d) (q .0) (q .1) (q .2) (q .3) (q .4) in
-    ((b .long, b .most-members, first), ((b .lots-fit, b .value-fit), (omega arith, b .lines-long)))
+    let pre = c .before .before .before .before .before .before .pre in
+    (less-room _ _ (omega arith) (pre .0 .0), (pre .1 .0, omega (arith, pre .0 .1)))
 
 book-line-requires-2 : tie.Need-book-line-requires-2
 book-line-requires-2 c κs =
-    let at-book-line = c .before .before .before .before .before .before .before .before .before in
-    let at-other-side = at-book-line .before .before .before .before .before in
-    let start = at-other-side .before .before in
-    let a = start .args in
-    let b = start .pre .0 .0 in
-    let q = start .pre .1 in
-    let small : a .k < mostLots = start .pre .0 .1 in
-    let first = incoming-fit (a .head .now) (a .o) (a .d) (q .0) (q .1) (q .2) (q .3) (q .4) in
-    let line = lineOfIncoming (a .o) (a .d) in
-    let run = run-after _ _ _ _ _ _ _ _ (a .k * 2) line b first (omega arith) (at-book-line .book-line .ensures) in
-    let members = members-after _ _ _ _ _ _ _ _ (a .k * 2) line b first (omega arith) (at-book-line .book-line .ensures) in
-    let more = bookable-after _ _ _ _ _ _ _ _ (a .k * 2) line b first (omega arith) (at-book-line .book-line .ensures) in
-    let second = resting-fit (a .head .now) (a .o) (a .d) (q .0) (q .1) (q .2) (q .3) (q .4) _ (at-other-side .other-side .result) members run in
-    ((more .long, more .most-members, second), ((more .lots-fit, more .value-fit), (omega arith, more .lines-long)))
+    let s = c .before .before .before .before .before .before .before .before .before .before .before .before .before .before .before .before in
+    let a = s .args in
+    let q = s .pre .1 in
+    let small = s .pre .0 .1 in
+    let u = lent (a .head .now) [] (a .lots .now) (a .value .now) [] (a .lines .now) in
+    let after = c .before .before .before .before .before .before .before .before .before .book-line .ensures u in
+    let takes = first-takes (a .o) (a .d) (a .k) small u (q .0) (q .1) (a .d .lots .0) (less-room _ _ (omega arith) (s .pre .0 .0)) in
+    let fits = resting-fit (a .o) (a .d) (a .k) small u (q .0) (q .1) in (
+      subst (λ (x : Tables). Takes (a .d .lots .0) x) (sym after) takes,
+      (rw (c .before .before .before .before .before .before .before .before .before .before .before .before .before .before .other-side .ensures) (subst (λ (x : Tables). LineFit (x .head) (lineOut (a .o) (a .d))) (sym after) fits), omega (arith, small)),
+    )
 
 returns : tie.Need-returns
-returns c =
-    let at-book-line2 = c .before .before .before .before .before in
-    let at-book-line = at-book-line2 .before .before .before .before .before .before .before .before .before .before in
-    let at-other-side = at-book-line .before .before .before .before .before in
-    let start = at-other-side .before .before in
-    let a = start .args in
-    let b = start .pre .0 .0 in
-    let q = start .pre .1 in
-    let small : a .k < mostLots = start .pre .0 .1 in
-    let first = incoming-fit (a .head .now) (a .o) (a .d) (q .0) (q .1) (q .2) (q .3) (q .4) in
-    let line = lineOfIncoming (a .o) (a .d) in
-    let run = run-after _ _ _ _ _ _ _ _ (a .k * 2) line b first (omega arith) (at-book-line .book-line .ensures) in
-    let members = members-after _ _ _ _ _ _ _ _ (a .k * 2) line b first (omega arith) (at-book-line .book-line .ensures) in
-    let more = bookable-after _ _ _ _ _ _ _ _ (a .k * 2) line b first (omega arith) (at-book-line .book-line .ensures) in
-    let second = resting-fit (a .head .now) (a .o) (a .d) (q .0) (q .1) (q .2) (q .3) (q .4) _ (at-other-side .other-side .result) members run in
-    let last = lineOfResting (a .o) (at-other-side .other-side .result) (a .d) in
-    record {
-      same = λ t. rw (← (at-other-side .other-side .ensures), ← (at-book-line .book-line .ensures t)) (at-book-line2 .book-line2 .ensures t);
-      bookable = bookable-after _ _ _ _ _ _ _ _ (a .k * 2 + 1) last more second (omega arith) (at-book-line2 .book-line2 .ensures);
-      members-same = members-after _ _ _ _ _ _ _ _ (a .k * 2 + 1) last more second (omega arith) (at-book-line2 .book-line2 .ensures) ∙ members;
-      run-grown = omega (arith, run-after _ _ _ _ _ _ _ _ (a .k * 2 + 1) last more second (omega arith) (at-book-line2 .book-line2 .ensures));
-    }
+returns c = λ t. rw (← (c .before .before .before .before .before .before .before .before .before .before .before .before .before .before .before .before .before .before .before .before .other-side .ensures), ← (c .before .before .before .before .before .before .before .before .before .before .before .before .before .before .before .book-line .ensures t)) (c .before .before .before .before .before .book-line2 .ensures t)
 
 pub book-deal-spec : {M : Type 1} → statement M
 book-deal-spec =

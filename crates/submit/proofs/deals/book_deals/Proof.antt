@@ -1,54 +1,51 @@
 use borrow.Author.Needs.{needs}
-use Prim.Native.Nat.{_≤_, _-_, _+_}
-use mathlib.Core.Path.{_≡_, refl, ap, _∙_}
+use Prim.Native.Nat.{_≤_, _-_}
+use mathlib.Core.Path.{_≡_, refl, _∙_}
 use native.Mathlib.Omega.{arith}
 use lib.ListN.{length}
-use Rattle.submit.specs.Deals.{lotsDealt}
-use Rattle.submit.proofs.Kept.{total-next, total-prefix}
-use Rattle.submit.proofs.Lines.{Booking, booking-start, booking-next}
+use Rattle.rules.specs.Ranges.{mostPrice}
+use Rattle.matching.specs.Deals.{lineIn, lineOut}
+use Rattle.deal_lines.specs.Lines.{LineFit}
+use Rattle.submit.proofs.Lines.{Booking, booking-start, deal-takes, booking-next}
 use Rattle.submit.proofs.deals.book_deals.Statement.{statement}
 use Rattle.submit.proofs.deals.book_deals.Tie as tie
 
 abbrev Inv-loop : tie.InvT-loop
-Inv-loop head₀ lots₀ value₀ lines₀ o deals count k₀ head lots value lines k = (k ≤ count) × Booking o deals k head₀ lots₀ value₀ lines₀ head lots value lines ×
+Inv-loop head₀ lots₀ value₀ lines₀ o deals count k₀ head lots value lines k = (k ≤ count) × Booking o deals count head₀ lots₀ value₀ lines₀ k head lots value lines ×
     (length head ≡ length head₀) × (length lots ≡ length lots₀) × (length value ≡ length value₀) × (length lines ≡ length lines₀)
 
 abbrev μ-loop : tie.MeasureT-loop
 μ-loop head₀ lots₀ value₀ lines₀ o deals count k₀ head lots value lines k = count - k
 
 loop-holds : tie.Need-loop-holds Inv-loop μ-loop
-loop-holds c = (omega arith, booking-start _ _ _ _ _ _ (c .before .before .pre .0 .0), refl, refl, refl, refl)
+loop-holds c = (omega arith, booking-start _ _ _ _ _ _ _ (c .before .before .pre .0 .0), refl, refl, refl, refl)
 
 deal-at-requires : tie.Need-deal-at-requires Inv-loop μ-loop
 deal-at-requires c κs = let f = c .before .before .before .before .pre .0 .1 in (omega (arith, f .most), f .room)
+
+-- The lines of a deal are lines of the ledger's members and contracts.
+fits : (c : tie.After-deal-at Inv-loop μ-loop) → let o = c .before .before .before .before .before .args .o in
+    LineFit (c .before .before .loop .head) (lineIn o (c .deal-at .result)) × LineFit (c .before .before .loop .head) (lineOut o (c .deal-at .result))
+fits c =
+    let l = c .before .before .loop in
+    let s = c .before .before .before .before .before in
+    let k = c .before .loop-test .taken in
+    let d = c .deal-at .ensures in
+    let q = s .pre .1 in
+    let m = l .inv .1 .members-same in
+    let priced : c .deal-at .result .price .0 ≤ mostPrice = rw d (s .pre .0 .1 .most-price (l .k) k) in (
+      record { member-below = omega (arith, m, q .0); contract-below = q .1; most-price = priced },
+      record { member-below = rw d (omega (arith, m, q .2 (l .k) k)); contract-below = q .1; most-price = priced },
+    )
 
 book-deal-requires : tie.Need-book-deal-requires Inv-loop μ-loop
 book-deal-requires c κs =
     let at-deal-at = c .before .before .before .before in
     let at-loop-test = at-deal-at .before in
-    let at-loop = at-loop-test .before in
-    let start = at-loop .before .before .before in
-    let g = at-loop .loop .inv .1 in
-    let l = at-loop .loop in
-    let a = start .args in
-    let f = start .pre .0 .1 in
-    let k = at-loop-test .loop-test .taken in
-    let d = at-deal-at .deal-at .ensures in (
-      (g .bookable, omega (arith, f .most)),
-      (
-        omega (arith, g .members-same, start .pre .1 .0 .0),
-        start .pre .1 .0 .1,
-        rw d (omega (arith, g .members-same, start .pre .1 .0 .2 (l .k) k)),
-        rw d (f .most-price (l .k) k),
-        omega (
-          arith,
-          g .run-grown,
-          ap lotsDealt d,
-          total-next (a .deals .now) lotsDealt (l .k),
-          total-prefix (a .deals .now) lotsDealt (l .k + 1) (a .count) (omega arith),
-          start .pre .1 .1,
-        ),
-      ),
+    let l = at-loop-test .before .loop in
+    let start = at-loop-test .before .before .before .before in (
+      (deal-takes _ _ _ _ _ _ _ _ (at-loop-test .loop-test .taken) _ _ _ _ (l .inv .1) _ (at-deal-at .deal-at .ensures), omega (arith, start .pre .0 .1 .most)),
+      fits at-deal-at,
     )
 
 loop-again : tie.Need-loop-again Inv-loop μ-loop
@@ -57,9 +54,11 @@ loop-again c =
     let at-deal-at = at-book-deal .before .before .before .before .before in
     let at-loop = at-deal-at .before .before in
     let start = at-loop .before .before .before in
-    let l = at-loop .loop in (
+    let l = at-loop .loop in
+    let f = fits at-deal-at in (
       omega arith,
-      booking-next _ _ _ _ _ _ _ _ _ _ _ _ _ _ _ (l .inv .1) (omega (arith, start .pre .0 .0 .long)) _ (at-deal-at .deal-at .ensures) (at-book-deal .book-deal .ensures),
+      booking-next _ _ _ _ _ _ _ _ (at-deal-at .before .loop-test .taken) _ _ _ _ (l .inv .1) _ (at-deal-at .deal-at .ensures) _ _ _ _
+          (omega (arith, start .pre .0 .0 .long)) (omega (arith, start .pre .0 .1 .most)) (f .0) (f .1) (at-book-deal .book-deal .ensures),
       at-book-deal .book-deal .kept .0 ∙ l .inv .2,
       at-book-deal .book-deal .kept .1 .0 ∙ l .inv .3,
       at-book-deal .book-deal .kept .1 .1 .0 ∙ l .inv .4,

@@ -1,7 +1,7 @@
 use mathlib.Core.Path.{sym}
 use lib.Seq.{length-take-le}
 use native.Mathlib.Omega.{arith}
-use Rattle.submit.proofs.OrderBooked.{deals-head, room-left, deals-members, run-fits, rest-members, rest-run, bookable, booked-is}
+use Rattle.submit.proofs.OrderBooked.{deals-head, room-left, deals-members, rest-members, bookable, booked-is}
 use borrow.Author.Needs.{needs}
 use Rattle.submit.proofs.placing.trade.Statement.{statement}
 use Rattle.submit.proofs.placing.trade.Tie as tie
@@ -33,13 +33,9 @@ book-deals-requires c κs =
     let x = at-settle .settle .ensures .0 in
     let rests = at-rest-order .rest-order .ensures .0 in
     let put = at-rest-order .rest-order .ensures .1 in
-    let members = rest-members _ _ _ _ _ _ _ _ p _ _ _ _ _ x _ _ rests put in
-    let run = rest-run _ _ _ _ _ _ _ _ p _ _ _ _ _ x _ _ rests put in (
+    let members = rest-members _ _ _ _ _ _ _ _ p _ _ _ _ _ x _ _ rests put in (
       (bookable _ _ _ _ _ _ _ _ p _ _ _ _ _ x _ _ rests put, at-settle .settle .ensures .1 .0),
-      (
-        (omega (arith, members, p .member-below), p .tradable .contract-below, λ j k. omega (arith, members, deals-members _ _ _ _ _ _ _ _ p _ _ _ _ _ x j k)),
-        omega (arith, run, run-fits _ _ _ _ _ _ _ _ p _ _ _ _ _ x),
-      ),
+      (omega (arith, members, p .member-below), p .tradable .contract-below, λ j k. omega (arith, members, deals-members _ _ _ _ _ _ _ _ p _ _ _ _ _ x j k)),
     )
 
 returns : tie.Need-returns
