@@ -44,9 +44,14 @@ apply-requires-5 c κs =
     let a = c .before .before .before .before .before .before .before .before .before .before .before .before .args in
     let event6 = c .before .before .before .before .before .before .event6 in
     let f = pre .0 in
+    let h = f .head-fit in
     let r = pre .1 ∙ ap Sound (event6 .given .1) in
     let run = most-run-left (lent (a .head .now) (a .prices .now) (a .lots .now) (a .value .now) (a .book .now) (a .lines .now)) f in (
-      (record { head-fit = f .head-fit; lots-fit = f .lots-fit; value-fit = f .value-fit; lines-long = f .lines-long; most-run = run }, f .prices-fit),
+      (
+        h,
+        record { long = h .long; most-members = h .most-members; lots-fit = f .lots-fit; value-fit = f .value-fit; lines-long = f .lines-long; most-run = run },
+        f .prices-fit,
+      ),
       (close-out-contract-below (a .head .now) (a .bytes .now) _ r, close-out-ratio (a .head .now) (a .bytes .now) _ r),
     )
 
