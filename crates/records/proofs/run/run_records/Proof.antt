@@ -1,13 +1,14 @@
-use borrow.Author.Needs.{needs}
-use Prim.Native.Nat.{_+_, _-_}
+use Prim.Native.Nat.{_+_, _-_, _≤_}
 use mathlib.Core.Path.{_≡_, refl, sym, _∙_}
 use native.Mathlib.Omega.{arith}
 use lib.ListN.{length, drop}
 use Rattle.rules.specs.Ledger.{lent}
 use Rattle.accounts.specs.Lengths.{SameLengths}
+use Rattle.records.specs.Room.{roomWanted}
 use Rattle.records.specs.Stages.{readyLength}
 use Rattle.records.proofs.Fronts.{positive}
 use Rattle.records.proofs.Running.{Runs, runs-start, next-inside, next-room, one-at-most, ran-part, ready-of-rest, runs-next, runs-end}
+use borrow.Author.Needs.{needs}
 use Rattle.records.proofs.run.run_records.Statement.{statement}
 use Rattle.records.proofs.run.run_records.Tie as tie
 
@@ -22,6 +23,13 @@ abbrev μ-loop : tie.MeasureT-loop
 μ-loop counted-before accepted-before bytes is-last out₀ filled head₀ prices₀ lots₀ value₀ book₀ lines₀ _ _ _ _ _ _ out head prices lots value book lines place end counted accepted is-stopped n =
     length bytes - place
 
+-- One more record is ready: it is inside the bytes, and there is room for what is printed of it.
+inside : (c : tie.In-loop Inv-loop μ-loop) → c .before .loop .place + c .before .loop .n ≤ length (c .before .before .before .before .before .before .before .before .args .bytes .now)
+inside c = let l = c .before .loop in let w = l .inv .0 in next-inside w _ (l .inv .2) (positive _ (c .loop-test .taken)) (omega (arith, w .within, w .same))
+
+room : (c : tie.In-loop Inv-loop μ-loop) → c .before .loop .end + roomWanted ≤ length (c .before .loop .out)
+room c = let l = c .before .loop in let w = l .inv .0 in next-room w _ (l .inv .2) (positive _ (c .loop-test .taken)) (omega (arith, w .within, w .same))
+
 loop-holds : tie.Need-loop-holds Inv-loop μ-loop
 loop-holds c = (
   runs-start _ _ _ _ _ _ _ (c .before .before .before .before .before .before .pre .0) (c .before .before .before .before .before .before .pre .2),
@@ -30,172 +38,57 @@ loop-holds c = (
 )
 
 add-next : tie.Need-add-next Inv-loop μ-loop
-add-next c =
-    let w = c .before .loop .inv .0 in
-    omega (arith, next-inside w _ (c .before .loop .inv .2) (positive _ (c .loop-test .taken)) (omega (arith, w .within, w .same)))
+add-next c = omega (arith, inside c)
 
 add-counted : tie.Need-add-counted Inv-loop μ-loop
 add-counted c = omega (arith, c .before .loop .inv .0 .few, c .before .loop .inv .0 .inside, c .before .before .before .before .before .before .before .before .pre .1)
 
 part-run-record-start : tie.Need-part-run-record-start Inv-loop μ-loop
-part-run-record-start c =
-    let w = c .before .loop .inv .0 in
-    omega (arith, next-inside w _ (c .before .loop .inv .2) (positive _ (c .loop-test .taken)) (omega (arith, w .within, w .same)))
+part-run-record-start c = omega (arith, inside c)
 
 part-run-record-end : tie.Need-part-run-record-end Inv-loop μ-loop
-part-run-record-end c =
-    let w = c .before .loop .inv .0 in
-    omega (arith, next-inside w _ (c .before .loop .inv .2) (positive _ (c .loop-test .taken)) (omega (arith, w .within, w .same)))
+part-run-record-end c = omega (arith, inside c)
 
 run-record-requires : tie.Need-run-record-requires Inv-loop μ-loop
-run-record-requires c κs =
-    let w = c .before .before .before .before .before .before .before .before .before .loop .inv .0 in (
-      omega (
-        arith,
-        next-room w _ (c .before .before .before .before .before .before .before .before .before .loop .inv .2)
-            (positive _ (c .before .before .before .before .before .before .before .before .loop-test .taken)) (omega (arith, w .within, w .same)),
-      ),
-      omega (
-        arith,
-        c .before .before .before .before .before .before .before .before .before .loop .inv .1 .lines,
-        c .before .before .before .before .before .before .before .before .before .before .before .before .before .before .before .before .pre .3,
-      ),
-    )
+run-record-requires c κs = (omega (arith, room (c .before .before .before .before .before .before .before .before)), omega (arith, c .before .before .before .before .before .before .before .before .before .loop .inv .1 .lines, c .before .before .before .before .before .before .before .before .before .before .before .before .before .before .before .before .pre .3))
 
 add-accepted : tie.Need-add-accepted Inv-loop μ-loop
 add-accepted c =
-    let earlier = c .before .before .before .before .before .before .before .before .before .before in
-    let earlier-still = earlier .before .before .before .before .before .before .before .before .before .before in
-    let pre = earlier-still .before .before .before .before .before .before .before .before .before .pre in
-    let loop = earlier-still .before .before .loop in
-    let run-record = earlier .before .before .run-record in
-    let w = loop .inv .0 in
-    omega (
-      arith,
-      w .below,
-      w .few,
-      w .inside,
-      pre .1,
-      one-at-most (run-record .ensures),
-    )
+    let w = c .before .before .before .before .before .before .before .before .before .before .before .before .before .before .before .before .before .before .before .before .before .before .loop .inv .0 in
+    omega (arith, w .below, w .few, w .inside, c .before .before .before .before .before .before .before .before .before .before .before .before .before .before .before .before .before .before .before .before .before .before .before .before .before .before .before .before .before .pre .1, one-at-most (c .before .before .before .before .before .before .before .before .before .before .before .before .run-record .ensures))
 
 sub-ready-length-2 : tie.Need-sub-ready-length-2 Inv-loop μ-loop
-sub-ready-length-2 c =
-    let earlier = c .before .before .before .before .before .before .before .before .before .before in
-    let earlier-still = earlier .before .before .before .before .before .before .before .before .before .before in
-    let loop = earlier-still .before .before .loop in
-    let loop-test = earlier-still .before .loop-test in
-    let w = loop .inv .0 in
-    omega (
-      arith,
-      next-inside w _
-          (loop .inv .2)
-          (positive _
-          (loop-test .taken))
-          (omega (arith, w .within, w .same)),
-    )
+sub-ready-length-2 c = omega (arith, inside (c .before .before .before .before .before .before .before .before .before .before .before .before .before .before .before .before .before .before .before .before .before))
 
 part-ready-length-start : tie.Need-part-ready-length-start Inv-loop μ-loop
-part-ready-length-start c =
-    let earlier = c .before .before .before .before .before .before .before .before .before .before in
-    let earlier-still = earlier .before .before .before .before .before .before .before .before .before .before in
-    let loop = earlier-still .before .before .loop in
-    let loop-test = earlier-still .before .loop-test in
-    let w = loop .inv .0 in
-    omega (
-      arith,
-      next-inside w _
-          (loop .inv .2)
-          (positive _
-          (loop-test .taken))
-          (omega (arith, w .within, w .same)),
-    )
+part-ready-length-start c = omega (arith, inside (c .before .before .before .before .before .before .before .before .before .before .before .before .before .before .before .before .before .before .before .before .before))
 
 part-ready-length-end : tie.Need-part-ready-length-end Inv-loop μ-loop
-part-ready-length-end c =
-    let earlier = c .before .before .before .before .before .before .before .before .before .before in
-    let earlier-still = earlier .before .before .before .before .before .before .before .before .before .before in
-    let loop = earlier-still .before .before .loop in
-    let loop-test = earlier-still .before .loop-test in
-    let w = loop .inv .0 in
-    omega (
-      arith,
-      next-inside w _
-          (loop .inv .2)
-          (positive _
-          (loop-test .taken))
-          (omega (arith, w .within, w .same)),
-    )
+part-ready-length-end c = omega (arith, inside (c .before .before .before .before .before .before .before .before .before .before .before .before .before .before .before .before .before .before .before .before .before))
 
 sub-ready-length-3 : tie.Need-sub-ready-length-3 Inv-loop μ-loop
-sub-ready-length-3 c =
-    let earlier = c .before .before .before .before .before .before .before .before .before .before in
-    let earlier-still = earlier .before .before .before .before .before .before .before .before .before .before in
-    let loop = earlier-still .before .before .before .loop in
-    let loop-test = earlier-still .before .before .loop-test in
-    let run-record = earlier .before .before .before .run-record in
-    let w = loop .inv .0 in
-    omega (
-      arith,
-      run-record .kept .1 .1 .0,
-      run-record .ensures .room,
-      next-room w _
-          (loop .inv .2)
-          (positive _
-          (loop-test .taken))
-          (omega (arith, w .within, w .same)),
-    )
+sub-ready-length-3 c = omega (arith, c .before .before .before .before .before .before .before .before .before .before .before .before .before .run-record .kept .1 .1 .0, c .before .before .before .before .before .before .before .before .before .before .before .before .before .run-record .ensures .room, room (c .before .before .before .before .before .before .before .before .before .before .before .before .before .before .before .before .before .before .before .before .before .before))
 
 loop-less : tie.Need-loop-less Inv-loop μ-loop
-loop-less c =
-    let earlier = c .before .before .before .before .before .before .before .before .before .before in
-    let earlier-still = earlier .before .before .before .before .before .before .before .before .before .before in
-    let loop = earlier-still .before .before .before .before .loop in
-    let loop-test = earlier-still .before .before .before .loop-test in
-    let w = loop .inv .0 in
-    let some = positive _
-    (loop-test .taken) in
-    omega (
-      arith,
-      some,
-      next-inside w _
-          (loop .inv .2) some
-          (omega (arith, w .within, w .same)),
-    )
+loop-less c = omega (arith, positive _ (c .before .before .before .before .before .before .before .before .before .before .before .before .before .before .before .before .before .before .before .before .before .before .before .loop-test .taken), inside (c .before .before .before .before .before .before .before .before .before .before .before .before .before .before .before .before .before .before .before .before .before .before .before))
 
 loop-again : tie.Need-loop-again Inv-loop μ-loop
 loop-again c =
-    let earlier = c .before .before .before .before .before .before .before .before .before .before in
-    let earlier-still = earlier .before .before .before .before .before .before .before .before .before .before in
-    let loop = earlier-still .before .before .before .before .loop in
-    let loop-test = earlier-still .before .before .before .loop-test in
-    let run-record = earlier .before .before .before .before .run-record in
-    let w = loop .inv .0 in
-    let l = loop .inv .1 in
-    let k = run-record .kept in
-    let one = ran-part
-    (loop .place)
-    (loop .n)
-    _ _ (run-record .ensures) in (
-      runs-next w _
-          (loop .inv .2)
-          (positive _
-          (loop-test .taken))
-          (omega (arith, w .within, w .same)) one (k .1 .1 .0),
+    let l = c .before .before .before .before .before .before .before .before .before .before .before .before .before .before .before .before .before .before .before .before .before .before .before .before .loop in
+    let w = l .inv .0 in
+    let s = l .inv .1 in
+    let ran = c .before .before .before .before .before .before .before .before .before .before .before .before .before .before .run-record in
+    let k = ran .kept .1 .1 in (
+      runs-next w _ (l .inv .2) (positive _ (c .before .before .before .before .before .before .before .before .before .before .before .before .before .before .before .before .before .before .before .before .before .before .before .loop-test .taken)) (omega (arith, w .within, w .same)) (ran-part (l .place) (l .n) _ _ (ran .ensures)) (k .0),
       record {
-        head =
-            omega (arith, k .1 .1 .1 .1 .0, l .head);
-        prices = omega (arith, k .1 .1 .1 .1 .1 .0, l .prices);
-        lots = omega
-            (arith, k .1 .1 .1 .1 .1 .1 .0, l .lots);
-        value = omega (arith, k .1 .1 .1 .1 .1 .1 .1 .0, l .value);
-        book = omega
-            (arith, k .1 .1 .1 .1 .1 .1 .1 .1 .0, l .book);
-        lines = omega (arith, k .1 .1 .1 .1 .1 .1 .1 .1 .1 .0, l .lines);
+        head = omega (arith, k .1 .1 .0, s .head);
+        prices = omega (arith, k .1 .1 .1 .0, s .prices);
+        lots = omega (arith, k .1 .1 .1 .1 .0, s .lots);
+        value = omega (arith, k .1 .1 .1 .1 .1 .0, s .value);
+        book = omega (arith, k .1 .1 .1 .1 .1 .1 .0, s .book);
+        lines = omega (arith, k .1 .1 .1 .1 .1 .1 .1 .0, s .lines);
       },
-      ready-of-rest _ _ _
-          (loop .place + loop .n)
-          _ (c .ready-length2 .ensures),
+      ready-of-rest _ _ _ (l .place + l .n) _ (c .ready-length2 .ensures),
     )
 
 sub-room : tie.Need-sub-room Inv-loop μ-loop
@@ -224,9 +117,9 @@ same-length-7 c = omega (arith, c .before .before .before .loop .inv .1 .lines)
 
 returns : tie.Need-returns Inv-loop μ-loop
 returns c =
-    let w = c .before .before .before .loop .inv .0 in
-    runs-end w _ _ (omega (arith, w .within, w .same)) refl (sym (c .before .before .before .loop .inv .2) ∙ c .before .before .loop-test .left)
-    (c .before .stage-after .ensures) (c .wants-after .ensures)
+    let l = c .before .before .before .loop in
+    let w = l .inv .0 in
+    runs-end w _ _ (omega (arith, w .within, w .same)) refl (sym (l .inv .2) ∙ c .before .before .loop-test .left) (c .before .stage-after .ensures) (c .wants-after .ensures)
 
 pub run-records-spec : {M : Type 1} → statement M
 run-records-spec =
