@@ -7,7 +7,8 @@ use lib.ListN.{length, getD}
 use Rattle.rules.specs.declared.event.Submission.{Submission}
 use Rattle.rules.specs.declared.order.Order.{Order}
 use Rattle.rules.specs.Ranges.{mostMembers, mostPrice, mostSubmitsInSecond, mostAcceptedSubmits}
-use Rattle.rules.specs.Ledger.{Tables, timePlace, acceptedSubmitsPlace, membersPlace, lotsRunPlace, orderCountPlace, withAcceptedSubmits, withSubmitsThisSecond, submitsFrom, withHead, headLength, linesLength, orders, timed}
+use Rattle.rules.specs.Ledger.{Tables, timePlace, acceptedSubmitsPlace, membersPlace, lotsRunPlace, orderCountPlace, withAcceptedSubmits}
+use Rattle.rules.specs.Ledger.{withSubmitsThisSecond, submitsFrom, withHead, headLength, linesLength, orders, timed}
 use Rattle.rules.specs.Matching.{incoming, submitMatched, submitLines, wouldRest, submitOrders, counted, submitBooked}
 use Rattle.tables.specs.Fit.{HeadFit, PricesFit, RowsFit, BookFit, membersIn, acceptedIn, lotsRunIn, orderCountIn, ordersIn}
 use Rattle.matching.specs.Crossing.{crossingIn}
@@ -88,8 +89,9 @@ module _ (t : Tables) (e : Submission)
           numbers-distinct = rw count-same (b .numbers-distinct);
         }
 
-    placeable : (lotsCrossing : ℕ) → Acceptable t e lotsCrossing → RowsFit (membersIn (t .head)) (lotsRunIn (t .head)) (t .lots) → RowsFit (membersIn (t .head)) (mostPrice * lotsRunIn (t .head)) (t .value)
-        → linesLength ≤ length (t .lines) → Placeable head₁ (t .prices) (t .lots) (t .value) (t .book) (t .lines) (e .kind) o
+    placeable : (lotsCrossing : ℕ) → Acceptable t e lotsCrossing → RowsFit (membersIn (t .head)) (lotsRunIn (t .head)) (t .lots)
+        → RowsFit (membersIn (t .head)) (mostPrice * lotsRunIn (t .head)) (t .value) → linesLength ≤ length (t .lines)
+        → Placeable head₁ (t .prices) (t .lots) (t .value) (t .book) (t .lines) (e .kind) o
     unfolding orders submitMatched submitLines wouldRest
     placeable lotsCrossing a l v n =
         record {
@@ -113,8 +115,9 @@ module _ (t : Tables) (e : Submission)
 
     -- with the order as the code has it
     module _ (o′ : Order) (s : o′ ≡ o) where
-      pub placed : (lotsCrossing : ℕ) → Acceptable t e lotsCrossing → RowsFit (membersIn (t .head)) (lotsRunIn (t .head)) (t .lots) → RowsFit (membersIn (t .head)) (mostPrice * lotsRunIn (t .head)) (t .value)
-          → linesLength ≤ length (t .lines) → Placeable head₁ (t .prices) (t .lots) (t .value) (t .book) (t .lines) (e .kind) o′ × (lotsCrossing ≡ crossingIn o′ (ordersIn (orderCountIn head₁) (t .book)))
+      pub placed : (lotsCrossing : ℕ) → Acceptable t e lotsCrossing → RowsFit (membersIn (t .head)) (lotsRunIn (t .head)) (t .lots)
+          → RowsFit (membersIn (t .head)) (mostPrice * lotsRunIn (t .head)) (t .value) → linesLength ≤ length (t .lines)
+          → Placeable head₁ (t .prices) (t .lots) (t .value) (t .book) (t .lines) (e .kind) o′ × (lotsCrossing ≡ crossingIn o′ (ordersIn (orderCountIn head₁) (t .book)))
       placed lotsCrossing a l v n =
           subst (λ y. Placeable head₁ (t .prices) (t .lots) (t .value) (t .book) (t .lines) (e .kind) y × (lotsCrossing ≡ crossingIn y (ordersIn (orderCountIn head₁) (t .book)))) (sym s)
           (placeable lotsCrossing a l v n, crosses lotsCrossing a)

@@ -14,7 +14,8 @@ use Rattle.rules.specs.declared.answer.Answer.the-variants.{Accepted}
 use Rattle.rules.specs.declared.event.OrderKind.{OrderKind}
 use Rattle.rules.specs.declared.order.Order.{Order}
 use Rattle.rules.specs.Ranges.{mostOrders}
-use Rattle.rules.specs.Ledger.{Tables, Line, lineRun, lent, membersPlace, lotsRunPlace, orderCountPlace, orderWidth, withHead, withBook, withPrices, withRows, withLines, withOrderCount, orderPlaces, orders, withOrders, booked}
+use Rattle.rules.specs.Ledger.{Tables, Line, lineRun, lent, membersPlace, lotsRunPlace, orderCountPlace, orderWidth, withHead, withBook}
+use Rattle.rules.specs.Ledger.{withPrices, withRows, withLines, withOrderCount, orderPlaces, orders, withOrders, booked}
 use Rattle.rules.specs.Matching.{isResting, withLots, matched, dealLines, withDeals}
 use Rattle.tables.specs.Fit.{membersIn, lotsRunIn, orderCountIn, ordersIn}
 use Rattle.rules.proofs.LinesRun.{booked-none}

@@ -28,6 +28,9 @@ legs s = columnLegs (s .args .orders .now) (s .args .leg-lots .now) (s .args .le
 abbrev start : tie.Else1 → tie.Start
 start c = c .before .before .before .before .before .before .before .before .before .before .before
 
+abbrev accepted : tie.After-book-legs → tie.Else1
+accepted c = c .before .before .before .before .before .before .before .before .before
+
 ok : (c : tie.Else1) → acceptable (tables (start c)) (legs (start c)) ≡ true
 ok c = sym (c .before .is-acceptable .ensures (tables (start c))) ∙ not-false _ (c .if1 .left)
 
@@ -36,9 +39,9 @@ named-at c = let s = start c in let a = s .args in
     named (tables s) (a .places .now) (a .orders .now) (a .leg-lots .now) (a .leg-prices .now) (s .pre .1 .1 .0) (s .pre .1 .1 .1) (ok c)
 
 -- The lines leave the number of orders as it was.
-count-at : (c : tie.After-book-legs) → orderCountIn (c .book-legs .last .0) ≡ orderCountIn (c .before .before .before .before .before .before .before .before .before .before .before .before .before .before .before .before .before .before .before .before .args .head .now)
+count-at : (c : tie.After-book-legs) → orderCountIn (c .book-legs .last .0) ≡ orderCountIn (start (accepted c) .args .head .now)
 count-at c =
-    let s = c .before .before .before .before .before .before .before .before .before .before .before .before .before .before .before .before .before .before .before .before in
+    let s = start (accepted c) in
     let a = s .args in
     let lines = linesTo (a .book .now) (a .places .now) (a .leg-lots .now) (a .leg-prices .now) (length (a .places .now)) in
     ap orderCount (c .book-legs .ensures (tables s)) ∙ count-after-lines lines (tables s)
@@ -71,7 +74,14 @@ book-legs-requires c κs =
     let rows = s .pre .1 .0 in (
       (s .pre .0 .2, named-at k .there, subst (λ n. LegsFit n (a .leg-lots .now) (a .leg-prices .now)) (sym many) fit),
       (
-        record { long = h .long; most-members = h .most-members; lots-fit = rows .0; value-fit = rows .1; lines-long = s .pre .0 .3; most-run = rw (← sum) (omega (arith, c .before .before .before .before .before .if2 .left)) },
+        record {
+          long = h .long;
+          most-members = h .most-members;
+          lots-fit = rows .0;
+          value-fit = rows .1;
+          lines-long = s .pre .0 .3;
+          most-run = rw (← sum) (omega (arith, c .before .before .before .before .before .if2 .left));
+        },
         h .most-orders,
       ),
     )
@@ -79,7 +89,7 @@ book-legs-requires c κs =
 use-orders-requires : tie.Need-use-orders-requires
 use-orders-requires c κs =
     let b = c .before .before .before .before .before .before .before in
-    let k = c .before .before .before .before .before .before .before .before .before .before .before .before .before .before .before .before in
+    let k = accepted b in
     let s = start k in
     let count = count-at b in (
       omega (arith, b .book-legs .kept .0, s .pre .0 .0 .long),
@@ -94,7 +104,8 @@ returns-3 : tie.Need-returns-3
 unfolding proposalSpec proposalBooked orders
 returns-3 c =
     let b = c .before .before .before .before .before .before .before .before .before .before .before .before in
-    let k = c .before .before .before .before .before .before .before .before .before .before .before .before .before .before .before .before .before .before .before .before .before in
+    let total = b .before .before .before .before .before .before .before .total-lots in
+    let k = accepted b in
     let s = start k in
     let a = s .args in
     let u = tables s in
@@ -104,7 +115,7 @@ returns-3 c =
     let used = n .used each (s .pre .0 .2 .numbers-distinct) _ (count-at b) in
     λ t.
     let after = withHead (l .0) (withRows (l .1 .0) (l .1 .1 .0) (withLines (l .1 .1 .1 .0) (withPrices (a .prices .now) (withBook (a .book .now) t)))) in
-    rw (ok k, run-fits n (c .before .before .before .before .before .before .before .before .before .before .before .before .before .before .before .before .before .before .before .total-lots .result) (c .before .before .before .before .before .before .before .before .before .before .before .before .before .before .before .before .before .before .before .total-lots .ensures .0) (c .before .before .before .before .before .before .before .before .before .before .before .before .before .before .before .before .before .before .if2 .left))
+    rw (ok k, run-fits n (total .result) (total .ensures .0) (b .before .before .before .before .before .before .if2 .left))
     (all-booked (proposalLines u (legs s)) (usedByLegs (legs s) (orders u)) (length (a .orders .now)) u after _ (line-count n)
     (b .book-legs .ensures (withPrices (a .prices .now) (withBook (a .book .now) t)) ∙ ap (λ ls. booked ls u .after) (sym (n .lines-are)))
     (c .before .before .before .before .use-orders .ensures (withPrices (a .prices .now) (withRows (l .1 .0) (l .1 .1 .0) (withLines (l .1 .1 .1 .0) t))) ∙ ap (λ os. withOrders os after) used))

@@ -1,6 +1,7 @@
-use mathlib.Core.Path.{_∙_}
+use mathlib.Core.Path.{_≡_, _∙_}
 use native.Mathlib.Omega.{arith}
 use Rattle.rules.specs.Ledger.{Tables, lent}
+use Rattle.submit_causes.specs.declared.causes.Verdict.the-variants.{Sound}
 use Rattle.submit.proofs.Applied.{Judged, refused-first, judged-both, refused-second, accepted}
 use borrow.Author.Needs.{needs}
 use Rattle.submit.proofs.apply.Statement.{statement}
@@ -19,6 +20,7 @@ first c = c .before .before .before .before .before .before .before
 abbrev measured : tie.After-measured-cause → tie.After-measure
 measured c = c .before .before .before
 
+-- Both verdicts, in one.
 judged-at : (c : tie.After-measured-cause) →
     let m = measured c in
     let s = start (first m) in
@@ -29,6 +31,9 @@ judged-at c =
     let f = s .pre .0 in
     judged-both (tables s) (s .args .e) (f .0) (f .2) (f .3) _ (m .before .order-of .ensures (tables s)) _ _ (m .measure .ensures .0) (m .measure .ensures .1 .1)
     _ _ (first m .first-cause .ensures (tables s)) (c .measured-cause .ensures (tables s))
+
+sound : (c : tie.After-measured-cause) → first (measured c) .first-cause .result ≡ Sound
+sound c = measured c .before .before .before .before .before .enum-told .given .1
 
 returns : tie.Need-returns
 returns c =
@@ -50,16 +55,22 @@ measured-cause-requires c κs =
     ((f .0, s .pre .1 .0, f .3), omega (arith, m .measure .ensures .1 .0, f .0 .most-orders))
 
 returns-2 : tie.Need-returns-2
-returns-2 c = λ t. refused-second (judged-at (c .before .before .before)) (c .before .before .before .before .before .before .before .before .before .before .before .enum-told .given .1) _ (c .before .second .given .1)
+returns-2 c =
+    let k = c .before .before .before in
+    λ t. refused-second (judged-at k) (sound k) _ (c .before .second .given .1)
 
 book-submit-requires : tie.Need-book-submit-requires
 book-submit-requires c κs =
     let k = c .before .before .before .before .before .before .before .before in
     let s = start (first (measured k)) in
-    (s .pre .0, (s .pre .1, judged-at k .accepts (c .before .before .before .before .before .before .before .before .before .before .before .before .before .before .before .before .enum-told .given .1) (c .before .before .before .before .before .before .enum-told2 .given .1)))
+    (s .pre .0, (s .pre .1, judged-at k .accepts (sound k) (c .before .before .before .before .before .before .enum-told2 .given .1)))
 
 returns-3 : tie.Need-returns-3
-returns-3 c = λ t. c .before .before .before .before .before .before .before .before .before .book-submit .ensures ∙ accepted (judged-at (c .before .before .before .before .before .before .before .before .before .before .before .before .before .before .before .before .before .before)) (c .before .before .before .before .before .before .before .before .before .before .before .before .before .before .before .before .before .before .before .before .before .before .before .before .before .before .enum-told .given .1) (c .before .before .before .before .before .before .before .before .before .before .before .before .before .before .before .before .enum-told2 .given .1)
+returns-3 c =
+    let b = c .before .before .before .before .before .before .before .before .before in
+    let r = b .before .before .before .before .before .before .before in
+    let k = r .before .before in
+    λ t. b .book-submit .ensures ∙ accepted (judged-at k) (sound k) (r .enum-told2 .given .1)
 
 pub apply-spec : {M : Type 1} → statement M
 apply-spec =

@@ -15,7 +15,10 @@ sum-of-requires-2 c κs =
     read-fits DefaultedShorts _ _ _ _ (pre .0 .0 .most-members) (pre .0 .1) (pre .0 .2) (c .before .before .before .before .before .read-column2 .ensures) .fits
 
 returns : tie.Need-returns
-returns c = defaulted-found _ _ _ _ _ (c .before .before .before .before .before .before .before .before .before .before .before .read-column .ensures) (c .before .before .before .before .before .before .before .read-column2 .ensures) _ _ _ (c .before .before .before .sum-of .ensures) (c .before .sum-of2 .ensures) (c .smaller .ensures)
+returns c =
+    let shorts = c .before .before .before .before .before .before .before in
+    let longs = shorts .before .before .before .before in
+    defaulted-found _ _ _ _ _ (longs .read-column .ensures) (shorts .read-column2 .ensures) _ _ _ (c .before .before .before .sum-of .ensures) (c .before .sum-of2 .ensures) (c .smaller .ensures)
 
 pub find-defaulted-spec : {M : Type 1} → statement M
 find-defaulted-spec =

@@ -23,8 +23,15 @@ abbrev μ-loop : tie.MeasureT-loop
 μ-loop counted-before accepted-before bytes is-last out₀ filled head₀ prices₀ lots₀ value₀ book₀ lines₀ _ _ _ _ _ _ out head prices lots value book lines place end counted accepted is-stopped n =
     length bytes - place
 
+-- What a turn of the loop knows before and after its record.
+abbrev start : tie.In-loop Inv-loop μ-loop → tie.Start Inv-loop μ-loop
+start c = c .before .before .before .before .before .before .before .before
+
+abbrev turn : tie.After-run-record Inv-loop μ-loop → tie.In-loop Inv-loop μ-loop
+turn c = c .before .before .before .before .before .before .before .before .before
+
 -- One more record is ready: it is inside the bytes, and there is room for what is printed of it.
-inside : (c : tie.In-loop Inv-loop μ-loop) → c .before .loop .place + c .before .loop .n ≤ length (c .before .before .before .before .before .before .before .before .args .bytes .now)
+inside : (c : tie.In-loop Inv-loop μ-loop) → c .before .loop .place + c .before .loop .n ≤ length (start c .args .bytes .now)
 inside c = let l = c .before .loop in let w = l .inv .0 in next-inside w _ (l .inv .2) (positive _ (c .loop-test .taken)) (omega (arith, w .within, w .same))
 
 room : (c : tie.In-loop Inv-loop μ-loop) → c .before .loop .end + roomWanted ≤ length (c .before .loop .out)
@@ -50,36 +57,45 @@ part-run-record-end : tie.Need-part-run-record-end Inv-loop μ-loop
 part-run-record-end c = omega (arith, inside c)
 
 run-record-requires : tie.Need-run-record-requires Inv-loop μ-loop
-run-record-requires c κs = (omega (arith, room (c .before .before .before .before .before .before .before .before)), omega (arith, c .before .before .before .before .before .before .before .before .before .loop .inv .1 .lines, c .before .before .before .before .before .before .before .before .before .before .before .before .before .before .before .before .pre .3))
+run-record-requires c κs =
+    let k = c .before .before .before .before .before .before .before .before in
+    (omega (arith, room k), omega (arith, k .before .loop .inv .1 .lines, start k .pre .3))
 
 add-accepted : tie.Need-add-accepted Inv-loop μ-loop
 add-accepted c =
-    let w = c .before .before .before .before .before .before .before .before .before .before .before .before .before .before .before .before .before .before .before .before .before .before .loop .inv .0 in
-    omega (arith, w .below, w .few, w .inside, c .before .before .before .before .before .before .before .before .before .before .before .before .before .before .before .before .before .before .before .before .before .before .before .before .before .before .before .before .before .pre .1, one-at-most (c .before .before .before .before .before .before .before .before .before .before .before .before .run-record .ensures))
+    let r = c .before .before .before .before .before .before .before .before .before .before .before .before in
+    let k = turn r in
+    let w = k .before .loop .inv .0 in
+    omega (arith, w .below, w .few, w .inside, start k .pre .1, one-at-most (r .run-record .ensures))
 
 sub-ready-length-2 : tie.Need-sub-ready-length-2 Inv-loop μ-loop
-sub-ready-length-2 c = omega (arith, inside (c .before .before .before .before .before .before .before .before .before .before .before .before .before .before .before .before .before .before .before .before .before))
+sub-ready-length-2 c = omega (arith, inside (turn (c .before .before .before .before .before .before .before .before .before .before .before .before)))
 
 part-ready-length-start : tie.Need-part-ready-length-start Inv-loop μ-loop
-part-ready-length-start c = omega (arith, inside (c .before .before .before .before .before .before .before .before .before .before .before .before .before .before .before .before .before .before .before .before .before))
+part-ready-length-start c = omega (arith, inside (turn (c .before .before .before .before .before .before .before .before .before .before .before .before)))
 
 part-ready-length-end : tie.Need-part-ready-length-end Inv-loop μ-loop
-part-ready-length-end c = omega (arith, inside (c .before .before .before .before .before .before .before .before .before .before .before .before .before .before .before .before .before .before .before .before .before))
+part-ready-length-end c = omega (arith, inside (turn (c .before .before .before .before .before .before .before .before .before .before .before .before)))
 
 sub-ready-length-3 : tie.Need-sub-ready-length-3 Inv-loop μ-loop
-sub-ready-length-3 c = omega (arith, c .before .before .before .before .before .before .before .before .before .before .before .before .before .run-record .kept .1 .1 .0, c .before .before .before .before .before .before .before .before .before .before .before .before .before .run-record .ensures .room, room (c .before .before .before .before .before .before .before .before .before .before .before .before .before .before .before .before .before .before .before .before .before .before))
+sub-ready-length-3 c =
+    let r = c .before .before .before .before .before .before .before .before .before .before .before .before .before in
+    omega (arith, r .run-record .kept .1 .1 .0, r .run-record .ensures .room, room (turn r))
 
 loop-less : tie.Need-loop-less Inv-loop μ-loop
-loop-less c = omega (arith, positive _ (c .before .before .before .before .before .before .before .before .before .before .before .before .before .before .before .before .before .before .before .before .before .before .before .loop-test .taken), inside (c .before .before .before .before .before .before .before .before .before .before .before .before .before .before .before .before .before .before .before .before .before .before .before))
+loop-less c =
+    let k = turn (c .before .before .before .before .before .before .before .before .before .before .before .before .before .before) in
+    omega (arith, positive _ (k .loop-test .taken), inside k)
 
 loop-again : tie.Need-loop-again Inv-loop μ-loop
 loop-again c =
-    let l = c .before .before .before .before .before .before .before .before .before .before .before .before .before .before .before .before .before .before .before .before .before .before .before .before .loop in
+    let r = c .before .before .before .before .before .before .before .before .before .before .before .before .before .before in
+    let l = turn r .before .loop in
     let w = l .inv .0 in
     let s = l .inv .1 in
-    let ran = c .before .before .before .before .before .before .before .before .before .before .before .before .before .before .run-record in
+    let ran = r .run-record in
     let k = ran .kept .1 .1 in (
-      runs-next w _ (l .inv .2) (positive _ (c .before .before .before .before .before .before .before .before .before .before .before .before .before .before .before .before .before .before .before .before .before .before .before .loop-test .taken)) (omega (arith, w .within, w .same)) (ran-part (l .place) (l .n) _ _ (ran .ensures)) (k .0),
+      runs-next w _ (l .inv .2) (positive _ (turn r .loop-test .taken)) (omega (arith, w .within, w .same)) (ran-part (l .place) (l .n) _ _ (ran .ensures)) (k .0),
       record {
         head = omega (arith, k .1 .1 .0, s .head);
         prices = omega (arith, k .1 .1 .1 .0, s .prices);

@@ -37,15 +37,16 @@ place-order-requires c κs =
     let s = start (clocked k) in
     let f = s .pre .0 in
     let rows = s .pre .1 .0 in
-    let o = c .before .before .before .before .before .before .before .before .before .before .before .before .before .before .order-of .ensures (tables s) in
+    let o = clocked k .before .before .order-of .ensures (tables s) in
     placed (tables s) (s .args .e) (f .0) (f .1) (f .2) (f .3) _ (counted-at k) _ o (s .args .crossing) (s .pre .1 .1) (rows .0) (rows .1) (f .4)
 
 returns : tie.Need-returns
 returns c =
-    let k = c .before .before .before .before .before .before .before .before .before .before .before .before .before .before .before .before .before .before in
+    let p = c .before .before .before .before .before .before .before .before .before in
+    let k = p .before .before .before .before .before .before .before .before .before in
     let s = start (clocked k) in
     let f = s .pre .0 in
-    c .before .before .before .before .before .before .before .before .before .place-order .ensures ∙ submitted (tables s) (s .args .e) (f .0) (f .1) (f .2) (f .3) _ (counted-at k) _ (c .before .before .before .before .before .before .before .before .before .before .before .before .before .before .before .before .before .before .before .before .before .before .before .before .order-of .ensures (tables s))
+    p .place-order .ensures ∙ submitted (tables s) (s .args .e) (f .0) (f .1) (f .2) (f .3) _ (counted-at k) _ (clocked k .before .before .order-of .ensures (tables s))
 
 pub book-submit-spec : {M : Type 1} → statement M
 book-submit-spec =

@@ -22,15 +22,20 @@ book-line-requires-2 c κs =
     let q = s .pre .1 in
     let small = s .pre .0 .1 in
     let u = lent (a .head .now) [] (a .lots .now) (a .value .now) [] (a .lines .now) in
-    let after = c .before .before .before .before .before .before .before .before .before .book-line .ensures u in
+    let b = c .before .before .before .before .before .before .before .before .before in
+    let after = b .book-line .ensures u in
+    let other = b .before .before .before .before .before .other-side .ensures in
     let takes = first-takes (a .o) (a .d) (a .k) small u (q .0) (q .1) (a .d .lots .0) (less-room _ _ (omega arith) (s .pre .0 .0)) in
     let fits = resting-fit (a .o) (a .d) (a .k) small u (q .0) (q .1) in (
       subst (λ (x : Tables). Takes (a .d .lots .0) x) (sym after) takes,
-      (rw (c .before .before .before .before .before .before .before .before .before .before .before .before .before .before .other-side .ensures) (subst (λ (x : Tables). LineFit (x .head) (lineOut (a .o) (a .d))) (sym after) fits), omega (arith, small)),
+      (rw other (subst (λ (x : Tables). LineFit (x .head) (lineOut (a .o) (a .d))) (sym after) fits), omega (arith, small)),
     )
 
 returns : tie.Need-returns
-returns c = λ t. rw (← (c .before .before .before .before .before .before .before .before .before .before .before .before .before .before .before .before .before .before .before .before .other-side .ensures), ← (c .before .before .before .before .before .before .before .before .before .before .before .before .before .before .before .book-line .ensures t)) (c .before .before .before .before .before .book-line2 .ensures t)
+returns c =
+    let second = c .before .before .before .before .before in
+    let first = second .before .before .before .before .before .before .before .before .before .before in
+    λ t. rw (← (first .before .before .before .before .before .other-side .ensures), ← (first .book-line .ensures t)) (second .book-line2 .ensures t)
 
 pub book-deal-spec : {M : Type 1} → statement M
 book-deal-spec =

@@ -26,7 +26,10 @@ above : (c : tie.After-is-above) (t : Tables) →
     let s = c .before .before .before .before .before in
     let e = s .args .e in
     ltZ (pos (limit (tables s t) (e .member))) (mirrored (e .side) (lotsAt (tables s t) (e .contract) (e .member)) +ℤ pos (s .args .found .own + e .lots .0)) ≡ c .is-above .result
-above c t = ap (λ z. ltZ (pos (limit (tables (c .before .before .before .before .before) t) (c .before .before .before .before .before .args .e .member))) (z +ℤ pos (c .before .before .before .before .before .args .found .own + c .before .before .before .before .before .args .e .lots .0))) (sym (c .before .before .position .ensures .0)) ∙ sym (c .is-above .ensures)
+above c t =
+    let s = c .before .before .before .before .before in
+    let e = s .args .e in
+    ap (λ z. ltZ (pos (limit (tables s t) (e .member))) (z +ℤ pos (s .args .found .own + e .lots .0))) (sym (c .before .before .position .ensures .0)) ∙ sym (c .is-above .ensures)
 
 past-limit : (c : tie.Else1) → Past 1 (c .before .before .before .before .before .before)
 past-limit c t b o h = rw (above (c .before) t, c .if1 .left) h
