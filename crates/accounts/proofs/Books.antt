@@ -13,6 +13,7 @@ use Rattle.arith.proofs.Alls.{hold-all, all-every, all-map, all-append}
 use Rattle.arith.proofs.Among.{from-every}
 use Rattle.arith.proofs.Overs.{over-outside}
 use Rattle.arith.proofs.Tests.{by-bool, passed, and-right}
+use Rattle.rules.specs.Ledger.{headLength, marksFrom, orderCountPlace, orderWidth, submitsFrom}
 use Rattle.rules.specs.declared.event.CloseOutTerms.{CloseOutTerms}
 use Rattle.rules.specs.declared.event.Leg.{Leg}
 use Rattle.rules.specs.declared.event.Submission.{Submission}
@@ -76,14 +77,14 @@ side-at [] l i h = absurd (omega arith)
 side-at (o ∷ os) l zero h = side-number (o .side)
 side-at (o ∷ os) l (suc i) h =
     let rest = flatMap orderPlaces os ++ l in
-    let next : suc i * 8 + 3 ≡ 8 + (i * 8 + 3) = omega arith in
-    subst (λ z. T (leb z 1)) (sym (ap (λ n. getD (orderPlaces o ++ rest) n 0) next ∙ getD-append-add (orderPlaces o) rest (i * 8 + 3) 0)) (side-at os l i (omega arith))
+    let next : suc i * orderWidth + 3 ≡ 8 + (i * orderWidth + 3) = omega arith in
+    subst (λ z. T (leb z 1)) (sym (ap (λ n. getD (orderPlaces o ++ rest) n 0) next ∙ getD-append-add (orderPlaces o) rest (i * orderWidth + 3) 0)) (side-at os l i (omega arith))
 
 -- what is written in the book is 0 or 1
 pub sides-written : (os : List Order) (t : Tables) → 7 < length (t .head) → sidesSound (withOrders os t) ≡ true
 unfolding sidesSound withOrders over
 sides-written os t h =
-    rw (getD-set-same (t .head) 7 (length os) 0 h)
+    rw (getD-set-same (t .head) orderCountPlace (length os) 0 h)
     (passed _ (from-every _ 0 (length os) (λ i _ b. side-at os (drop (0 + length (flatMap orderPlaces os)) (t .book)) i (omega arith))))
 
 -- sides are read from the count and the book alone
@@ -148,7 +149,7 @@ unfolding withOrders
 written-accepted os t = getD-set-other (t .head) 7 5 (length os) 0 (λ e. omega arith)
 
 -- the second's counts lie behind the other places
-pub without-place : (t : Tables) (i : ℕ) → 224 ≤ length (t .head) → members t ≤ 32 → i < 192 → getD (withoutSubmits t .head) i 0 ≡ getD (t .head) i 0
+pub without-place : (t : Tables) (i : ℕ) → headLength ≤ length (t .head) → members t ≤ 32 → i < 192 → getD (withoutSubmits t .head) i 0 ≡ getD (t .head) i 0
 unfolding withoutSubmits
 without-place t i b m l = over-outside 192 (replicate (members t) 0) (t .head) (omega (arith, length-replicate {A = ℕ} (members t) 0)) i 0 (λ q. absurd (omega arith))
 
@@ -198,8 +199,8 @@ module _ (t : Tables) (s : Sound t) (k : BookKept t) where
   pub default-book : (m : ℕ) → BookKept (defaultBooked t m .after)
   unfolding defaultBooked
   default-book m =
-      taken-book [] (kept (λ o. not (eqb (o .member) m)) (orders t)) (withHead (set (t .head) (160 + m) 1) t) (set-other 4 (t .head) (160 + m) 1 (omega arith) (ofMember (omega arith)))
-      (getD-set-other (t .head) (160 + m) 5 1 0 (λ e. omega arith)) (kept-remain _ (orders t))
+      taken-book [] (kept (λ o. not (eqb (o .member) m)) (orders t)) (withHead (set (t .head) (marksFrom + m) 1) t) (set-other 4 (t .head) (marksFrom + m) 1 (omega arith) (ofMember (omega arith)))
+      (getD-set-other (t .head) (marksFrom + m) 5 1 0 (λ e. omega arith)) (kept-remain _ (orders t))
 
   pub proposal-book : (legs : List Leg) → BookKept (proposalBooked t legs .after)
   unfolding proposalBooked
@@ -298,12 +299,12 @@ unfolding submitBooked withDeals counted
 submit-book t s k e fine today room =
     let u = timed (e .time) t in
     let one = submitsThisSecond u (e .member) + 1 in
-    let l = set (u .head) (192 + e .member) one in
+    let l = set (u .head) (submitsFrom + e .member) one in
     let v = withDeals (e .contract) (submitMatched t e .deals) (counted (e .member) u) in
     let os = submitOrders t e in
     let ls = submitLines t e in
     let t′ = submitBooked t e .after in
-    let a = then-same (timed-same (e .time) t s) (set-other 4 (u .head) (192 + e .member) one (omega arith) (ofMember (omega arith))) in
+    let a = then-same (timed-same (e .time) t s) (set-other 4 (u .head) (submitsFrom + e .member) one (omega arith) (ofMember (omega arith))) in
     let b = then-same a (set-other 4 l 5 (acceptedSubmits u + 1) (omega arith) (changing (omega arith) (omega arith))) in
     let one-more : acceptedSubmits v ≡ acceptedSubmits t + 1 = getD-set-same l 5 (acceptedSubmits u + 1) 0 (omega (arith, a .longer, s .head-long)) ∙ ap (λ n. n + 1) (timed-accepted (e .time) t s) in
     let terms : SameTerms t t′ = terms-after ls os t v s b (omega arith) in
@@ -333,7 +334,7 @@ closed-all cs u long a =
     }
 
 -- the new day changes neither the book nor the count of accepted submits
-pub day-place : (x : ℕ) (t : Tables) (i : ℕ) → 224 ≤ length (t .head) → members t ≤ 32 → 4 < i → i < 192 → getD (onDay x t .head) i 0 ≡ getD (t .head) i 0
+pub day-place : (x : ℕ) (t : Tables) (i : ℕ) → headLength ≤ length (t .head) → members t ≤ 32 → 4 < i → i < 192 → getD (onDay x t .head) i 0 ≡ getD (t .head) i 0
 unfolding onDay
 day-place x t i b m l h =
     getD-set-other (set (withoutSubmits t .head) 3 x) 4 i 0 0 (λ e. omega arith) ∙ getD-set-other (withoutSubmits t .head) 3 i x 0 (λ e. omega arith)
@@ -346,7 +347,7 @@ close-book t s k n =
     let v = withClosed (closingContracts t) u in
     let t′ = onDay (nextDay t) v in
     let a = closed-all (closingContracts t) u (omega (arith, s .head-long)) (sides-same t u refl refl ∙ book-sides t (k .sound)) in
-    let long : 224 ≤ length (v .head) = omega (arith, a .header .longer, s .head-long) in
+    let long : headLength ≤ length (v .head) = omega (arith, a .header .longer, s .head-long) in
     let few : members v ≤ 32 = omega (arith, a .header .places 1 (field (omega arith)), s .few-members) in
     let at : (i : ℕ) → 4 < i → i < 192 → getD (t′ .head) i 0 ≡ getD (v .head) i 0 = λ i. day-place (nextDay t) v i long few in
     let count = at 7 (omega arith) (omega arith) in

@@ -17,6 +17,8 @@ use Rattle.arith.proofs.EachBlock.{block, every-block, block-at}
 use Rattle.arith.specs.Ints.{when}
 use Rattle.arith.proofs.Sizes.{abs-plus, abs-times, abs-when}
 use Rattle.arith.proofs.Tests.{le-or-lt, same-or}
+use Rattle.rules.specs.Ledger.{headLength, rowsLength}
+use Rattle.rules.specs.Ranges.{contractCount, mostPrice}
 use Rattle.rules.specs.Contracts.{childrenOf}
 use Rattle.rules.specs.OtherForms.{yearOf, quarterOf, monthOf}
 use Rattle.rules.proofs.HourLaws.{cascading}
@@ -40,7 +42,7 @@ pub record Bounded (n bound : ℕ) (R : ℕ → ℕ → ℤ) : Type 0 where
   pub within : (m i : ℕ) → m < n → i < 72 → threeRows (λ c. R c m) i ≤ bound
 
 -- Every contract is the year, the quarter or the month of some month, so no row passes the bound.
-pub bounded-row : {n b : ℕ} {R : ℕ → ℕ → ℤ} → Bounded n b R → (c m : ℕ) → c < 102 → m < n → natAbs (R c m) ≤ b
+pub bounded-row : {n b : ℕ} {R : ℕ → ℕ → ℤ} → Bounded n b R → (c m : ℕ) → c < contractCount → m < n → natAbs (R c m) ≤ b
 bounded-row {R = R} a c m l q =
     let size : ℕ → ℕ = λ d. natAbs (R d m) in
     let first = 12 * (c / 17) in
@@ -51,7 +53,7 @@ bounded-row {R = R} a c m l q =
     (λ k. let i = first + (c % 17 - 5) in let e : monthOf i ≡ c = omega arith in omega (arith, a .within m i q (omega arith), ap size e)))
 
 -- the rows may be told by other words
-pub bounded-same : {n b : ℕ} {R R′ : ℕ → ℕ → ℤ} → ((c m : ℕ) → c < 102 → m < n → R′ c m ≡ R c m) → Bounded n b R → Bounded n b R′
+pub bounded-same : {n b : ℕ} {R R′ : ℕ → ℕ → ℤ} → ((c m : ℕ) → c < contractCount → m < n → R′ c m ≡ R c m) → Bounded n b R → Bounded n b R′
 bounded-same {R = R} {R′ = R′} e a = record {
   within = λ m i q k. omega (arith, a .within m i q k, ap natAbs (e (yearOf i) m (omega arith) q), ap natAbs (e (quarterOf i) m (omega arith) q), ap natAbs (e (monthOf i) m (omega arith) q));
 }
@@ -96,12 +98,12 @@ module _ (amount : Line → ℤ) (w : ℕ) where
 -- what a row may reach for each lot run: its lots one, its value the highest price
 abbrev pub weight : Column → ℕ
 weight lots = 1
-weight value = 1000000
+weight value = mostPrice
 
-pub lines-weigh : (x : Column) (ls : List Line) → All (λ l. l .price ≤ 1000000) ls → All (Weighs (amount x) (weight x)) ls
-lines-weigh lots ls h = all-map (λ l. l .price ≤ 1000000) (Weighs (amount lots) 1) ls (λ l _. omega arith) h
+pub lines-weigh : (x : Column) (ls : List Line) → All (λ l. l .price ≤ mostPrice) ls → All (Weighs (amount x) (weight x)) ls
+lines-weigh lots ls h = all-map (λ l. l .price ≤ mostPrice) (Weighs (amount lots) 1) ls (λ l _. omega arith) h
 lines-weigh value ls h =
-    all-map (λ l. l .price ≤ 1000000) (Weighs (amount value) 1000000) ls (λ l q. omega (arith, abs-times (l .lots) (pos (l .price)), mul-le-mul-left (natAbs (l .lots)) q)) h
+    all-map (λ l. l .price ≤ mostPrice) (Weighs (amount value) mostPrice) ls (λ l q. omega (arith, abs-times (l .lots) (pos (l .price)), mul-le-mul-left (natAbs (l .lots)) q)) h
 
 -- ---- cascades
 -- Of three rows the first goes to the second, or the second to the third, or all stay.
@@ -129,7 +131,7 @@ bounded-cascaded c R R′ h after a = record {
 abbrev rowsIn : List ℤ → ℕ → ℕ → ℤ
 rowsIn l c m = getD l (rowPlace c m) (pos 0)
 
-column-cascaded : {b : ℕ} (n c : ℕ) (l : List ℤ) → c < 102 → n ≤ 32 → 3264 ≤ length l → Bounded n b (rowsIn l) → Bounded n b (rowsIn (cascaded n c l))
+column-cascaded : {b : ℕ} (n c : ℕ) (l : List ℤ) → c < contractCount → n ≤ 32 → rowsLength ≤ length l → Bounded n b (rowsIn l) → Bounded n b (rowsIn (cascaded n c l))
 column-cascaded n c l k q s a =
     le-or-lt 5 (c % 17) (λ h. rw (cascaded-month n c l h) a)
     (λ h. bounded-cascaded c (rowsIn l) (rowsIn (cascaded n c l)) h (λ d m p. cascaded-row n c l s k q d m h p) a)
@@ -137,17 +139,17 @@ column-cascaded n c l k q s a =
 -- tables with rows for their n members
 pub record Roomy (n : ℕ) (t : Tables) : Type 0 where
   pub size : members t ≡ n
-  pub lots-long : 3264 ≤ length (t .lots)
-  pub value-long : 3264 ≤ length (t .value)
+  pub lots-long : rowsLength ≤ length (t .lots)
+  pub value-long : rowsLength ≤ length (t .value)
 
 module _ (n : ℕ) (few : n ≤ 32) where
-  columns-cascaded : {b : ℕ} (cs : List ℕ) (l : List ℤ) → All (λ c. c < 102) cs → 3264 ≤ length l → Bounded n b (rowsIn l) → Bounded n b (rowsIn (allCascaded n cs l))
+  columns-cascaded : {b : ℕ} (cs : List ℕ) (l : List ℤ) → All (λ c. c < contractCount) cs → rowsLength ≤ length l → Bounded n b (rowsIn l) → Bounded n b (rowsIn (allCascaded n cs l))
   unfolding allCascaded
   columns-cascaded [] l h r a = a
   columns-cascaded (c ∷ cs) l h r a =
       columns-cascaded cs (cascaded n c l) (h .1) (omega (arith, cascaded-length n c l r (h .0) few)) (column-cascaded n c l (h .0) few r a)
 
-  pub bounded-closed : {b : ℕ} (x : Column) (cs : List ℕ) (t : Tables) → All (λ c. c < 102) cs → Roomy n t → Bounded n b (row x t) → Bounded n b (row x (withClosed cs t))
+  pub bounded-closed : {b : ℕ} (x : Column) (cs : List ℕ) (t : Tables) → All (λ c. c < contractCount) cs → Roomy n t → Bounded n b (row x t) → Bounded n b (row x (withClosed cs t))
   unfolding withClosed
   bounded-closed {b} lots cs t h r a = subst (λ s. Bounded n b (rowsIn (allCascaded s cs (t .lots)))) (sym (r .size)) (columns-cascaded cs (t .lots) h (r .lots-long) a)
   bounded-closed {b} value cs t h r a = subst (λ s. Bounded n b (rowsIn (allCascaded s cs (t .value)))) (sym (r .size)) (columns-cascaded cs (t .value) h (r .value-long) a)
@@ -160,21 +162,21 @@ WithinRun t = (x : Column) → Bounded (members t) (weight x * lotsRun t) (row x
 column-sound : (n b : ℕ) (l : List ℤ) → Bounded n b (rowsIn l) → everyRow (λ z. leb (natAbs z) b) n l ≡ true
 unfolding everyRow
 column-sound n b l a =
-    every-block 32 _ 102 l
+    every-block 32 _ contractCount l
     (λ c k. every-place (λ z. leb (natAbs z) b) (pos 0) (take n (block 32 c l))
     (λ m h. let q : (m < n) × (m < 32) = omega (arith, simp length-take at h) in
     rw (getD-take n (block 32 c l) m (pos 0) (q .0), block-at 32 c m l (pos 0) (q .1)) (le-leb (natAbs (rowsIn l c m)) b (bounded-row a c m k (q .0)))))
 
 pub rows-sound : (t : Tables) → WithinRun t → rowsSound t ≡ true
 unfolding rowsSound
-rows-sound t a = rw (column-sound (members t) (lotsRun t) (t .lots) (rw (one-mul (lotsRun t)) at (a lots)), column-sound (members t) (1000000 * lotsRun t) (t .value) (a value))
+rows-sound t a = rw (column-sound (members t) (lotsRun t) (t .lots) (rw (one-mul (lotsRun t)) at (a lots)), column-sound (members t) (mostPrice * lotsRun t) (t .value) (a value))
 
 -- ---- the fresh ledger
-pub bounded-fresh : (h : Header) (t : Tables) → SoundHeader h → 3264 ≤ length (t .lots) → 3264 ≤ length (t .value) → (x : Column) → Bounded (h .members) 0 (row x (fresh h t))
+pub bounded-fresh : (h : Header) (t : Tables) → SoundHeader h → rowsLength ≤ length (t .lots) → rowsLength ≤ length (t .value) → (x : Column) → Bounded (h .members) 0 (row x (fresh h t))
 bounded-fresh h t f s v x =
     bounded-same (λ c m k q. fresh-zero h t f s v x c m k q) (record { within = λ m i q k. omega arith })
 
-pub within-fresh : (h : Header) (t : Tables) → SoundHeader h → 224 ≤ length (t .head) → 3264 ≤ length (t .lots) → 3264 ≤ length (t .value) → WithinRun (fresh h t)
+pub within-fresh : (h : Header) (t : Tables) → SoundHeader h → headLength ≤ length (t .head) → rowsLength ≤ length (t .lots) → rowsLength ≤ length (t .value) → WithinRun (fresh h t)
 within-fresh h t f k s v x =
     subst (λ n. Bounded n (weight x * lotsRun (fresh h t)) (row x (fresh h t))) (sym (fresh-runs h t f k .size))
     (record { within = λ m i q l. omega (arith, bounded-fresh h t f s v x .within m i q l) })

@@ -12,6 +12,7 @@ use Rattle.arith.proofs.Tests.{le-or-lt}
 use Rattle.arith.proofs.Among.{not-among, among-if}
 use Rattle.arith.proofs.Sums.{sorted, sum-ext}
 use Rattle.arith.proofs.Terms.{sum-three}
+use Rattle.rules.specs.Ranges.{contractCount}
 use Rattle.rules.specs.Days.{Calendar}
 use Rattle.rules.specs.Contracts.{childrenOf}
 use Rattle.rules.specs.Accounts.{engineAccount, DeliveryHour}
@@ -56,12 +57,12 @@ module _ (c i : ℕ) where
 account-three : (k : Calendar) (R : ℕ → ℕ → ℤ) (m h i : ℕ) → i < 72 → InMonth k i h → engineAccount k R m h ≡ R (yearOf i) m +ℤ (R (quarterOf i) m +ℤ R (monthOf i) m)
 unfolding engineAccount holdsMonth
 account-three k R m h i l lies =
-    sum-ext 102 _ _ (λ c _. ap (λ b. when b (R c m)) (holds-hour k i h lies c))
-    ∙ sum-three 102 (λ c. R c m) (yearOf i) (quarterOf i) (monthOf i) (omega arith) (omega arith) (omega arith)
+    sum-ext contractCount _ _ (λ c _. ap (λ b. when b (R c m)) (holds-hour k i h lies c))
+    ∙ sum-three contractCount (λ c. R c m) (yearOf i) (quarterOf i) (monthOf i) (omega arith) (omega arith) (omega arith)
 
 -- R′ are the rows after a cascade of the year or quarter c, R those before it.
 pub cascade-keeps : (k : Calendar) (R R′ : ℕ → ℕ → ℤ) (c m h : ℕ) → c % 17 < 5
-    → ((d : ℕ) → d < 102 → R′ d m ≡ cond (eqb c d) (pos 0) (R d m +ℤ when (any (λ x. eqb x d) (childrenOf c)) (R c m)))
+    → ((d : ℕ) → d < contractCount → R′ d m ≡ cond (eqb c d) (pos 0) (R d m +ℤ when (any (λ x. eqb x d) (childrenOf c)) (R c m)))
     → DeliveryHour k h → engineAccount k R′ m h ≡ engineAccount k R m h
 cascade-keeps k R R′ c m h q after hour =
     let o = month-of-hour k h (hour .0) (hour .1) in

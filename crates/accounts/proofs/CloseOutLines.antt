@@ -14,6 +14,7 @@ use Rattle.arith.proofs.Overs.{zip-length}
 use Rattle.arith.proofs.Sums.{group}
 use Rattle.arith.proofs.Tests.{by-bool, by-eqb, le-or-lt}
 use Rattle.arith.proofs.Alls.{all-append}
+use Rattle.rules.specs.Ranges.{contractCount}
 use Rattle.rules.specs.declared.event.CloseOutTerms.{CloseOutTerms}
 use Rattle.rules.specs.Days.{Calendar}
 use Rattle.rules.specs.Ledger.{Tables, Line, members, defaulted, ggf, lotsAt}
@@ -213,7 +214,7 @@ module _ (t : Tables) (e : CloseOutTerms) where
   close-out-all P f = steps-all (e .contract) (ggf t (e .contract)) _ _ _ P (members t) (netting-length t (e .contract)) (remaining-length t (e .contract)) taken-length f
 
   -- each line names a contract and a member of the ledger
-  pub close-out-fits : e .contract < 102 → All (Fits (members t)) (closeOutLines t e)
+  pub close-out-fits : e .contract < contractCount → All (Fits (members t)) (closeOutLines t e)
   close-out-fits h = close-out-all (Fits (members t)) (λ m z l. record { contract< = h; member< = l })
 
   -- all are of the contract, at its GGF

@@ -13,6 +13,8 @@ use borrow.Author.Tests.{eq-eqb, ne-eqb}
 use Rattle.arith.specs.Ints.{when, up, dn}
 use Rattle.arith.specs.Lists.{from}
 use Rattle.arith.proofs.Tests.{by-bool, by-eqb}
+use Rattle.rules.specs.Ledger.{marksFrom}
+use Rattle.rules.specs.Ranges.{contractCount}
 use Rattle.rules.specs.declared.event.CloseOutTerms.{CloseOutTerms}
 use Rattle.rules.specs.declared.event.Event.the-variants.{CloseOut}
 use Rattle.rules.specs.Ledger.{Tables, Line, members, mark, defaulted, ggf, lotsAt, lineLots, booked}
@@ -154,10 +156,10 @@ defaulted-are-closed-out t bytes e r a m h d =
     let k = accepted-call t bytes (CloseOut e) r a in
     let s = sound-of (k .tables) in
     let ls = closeOutLines t e in
-    let c< : e .contract < 102 = close-out-contract (members t) e (legsOf bytes) (k .event) in
+    let c< : e .contract < contractCount = close-out-contract (members t) e (legsOf bytes) (k .event) in
     let same : applySpec t bytes .after ≡ booked ls t .after = ap (λ o. o .after) (k .leads) in
     let members-same : members (applySpec t bytes .after) ≡ members t = ap members same ∙ booked-place ls t 1 (λ q. omega arith) in
-    let mark-same : mark (applySpec t bytes .after) m ≡ mark t m = ap (λ u. mark u m) same ∙ booked-place ls t (160 + m) (λ q. omega arith) in
+    let mark-same : mark (applySpec t bytes .after) m ≡ mark t m = ap (λ u. mark u m) same ∙ booked-place ls t (marksFrom + m) (λ q. omega arith) in
     ap (λ u. lotsAt u (e .contract) m) same
     ∙ booked-row (members t) ls t t s (s .few-members) (close-out-fits t e c<) refl refl lots (e .contract) m (omega (arith, s .few-members))
     ∙ lines-close t e m (omega arith) (ap (λ n. eqb n 1) (sym mark-same) ∙ d)

@@ -15,6 +15,8 @@ use Rattle.arith.proofs.Among.{by-among, every-from}
 use Rattle.arith.specs.Ints.{when}
 use Rattle.arith.proofs.Overs.{over-outside}
 use Rattle.arith.proofs.Tests.{never, by-eqb, le-or-lt, true-or, and-left, and-right, passed}
+use Rattle.rules.specs.Ledger.{headLength, rowWidth, rowsLength}
+use Rattle.rules.specs.Ranges.{contractCount}
 use Rattle.rules.specs.declared.contract.ContractKind.the-variants.{Year, Quarter, Month}
 use Rattle.rules.specs.declared.order.Order.{Order}
 use Rattle.rules.specs.declared.units.Day.{Day}
@@ -53,7 +55,7 @@ holds-cascaded h c R R′ log K b clear moved a = record {
 }
 
 -- fewer contracts to be empty
-holds-fewer : (h : Header) (R : Rows) (log : List Line) (K K′ : ℕ → Bool) → ((e : ℕ) → e < 102 → K′ e ≡ true → K e ≡ true) → Holds h R log K → Holds h R log K′
+holds-fewer : (h : Header) (R : Rows) (log : List Line) (K K′ : ℕ → Bool) → ((e : ℕ) → e < contractCount → K′ e ≡ true → K e ≡ true) → Holds h R log K → Holds h R log K′
 holds-fewer h R log K K′ f a = record { same = a .same; zero = a .zero; empty = λ x c m l b t. a .empty x c m l b (f c l t) }
 
 -- ---- which contracts have closed by the evening of day d
@@ -142,15 +144,16 @@ module _ (h : Header) (d : ℕ) (t : Tables) (r : Runs h d t) (s : Sound t) (log
   -- how far the evening's closing has come
   record Evening (u : Tables) (K : ℕ → Bool) : Type 0 where
     header : SameHeader 4 (t .head) (u .head)
-    lots-long : 3264 ≤ length (u .lots)
-    value-long : 3264 ≤ length (u .value)
+    lots-long : rowsLength ≤ length (u .lots)
+    value-long : rowsLength ≤ length (u .value)
     holds : Holds h (rowsOf u) log K
     closed : Closed k d K
 
   few : h .members ≤ 32
   few = rw (r .size) at (s .few-members)
 
-  evening-next : (c : ℕ) (u : Tables) (K : ℕ → Bool) → c < 102 → isOn (termClosingDay k (termOf c)) d ≡ true → Evening u K → Evening (rowsCascaded c u) (λ e. (eqb c e && leb (c % 17) 4) || K e)
+  evening-next : (c : ℕ) (u : Tables) (K : ℕ → Bool) → c < contractCount → isOn (termClosingDay k (termOf c)) d ≡ true → Evening u K
+      → Evening (rowsCascaded c u) (λ e. (eqb c e && leb (c % 17) 4) || K e)
   unfolding stillToClose
   evening-next c u K b o v = record {
     header = v .header;
@@ -175,14 +178,15 @@ module _ (h : Header) (d : ℕ) (t : Tables) (r : Runs h d t) (s : Sound t) (log
           rw (← same) (omega (arith, leb-true (c % 17) 4 (and-right (eqb c e) (leb (c % 17) 4) q)), on-closed d (termClosingDay k (termOf c)) o)
 
       stays : (x : Column) (e m : ℕ) → 5 ≤ c % 17 → row x (rowsCascaded c u) e m ≡ row x u e m
-      stays lots e m l = ap (λ z. getD z (e * 32 + m) (pos 0)) (cascaded-month (members u) c (u .lots) l)
-      stays value e m l = ap (λ z. getD z (e * 32 + m) (pos 0)) (cascaded-month (members u) c (u .value) l)
+      stays lots e m l = ap (λ z. getD z (e * rowWidth + m) (pos 0)) (cascaded-month (members u) c (u .lots) l)
+      stays value e m l = ap (λ z. getD z (e * rowWidth + m) (pos 0)) (cascaded-month (members u) c (u .value) l)
 
       moved : (x : Column) (e m : ℕ) → m < h .members → c % 17 < 5 → row x (rowsCascaded c u) e m ≡ cond (eqb c e) (pos 0) (row x u e m +ℤ when (childOf c e) (row x u c m))
       moved lots e m q l = cascaded-row (members u) c (u .lots) (v .lots-long) b same32 e m l (omega (arith, size))
       moved value e m q l = cascaded-row (members u) c (u .value) (v .value-long) b same32 e m l (omega (arith, size))
 
-  evening-all : (cs : List ℕ) (u : Tables) (K : ℕ → Bool) → All (λ c. (c < 102) × (isOn (termClosingDay k (termOf c)) d ≡ true)) cs → Evening u K → Evening (allRowsCascaded cs u) (closedBy cs K)
+  evening-all : (cs : List ℕ) (u : Tables) (K : ℕ → Bool) → All (λ c. (c < contractCount) × (isOn (termClosingDay k (termOf c)) d ≡ true)) cs → Evening u K
+      → Evening (allRowsCascaded cs u) (closedBy cs K)
   unfolding allRowsCascaded closedBy
   evening-all [] u K a v = v
   evening-all (c ∷ cs) u K a v = evening-all cs (rowsCascaded c u) _ (a .1) (evening-next c u K (a .0 .0) (a .0 .1) v)
@@ -203,19 +207,19 @@ orders-closed P cs u b a =
 abbrev all-contracts : List ℕ
 all-contracts = contractsOf Year ++ (contractsOf Quarter ++ contractsOf Month)
 
-contracts-below : every (λ c. ltb c 102) all-contracts ≡ true
+contracts-below : every (λ c. ltb c contractCount) all-contracts ≡ true
 unfolding contractsOf kept from every termOf
 contracts-below = refl
 
 -- each is one of the 102 and closes today
-pub closing-today : (t : Tables) → All (λ c. (c < 102) × (isOn (termClosingDay (calendar t) (termOf c)) (day t) ≡ true)) (closingContracts t)
+pub closing-today : (t : Tables) → All (λ c. (c < contractCount) × (isOn (termClosingDay (calendar t) (termOf c)) (day t) ≡ true)) (closingContracts t)
 unfolding closingContracts
 closing-today t =
     let p : ℕ → Bool = λ c. isOn (termClosingDay (calendar t) (termOf c)) (day t) in
-    all-map (λ c. (ltb c 102 ≡ true) × (p c ≡ true)) (λ c. (c < 102) × (p c ≡ true)) (kept p all-contracts) (λ c q. (ltb-true c 102 (q .0), q .1))
-    (all-kept (λ c. ltb c 102 ≡ true) p all-contracts (every-all (λ c. ltb c 102) all-contracts contracts-below))
+    all-map (λ c. (ltb c contractCount ≡ true) × (p c ≡ true)) (λ c. (c < contractCount) × (p c ≡ true)) (kept p all-contracts) (λ c q. (ltb-true c contractCount (q .0), q .1))
+    (all-kept (λ c. ltb c contractCount ≡ true) p all-contracts (every-all (λ c. ltb c contractCount) all-contracts contracts-below))
 
-contracts-listed : T (every (λ c. any (λ x. eqb x c) all-contracts) (from 0 102))
+contracts-listed : T (every (λ c. any (λ x. eqb x c) all-contracts) (from 0 contractCount))
 unfolding contractsOf kept from every any termOf
 contracts-listed = tt
 
@@ -232,21 +236,21 @@ unfolding withClosed withOrders
 closing-header cs u = set-other 4 (u .head) 7 _ (omega arith) (changing (omega arith) (omega arith))
 
 -- ---- the new day
-pub day-header : (x : ℕ) (v : Tables) → 224 ≤ length (v .head) → SameHeader 3 (v .head) (onDay x v .head)
+pub day-header : (x : ℕ) (v : Tables) → headLength ≤ length (v .head) → SameHeader 3 (v .head) (onDay x v .head)
 unfolding onDay withoutSubmits
 day-header x v b =
     let l = over 192 (replicate (members v) 0) (v .head) in
     then-same (over-other 3 (v .head) (replicate (members v) 0) 192 (omega arith) (omega arith) (omega arith))
     (then-same (set-other 3 l 3 x (omega arith) (changing (omega arith) (omega arith))) (set-other 3 (set l 3 x) 4 0 (omega arith) (changing (omega arith) (omega arith))))
 
-pub day-is : (x : ℕ) (v : Tables) → 224 ≤ length (v .head) → day (onDay x v) ≡ x
+pub day-is : (x : ℕ) (v : Tables) → headLength ≤ length (v .head) → day (onDay x v) ≡ x
 unfolding onDay withoutSubmits
 day-is x v b =
     let l = over 192 (replicate (members v) 0) (v .head) in
     let longer = over-other 3 (v .head) (replicate (members v) 0) 192 (omega arith) (omega arith) (omega arith) .longer in
     getD-set-other (set l 3 x) 4 3 0 0 (λ e. omega arith) ∙ getD-set-same l 3 x 0 (omega (arith, longer))
 
-day-orders : (x : ℕ) (v : Tables) → 224 ≤ length (v .head) → members v ≤ 32 → orders (onDay x v) ≡ orders v
+day-orders : (x : ℕ) (v : Tables) → headLength ≤ length (v .head) → members v ≤ 32 → orders (onDay x v) ≡ orders v
 unfolding onDay withoutSubmits
 day-orders x v b m =
     let l = over 192 (replicate (members v) 0) (v .head) in
@@ -263,13 +267,13 @@ module _ (h : Header) (d : ℕ) (t : Tables) (r : Runs h d t) (s : Sound t) (n :
   unfolding closes
   closes-here c = ap (λ k. isOn (termClosingDay k (termOf c)) (day t)) (runs-calendar r) ∙ ap (λ x. isOn (termClosingDay (calendarOf h) (termOf c)) x) (r .today)
 
-  closing-all : All (λ c. (c < 102) × (closes c ≡ true)) (closingContracts t)
-  closing-all = all-map _ (λ c. (c < 102) × (closes c ≡ true)) (closingContracts t) (λ c q. (q .0, sym (closes-here c) ∙ q .1)) (closing-today t)
+  closing-all : All (λ c. (c < contractCount) × (closes c ≡ true)) (closingContracts t)
+  closing-all = all-map _ (λ c. (c < contractCount) × (closes c ≡ true)) (closingContracts t) (λ c q. (q .0, sym (closes-here c) ∙ q .1)) (closing-today t)
 
-  closing-listed : (c : ℕ) → c < 102 → closes c ≡ true → any (λ x. eqb x c) (closingContracts t) ≡ true
+  closing-listed : (c : ℕ) → c < contractCount → closes c ≡ true → any (λ x. eqb x c) (closingContracts t) ≡ true
   unfolding closingContracts
   closing-listed c b e = any-kept (λ c. isOn (termClosingDay (calendar t) (termOf c)) (day t)) all-contracts c
-      (passed _ (every-from (λ c. any (λ x. eqb x c) all-contracts) 0 102 contracts-listed c (omega arith) (omega arith))) (closes-here c ∙ e)
+      (passed _ (every-from (λ c. any (λ x. eqb x c) all-contracts) 0 contractCount contracts-listed c (omega arith) (omega arith))) (closes-here c ∙ e)
 
   evening : (log : List Line) → Holds h (rowsOf t) log (hasCascaded (calendarOf h) d) → Evening h d t r s log (priced n t) (hasCascaded (calendarOf h) d)
   unfolding priced
@@ -291,7 +295,7 @@ module _ (h : Header) (d : ℕ) (t : Tables) (r : Runs h d t) (s : Sound t) (n :
     next-here = rw (ap (λ k. nextBusinessDay k (day t)) (runs-calendar r) ∙ ap (nextBusinessDay (calendarOf h)) (r .today) ∙ next, nextDay)
 
     -- what has cascaded by the next day had cascaded before, or closes this evening
-    cascaded-next : (e : ℕ) → e < 102 → hasCascaded (calendarOf h) (x .0) e ≡ true → closedBy (closingContracts t) (hasCascaded (calendarOf h) d) e ≡ true
+    cascaded-next : (e : ℕ) → e < contractCount → hasCascaded (calendarOf h) (x .0) e ≡ true → closedBy (closingContracts t) (hasCascaded (calendarOf h) d) e ≡ true
     unfolding hasCascaded closes
     cascaded-next e b q =
         let z = termClosingDay (calendarOf h) (termOf e) in
@@ -323,7 +327,7 @@ module _ (h : Header) (d : ℕ) (t : Tables) (r : Runs h d t) (s : Sound t) (n :
         let u = priced n t in
         let v = withClosed cs u in
         let a = closing-header cs u in
-        let long : 224 ≤ length (v .head) = omega (arith, a .longer, s .head-long) in
+        let long : headLength ≤ length (v .head) = omega (arith, a .longer, s .head-long) in
         record {
           runs = runs-with 3 h d (x .0) t (onDay (nextDay t) v) (omega arith) r s (then-same (but-the-day a) (day-header (nextDay t) v long)) (day-is (nextDay t) v long ∙ next-here)
               (rw (day-orders (nextDay t) v long (omega (arith, a .places 1 (field (omega arith)), s .few-members)))

@@ -9,6 +9,8 @@ use lib.Seq.{getD-append-add, getD-take, getD-drop, ext-getD}
 use lib.IntN.{ℤ, pos}
 use Rattle.arith.specs.Lists.{over, inEachBlock, from}
 use Rattle.arith.proofs.Overs.{over-length, over-inside, over-outside}
+use Rattle.rules.specs.Ledger.{headLength, limitsFrom, marksFrom, rowWidth, rowsLength, submitsFrom}
+use Rattle.rules.specs.Ranges.{contractCount}
 use Rattle.rules.specs.Header.{Header}
 use Rattle.rules.specs.Ledger.{Tables, members, holidays, orders, freshHead, freshRows, fresh}
 use Rattle.rules.specs.Accounts.{Column, lots, value, row}
@@ -23,7 +25,7 @@ module _ (n : ℕ) (l : List ℤ) (b : n ≤ 32) (s : 32 ≤ length l) where
   zero-block : length (over 0 (replicate n (pos 0)) (take 32 l)) ≡ 32
   zero-block = over-length 0 (replicate n (pos 0)) (take 32 l) block-fits ∙ simp length-take (omega arith)
 
-fresh-row : (n cs : ℕ) (l : List ℤ) (c m : ℕ) → n ≤ 32 → cs * 32 ≤ length l → c < cs → m < n → getD (inEachBlock 32 (over 0 (replicate n (pos 0))) cs l) (c * 32 + m) (pos 0) ≡ pos 0
+fresh-row : (n cs : ℕ) (l : List ℤ) (c m : ℕ) → n ≤ 32 → cs * rowWidth ≤ length l → c < cs → m < n → getD (inEachBlock 32 (over 0 (replicate n (pos 0))) cs l) (c * rowWidth + m) (pos 0) ≡ pos 0
 unfolding inEachBlock
 fresh-row n zero l c m b s k q = absurd (omega arith)
 fresh-row n (suc cs) l zero m b s k q =
@@ -34,16 +36,17 @@ fresh-row n (suc cs) l (suc c) m b s k q =
     let long : 32 ≤ length l = omega (arith, suc-mul cs 32) in
     let first = over 0 (replicate n (pos 0)) (take 32 l) in
     let rest = inEachBlock 32 (over 0 (replicate n (pos 0))) cs (drop 32 l) in
-    ap (λ p. getD (first ++ rest) p (pos 0)) (omega (arith, zero-block n l b long, suc-mul c 32)) ∙ getD-append-add first rest (c * 32 + m) (pos 0)
+    ap (λ p. getD (first ++ rest) p (pos 0)) (omega (arith, zero-block n l b long, suc-mul c 32)) ∙ getD-append-add first rest (c * rowWidth + m) (pos 0)
     ∙ fresh-row n cs (drop 32 l) c m b (simp length-drop (omega (arith, suc-mul cs 32))) (omega arith) q
 
-pub fresh-zero : (h : Header) (t : Tables) → SoundHeader h → 3264 ≤ length (t .lots) → 3264 ≤ length (t .value) → (x : Column) (c m : ℕ) → c < 102 → m < h .members → row x (fresh h t) c m ≡ pos 0
+pub fresh-zero : (h : Header) (t : Tables) → SoundHeader h → rowsLength ≤ length (t .lots) → rowsLength ≤ length (t .value) → (x : Column) (c m : ℕ) → c < contractCount → m < h .members
+    → row x (fresh h t) c m ≡ pos 0
 unfolding fresh freshRows
-fresh-zero h t f a v lots c m b q = fresh-row (h .members) 102 (t .lots) c m (f .members-range .to) a b q
-fresh-zero h t f a v value c m b q = fresh-row (h .members) 102 (t .value) c m (f .members-range .to) v b q
+fresh-zero h t f a v lots c m b q = fresh-row (h .members) contractCount (t .lots) c m (f .members-range .to) a b q
+fresh-zero h t f a v value c m b q = fresh-row (h .members) contractCount (t .value) c m (f .members-range .to) v b q
 
 -- ---- the head: fields, holidays, limits, marks and counts are written one part after the other
-module _ (h : Header) (f : SoundHeader h) (l : List ℕ) (long : 224 ≤ length l) where
+module _ (h : Header) (f : SoundHeader h) (l : List ℕ) (long : headLength ≤ length l) where
   fields : List ℕ
   fields = h .firstYear ∷ h .members ∷ length (h .holidays) ∷ h .startDay ∷ 0 ∷ 0 ∷ 0 ∷ 0 ∷ []
 
@@ -122,25 +125,25 @@ module _ (h : Header) (f : SoundHeader h) (l : List ℕ) (long : 224 ≤ length 
 
   -- a member has the header's limit, no mark and no submits
   module _ (m : ℕ) (m< : m < h .members) where
-    pub limit-of : getD (freshHead h l) (128 + m) 0 ≡ getD (h .limits) m 0
+    pub limit-of : getD (freshHead h l) (limitsFrom + m) 0 ≡ getD (h .limits) m 0
     unfolding freshHead h₃ h₂ h₁ h₀ zeros fields
     limit-of =
-        over-outside 192 zeros h₃ (omega (arith, f .members-range .to, zeros-length, length₃)) (128 + m) 0 (λ q. absurd (omega (arith, f .members-range .to)))
-        ∙ over-outside 160 zeros h₂ (omega (arith, f .members-range .to, zeros-length, length₂)) (128 + m) 0 (λ q. absurd (omega (arith, f .members-range .to)))
+        over-outside 192 zeros h₃ (omega (arith, f .members-range .to, zeros-length, length₃)) (limitsFrom + m) 0 (λ q. absurd (omega (arith, f .members-range .to)))
+        ∙ over-outside 160 zeros h₂ (omega (arith, f .members-range .to, zeros-length, length₂)) (limitsFrom + m) 0 (λ q. absurd (omega (arith, f .members-range .to)))
         ∙ over-inside 128 (h .limits) h₁ (omega (arith, f .members-range .to, f .one-limit, length₁)) m 0 (omega (arith, f .one-limit))
 
-    pub mark-of : getD (freshHead h l) (160 + m) 0 ≡ 0
+    pub mark-of : getD (freshHead h l) (marksFrom + m) 0 ≡ 0
     unfolding freshHead h₃ h₂ h₁ h₀ zeros fields
     mark-of =
-        over-outside 192 zeros h₃ (omega (arith, f .members-range .to, zeros-length, length₃)) (160 + m) 0 (λ q. absurd (omega (arith, f .members-range .to)))
+        over-outside 192 zeros h₃ (omega (arith, f .members-range .to, zeros-length, length₃)) (marksFrom + m) 0 (λ q. absurd (omega (arith, f .members-range .to)))
         ∙ over-inside 160 zeros h₂ (omega (arith, f .members-range .to, zeros-length, length₂)) m 0 (omega (arith, zeros-length)) ∙ getD-replicate (h .members) m 0 0 m<
 
-    pub submits-of : getD (freshHead h l) (192 + m) 0 ≡ 0
+    pub submits-of : getD (freshHead h l) (submitsFrom + m) 0 ≡ 0
     unfolding freshHead h₃ h₂ h₁ h₀ zeros fields
     submits-of = over-inside 192 zeros h₃ (omega (arith, f .members-range .to, zeros-length, length₃)) m 0 (omega (arith, zeros-length)) ∙ getD-replicate (h .members) m 0 0 m<
 
 -- the fresh ledger, on its start day
-pub fresh-runs : (h : Header) (t : Tables) → SoundHeader h → 224 ≤ length (t .head) → Runs h (h .startDay) (fresh h t)
+pub fresh-runs : (h : Header) (t : Tables) → SoundHeader h → headLength ≤ length (t .head) → Runs h (h .startDay) (fresh h t)
 unfolding fresh fields orders from
 fresh-runs h t f b =
     let field : (i : ℕ) → i < 8 → getD (freshHead h (t .head)) i 0 ≡ getD (fields h f (t .head) b) i 0 = field-of h f (t .head) b in

@@ -15,6 +15,8 @@ use Rattle.arith.proofs.EachBlock.{block, block-at, in-each-block}
 use Rattle.arith.specs.Lists.{over}
 use Rattle.arith.proofs.Overs.{over-length, over-outside}
 use Rattle.arith.proofs.Tests.{by-bool, le-or-lt, same-or}
+use Rattle.rules.specs.Ledger.{priceWidth, pricesLength}
+use Rattle.rules.specs.Ranges.{contractCount}
 use Rattle.rules.specs.declared.contract.ContractKind.{ContractKind}
 use Rattle.rules.specs.declared.contract.ContractKind.the-variants.{Year, Quarter, Month}
 use Rattle.rules.specs.declared.event.Event.{Event}
@@ -60,13 +62,13 @@ quoted-least m v former (some b) (some s) a h f g =
 front-stays : (b : List ℕ) → length b ≡ 5 → getD (over 3 (0 ∷ 0 ∷ []) b) 0 0 ≡ getD b 0 0
 front-stays b e = over-outside 3 (0 ∷ 0 ∷ []) b (omega arith) 0 0 (λ q. absurd (omega arith))
 
-first-of-block : (c : ℕ) (l : List ℕ) → getD (block 5 c l) 0 0 ≡ getD l (c * 5) 0
-first-of-block c l = block-at 5 c 0 l 0 (omega arith) ∙ ap (λ i. getD l i 0) (add-zero (c * 5))
+first-of-block : (c : ℕ) (l : List ℕ) → getD (block 5 c l) 0 0 ≡ getD l (c * priceWidth) 0
+first-of-block c l = block-at 5 c 0 l 0 (omega arith) ∙ ap (λ i. getD l i 0) (add-zero (c * priceWidth))
 
-without-deals-found : (c : ℕ) (l : List ℕ) → c < 102 → 510 ≤ length l → getD (withoutDeals l) (c * 5) 0 ≡ getD l (c * 5) 0
+without-deals-found : (c : ℕ) (l : List ℕ) → c < contractCount → pricesLength ≤ length l → getD (withoutDeals l) (c * priceWidth) 0 ≡ getD l (c * priceWidth) 0
 unfolding withoutDeals
 without-deals-found c l h long =
-    let same = in-each-block 5 (over 3 (0 ∷ 0 ∷ [])) (λ b e. over-length 3 (0 ∷ 0 ∷ []) b (omega arith) ∙ e) 102 l (omega arith) c h in
+    let same = in-each-block 5 (over 3 (0 ∷ 0 ∷ [])) (λ b e. over-length 3 (0 ∷ 0 ∷ []) b (omega arith) ∙ e) contractCount l (omega arith) c h in
     rw (← first-of-block c (withoutDeals l), same, ← first-of-block c l) (front-stays (block 5 c l) (simp (length-take, length-drop) (omega arith)))
 
 module _ (t : Tables) (u : Undamaged t) where
@@ -75,7 +77,7 @@ module _ (t : Tables) (u : Undamaged t) where
   quote-priced s c side o e =
       best-all Priced (quotes t s c side) (orders t) (all-map Priced (λ b. quotes t s c side b ≡ true → Priced b) (orders t) (λ b p _. p) (orders-priced t (u .book-sound))) o e
 
-  found-least : (s c : ℕ) → c < 102 → 0 < ggf t c → 0 < ggfAtClose t s c
+  found-least : (s c : ℕ) → c < contractCount → 0 < ggf t c → 0 < ggfAtClose t s c
   unfolding ggfAtClose pricesSound
   found-least s c h g =
       let five = prices-of (lotsRun t) (t .prices) (u .prices-sound) c h in
@@ -87,36 +89,36 @@ module _ (t : Tables) (u : Undamaged t) where
       (λ _. quoted-least (dayLots t c) (dayValue t c) (ggf t c) b q (five .least) g (quote-priced s c Buy) (quote-priced s c Sell))
 
   -- written for each open contract, in turn
-  written-least : (s c : ℕ) (cs l : List ℕ) → c * 5 < length l → 0 < ggfAtClose t s c → 0 < getD l (c * 5) 0 → 0 < getD (withGgfs t s cs l) (c * 5) 0
+  written-least : (s c : ℕ) (cs l : List ℕ) → c * priceWidth < length l → 0 < ggfAtClose t s c → 0 < getD l (c * priceWidth) 0 → 0 < getD (withGgfs t s cs l) (c * priceWidth) 0
   unfolding withGgfs
   written-least s c [] l w p g = g
   written-least s c (d ∷ cs) l w p g =
       let price = ggfAtClose t s d in
-      written-least s c cs (set l (d * 5) price) (rw (length-set l (d * 5) price) w) p
-      (same-or c d (λ e. rw (← e, getD-set-same l (c * 5) (ggfAtClose t s c) 0 w) p) (λ e. rw (getD-set-other l (d * 5) (c * 5) price 0 (λ z. e (omega arith))) g))
+      written-least s c cs (set l (d * priceWidth) price) (rw (length-set l (d * priceWidth) price) w) p
+      (same-or c d (λ e. rw (← e, getD-set-same l (c * priceWidth) (ggfAtClose t s c) 0 w) p) (λ e. rw (getD-set-other l (d * priceWidth) (c * priceWidth) price 0 (λ z. e (omega arith))) g))
 
   pub written-length : (s : ℕ) (cs l : List ℕ) → length (withGgfs t s cs l) ≡ length l
   unfolding withGgfs
   written-length s [] l = refl
-  written-length s (c ∷ cs) l = written-length s cs (set l (c * 5) (ggfAtClose t s c)) ∙ length-set l (c * 5) (ggfAtClose t s c)
+  written-length s (c ∷ cs) l = written-length s cs (set l (c * priceWidth) (ggfAtClose t s c)) ∙ length-set l (c * priceWidth) (ggfAtClose t s c)
 
-  close-found : (s c : ℕ) → c < 102 → 0 < ggf t c → 0 < ggf (closeBooked t s .after) c
+  close-found : (s c : ℕ) → c < contractCount → 0 < ggf t c → 0 < ggf (closeBooked t s .after) c
   unfolding closeBooked onDay priced
   close-found s c h g =
       let cs = openContracts (calendar t) (day t) in
       let l = withGgfs t s cs (t .prices) in
-      let long : 510 ≤ length l = omega (arith, written-length s cs (t .prices), u .long .prices) in
+      let long : pricesLength ≤ length l = omega (arith, written-length s cs (t .prices), u .long .prices) in
       let left = closed-prices t (u .head-sound) (u .long .head) (u .prices-sound) (u .long .prices) (orders-priced t (u .book-sound)) (closingContracts t) (priced s t) in
       rw (left, without-deals-found c l h long) (written-least s c cs (t .prices) (omega (arith, u .long .prices)) (found-least s c h g) g)
 
 -- ---- every kind
 -- the GGFs of u that were found are found in u′
 abbrev Found : Tables → Tables → Type 0
-Found u u′ = (c : ℕ) → c < 102 → 0 < ggf u c → 0 < ggf u′ c
+Found u u′ = (c : ℕ) → c < contractCount → 0 < ggf u c → 0 < ggf u′ c
 
 -- a contract's other places are written
-set-found : (l : List ℕ) (d j v c : ℕ) → 0 < j → j < 5 → getD (set l (d * 5 + j) v) (c * 5) 0 ≡ getD l (c * 5) 0
-set-found l d j v c a b = getD-set-other l (d * 5 + j) (c * 5) v 0 (λ e. omega arith)
+set-found : (l : List ℕ) (d j v c : ℕ) → 0 < j → j < 5 → getD (set l (d * priceWidth + j) v) (c * priceWidth) 0 ≡ getD l (c * priceWidth) 0
+set-found l d j v c a b = getD-set-other l (d * priceWidth + j) (c * priceWidth) v 0 (λ e. omega arith)
 
 kind-found : (e : Event) (t : Tables) (legs : List Leg) → Undamaged t → eventSound (members t) e legs ≡ true → NoCause t e legs → Found t (acceptedAs t e legs .after)
 unfolding submitBooked withDeals counted withOrders proposalBooked defaultBooked closeOutBooked booked

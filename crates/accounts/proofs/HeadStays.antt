@@ -13,6 +13,8 @@ use Rattle.arith.proofs.Alls.{all-hold, hold-all, all-place}
 use Rattle.arith.proofs.Among.{every-from, from-every}
 use Rattle.arith.proofs.Overs.{over-inside, over-outside}
 use Rattle.arith.proofs.Tests.{never, by-bool, le-or-lt, same-or, and-left, and-right, passed, passes, or-left, or-right}
+use Rattle.rules.specs.Ledger.{headLength, limitsFrom, marksFrom, submitsFrom}
+use Rattle.rules.specs.Ranges.{lastSecond, mostAcceptedSubmits, mostLimit, mostLotsRun}
 use Rattle.rules.specs.declared.event.CloseOutTerms.{CloseOutTerms}
 use Rattle.rules.specs.declared.event.Leg.{Leg}
 use Rattle.rules.specs.declared.event.Submission.{Submission}
@@ -48,20 +50,20 @@ pub data Place (n i : ℕ) : Type 0 where
   ofSubmits : (m : ℕ) → m < n → i ≡ 192 + m → Place n i
 
 unfoldable pub most : ℕ → ℕ
-most i = cond (ltb i 8) (getD (0 ∷ 0 ∷ 0 ∷ 0 ∷ 86399 ∷ 4000000000 ∷ 5000000 ∷ 256 ∷ []) i 0) (cond (ltb i 160) 100000 (cond (ltb i 192) 1 5))
+most i = cond (ltb i 8) (getD (0 ∷ 0 ∷ 0 ∷ 0 ∷ lastSecond ∷ mostAcceptedSubmits ∷ mostLotsRun ∷ 256 ∷ []) i 0) (cond (ltb i 160) mostLimit (cond (ltb i 192) 1 5))
 
 module _ (m : ℕ) (few : m < 32) where
-  most-limit : most (128 + m) ≡ 100000
+  most-limit : most (limitsFrom + m) ≡ mostLimit
   unfolding most
-  most-limit = rw (le-ltb (128 + m) 8 (omega arith), lt-ltb (128 + m) 160 (omega arith))
+  most-limit = rw (le-ltb (limitsFrom + m) 8 (omega arith), lt-ltb (limitsFrom + m) 160 (omega arith))
 
-  most-mark : most (160 + m) ≡ 1
+  most-mark : most (marksFrom + m) ≡ 1
   unfolding most
-  most-mark = rw (le-ltb (160 + m) 8 (omega arith), le-ltb (160 + m) 160 (omega arith), lt-ltb (160 + m) 192 (omega arith))
+  most-mark = rw (le-ltb (marksFrom + m) 8 (omega arith), le-ltb (marksFrom + m) 160 (omega arith), lt-ltb (marksFrom + m) 192 (omega arith))
 
-  most-submits : most (192 + m) ≡ 5
+  most-submits : most (submitsFrom + m) ≡ 5
   unfolding most
-  most-submits = rw (le-ltb (192 + m) 8 (omega arith), le-ltb (192 + m) 160 (omega arith), le-ltb (192 + m) 192 (omega arith))
+  most-submits = rw (le-ltb (submitsFrom + m) 8 (omega arith), le-ltb (submitsFrom + m) 160 (omega arith), le-ltb (submitsFrom + m) 192 (omega arith))
 
 -- the day is none of them
 past-day : (n i : ℕ) → Place n i → 3 < i
@@ -104,26 +106,26 @@ stays-set {f} {n} {l} {u} j v q o z h k = record {
 abbrev zeros : ℕ → List ℕ
 zeros n = replicate n 0
 
-module _ (n : ℕ) (u : List ℕ) (few : n ≤ 32) (long : 224 ≤ length u) where
+module _ (n : ℕ) (u : List ℕ) (few : n ≤ 32) (long : headLength ≤ length u) where
   zeros-fit : 192 + length (zeros n) ≤ length u
   zeros-fit = omega (arith, length-replicate {A = ℕ} n 0)
 
   zeros-other : (i : ℕ) → i < 192 → getD (over 192 (zeros n) u) i 0 ≡ getD u i 0
   zeros-other i h = over-outside 192 (zeros n) u zeros-fit i 0 (λ a. absurd (omega arith))
 
-  zeros-here : (m : ℕ) → m < n → getD (over 192 (zeros n) u) (192 + m) 0 ≡ 0
+  zeros-here : (m : ℕ) → m < n → getD (over 192 (zeros n) u) (submitsFrom + m) 0 ≡ 0
   zeros-here m h = over-inside 192 (zeros n) u zeros-fit m 0 (omega (arith, length-replicate {A = ℕ} n 0)) ∙ getD-replicate n m 0 0 h
 
   zeros-lower : (i : ℕ) → getD (over 192 (zeros n) u) i 0 ≤ getD u i 0
   zeros-lower i =
       le-or-lt 192 i
-      (λ a. le-or-lt (192 + n) i (λ b. omega (arith, over-outside 192 (zeros n) u zeros-fit i 0 (λ _. omega (arith, length-replicate {A = ℕ} n 0))))
+      (λ a. le-or-lt (submitsFrom + n) i (λ b. omega (arith, over-outside 192 (zeros n) u zeros-fit i 0 (λ _. omega (arith, length-replicate {A = ℕ} n 0))))
       (λ b. let e : i ≡ 192 + (i - 192) = omega arith in rw e (omega (arith, zeros-here (i - 192) (omega arith)))))
       (λ a. omega (arith, zeros-other i a))
 
-stays-zeros : {f n : ℕ} {l u : List ℕ} → f ≤ 4 → n ≤ 32 → 224 ≤ length l → Stays f n l u → Stays f n l (over 192 (zeros n) u)
+stays-zeros : {f n : ℕ} {l u : List ℕ} → f ≤ 4 → n ≤ 32 → headLength ≤ length l → Stays f n l u → Stays f n l (over 192 (zeros n) u)
 stays-zeros {f} {n} {l} {u} q few long k =
-    let longer : 224 ≤ length u = omega (arith, k .header .longer) in
+    let longer : headLength ≤ length u = omega (arith, k .header .longer) in
     record {
       header = then-same (k .header) (over-other f u (zeros n) 192 q (omega arith) (omega arith));
       ranges = λ i p. omega (arith, zeros-lower n u few longer i, k .ranges i p);
@@ -137,17 +139,17 @@ module _ (t : Tables) (holidays≤ : leb (holidayCount t) 120 ≡ true) (calenda
   unfolding memberSound
   member-shows m h =
       let few : m < 32 = omega (arith, leb-true (members t) 32 (and-right (leb 1 (members t)) (leb (members t) 32) membersAre)) in
-      let limitIs = le-leb (limit t m) 100000 (rw (most-limit m few) at (b (128 + m) (ofLimit m h refl))) in
-      let markIs = le-leb (mark t m) 1 (rw (most-mark m few) at (b (160 + m) (ofMark m h refl))) in
-      let submitsAre = le-leb (submitsThisSecond t m) 5 (rw (most-submits m few) at (b (192 + m) (ofSubmits m h refl))) in
+      let limitIs = le-leb (limit t m) mostLimit (rw (most-limit m few) at (b (limitsFrom + m) (ofLimit m h refl))) in
+      let markIs = le-leb (mark t m) 1 (rw (most-mark m few) at (b (marksFrom + m) (ofMark m h refl))) in
+      let submitsAre = le-leb (submitsThisSecond t m) 5 (rw (most-submits m few) at (b (submitsFrom + m) (ofSubmits m h refl))) in
       hold-all _ (limitIs, (markIs, (submitsAre, tt)))
 
   head-shows : headSound t ≡ true
   unfolding headSound most
   head-shows =
-      let timeIs = le-leb (time t) 86399 (b 4 (ofTime refl)) in
-      let acceptedAre = le-leb (acceptedSubmits t) 4000000000 (b 5 (ofAccepted refl)) in
-      let runIs = le-leb (lotsRun t) 5000000 (b 6 (ofRun refl)) in
+      let timeIs = le-leb (time t) lastSecond (b 4 (ofTime refl)) in
+      let acceptedAre = le-leb (acceptedSubmits t) mostAcceptedSubmits (b 5 (ofAccepted refl)) in
+      let runIs = le-leb (lotsRun t) mostLotsRun (b 6 (ofRun refl)) in
       let ordersAre = le-leb (orderCount t) 256 (b 7 (ofOrders refl)) in
       let each = passed _ (from-every (memberSound t) 0 (members t) (λ m _ h. passes _ (member-shows m (omega arith)))) in
       hold-all _ (holidays≤, (calendarIs, (membersAre, (dayIs, (timeIs, (acceptedAre, (runIs, (ordersAre, (each, tt)))))))))
@@ -164,15 +166,15 @@ module _ (t : Tables) (sound : headSound t ≡ true) where
 
   head-in-range : InRange (members t) (t .head)
   unfolding headSound memberSound most
-  head-in-range i (ofTime e) = rw e (leb-true (time t) 86399 (all-hold _ sound .1 .1 .1 .1 .0))
-  head-in-range i (ofAccepted e) = rw e (leb-true (acceptedSubmits t) 4000000000 (all-hold _ sound .1 .1 .1 .1 .1 .0))
-  head-in-range i (ofRun e) = rw e (leb-true (lotsRun t) 5000000 (all-hold _ sound .1 .1 .1 .1 .1 .1 .0))
+  head-in-range i (ofTime e) = rw e (leb-true (time t) lastSecond (all-hold _ sound .1 .1 .1 .1 .0))
+  head-in-range i (ofAccepted e) = rw e (leb-true (acceptedSubmits t) mostAcceptedSubmits (all-hold _ sound .1 .1 .1 .1 .1 .0))
+  head-in-range i (ofRun e) = rw e (leb-true (lotsRun t) mostLotsRun (all-hold _ sound .1 .1 .1 .1 .1 .1 .0))
   head-in-range i (ofOrders e) = rw e (leb-true (orderCount t) 256 (all-hold _ sound .1 .1 .1 .1 .1 .1 .1 .0))
-  head-in-range i (ofLimit m h e) = rw (e, most-limit m (omega (arith, few-members))) (leb-true (limit t m) 100000 (all-hold _ (member-sound m h) .0))
+  head-in-range i (ofLimit m h e) = rw (e, most-limit m (omega (arith, few-members))) (leb-true (limit t m) mostLimit (all-hold _ (member-sound m h) .0))
   head-in-range i (ofMark m h e) = rw (e, most-mark m (omega (arith, few-members))) (leb-true (mark t m) 1 (all-hold _ (member-sound m h) .1 .0))
   head-in-range i (ofSubmits m h e) = rw (e, most-submits m (omega (arith, few-members))) (leb-true (submitsThisSecond t m) 5 (all-hold _ (member-sound m h) .1 .1 .0))
 
-  module _ (f : ℕ) (t′ : Tables) (f≥ : 3 ≤ f) (long : 224 ≤ length (t .head)) (header : SameHeader f (t .head) (t′ .head)) where
+  module _ (f : ℕ) (t′ : Tables) (f≥ : 3 ≤ f) (long : headLength ≤ length (t .head)) (header : SameHeader f (t .head) (t′ .head)) where
     same-members : members t′ ≡ members t
     same-members = header .places 1 (field (omega arith))
 
@@ -201,9 +203,9 @@ unfoldable pub submitUnbooked : Tables → Submission → Tables
 submitUnbooked t e = withOrders (submitOrders t e) (withDeals (e .contract) (submitMatched t e .deals) (counted (e .member) (timed (e .time) t)))
 
 unfoldable pub defaultUnbooked : Tables → ℕ → Tables
-defaultUnbooked t m = withOrders (kept (λ o. not (eqb (o .member) m)) (orders t)) (withHead (set (t .head) (160 + m) 1) t)
+defaultUnbooked t m = withOrders (kept (λ o. not (eqb (o .member) m)) (orders t)) (withHead (set (t .head) (marksFrom + m) 1) t)
 
-module _ (t : Tables) (sound : headSound t ≡ true) (long : 224 ≤ length (t .head)) where
+module _ (t : Tables) (sound : headSound t ≡ true) (long : headLength ≤ length (t .head)) where
   bounds : InRange (members t) (t .head)
   bounds = head-in-range t sound
 
@@ -216,7 +218,7 @@ module _ (t : Tables) (sound : headSound t ≡ true) (long : 224 ≤ length (t .
   stays-orders f k q h w = stays-set 7 k q (changing (omega arith) (omega arith)) (λ e. omega arith) (λ _. h) w
 
   -- a record with lines: t′ is what they are booked in
-  head-booked : (ls : List Line) (t′ : Tables) → Stays 4 (members t) (t .head) (t′ .head) → lotsRun t + lineRun ls ≤ 5000000 → headSound (booked ls t′ .after) ≡ true
+  head-booked : (ls : List Line) (t′ : Tables) → Stays 4 (members t) (t .head) (t′ .head) → lotsRun t + lineRun ls ≤ mostLotsRun → headSound (booked ls t′ .after) ≡ true
   unfolding booked most headSound
   head-booked ls t′ w b =
       let after = booked ls t′ .after in
@@ -234,7 +236,7 @@ module _ (t : Tables) (sound : headSound t ≡ true) (long : 224 ≤ length (t .
   head-without t′ w = head-booked [] t′ w (omega (arith, bounds 6 (ofRun refl)))
 
   -- a record's time is written
-  stays-timed : (s : ℕ) → s ≤ 86399 → Stays 4 (members t) (t .head) (timed s t .head)
+  stays-timed : (s : ℕ) → s ≤ lastSecond → Stays 4 (members t) (t .head) (timed s t .head)
   unfolding timed withoutSubmits most
   stays-timed s h =
       by-bool (λ b. Stays 4 (members t) (t .head) ((cond b (withHead (set (withoutSubmits t .head) 4 s) t) t) .head)) (ltb (time t) s)
@@ -251,16 +253,16 @@ module _ (t : Tables) (sound : headSound t ≡ true) (long : 224 ≤ length (t .
   unfolding timed withoutSubmits submitsAt
   timed-submits s m h =
       by-bool (λ b. submitsThisSecond (cond b (withHead (set (withoutSubmits t .head) 4 s) t) t) m ≡ cond b 0 (submitsThisSecond t m)) (ltb (time t) s)
-      (λ _. getD-set-other (withoutSubmits t .head) 4 (192 + m) s 0 (λ e. omega arith) ∙ zeros-here (members t) (t .head) (few-members t sound) long m h) (λ _. refl)
+      (λ _. getD-set-other (withoutSubmits t .head) 4 (submitsFrom + m) s 0 (λ e. omega arith) ∙ zeros-here (members t) (t .head) (few-members t sound) long m h) (λ _. refl)
 
   -- a submit: below five in the second and below 4,000,000,000 in all before it
-  module _ (e : Submission) (time≤ : e .time ≤ 86399) (member< : e .member < members t) (f : All (λ c. c .0 ≡ false) (submitCauses t e)) where
-    totals : (lotsRun t + lineRun (submitLines t e) ≤ 5000000) × (acceptedSubmits t < 4000000000)
+  module _ (e : Submission) (time≤ : e .time ≤ lastSecond) (member< : e .member < members t) (f : All (λ c. c .0 ≡ false) (submitCauses t e)) where
+    totals : (lotsRun t + lineRun (submitLines t e) ≤ mostLotsRun) × (acceptedSubmits t < mostAcceptedSubmits)
     totals =
-        let runs = ltb 5000000 (lotsRun t + lineRun (submitLines t e)) in
-        let counts = leb 4000000000 (acceptedSubmits t) in
+        let runs = ltb mostLotsRun (lotsRun t + lineRun (submitLines t e)) in
+        let counts = leb mostAcceptedSubmits (acceptedSubmits t) in
         let passed = f .1 .1 .1 .1 .1 .1 .1 .1 .0 in
-        (ltb-false _ _ (or-left runs counts passed), leb-false 4000000000 (acceptedSubmits t) (or-right runs counts passed))
+        (ltb-false _ _ (or-left runs counts passed), leb-false mostAcceptedSubmits (acceptedSubmits t) (or-right runs counts passed))
 
     -- one more order rests only where there is room
     pub submit-few : length (submitOrders t e) ≤ 256
@@ -278,7 +280,7 @@ module _ (t : Tables) (sound : headSound t ≡ true) (long : 224 ≤ length (t .
         let u = timed (e .time) t in
         stays-orders 4 (length (submitOrders t e)) (omega arith) submit-few
         (stays-set 5 (acceptedSubmits u + 1) (omega arith) (changing (omega arith) (omega arith)) (λ q. omega arith) (λ _. omega (arith, timed-accepted (e .time), totals .1))
-        (stays-set (192 + m) (submitsThisSecond u m + 1) (omega arith) (ofMember (omega arith)) (λ q. omega arith)
+        (stays-set (submitsFrom + m) (submitsThisSecond u m + 1) (omega arith) (ofMember (omega arith)) (λ q. omega arith)
         (λ _. rw (most-submits m (omega (arith, few-members t sound))) (omega (arith, timed-submits (e .time) m member<, leb-false 5 (submitsAt t (e .time) m) (f .1 .1 .1 .1 .0))))
         (stays-timed (e .time) time≤)))
 
@@ -286,11 +288,11 @@ module _ (t : Tables) (sound : headSound t ≡ true) (long : 224 ≤ length (t .
     unfolding submitBooked submitUnbooked
     submit-head = head-booked (submitLines t e) (submitUnbooked t e) submit-stays (totals .0)
 
-  pub cancel-stays : (n : ℕ) (p : Order → Bool) → n ≤ 86399 → Stays 4 (members t) (t .head) (withOrders (kept p (orders t)) (timed n t) .head)
+  pub cancel-stays : (n : ℕ) (p : Order → Bool) → n ≤ lastSecond → Stays 4 (members t) (t .head) (withOrders (kept p (orders t)) (timed n t) .head)
   unfolding withOrders most
   cancel-stays n p h = stays-orders 4 (length (kept p (orders t))) (omega arith) (omega (arith, remain-few t _ (kept-remain p (orders t)), bounds 7 (ofOrders refl))) (stays-timed n h)
 
-  pub cancel-head : (n : ℕ) (p : Order → Bool) → n ≤ 86399 → headSound (booked [] (withOrders (kept p (orders t)) (timed n t)) .after) ≡ true
+  pub cancel-head : (n : ℕ) (p : Order → Bool) → n ≤ lastSecond → headSound (booked [] (withOrders (kept p (orders t)) (timed n t)) .after) ≡ true
   cancel-head n p h = head-without (withOrders (kept p (orders t)) (timed n t)) (cancel-stays n p h)
 
   pub limits-head : (l : List ℕ) → headSound (booked [] (withPrices l t) .after) ≡ true
@@ -309,7 +311,7 @@ module _ (t : Tables) (sound : headSound t ≡ true) (long : 224 ≤ length (t .
   default-stays m h =
       let others : Order → Bool = λ o. not (eqb (o .member) m) in
       stays-orders 4 (length (kept others (orders t))) (omega arith) (omega (arith, remain-few t _ (kept-remain others (orders t)), bounds 7 (ofOrders refl)))
-      (stays-set (160 + m) 1 (omega arith) (ofMember (omega arith)) (λ e. omega arith) (λ _. omega (arith, most-mark m (omega (arith, few-members t sound)))) (unchanged 4))
+      (stays-set (marksFrom + m) 1 (omega arith) (ofMember (omega arith)) (λ e. omega arith) (λ _. omega (arith, most-mark m (omega (arith, few-members t sound)))) (unchanged 4))
 
   pub default-head : (m : ℕ) → m < members t → headSound (defaultBooked t m .after) ≡ true
   unfolding defaultBooked defaultUnbooked
@@ -363,18 +365,18 @@ module _ (t : Tables) (sound : headSound t ≡ true) (long : 224 ≤ length (t .
       (ap (daySound (calendar t)) (day-is (nextDay t) v (omega (arith, stays-closed (closingContracts t) (priced n t) (unchanged 3) .header .longer))) ∙ next-sound (not-false _ (f .1 .0)))
 
 -- ---- the fresh ledger
-fresh-in-range : (h : Header) (l : List ℕ) → SoundHeader h → 224 ≤ length l → InRange (h .members) (freshHead h l)
+fresh-in-range : (h : Header) (l : List ℕ) → SoundHeader h → headLength ≤ length l → InRange (h .members) (freshHead h l)
 unfolding most
 fresh-in-range h l f long i (ofTime e) = rw (e, counts-of h f l long .0) (omega arith)
 fresh-in-range h l f long i (ofAccepted e) = rw (e, counts-of h f l long .1) (omega arith)
 fresh-in-range h l f long i (ofRun e) = rw (e, counts-of h f l long .2) (omega arith)
 fresh-in-range h l f long i (ofOrders e) = rw (e, counts-of h f l long .3) (omega arith)
 fresh-in-range h l f long i (ofLimit m b e) =
-    rw (e, most-limit m (omega (arith, f .members-range .to)), limit-of h f l long m b) (all-place (λ x. x ≤ 100000) 0 (h .limits) (f .limits≤) m (omega (arith, f .one-limit)))
+    rw (e, most-limit m (omega (arith, f .members-range .to)), limit-of h f l long m b) (all-place (λ x. x ≤ mostLimit) 0 (h .limits) (f .limits≤) m (omega (arith, f .one-limit)))
 fresh-in-range h l f long i (ofMark m b e) = rw (e, mark-of h f l long m b) (omega arith)
 fresh-in-range h l f long i (ofSubmits m b e) = rw (e, submits-of h f l long m b) (omega arith)
 
-pub fresh-head : (h : Header) (t : Tables) → SoundHeader h → 224 ≤ length (t .head) → headSound (fresh h t) ≡ true
+pub fresh-head : (h : Header) (t : Tables) → SoundHeader h → headLength ≤ length (t .head) → headSound (fresh h t) ≡ true
 unfolding fresh
 fresh-head h t f long =
     let k = calendarOf h in

@@ -5,6 +5,7 @@ use Prim.Native.Nat.{ℕ, _+_, _≤_, _<_}
 use native.Mathlib.Omega.{arith}
 use lib.ListN.{length, getD, set, take, drop, length-set, length-append, length-take, length-drop, List·getD-append}
 use lib.Seq.{getD-set-other, getD-take, getD-drop, ext-getD}
+use Rattle.rules.specs.Ledger.{headLength}
 use Rattle.arith.specs.Lists.{over}
 
 -- the header's places: first year, members, holiday count and, with f = 4, the day; the holidays
@@ -58,7 +59,7 @@ over-other f l xs a q b s = record {
 }
 
 -- so the holidays are the same
-pub same-holidays : (f : ℕ) (l l′ : List ℕ) (n : ℕ) → SameHeader f l l′ → 224 ≤ length l → n ≤ 120 → take n (drop 8 l′) ≡ take n (drop 8 l)
+pub same-holidays : (f : ℕ) (l l′ : List ℕ) (n : ℕ) → SameHeader f l l′ → headLength ≤ length l → n ≤ 120 → take n (drop 8 l′) ≡ take n (drop 8 l)
 same-holidays f l l′ n a s b =
     ext-getD 0 (take n (drop 8 l′)) (take n (drop 8 l)) (simp (length-take, length-drop) (omega (arith, a .longer)))
     (λ i h. let m : i < n = omega (arith, simp (length-take, length-drop) at h) in

@@ -7,6 +7,7 @@ use lib.IntN.{ℤ, pos, _+ℤ_}
 use Rattle.arith.specs.Ints.{when, sum}
 use Rattle.arith.proofs.Sums.{sum-add, sum-ext}
 use Rattle.arith.specs.Lists.{All}
+use Rattle.rules.specs.Ranges.{contractCount}
 use Rattle.rules.specs.Contracts.{holdsHour}
 use Rattle.rules.specs.Header.{Header, calendarOf}
 use Rattle.rules.specs.Ledger.{Line}
@@ -22,7 +23,7 @@ pub record Holds (h : Header) (rows : Rows) (log : List Line) (emptied : ℕ →
   pub same : (x : Column) (m hour : ℕ) → m < h .members → DeliveryHour (calendarOf h) hour
       → engineAccount (calendarOf h) (rows x) m hour ≡ otherAccount (calendarOf h) (amount x) log m hour
   pub zero : (x : Column) (hour : ℕ) → DeliveryHour (calendarOf h) hour → sum (h .members) (λ m. otherAccount (calendarOf h) (amount x) log m hour) ≡ pos 0
-  pub empty : (x : Column) (c m : ℕ) → c < 102 → m < h .members → emptied c ≡ true → rows x c m ≡ pos 0
+  pub empty : (x : Column) (c m : ℕ) → c < contractCount → m < h .members → emptied c ≡ true → rows x c m ≡ pos 0
 
 -- the lines of a record, as they must be
 pub record Fair (h : Header) (emptied : ℕ → Bool) (ls : List Line) : Type 0 where
@@ -32,10 +33,10 @@ pub record Fair (h : Header) (emptied : ℕ → Bool) (ls : List Line) : Type 0 
 
 -- the rows may be told by other words
 pub holds-same : (h : Header) (R R′ : Rows) (log : List Line) (K : ℕ → Bool)
-    → ((x : Column) (c m : ℕ) → c < 102 → m < h .members → R′ x c m ≡ R x c m) → Holds h R log K → Holds h R′ log K
+    → ((x : Column) (c m : ℕ) → c < contractCount → m < h .members → R′ x c m ≡ R x c m) → Holds h R log K → Holds h R′ log K
 unfolding engineAccount
 holds-same h R R′ log K e a = record {
-  same = λ x m hour b d. sum-ext 102 _ _ (λ c l. ap (λ z. when (holdsHour (calendarOf h) c hour) z) (e x c m l b)) ∙ a .same x m hour b d;
+  same = λ x m hour b d. sum-ext contractCount _ _ (λ c l. ap (λ z. when (holdsHour (calendarOf h) c hour) z) (e x c m l b)) ∙ a .same x m hour b d;
   zero = a .zero;
   empty = λ x c m l b t. e x c m l b ∙ a .empty x c m l b t;
 }

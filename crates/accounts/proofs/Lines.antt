@@ -4,13 +4,14 @@ use Prim.Native.Nat.{ℕ, _<_}
 use lib.Dec.{eqb}
 use lib.IntN.{ℤ, pos, _+ℤ_}
 use Rattle.arith.specs.Ints.{when}
+use Rattle.rules.specs.Ranges.{contractCount}
 use Rattle.rules.specs.Days.{Calendar}
 use Rattle.rules.specs.Contracts.{holdsHour}
 use Rattle.rules.specs.Ledger.{Line}
 
 -- a line names a contract of the 102 and a member of the n
 pub record Fits (n : ℕ) (l : Line) : Type 0 where
-  pub contract< : l .contract < 102
+  pub contract< : l .contract < contractCount
   pub member< : l .member < n
 
 -- what the lines add up to in an hour, for all members

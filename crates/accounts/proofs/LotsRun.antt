@@ -8,6 +8,7 @@ use lib.Dec.{eqb}
 use lib.ListN.{length, set, length-set}
 use lib.Seq.{getD-set-same, getD-set-other}
 use Rattle.arith.specs.Lists.{total, kept, from}
+use Rattle.rules.specs.Ledger.{lotsRunPlace, marksFrom}
 use Rattle.rules.specs.declared.answer.Answer.{Answer}
 use Rattle.rules.specs.declared.event.Event.{Event}
 use Rattle.rules.specs.declared.event.Event.the-variants.{Submit, Cancel, DayLimits, Proposal, Default, CloseOut, CloseOfDay}
@@ -35,7 +36,7 @@ Runs t o = lotsRun (o .after) ≡ lotsRun t + lineRun (linesOf (o .answer) (o .a
 
 booked-runs : (t u : Tables) (ls : List Line) → 6 < length (u .head) → lotsRun u ≡ lotsRun t → Runs t (booked ls u)
 unfolding booked
-booked-runs t u ls h e = getD-set-same (u .head) 6 (lotsRun u + lineRun ls) 0 h ∙ rw (e, lines-printed ls (u .lines))
+booked-runs t u ls h e = getD-set-same (u .head) lotsRunPlace (lotsRun u + lineRun ls) 0 h ∙ rw (e, lines-printed ls (u .lines))
 
 no-run : lineRun [] ≡ 0
 unfolding lineRun total
@@ -62,8 +63,8 @@ kind-runs (Proposal k) t legs u s n =
     booked-runs t (withOrders os t) (proposalLines t legs) (simp length-set (omega (arith, u .long .head))) (written-place os t 6 (λ q. omega arith))
 kind-runs (Default m) t legs u s n =
     let os = kept (λ o. not (eqb (o .member) m)) (orders t) in
-    let v = withHead (set (t .head) (160 + m) 1) t in
-    booked-runs t (withOrders os v) [] (simp length-set (omega (arith, u .long .head))) (written-place os v 6 (λ q. omega arith) ∙ getD-set-other (t .head) (160 + m) 6 1 0 (λ q. omega arith))
+    let v = withHead (set (t .head) (marksFrom + m) 1) t in
+    booked-runs t (withOrders os v) [] (simp length-set (omega (arith, u .long .head))) (written-place os v 6 (λ q. omega arith) ∙ getD-set-other (t .head) (marksFrom + m) 6 1 0 (λ q. omega arith))
 kind-runs (CloseOut e) t legs u s n = booked-runs t t (closeOutLines t e) (omega (arith, u .long .head)) refl
 kind-runs (CloseOfDay k) t legs u s n = close-runs t u k
 

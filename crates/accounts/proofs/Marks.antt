@@ -12,6 +12,8 @@ use borrow.Author.Tests.{eq-eqb}
 use Rattle.arith.specs.Lists.{All, kept}
 use Rattle.arith.proofs.Alls.{all-map, all-both, all-kept}
 use Rattle.arith.proofs.Tests.{never}
+use Rattle.rules.specs.Ledger.{marksFrom}
+use Rattle.rules.specs.Ranges.{contractCount}
 use Rattle.rules.specs.declared.event.Event.{Event}
 use Rattle.rules.specs.declared.event.Event.the-variants.{Submit, Cancel, DayLimits, Proposal, Default, CloseOut, CloseOfDay}
 use Rattle.rules.specs.declared.event.Leg.{Leg}
@@ -41,10 +43,10 @@ abbrev SameMarks : Tables → Tables → Type 0
 SameMarks t t′ = (m : ℕ) → m < 32 → mark t′ m ≡ mark t m
 
 booked-marks : (ls : List Line) (u : Tables) → SameMarks u (booked ls u .after)
-booked-marks ls u m h = booked-place ls u (160 + m) (λ e. omega arith)
+booked-marks ls u m h = booked-place ls u (marksFrom + m) (λ e. omega arith)
 
 written-marks : (os : List Order) (u : Tables) → SameMarks u (withOrders os u)
-written-marks os u m h = written-place os u (160 + m) (λ e. omega arith)
+written-marks os u m h = written-place os u (marksFrom + m) (λ e. omega arith)
 
 -- ---- every kind
 -- what remains of the orders, with the same marks
@@ -58,7 +60,7 @@ module _ (t : Tables) (u : Undamaged t) (a : NoneDefaulted t) where
   all-fine : All (Fine t) (orders t)
   all-fine =
       all-both (λ o. defaulted t (o .member) ≡ false) (λ o. o .member < 32) (orders t) a
-      (all-map (λ o. (o .contract < 102) × (o .member < members t)) (λ o. o .member < 32) (orders t) (λ o p. omega (arith, u .head .members-range .to)) (sound-of u .placed))
+      (all-map (λ o. (o .contract < contractCount) × (o .member < members t)) (λ o. o .member < 32) (orders t) (λ o p. omega (arith, u .head .members-range .to)) (sound-of u .placed))
 
   remaining : (t′ : Tables) → SameMarks t t′ → Remain (orders t) (orders t′) → NoneDefaulted t′
   remaining t′ same x = remain-all (Fine t) (λ o. defaulted t′ (o .member) ≡ false) (λ o q _ _ f. fine-kept t t′ same o f) x all-fine
@@ -68,7 +70,7 @@ module _ (t : Tables) (u : Undamaged t) (a : NoneDefaulted t) where
   submitted e m< d =
       let t′ = submitBooked t e .after in
       let same : SameMarks t t′ = λ m h.
-      booked-marks (submitLines t e) (submitUnbooked t e) m h ∙ submit-place t u e (160 + m) (λ q. omega arith) (λ q. omega arith) (λ q. omega arith) (omega arith) in
+      booked-marks (submitLines t e) (submitUnbooked t e) m h ∙ submit-place t u e (marksFrom + m) (λ q. omega arith) (λ q. omega arith) (λ q. omega arith) (omega arith) in
       rw (submit-orders t u e)
       (submit-all t e (λ o. defaulted t′ (o .member) ≡ false)
       (remain-all (Fine t) (λ o. defaulted t′ (o .member) ≡ false) (λ o q _ _ f. fine-kept t t′ same o f) (matching-remain (length (orders t)) (incoming t e) (orders t)) all-fine)
@@ -77,7 +79,7 @@ module _ (t : Tables) (u : Undamaged t) (a : NoneDefaulted t) where
   -- the member's orders are gone, and no other mark is set
   default-mark : (m k : ℕ) → k < 32 → (k ≡ m → ⊥) → mark (defaultBooked t m .after) k ≡ mark t k
   unfolding defaultBooked
-  default-mark m k h d = booked-marks [] _ k h ∙ written-marks _ _ k h ∙ getD-set-other (t .head) (160 + m) (160 + k) 1 0 (λ e. d (omega arith))
+  default-mark m k h d = booked-marks [] _ k h ∙ written-marks _ _ k h ∙ getD-set-other (t .head) (marksFrom + m) (marksFrom + k) 1 0 (λ e. d (omega arith))
 
   removed : (m : ℕ) → NoneDefaulted (defaultBooked t m .after)
   removed m =
@@ -93,7 +95,7 @@ kind-marks (Submit e) t legs u s n a = submitted t u a e (submission (members t)
 kind-marks (Cancel e) t legs u s n a =
     let others : Order → Bool = λ o. not (isCancelled e o) in
     let v = timed (e .time) t in
-    let same : SameMarks t v = λ m h. timed-place t u (e .time) (160 + m) (λ q. omega arith) (omega arith) in
+    let same : SameMarks t v = λ m h. timed-place t u (e .time) (marksFrom + m) (λ q. omega arith) (omega arith) in
     remaining t u a (acceptedAs t (Cancel e) legs .after) (λ m h. booked-marks [] _ m h ∙ written-marks (kept others (orders t)) v m h ∙ same m h)
     (rw (cancel-orders t u (e .time) others) (kept-remain others (orders t)))
 kind-marks (DayLimits e) t legs u s n a = remaining t u a (acceptedAs t (DayLimits e) legs .after) (booked-marks [] _) (rw (limits-orders t u _) (remain-same (orders t)))
@@ -102,7 +104,7 @@ kind-marks (Proposal k) t legs u s n a =
     (rw (proposal-orders t u legs) (legs-remain legs (orders t)))
 kind-marks (Default m) t legs u s n a = removed t u a m
 kind-marks (CloseOut e) t legs u s n a = remaining t u a (closeOutBooked t e .after) (booked-marks (closeOutLines t e) t) (rw (close-out-orders t u e) (remain-same (orders t)))
-kind-marks (CloseOfDay k) t legs u s n a = remaining t u a (closeBooked t k .after) (λ m h. close-place t u k (160 + m) (omega arith) (λ q. omega arith) (omega arith))
+kind-marks (CloseOfDay k) t legs u s n a = remaining t u a (closeBooked t k .after) (λ m h. close-place t u k (marksFrom + m) (omega arith) (λ q. omega arith) (omega arith))
     (rw (close-orders t u k) (kept-remain _ (orders t)))
 
 pub apply-marks : (t : Tables) (bytes : List ℕ) → NoneDefaulted t → NoneDefaulted (applySpec t bytes .after)

@@ -9,6 +9,7 @@ use lib.IntN.{ℤ}
 use borrow.Author.Tests.{not-false}
 use Rattle.arith.proofs.Alls.{all-every, hold-all}
 use Rattle.arith.proofs.Tests.{and-left, passed, failed, or-false}
+use Rattle.rules.specs.Ledger.{headLength, pricesLength}
 use Rattle.rules.specs.declared.event.Event.{Event}
 use Rattle.rules.specs.declared.event.Event.the-variants.{Submit, Cancel, DayLimits, Proposal, Default, CloseOut, CloseOfDay}
 use Rattle.rules.specs.declared.event.Leg.{Leg}
@@ -75,10 +76,10 @@ kind-in-order h d e t legs u q n r a = go e q n
     head : headSound t ≡ true
     head = a .head
 
-    long : 224 ≤ length (t .head)
+    long : headLength ≤ length (t .head)
     long = a .long .head
 
-    wide : 510 ≤ length (t .prices)
+    wide : pricesLength ≤ length (t .prices)
     wide = a .long .prices
 
     go : (e : Event) → eventSound (members t) e legs ≡ true → NoCause t e legs → InOrder (acceptedAs t e legs .after)

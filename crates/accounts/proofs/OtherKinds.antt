@@ -8,6 +8,8 @@ use lib.Dec.{eqb, ltb}
 use lib.ListN.{length, set}
 use Rattle.arith.specs.Lists.{All, kept}
 use Rattle.arith.proofs.Alls.{all-map, all-kept}
+use Rattle.rules.specs.Ledger.{marksFrom}
+use Rattle.rules.specs.Ranges.{contractCount}
 use Rattle.rules.specs.declared.event.CloseOutTerms.{CloseOutTerms}
 use Rattle.rules.specs.declared.order.Order.{Order}
 use Rattle.rules.specs.Contracts.{hasCascaded}
@@ -44,7 +46,7 @@ module _ (h : Header) (d : ℕ) (t : Tables) (r : Runs h d t) (s : Sound t) wher
 
   pub default-does : (m : ℕ) → Does h d d t (defaultBooked t m)
   unfolding defaultBooked
-  default-does m = removed-does (withHead (set (t .head) (160 + m) 1) t) (λ o. not (eqb (o .member) m)) (set-other 4 (t .head) (160 + m) 1 (omega arith) (ofMember (omega arith))) refl refl
+  default-does m = removed-does (withHead (set (t .head) (marksFrom + m) 1) t) (λ o. not (eqb (o .member) m)) (set-other 4 (t .head) (marksFrom + m) 1 (omega arith) (ofMember (omega arith))) refl refl
 
   -- low and high are in the prices alone
   pub limits-does : (l : List ℕ) → Does h d d t (booked [] (withPrices l t))
@@ -52,7 +54,7 @@ module _ (h : Header) (d : ℕ) (t : Tables) (r : Runs h d t) (s : Sound t) wher
       booked-does h d [] t (withPrices l t) r s (same-header 4 (t .head)) (rw (orders-same t (withPrices l t) refl refl) (r .resting)) refl refl
       (no-lines h (hasCascaded (calendarOf h) d))
 
-  pub close-out-does : (e : CloseOutTerms) → isOpen t (e .contract) ≡ true → e .contract < 102
+  pub close-out-does : (e : CloseOutTerms) → isOpen t (e .contract) ≡ true → e .contract < contractCount
       → (ltb 0 (lotsLeft t (e .contract)) && eqb (sumOf (weights t e)) 0) ≡ false → Does h d d t (closeOutBooked t e)
   unfolding closeOutBooked
   close-out-does e o c< w =

@@ -9,6 +9,7 @@ use lib.ListN.{length, getD, set}
 use lib.Seq.{getD-set-other}
 use Rattle.arith.specs.Lists.{kept}
 use Rattle.arith.proofs.Tests.{by-bool}
+use Rattle.rules.specs.Ledger.{submitsFrom}
 use Rattle.rules.specs.declared.event.Submission.{Submission}
 use Rattle.rules.specs.declared.order.Order.{Order}
 use Rattle.rules.specs.Ledger.{Tables, members, time, withHead, orders, withOrders, withoutSubmits, timed}
@@ -38,7 +39,7 @@ module _ (t : Tables) (u : Undamaged t) where
   unfolding submitUnbooked withDeals counted
   submit-place e i a b c h =
       let l = timed (e .time) t .head in
-      written-place (submitOrders t e) _ i c ∙ getD-set-other (set l (192 + e .member) _) 5 i _ 0 b ∙ getD-set-other l (192 + e .member) i _ 0 (λ q. omega arith)
+      written-place (submitOrders t e) _ i c ∙ getD-set-other (set l (submitsFrom + e .member) _) 5 i _ 0 b ∙ getD-set-other l (submitsFrom + e .member) i _ 0 (λ q. omega arith)
       ∙ timed-place (e .time) i a h
 
   -- the new day writes the day, the time and the second's counts

@@ -9,6 +9,7 @@ use Rattle.arith.specs.Ints.{when, sum}
 use Rattle.arith.proofs.Tests.{by-eqb, never}
 use Rattle.arith.proofs.Sums.{sorted, when-zero, when-add, when-comm, sum-zero, sum-add, sum-ext, sum-at}
 use Rattle.arith.specs.Lists.{All}
+use Rattle.rules.specs.Ranges.{contractCount}
 use Rattle.rules.specs.Days.{Calendar}
 use Rattle.rules.specs.Contracts.{holdsHour}
 use Rattle.rules.specs.Ledger.{Line}
@@ -17,23 +18,23 @@ use Rattle.accounts.proofs.Lines.{Fits, hourTotal, memberTotal, rowTota
 
 module _ (k : Calendar) (amount : Line → ℤ) (n : ℕ) where
   -- a line's amount stands in one contract's row
-  line-in-hour : (l : Line) (m h : ℕ) → l .contract < 102
-      → sum 102 (λ c. when (holdsHour k c h) (when (eqb (l .contract) c) (when (eqb (l .member) m) (amount l))))
+  line-in-hour : (l : Line) (m h : ℕ) → l .contract < contractCount
+      → sum contractCount (λ c. when (holdsHour k c h) (when (eqb (l .contract) c) (when (eqb (l .member) m) (amount l))))
       ≡ when (eqb (l .member) m) (when (holdsHour k (l .contract) h) (amount l))
   line-in-hour l m h b =
       let w : ℤ = when (eqb (l .member) m) (amount l) in
-      sum-ext 102 (λ c. when (holdsHour k c h) (when (eqb (l .contract) c) w)) (λ c. when (eqb (l .contract) c) (when (holdsHour k (l .contract) h) w))
+      sum-ext contractCount (λ c. when (holdsHour k c h) (when (eqb (l .contract) c) w)) (λ c. when (eqb (l .contract) c) (when (holdsHour k (l .contract) h) w))
       (λ c _. by-eqb (λ x. when (holdsHour k c h) (when x w) ≡ when x (when (holdsHour k (l .contract) h) w)) (l .contract) c (λ e. rw e) (λ _. when-zero (holdsHour k c h)))
-      ∙ sum-at 102 (l .contract) (when (holdsHour k (l .contract) h) w) b
+      ∙ sum-at contractCount (l .contract) (when (holdsHour k (l .contract) h) w) b
       ∙ when-comm (holdsHour k (l .contract) h) (eqb (l .member) m) (amount l)
 
-  rows-in-hour : (ls : List Line) (m h : ℕ) → All (Fits n) ls → sum 102 (λ c. when (holdsHour k c h) (rowTotal amount c m ls)) ≡ memberTotal k amount m h ls
+  rows-in-hour : (ls : List Line) (m h : ℕ) → All (Fits n) ls → sum contractCount (λ c. when (holdsHour k c h) (rowTotal amount c m ls)) ≡ memberTotal k amount m h ls
   unfolding rowTotal memberTotal
-  rows-in-hour [] m h f = sum-ext 102 _ (λ c. pos 0) (λ c _. when-zero (holdsHour k c h)) ∙ sum-zero 102
+  rows-in-hour [] m h f = sum-ext contractCount _ (λ c. pos 0) (λ c _. when-zero (holdsHour k c h)) ∙ sum-zero contractCount
   rows-in-hour (l ∷ ls) m h f =
       let w : ℕ → ℤ = λ c. when (eqb (l .contract) c) (when (eqb (l .member) m) (amount l)) in
-      sum-ext 102 _ (λ c. when (holdsHour k c h) (w c) +ℤ when (holdsHour k c h) (rowTotal amount c m ls)) (λ c _. when-add (holdsHour k c h) (w c) (rowTotal amount c m ls))
-      ∙ sum-add 102 (λ c. when (holdsHour k c h) (w c)) (λ c. when (holdsHour k c h) (rowTotal amount c m ls))
+      sum-ext contractCount _ (λ c. when (holdsHour k c h) (w c) +ℤ when (holdsHour k c h) (rowTotal amount c m ls)) (λ c _. when-add (holdsHour k c h) (w c) (rowTotal amount c m ls))
+      ∙ sum-add contractCount (λ c. when (holdsHour k c h) (w c)) (λ c. when (holdsHour k c h) (rowTotal amount c m ls))
       ∙ rw (line-in-hour l m h (f .0 .contract<), rows-in-hour ls m h (f .1))
 
   -- the engine's account
@@ -41,8 +42,8 @@ module _ (k : Calendar) (amount : Line → ℤ) (n : ℕ) where
       → engineAccount k (λ c m. row c m +ℤ rowTotal amount c m ls) m h ≡ engineAccount k row m h +ℤ memberTotal k amount m h ls
   unfolding engineAccount
   engine-posted row ls m h f =
-      sum-ext 102 _ (λ c. when (holdsHour k c h) (row c m) +ℤ when (holdsHour k c h) (rowTotal amount c m ls)) (λ c _. when-add (holdsHour k c h) (row c m) (rowTotal amount c m ls))
-      ∙ sum-add 102 (λ c. when (holdsHour k c h) (row c m)) (λ c. when (holdsHour k c h) (rowTotal amount c m ls))
+      sum-ext contractCount _ (λ c. when (holdsHour k c h) (row c m) +ℤ when (holdsHour k c h) (rowTotal amount c m ls)) (λ c _. when-add (holdsHour k c h) (row c m) (rowTotal amount c m ls))
+      ∙ sum-add contractCount (λ c. when (holdsHour k c h) (row c m)) (λ c. when (holdsHour k c h) (rowTotal amount c m ls))
       ∙ rw (rows-in-hour ls m h f)
 
   -- the other account

@@ -15,6 +15,7 @@ use Rattle.arith.specs.Lists.{All, kept, total}
 use Rattle.arith.proofs.Alls.{all-hold, all-map}
 use Rattle.arith.proofs.Tests.{by-bool, and-left, and-right, passed, passes}
 use Rattle.arith.proofs.Sums.{sorted}
+use Rattle.rules.specs.Ranges.{contractCount}
 use Rattle.rules.specs.declared.event.Leg.{Leg}
 use Rattle.rules.specs.declared.order.Order.{Order}
 use Rattle.rules.specs.declared.order.Side.{Side}
@@ -137,8 +138,8 @@ module _ (h : Header) (d : ℕ) (t : Tables) (r : Runs h d t) (s : Sound t) (leg
       let ns = namedLegs (orders t) legs in
       let fine : balanced (calendarOf h) ns ≡ true = ap (λ k. balanced k ns) (sym (runs-calendar r)) ∙ all-hold _ ok .1 .1 .1 .1 .1 .1 .0 in
       record {
-        fits = mapped-all (Fits (h .members)) legLine ns (all-map (λ n. (n .order .contract < 102) × (n .order .member < members t)) _ ns
-            (λ n p. record { contract< = p .0; member< = rw (r .size) at (p .1) }) (named-all (λ o. (o .contract < 102) × (o .member < members t)) (orders t) legs (s .placed)));
+        fits = mapped-all (Fits (h .members)) legLine ns (all-map (λ n. (n .order .contract < contractCount) × (n .order .member < members t)) _ ns
+            (λ n p. record { contract< = p .0; member< = rw (r .size) at (p .1) }) (named-all (λ o. (o .contract < contractCount) × (o .member < members t)) (orders t) legs (s .placed)));
         balanced = λ x hour b. hour-nothing (calendarOf h) x hour ns (passed _ (balanced-every-hour (calendarOf h) ns (passes (balanced (calendarOf h) ns) fine) hour (b .0) (b .1)));
         clear = mapped-all (λ l. hasCascaded (calendarOf h) d (l .contract) ≡ false) legLine ns (all-map (λ n. InOpen h d (n .order)) _ ns
             (λ n p. open-not-cascaded (calendarOf h) d (n .order .contract) p) (named-all (InOpen h d) (orders t) legs (r .resting)));

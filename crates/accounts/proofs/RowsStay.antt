@@ -15,6 +15,8 @@ use Rattle.arith.proofs.Alls.{all-hold, every-all, all-map}
 use Rattle.arith.proofs.EachBlock.{block-at, block-passes}
 use Rattle.arith.proofs.Overs.{over-length, over-outside}
 use Rattle.arith.proofs.Tests.{by-bool, and-right}
+use Rattle.rules.specs.Ledger.{headLength, marksFrom, priceWidth, submitsFrom}
+use Rattle.rules.specs.Ranges.{contractCount, mostPrice}
 use Rattle.rules.specs.declared.event.CloseOutTerms.{CloseOutTerms}
 use Rattle.rules.specs.declared.event.Leg.{Leg}
 use Rattle.rules.specs.declared.event.Submission.{Submission}
@@ -54,7 +56,7 @@ run-set {u = u} j v p q a = record {
 }
 
 -- the second's counts become zero
-run-zeros : {l u : List ℕ} (n : ℕ) → n ≤ 32 → 224 ≤ length l → SameRun l u → SameRun l (over 192 (replicate n 0) u)
+run-zeros : {l u : List ℕ} (n : ℕ) → n ≤ 32 → headLength ≤ length l → SameRun l u → SameRun l (over 192 (replicate n 0) u)
 run-zeros {u = u} n few long a =
     let zeros : List ℕ = replicate n 0 in
     let fit : 192 + length zeros ≤ length u = omega (arith, a .longer, length-replicate {A = ℕ} n 0) in
@@ -85,7 +87,7 @@ within-kept t t′ same e v a x = subst₂ (λ n r. Bounded n (weight x * r) (ro
 
 -- t′: the tables t with all but the lines booked
 pub within-booked : (ls : List Line) (t t′ : Tables) → Sound t → SameRun (t .head) (t′ .head) → t′ .lots ≡ t .lots → t′ .value ≡ t .value
-    → All (Fits (members t)) ls → All (λ l. l .price ≤ 1000000) ls → WithinRun t → WithinRun (booked ls t′ .after)
+    → All (Fits (members t)) ls → All (λ l. l .price ≤ mostPrice) ls → WithinRun t → WithinRun (booked ls t′ .after)
 unfolding booked
 within-booked ls t t′ s same e v fit paid a x =
     let sum = lotsRun t′ + lineRun ls in
@@ -96,32 +98,32 @@ within-booked ls t t′ s same e v fit paid a x =
     (bounded-posted (amount x) (weight x) (lotsRun t) ls (lines-weigh x ls paid) (a x)))
 
 -- ---- prices do not pass 1,000,000
-price-most : (p : ℕ) → priceSound p ≡ true → p ≤ 1000000
-price-most p e = leb-true p 1000000 (and-right (leb 1 p) (leb p 1000000) e)
+price-most : (p : ℕ) → priceSound p ≡ true → p ≤ mostPrice
+price-most p e = leb-true p mostPrice (and-right (leb 1 p) (leb p mostPrice) e)
 
 -- of resting orders, if the book is sound
-orders-priced : (t : Tables) → bookSound t ≡ true → All (λ o. o .price .0 ≤ 1000000) (orders t)
+orders-priced : (t : Tables) → bookSound t ≡ true → All (λ o. o .price .0 ≤ mostPrice) (orders t)
 unfolding bookSound orderSound
 orders-priced t e =
-    all-map (λ o. orderSound t o ≡ true) (λ o. o .price .0 ≤ 1000000) (orders t) (λ o q. price-most (o .price .0) (all-hold _ q .1 .1 .1 .0))
+    all-map (λ o. orderSound t o ≡ true) (λ o. o .price .0 ≤ mostPrice) (orders t) (λ o q. price-most (o .price .0) (all-hold _ q .1 .1 .1 .0))
     (every-all (orderSound t) (orders t) (all-hold _ e .1 .0))
 
 -- of legs, if they are sound
-legs-priced : (os : List Order) (gs : List Leg) → All (λ g. legSound g ≡ true) gs → All (λ n. n .leg .price .0 ≤ 1000000) (namedLegs os gs)
+legs-priced : (os : List Order) (gs : List Leg) → All (λ g. legSound g ≡ true) gs → All (λ n. n .leg .price .0 ≤ mostPrice) (namedLegs os gs)
 unfolding namedLegs
 legs-priced os [] h = tt
 legs-priced os (g ∷ gs) h = go (numbered (g .order) os) refl (legs-priced os gs (h .1))
   where
-    go : (b : Option Order) → numbered (g .order) os ≡ b → All (λ n. n .leg .price .0 ≤ 1000000) (namedLegs os gs) → All (λ n. n .leg .price .0 ≤ 1000000) (namedLegs os (g ∷ gs))
+    go : (b : Option Order) → numbered (g .order) os ≡ b → All (λ n. n .leg .price .0 ≤ mostPrice) (namedLegs os gs) → All (λ n. n .leg .price .0 ≤ mostPrice) (namedLegs os (g ∷ gs))
     go none e ih = rw (e, namedLegs) ih
     go (some o) e ih = rw (e, namedLegs) (price-most (g .price .0) (and-right (numberSound (g .order) && lotsSound (g .lots .0)) (priceSound (g .price .0)) (h .0)), ih)
 
 -- and GGFs, if the prices are sound
-ggf-most : (t : Tables) (c : ℕ) → pricesSound t ≡ true → c < 102 → ggf t c ≤ 1000000
+ggf-most : (t : Tables) (c : ℕ) → pricesSound t ≡ true → c < contractCount → ggf t c ≤ mostPrice
 unfolding pricesSound contractPricesSound
 ggf-most t c e h =
-    let five = block-at 5 c 0 (t .prices) 0 (omega arith) ∙ ap (λ i. getD (t .prices) i 0) (add-zero (c * 5)) in
-    leb-true (ggf t c) 1000000 (ap (λ p. leb p 1000000) (sym five) ∙ all-hold _ (block-passes 5 (contractPricesSound (lotsRun t)) 102 (t .prices) e c h) .0)
+    let five = block-at 5 c 0 (t .prices) 0 (omega arith) ∙ ap (λ i. getD (t .prices) i 0) (add-zero (c * priceWidth)) in
+    leb-true (ggf t c) mostPrice (ap (λ p. leb p mostPrice) (sym five) ∙ all-hold _ (block-passes 5 (contractPricesSound (lotsRun t)) contractCount (t .prices) e c h) .0)
 
 -- ---- each kind of record
 module _ (h : Header) (d : ℕ) (t : Tables) (r : Runs h d t) (s : Sound t) (a : WithinRun t) where
@@ -129,16 +131,16 @@ module _ (h : Header) (d : ℕ) (t : Tables) (r : Runs h d t) (s : Sound t) (a :
   fitting : (ls : List Line) → All (Fits (h .members)) ls → All (Fits (members t)) ls
   fitting ls f = subst (λ n. All (Fits n) ls) (sym (r .size)) f
 
-  pub submit-rows : (e : Submission) → isOpen t (e .contract) ≡ true → e .contract < 102 → e .member < members t → bookSound t ≡ true → WithinRun (submitBooked t e .after)
+  pub submit-rows : (e : Submission) → isOpen t (e .contract) ≡ true → e .contract < contractCount → e .member < members t → bookSound t ≡ true → WithinRun (submitBooked t e .after)
   unfolding submitBooked withOrders withDeals counted submitLines submitMatched matched
   submit-rows e o c< m< book =
       let u = timed (e .time) t in
       let ds = matching (length (orders t)) (incoming t e) (orders t) .deals in
       within-booked (submitLines t e) t (withOrders (submitOrders t e) (withDeals (e .contract) (submitMatched t e .deals) (counted (e .member) u))) s
-      (run-set 7 _ (omega arith) (omega arith) (run-set 5 _ (omega arith) (omega arith) (run-set (192 + e .member) _ (omega arith) (omega arith) (run-timed (e .time) t s))))
+      (run-set 7 _ (omega arith) (omega arith) (run-set 5 _ (omega arith) (omega arith) (run-set (submitsFrom + e .member) _ (omega arith) (omega arith) (run-timed (e .time) t s))))
       (timed-rows h d t r s (e .time) .0) (timed-rows h d t r s (e .time) .1) (fitting (submitLines t e) (submit-fair h d t r s e o c< m< .fits))
-      (deals-each (λ l. l .price ≤ 1000000) (incoming t e) ds (all-map (λ x. x .resting .price .0 ≤ 1000000) _ ds (λ x p. (p, (p, tt)))
-      (dealt-all (λ b. b .price .0 ≤ 1000000) (λ b q p. p) (length (orders t)) (incoming t e) (orders t) (orders-priced t book)))) a
+      (deals-each (λ l. l .price ≤ mostPrice) (incoming t e) ds (all-map (λ x. x .resting .price .0 ≤ mostPrice) _ ds (λ x p. (p, (p, tt)))
+      (dealt-all (λ b. b .price .0 ≤ mostPrice) (λ b q p. p) (length (orders t)) (incoming t e) (orders t) (orders-priced t book)))) a
 
   pub cancel-rows : (n : ℕ) (p : Order → Bool) → WithinRun (booked [] (withOrders (kept p (orders t)) (timed n t)) .after)
   unfolding withOrders
@@ -154,19 +156,19 @@ module _ (h : Header) (d : ℕ) (t : Tables) (r : Runs h d t) (s : Sound t) (a :
   proposal-rows legs ok sound =
       within-booked (proposalLines t legs) t (withOrders (usedByLegs legs (orders t)) t) s (run-set 7 _ (omega arith) (omega arith) (run-start (t .head))) refl refl
       (fitting (proposalLines t legs) (proposal-fair h d t r s legs ok .fits))
-      (mapped-all (λ l. l .price ≤ 1000000) legLine (namedLegs (orders t) legs) (legs-priced (orders t) legs (every-all legSound legs sound))) a
+      (mapped-all (λ l. l .price ≤ mostPrice) legLine (namedLegs (orders t) legs) (legs-priced (orders t) legs (every-all legSound legs sound))) a
 
   pub default-rows : (m : ℕ) → WithinRun (defaultBooked t m .after)
   unfolding defaultBooked withOrders
   default-rows m =
-      within-booked [] t (withOrders (kept (λ o. not (eqb (o .member) m)) (orders t)) (withHead (set (t .head) (160 + m) 1) t)) s
-      (run-set 7 _ (omega arith) (omega arith) (run-set (160 + m) 1 (omega arith) (omega arith) (run-start (t .head)))) refl refl tt tt a
+      within-booked [] t (withOrders (kept (λ o. not (eqb (o .member) m)) (orders t)) (withHead (set (t .head) (marksFrom + m) 1) t)) s
+      (run-set 7 _ (omega arith) (omega arith) (run-set (marksFrom + m) 1 (omega arith) (omega arith) (run-start (t .head)))) refl refl tt tt a
 
-  pub close-out-rows : (e : CloseOutTerms) → e .contract < 102 → pricesSound t ≡ true → WithinRun (closeOutBooked t e .after)
+  pub close-out-rows : (e : CloseOutTerms) → e .contract < contractCount → pricesSound t ≡ true → WithinRun (closeOutBooked t e .after)
   unfolding closeOutBooked
   close-out-rows e c< prices =
       within-booked (closeOutLines t e) t t s (run-start (t .head)) refl refl (close-out-fits t e c<)
-      (all-map (λ l. l .price ≡ ggf t (e .contract)) (λ l. l .price ≤ 1000000) (closeOutLines t e) (λ l q. omega (arith, ggf-most t (e .contract) prices c<)) (close-out-price t e)) a
+      (all-map (λ l. l .price ≡ ggf t (e .contract)) (λ l. l .price ≤ mostPrice) (closeOutLines t e) (λ l q. omega (arith, ggf-most t (e .contract) prices c<)) (close-out-price t e)) a
 
   pub close-rows : (n : ℕ) → WithinRun (closeBooked t n .after)
   unfolding closeBooked priced onDay withoutSubmits
@@ -176,7 +178,8 @@ module _ (h : Header) (d : ℕ) (t : Tables) (r : Runs h d t) (s : Sound t) (a :
       let v = withClosed cs u in
       let same = run-closed cs u (run-start (t .head)) in
       let closed : WithinRun v = λ x. subst₂ (λ k run. Bounded k (weight x * run) (row x v)) (sym (same .size)) (sym (same .run))
-      (bounded-closed (members t) (s .few-members) x cs u (all-map _ (λ c. c < 102) cs (λ c q. q .0) (closing-today t)) (record { size = refl; lots-long = s .lots-long; value-long = s .value-long })
+      (bounded-closed (members t) (s .few-members) x cs u (all-map _ (λ c. c < contractCount) cs (λ c q. q .0) (closing-today t))
+      (record { size = refl; lots-long = s .lots-long; value-long = s .value-long })
       (within-kept t u (run-start (t .head)) refl refl a x)) in
       within-kept v (onDay (nextDay t) v)
       (run-set 4 0 (omega arith) (omega arith) (run-set 3 (nextDay t) (omega arith) (omega arith)

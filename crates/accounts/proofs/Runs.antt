@@ -10,6 +10,8 @@ use lib.Seq.{getD-set-other}
 use Rattle.arith.specs.Lists.{All}
 use Rattle.arith.proofs.Alls.{all-map}
 use Rattle.arith.proofs.Tests.{by-bool}
+use Rattle.rules.specs.Ledger.{headLength, rowsLength}
+use Rattle.rules.specs.Ranges.{contractCount}
 use Rattle.rules.specs.declared.order.Order.{Order}
 use Rattle.rules.specs.Contracts.{openOn}
 use Rattle.rules.specs.Header.{Header, calendarOf}
@@ -40,12 +42,12 @@ orders-same t t′ n b = rw (n, b)
 
 -- what a table that is not damaged shows of itself
 pub record Sound (t : Tables) : Type 0 where
-  pub head-long : 224 ≤ length (t .head)
-  pub lots-long : 3264 ≤ length (t .lots)
-  pub value-long : 3264 ≤ length (t .value)
+  pub head-long : headLength ≤ length (t .head)
+  pub lots-long : rowsLength ≤ length (t .lots)
+  pub value-long : rowsLength ≤ length (t .value)
   pub few-holidays : holidayCount t ≤ 120
   pub few-members : members t ≤ 32
-  pub placed : All (λ o. (o .contract < 102) × (o .member < members t)) (orders t)
+  pub placed : All (λ o. (o .contract < contractCount) × (o .member < members t)) (orders t)
 
 pub sound-parts : (t : Tables) → Long t → headSound t ≡ true → bookSound t ≡ true → Sound t
 sound-parts t long a b =

@@ -15,6 +15,8 @@ use Rattle.arith.proofs.Alls.{all-map}
 use Rattle.arith.proofs.EachBlock.{in-each-length}
 use Rattle.arith.proofs.Overs.{over-length}
 use Rattle.arith.proofs.Tests.{never, by-bool}
+use Rattle.rules.specs.Ledger.{bookLength, headLength, linesLength, rowsLength}
+use Rattle.rules.specs.Ranges.{contractCount, mostPrice}
 use Rattle.rules.specs.declared.answer.Answer.the-variants.{Accepted, TableUnsound, HeaderUnsound}
 use Rattle.rules.specs.declared.event.Event.{Event}
 use Rattle.rules.specs.declared.event.Event.the-variants.{Submit, Cancel, DayLimits, Proposal, Default, CloseOut, CloseOfDay}
@@ -73,7 +75,7 @@ unfolding flatMap
 each-places w places e [] = sym (zero-mul w)
 each-places w places e (b ∷ bs) = simp length-append (omega (arith, e b, each-places w places e bs, suc-mul (length bs) w))
 
-booked-lengths : (ls : List Line) (u : Tables) → length ls ≤ 200 → 800 ≤ length (u .lines) → SameLengths u (booked ls u .after)
+booked-lengths : (ls : List Line) (u : Tables) → length ls ≤ 200 → linesLength ≤ length (u .lines) → SameLengths u (booked ls u .after)
 unfolding booked
 booked-lengths ls u few long = record {
   head = simp length-set;
@@ -84,7 +86,7 @@ booked-lengths ls u few long = record {
   lines = over-length 0 (flatMap linePlaces ls) (u .lines) (omega (arith, each-places 4 linePlaces (λ _. refl) ls));
 }
 
-written-lengths : (os : List Order) (u : Tables) → length os ≤ 256 → 2048 ≤ length (u .book) → SameLengths u (withOrders os u)
+written-lengths : (os : List Order) (u : Tables) → length os ≤ 256 → bookLength ≤ length (u .book) → SameLengths u (withOrders os u)
 unfolding withOrders
 written-lengths os u few long = record {
   head = simp length-set;
@@ -111,7 +113,7 @@ named-few os (g ∷ gs) = go (numbered (g .order) os) refl (named-few os gs)
 
 -- ---- what records are made of
 module _ (t : Tables) (u : Undamaged t) where
-  without-lengths : (v : Tables) → members v ≤ 32 → 224 ≤ length (v .head) → length (withoutSubmits v .head) ≡ length (v .head)
+  without-lengths : (v : Tables) → members v ≤ 32 → headLength ≤ length (v .head) → length (withoutSubmits v .head) ≡ length (v .head)
   unfolding withoutSubmits
   without-lengths v m l = over-length 192 (replicate (members v) 0) (v .head) (omega (arith, length-replicate {A = ℕ} (members v) 0))
 
@@ -146,7 +148,7 @@ module _ (t : Tables) (u : Undamaged t) where
       )
 
   -- ---- the close of day
-  cascaded-lengths : (m : ℕ) (cs : List ℕ) (l : List ℤ) → m ≤ 32 → All (λ c. c < 102) cs → 3264 ≤ length l → length (allCascaded m cs l) ≡ length l
+  cascaded-lengths : (m : ℕ) (cs : List ℕ) (l : List ℤ) → m ≤ 32 → All (λ c. c < contractCount) cs → rowsLength ≤ length l → length (allCascaded m cs l) ≡ length l
   unfolding allCascaded
   cascaded-lengths m [] l k h s = refl
   cascaded-lengths m (c ∷ cs) l k h s =
@@ -160,7 +162,7 @@ module _ (t : Tables) (u : Undamaged t) where
       let same = written-length t u n cs (t .prices) in
       record {
         head = refl;
-        prices = in-each-length 5 (over 3 (0 ∷ 0 ∷ [])) (λ b e. over-length 3 (0 ∷ 0 ∷ []) b (omega arith) ∙ e) 102 (withGgfs t n cs (t .prices)) (omega (arith, u .long .prices)) ∙ same;
+        prices = in-each-length 5 (over 3 (0 ∷ 0 ∷ [])) (λ b e. over-length 3 (0 ∷ 0 ∷ []) b (omega arith) ∙ e) contractCount (withGgfs t n cs (t .prices)) (omega (arith, u .long .prices)) ∙ same;
         lots = refl;
         value = refl;
         book = refl;
@@ -173,7 +175,7 @@ module _ (t : Tables) (u : Undamaged t) where
       let p = priced n t in
       let cs = closingContracts t in
       let few = u .head .members-range .to in
-      let listed = all-map _ (λ c. c < 102) cs (λ c q. q .0) (closing-today t) in
+      let listed = all-map _ (λ c. c < contractCount) cs (λ c q. q .0) (closing-today t) in
       let os = kept (λ o. not (isOfAny cs o)) (orders p) in
       let w = then-lengths (priced-lengths n) (written-lengths os p (rw (orders-same t p refl refl) (remain-few _ (kept-remain _ (orders t)))) (u .long .book)) in
       let v = withClosed cs p in
@@ -195,11 +197,11 @@ pub fresh-lengths : (h : Header) (t : Tables) → SoundHeader h → Long t → S
 unfolding fresh freshPrices freshRows
 fresh-lengths h t f l =
     let n = h .members in
-    let rows : (k : List ℤ) → 3264 ≤ length k → length (freshRows n k) ≡ length k = λ k s.
-    in-each-length 32 (over 0 (replicate n (pos 0))) (λ b e. zeros-fit 32 n b (f .members-range .to) e) 102 k s in
+    let rows : (k : List ℤ) → rowsLength ≤ length k → length (freshRows n k) ≡ length k = λ k s.
+    in-each-length 32 (over 0 (replicate n (pos 0))) (λ b e. zeros-fit 32 n b (f .members-range .to) e) contractCount k s in
     record {
       head = head-length h f (t .head) (l .head);
-      prices = in-each-length 5 (λ five. 0 ∷ 1 ∷ 1000000 ∷ 0 ∷ 0 ∷ []) (λ _ _. refl) 102 (t .prices) (l .prices);
+      prices = in-each-length 5 (λ five. 0 ∷ 1 ∷ mostPrice ∷ 0 ∷ 0 ∷ []) (λ _ _. refl) contractCount (t .prices) (l .prices);
       lots = rows (t .lots) (l .lots);
       value = rows (t .value) (l .value);
       book = refl;

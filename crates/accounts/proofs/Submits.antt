@@ -12,6 +12,8 @@ use Rattle.arith.specs.Lists.{All}
 use Rattle.arith.proofs.Alls.{all-always, all-map, all-append}
 use Rattle.arith.proofs.Tests.{by-bool, and-false}
 use Rattle.arith.proofs.Sums.{sorted, *ℤ-distrib}
+use Rattle.rules.specs.Ledger.{submitsFrom}
+use Rattle.rules.specs.Ranges.{contractCount}
 use Rattle.rules.specs.declared.event.Submission.{Submission}
 use Rattle.rules.specs.declared.order.Order.{Order}
 use Rattle.rules.specs.declared.order.Side.{Side}
@@ -91,7 +93,7 @@ module _ (h : Header) (d : ℕ) (t : Tables) (r : Runs h d t) (s : Sound t) wher
       by-bool (λ b. let u = cond b (withHead (set (withoutSubmits t .head) 4 n) t) t in (u .lots ≡ t .lots) × (u .value ≡ t .value) × (u .book ≡ t .book)) (ltb (time t) n)
       (λ _. (refl, refl, refl)) (λ _. (refl, refl, refl))
 
-  module _ (e : Submission) (opened : isOpen t (e .contract) ≡ true) (contract< : e .contract < 102) (member< : e .member < members t) where
+  module _ (e : Submission) (opened : isOpen t (e .contract) ≡ true) (contract< : e .contract < contractCount) (member< : e .member < members t) where
     here : openOn (calendarOf h) d (e .contract) ≡ true
     here = sym (open-here h d t (e .contract) r) ∙ opened
 
@@ -101,7 +103,7 @@ module _ (h : Header) (d : ℕ) (t : Tables) (r : Runs h d t) (s : Sound t) wher
         let o = incoming t e in
         let ds = matching (length (orders t)) o (orders t) .deals in
         let placed = dealt-all (λ b. b .member < h .members) (λ b q p. p) (length (orders t)) o (orders t)
-        (all-map (λ b. (b .contract < 102) × (b .member < members t)) (λ b. b .member < h .members) (orders t) (λ b p. rw (r .size) at (p .1)) (s .placed)) in
+        (all-map (λ b. (b .contract < contractCount) × (b .member < members t)) (λ b. b .member < h .members) (orders t) (λ b p. rw (r .size) at (p .1)) (s .placed)) in
         record {
           fits = deals-each (Fits (h .members)) o ds (all-map (λ x. x .resting .member < h .members) _ ds
               (λ x p. (record { contract< = contract<; member< = rw (r .size) at member< }, (record { contract< = contract<; member< = p }, tt))) placed);
@@ -123,8 +125,8 @@ module _ (h : Header) (d : ℕ) (t : Tables) (r : Runs h d t) (s : Sound t) wher
     submit-does =
         let u = timed (e .time) t in
         let v = withDeals (e .contract) (submitMatched t e .deals) (counted (e .member) u) in
-        let a = then-same (timed-header (e .time)) (then-same (set-other 4 (u .head) (192 + e .member) (submitsThisSecond u (e .member) + 1) (omega arith) (ofMember (omega arith)))
-        (set-other 4 (set (u .head) (192 + e .member) (submitsThisSecond u (e .member) + 1)) 5 (acceptedSubmits u + 1) (omega arith) (changing (omega arith) (omega arith)))) in
+        let a = then-same (timed-header (e .time)) (then-same (set-other 4 (u .head) (submitsFrom + e .member) (submitsThisSecond u (e .member) + 1) (omega arith) (ofMember (omega arith)))
+        (set-other 4 (set (u .head) (submitsFrom + e .member) (submitsThisSecond u (e .member) + 1)) 5 (acceptedSubmits u + 1) (omega arith) (changing (omega arith) (omega arith)))) in
         booked-does h d (submitLines t e) t (withOrders (submitOrders t e) v) r s
         (then-same a (set-other 4 (v .head) 7 (length (submitOrders t e)) (omega arith) (changing (omega arith) (omega arith))))
         (rw (orders-written (submitOrders t e) v (omega (arith, a .longer, s .head-long))) submit-rests)

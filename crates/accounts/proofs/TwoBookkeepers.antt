@@ -8,6 +8,7 @@ use lib.IntN.{ℤ, pos}
 use Rattle.arith.specs.Ints.{when}
 use Rattle.arith.proofs.Sums.{when-zero, sum-zero, sum-ext}
 use Rattle.arith.proofs.Tests.{passed, failed}
+use Rattle.rules.specs.Ranges.{contractCount}
 use Rattle.rules.specs.Contracts.{holdsHour, hasCascaded}
 use Rattle.rules.specs.Header.{Header, calendarOf, headerOf, beginsWithHeader}
 use Rattle.rules.specs.Ledger.{Tables, Line, withLines, ledgerShort, fresh}
@@ -69,7 +70,8 @@ module _ (header : List ℕ) (t : Tables) (sound : T (beginsWithHeader header)) 
       record {
         runs = fresh-runs h t f (l .head);
         holds = record {
-          same = λ x m hour b d. sum-ext 102 _ (λ c. pos 0) (λ c k. ap (when (holdsHour (calendarOf h) c hour)) (zero x c m k b) ∙ when-zero (holdsHour (calendarOf h) c hour)) ∙ sum-zero 102;
+          same = λ x m hour b d. sum-ext contractCount _ (λ c. pos 0) (λ c k. ap (when (holdsHour (calendarOf h) c hour)) (zero x c m k b) ∙ when-zero (holdsHour (calendarOf h) c hour))
+              ∙ sum-zero contractCount;
           zero = λ x hour d. sum-zero (h .members);
           empty = λ x c m k b e. zero x c m k b;
         };

@@ -8,6 +8,7 @@ use lib.Seq.{getD-append-add, getD-set-same}
 use lib.IntN.{ℤ, pos, natAbs}
 use Rattle.arith.specs.Lists.{over}
 use Rattle.arith.proofs.Blocks.{read-back}
+use Rattle.rules.specs.Ledger.{lineWidth, orderCountPlace, orderWidth}
 use Rattle.rules.specs.declared.order.Order.{Order}
 use Rattle.rules.specs.declared.order.Side.{Side}
 use Rattle.rules.specs.declared.order.Side.the-variants.{Buy, Sell}
@@ -22,10 +23,10 @@ line-next : (x : Line) (l : List ℤ) (i : ℕ) → lineAt (linePlaces x ++ l) (
 line-next x l i =
     let at : (p q : ℕ) → p ≡ 4 + q → getD (linePlaces x ++ l) p (pos 0) ≡ getD l q (pos 0) = later (pos 0) (linePlaces x) l in
     λ s. record {
-      member = natAbs (at (suc i * 4) (i * 4) (omega arith) s);
-      contract = natAbs (at (suc i * 4 + 1) (i * 4 + 1) (omega arith) s);
-      lots = at (suc i * 4 + 2) (i * 4 + 2) (omega arith) s;
-      price = natAbs (at (suc i * 4 + 3) (i * 4 + 3) (omega arith) s);
+      member = natAbs (at (suc i * lineWidth) (i * lineWidth) (omega arith) s);
+      contract = natAbs (at (suc i * lineWidth + 1) (i * lineWidth + 1) (omega arith) s);
+      lots = at (suc i * lineWidth + 2) (i * lineWidth + 2) (omega arith) s;
+      price = natAbs (at (suc i * lineWidth + 3) (i * lineWidth + 3) (omega arith) s);
     }
 
 -- the lines of a call are what the first places of its line table say
@@ -45,17 +46,17 @@ order-next : (o : Order) (l : List ℕ) (i : ℕ) → orderAt (orderPlaces o ++ 
 order-next o l i =
     let at : (p q : ℕ) → p ≡ 8 + q → getD (orderPlaces o ++ l) p 0 ≡ getD l q 0 = later 0 (orderPlaces o) l in
     λ s. record {
-      number = at (suc i * 8) (i * 8) (omega arith) s;
-      member = at (suc i * 8 + 1) (i * 8 + 1) (omega arith) s;
-      contract = at (suc i * 8 + 2) (i * 8 + 2) (omega arith) s;
-      side = sideOf (at (suc i * 8 + 3) (i * 8 + 3) (omega arith) s);
-      price = record { 0 = at (suc i * 8 + 4) (i * 8 + 4) (omega arith) s };
-      lots = record { 0 = at (suc i * 8 + 5) (i * 8 + 5) (omega arith) s };
-      day = record { 0 = at (suc i * 8 + 6) (i * 8 + 6) (omega arith) s };
-      time = at (suc i * 8 + 7) (i * 8 + 7) (omega arith) s;
+      number = at (suc i * orderWidth) (i * orderWidth) (omega arith) s;
+      member = at (suc i * orderWidth + 1) (i * orderWidth + 1) (omega arith) s;
+      contract = at (suc i * orderWidth + 2) (i * orderWidth + 2) (omega arith) s;
+      side = sideOf (at (suc i * orderWidth + 3) (i * orderWidth + 3) (omega arith) s);
+      price = record { 0 = at (suc i * orderWidth + 4) (i * orderWidth + 4) (omega arith) s };
+      lots = record { 0 = at (suc i * orderWidth + 5) (i * orderWidth + 5) (omega arith) s };
+      day = record { 0 = at (suc i * orderWidth + 6) (i * orderWidth + 6) (omega arith) s };
+      time = at (suc i * orderWidth + 7) (i * orderWidth + 7) (omega arith) s;
     }
 
 -- orders read from a head whose count is theirs and a book that begins with them
 pub orders-written : (os : List Order) (t : Tables) → 7 < length (t .head) → orders (withOrders os t) ≡ os
 unfolding orders withOrders over
-orders-written os t h = rw (getD-set-same (t .head) 7 (length os) 0 h) (read-back orderPlaces orderAt order-here order-next os (drop (0 + length (flatMap orderPlaces os)) (t .book)))
+orders-written os t h = rw (getD-set-same (t .head) orderCountPlace (length os) 0 h) (read-back orderPlaces orderAt order-here order-next os (drop (0 + length (flatMap orderPlaces os)) (t .book)))

@@ -9,6 +9,8 @@ use borrow.Author.Tests.{le-ltb}
 use lib.IntN.{ℤ}
 use Rattle.arith.specs.Lists.{All, kept}
 use Rattle.arith.proofs.Alls.{all-map, all-append, all-kept}
+use Rattle.rules.specs.Ledger.{pricesLength}
+use Rattle.rules.specs.Ranges.{contractCount}
 use Rattle.rules.specs.declared.contract.ContractKind.{ContractKind}
 use Rattle.rules.specs.declared.contract.ContractKind.the-variants.{Year, Quarter, Month}
 use Rattle.rules.specs.declared.order.Side.the-variants.{Buy, Sell}
@@ -56,20 +58,20 @@ all-take P zero l a = tt
 all-take P (suc n) [] a = tt
 all-take P (suc n) (x ∷ l) a = (a .0, all-take P n l (a .1))
 
-open-below : (column : List ℕ) → All (λ c. c < 102) (allOpenIn column)
+open-below : (column : List ℕ) → All (λ c. c < contractCount) (allOpenIn column)
 unfolding allOpenIn openIn
 open-below column =
-    all-append (λ c. c < 102) (openIn column Year) (openIn column Quarter ++ openIn column Month) (of Year)
-    (all-append (λ c. c < 102) (openIn column Quarter) (openIn column Month) (of Quarter) (of Month))
+    all-append (λ c. c < contractCount) (openIn column Year) (openIn column Quarter ++ openIn column Month) (of Year)
+    (all-append (λ c. c < contractCount) (openIn column Quarter) (openIn column Month) (of Quarter) (of Month))
   where
-    of : (s : ContractKind) → All (λ c. c < 102) (openIn column s)
+    of : (s : ContractKind) → All (λ c. c < contractCount) (openIn column s)
     of s =
-        all-take (λ c. c < 102) (openCount s) (kept (waits column) (contractsOf s))
-        (all-map (λ c. (c < 102) × (waits column c ≡ true)) (λ c. c < 102) (kept (waits column) (contractsOf s)) (λ c h. h .0)
-        (all-kept (λ c. c < 102) (waits column) (contractsOf s) (listed (λ c. c < 102) (λ c h. h) s)))
+        all-take (λ c. c < contractCount) (openCount s) (kept (waits column) (contractsOf s))
+        (all-map (λ c. (c < contractCount) × (waits column c ≡ true)) (λ c. c < contractCount) (kept (waits column) (contractsOf s)) (λ c h. h .0)
+        (all-kept (λ c. c < contractCount) (waits column) (contractsOf s) (listed (λ c. c < contractCount) (λ c h. h) s)))
 
-pub priced-is : (t : Tables) (s : ℕ) (buys sells : List ℕ) → 510 ≤ length (t .prices) → All (λ o. 1 ≤ o .price .0) (orders t)
-    → ((c : ℕ) → c < 102 → getD buys c 0 ≡ bestPrice (day t) s Buy (orders t) c) → ((c : ℕ) → c < 102 → getD sells c 0 ≡ bestPrice (day t) s Sell (orders t) c)
+pub priced-is : (t : Tables) (s : ℕ) (buys sells : List ℕ) → pricesLength ≤ length (t .prices) → All (λ o. 1 ≤ o .price .0) (orders t)
+    → ((c : ℕ) → c < contractCount → getD buys c 0 ≡ bestPrice (day t) s Buy (orders t) c) → ((c : ℕ) → c < contractCount → getD sells c 0 ≡ bestPrice (day t) s Sell (orders t) c)
     → withoutDeals (ggfsFrom buys sells (allOpenIn (phases (calendar t) (day t))) (t .prices)) ≡ priced s t .prices
 unfolding priced
 priced-is t s buys sells long priced-orders e f =

@@ -8,6 +8,7 @@ use lib.Dec.{leb}
 use Rattle.arith.specs.Lists.{every, allOf, from}
 use Rattle.arith.proofs.Tests.{and-true}
 use Rattle.arith.proofs.Scans.{every-same, every-both, every-map}
+use Rattle.rules.specs.Ranges.{mostPrice}
 use Rattle.rules.specs.Days.{Calendar, spanStart, dayAfterSpan, inSpan}
 use Rattle.rules.proofs.CalendarLaws.{month-le}
 use Rattle.rules.specs.Ledger.{Tables, calendar, members, acceptedSubmits, orderCount, orderAt, sideAt, orders}
@@ -26,7 +27,7 @@ module _ (t : Tables) (s : Span) (span : IsSpan s (calendar t)) where
   unfolding restSound orderSound inSpan allOf
   place-is i =
       let o = orderAt (t .book) i in
-      rw (up-to (o .price .0) 1000000, up-to (o .lots .0) 100, up-to (sideAt (t .book) i) 1, span .starts, span .ends) (and-comm _ (leb (sideAt (t .book) i) 1))
+      rw (up-to (o .price .0) mostPrice, up-to (o .lots .0) 100, up-to (sideAt (t .book) i) 1, span .starts, span .ends) (and-comm _ (leb (sideAt (t .book) i) 1))
 
   pub book-is : placesSound (acceptedSubmits t) (members t) (s .start .0) (s .end .0) (t .book) (orderCount t) && distinct (map (numberAt (t .book)) (from 0 (orderCount t))) ≡ bookSound t
   unfolding bookSound sidesSound orders allOf placesSound

@@ -16,12 +16,13 @@ use Rattle.arith.proofs.Tests.{le-or-lt}
 use Rattle.arith.specs.Bits.{inWindow}
 use Rattle.arith.proofs.Bits.{window-within}
 use Rattle.arith.proofs.Rows.{rows-weaker, whole-rows, no-column, next-column}
+use Rattle.rules.specs.Ranges.{contractCount}
 use Rattle.rules.specs.Refusals.{everyRow}
 use Rattle.damage.specs.Windows.{everyColumn}
 
 pub row-none : (p : ℤ → Bool) (l : List ℤ) → everyRow p 0 l ≡ true
 unfolding everyRow
-row-none p l = no-column p 32 102 l
+row-none p l = no-column p 32 contractCount l
 
 zero-in : (w : ℕ) → 0 < w → inWindow w (pos 0) ≡ true
 unfolding inWindow
@@ -29,7 +30,7 @@ zero-in w h = lt-ltb (0 + w / 2) w (omega arith)
 
 pub row-more : (k n : ℕ) (l : List ℤ) → everyRow (inWindow (2 ^ k)) (n + 1) l ≡ everyRow (inWindow (2 ^ k)) n l && everyColumn (inWindow (2 ^ k)) n l
 unfolding everyRow everyColumn
-row-more k n l = rw (add-one n) (next-column (inWindow (2 ^ k)) (pos 0) (zero-in (2 ^ k) (pow-pos k)) n 32 102 l)
+row-more k n l = rw (add-one n) (next-column (inWindow (2 ^ k)) (pos 0) (zero-in (2 ^ k) (pow-pos k)) n 32 contractCount l)
 
 pub row-two-more : (k n : ℕ) (l : List ℤ) → everyRow (inWindow (2 ^ k)) (n + 2) l ≡ everyRow (inWindow (2 ^ k)) n l && (everyColumn (inWindow (2 ^ k)) n l && everyColumn (inWindow (2 ^ k)) (n + 1) l)
 row-two-more k n l =
@@ -39,12 +40,12 @@ row-two-more k n l =
 
 pub row-whole : (p : ℤ → Bool) (l : List ℤ) → every p (take 3264 l) ≡ everyRow p 32 l
 unfolding everyRow
-row-whole p l = whole-rows p 32 102 l
+row-whole p l = whole-rows p 32 contractCount l
 
 -- What is in a window within the bound is within the bound.
 pub row-within : (w b n : ℕ) (l : List ℤ) → w ≤ 2 * b + 1 → everyRow (inWindow w) n l ≡ true → true ≡ everyRow (λ z. leb (natAbs z) b) n l
 unfolding everyRow
-row-within w b n l h e = sym (rows-weaker (inWindow w) (λ z. leb (natAbs z) b) (λ z. window-within z w b h) 32 n 102 l e)
+row-within w b n l h e = sym (rows-weaker (inWindow w) (λ z. leb (natAbs z) b) (λ z. window-within z w b h) 32 n contractCount l e)
 
 -- ---- the widest window
 short : (m b : ℕ) → 2 ^ m ≤ 2 * b + 1 → b ≤ 5000000000000 → m ≤ 62

@@ -8,6 +8,7 @@ use lib.Dec.{leb, ltb, leb·suc-suc}
 use lib.ListN.{getD}
 use Rattle.arith.specs.Lists.{allOf}
 use Rattle.arith.proofs.Tests.{and-true}
+use Rattle.rules.specs.Ranges.{mostPrice}
 use Rattle.rules.specs.Refusals.{contractPricesSound}
 use Rattle.damage.specs.Orders.{between}
 
@@ -24,7 +25,7 @@ in-turn true false false m d v = refl
 in-turn false l h m d v = refl
 
 pub contract-in-turn : (run : ℕ) (l : List ℕ)
-    → allOf (leb (getD l 0 0) 1000000 ∷ leb (getD l 2 0) 1000000 ∷ between 1 (getD l 2 0 + 1) (getD l 1 0) ∷ leb (getD l 3 0) run ∷ between (getD l 3 0) (1000000 * getD l 3 0 + 1)
+    → allOf (leb (getD l 0 0) mostPrice ∷ leb (getD l 2 0) mostPrice ∷ between 1 (getD l 2 0 + 1) (getD l 1 0) ∷ leb (getD l 3 0) run ∷ between (getD l 3 0) (mostPrice * getD l 3 0 + 1)
     (getD l 4 0) ∷ []) ≡ contractPricesSound run l
 unfolding contractPricesSound
 contract-in-turn run l =
@@ -32,5 +33,5 @@ contract-in-turn run l =
     let high = getD l 2 0 in
     let m = getD l 3 0 in
     let v = getD l 4 0 in
-    rw (up-to low high, up-to v (1000000 * m))
-    (in-turn (leb (getD l 0 0) 1000000) (leb 1 low && leb low high) (leb high 1000000) (leb m run) (leb m v) (leb v (1000000 * m)))
+    rw (up-to low high, up-to v (mostPrice * m))
+    (in-turn (leb (getD l 0 0) mostPrice) (leb 1 low && leb low high) (leb high mostPrice) (leb m run) (leb m v) (leb v (mostPrice * m)))

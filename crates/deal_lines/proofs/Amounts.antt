@@ -3,6 +3,7 @@ use mathlib.Core.Path.{_≡_, refl}
 use Prim.Native.Nat.{ℕ, zero, suc, _*_, _≤_}
 use native.Mathlib.Nat.{zero-mul, mul-le-mul}
 use lib.IntN.{pos, _*ℤ_}
+use Rattle.rules.specs.Ranges.{mostLotsRun, mostPrice}
 use Rattle.rules.specs.declared.order.Side.{Side}
 use Rattle.rules.specs.declared.order.Side.the-variants.{Buy, Sell}
 use Rattle.rules.specs.Sides.{signed}
@@ -13,5 +14,5 @@ signed-times Buy q p = refl
 signed-times Sell zero p = rw (zero-mul p)
 signed-times Sell (suc q) p = refl
 
-pub worth-most : (q p : ℕ) → q ≤ 5000000 → p ≤ 1000000 → q * p ≤ 5000000000000
+pub worth-most : (q p : ℕ) → q ≤ mostLotsRun → p ≤ mostPrice → q * p ≤ 5000000000000
 worth-most q p h g = mul-le-mul h g

@@ -12,6 +12,7 @@ use Rattle.arith.proofs.Sizes.{abs-plus}
 use Rattle.arith.proofs.Tests.{same-or}
 use Rattle.arith.proofs.Appends.{flat-append, flat-one, flat-length}
 use Rattle.arith.proofs.Writes.{over-more}
+use Rattle.rules.specs.Ledger.{lineWidth, lotsRunPlace}
 use Rattle.rules.specs.Ranges.{contractCount, mostMembers}
 use Rattle.rules.specs.Ledger.{Tables, Line, lotsRun, rowPlace, linePlaces, lineLots, lineValue, posted, lineRun, booked}
 use Rattle.tables.specs.Fit.{RowsFit}
@@ -39,10 +40,10 @@ booked-more ls l i t e h =
       run-more ls l,
       flat-append linePlaces ls (l ∷ []),
       flat-one linePlaces l,
-      getD-set-same (t .head) 6 (lotsRun t + lineRun ls) 0 h,
+      getD-set-same (t .head) lotsRunPlace (lotsRun t + lineRun ls) 0 h,
       set-set (t .head) 6 (lotsRun t + lineRun ls) (lotsRun t + lineRun ls + natAbs (l .lots)),
       add-assoc (lotsRun t) (lineRun ls) (natAbs (l .lots)),
-      over-more (length ls * 4) (flatMap linePlaces ls) (linePlaces l) (t .lines) (flat-length 4 linePlaces (λ x. refl) ls),
+      over-more (length ls * lineWidth) (flatMap linePlaces ls) (linePlaces l) (t .lines) (flat-length 4 linePlaces (λ x. refl) ls),
     )
 
 -- Rows within a bound are, with one more line, within the bound and the line's amount.

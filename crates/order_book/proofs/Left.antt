@@ -15,6 +15,8 @@ use Rattle.arith.proofs.Overs.{over-outside}
 use Rattle.arith.proofs.Tests.{true-or}
 use Rattle.arith.proofs.Appends.{from-more, from-length, map-append, flat-append, flat-one, flat-length, map-at, from-at}
 use Rattle.arith.proofs.Writes.{stored, over-more, again-long, again-front, again-many}
+use Rattle.rules.specs.Ledger.{orderWidth}
+use Rattle.rules.specs.Ledger.{bookLength}
 use Rattle.rules.specs.declared.order.Order.{Order}
 use Rattle.rules.specs.Ledger.{sideAt, orderAt, orderPlaces}
 use Rattle.rules.specs.Matching.{withLots}
@@ -93,27 +95,27 @@ module _ (p : Order → Bool) (n : ℕ) (ys l b : List ℕ) (fits : n ≤ length
 
 -- ---- one step
 -- An order behind what was written is read as it was.
-pub order-there : (xs b : List ℕ) (i : ℕ) → length xs ≤ i * 8 → i < 256 → 2048 ≤ length b → orderAt (over 0 xs b) i ≡ orderAt b i
+pub order-there : (xs b : List ℕ) (i : ℕ) → length xs ≤ i * orderWidth → i < 256 → bookLength ≤ length b → orderAt (over 0 xs b) i ≡ orderAt b i
 order-there xs b i h s l =
     let fits : 0 + length xs ≤ length b = omega arith in
     rw (
-      over-outside 0 xs b fits (i * 8) 0 (λ _. omega arith),
-      over-outside 0 xs b fits (i * 8 + 1) 0 (λ _. omega arith),
-      over-outside 0 xs b fits (i * 8 + 2) 0 (λ _. omega arith),
-      over-outside 0 xs b fits (i * 8 + 3) 0 (λ _. omega arith),
-      over-outside 0 xs b fits (i * 8 + 4) 0 (λ _. omega arith),
-      over-outside 0 xs b fits (i * 8 + 5) 0 (λ _. omega arith),
-      over-outside 0 xs b fits (i * 8 + 6) 0 (λ _. omega arith),
-      over-outside 0 xs b fits (i * 8 + 7) 0 (λ _. omega arith),
+      over-outside 0 xs b fits (i * orderWidth) 0 (λ _. omega arith),
+      over-outside 0 xs b fits (i * orderWidth + 1) 0 (λ _. omega arith),
+      over-outside 0 xs b fits (i * orderWidth + 2) 0 (λ _. omega arith),
+      over-outside 0 xs b fits (i * orderWidth + 3) 0 (λ _. omega arith),
+      over-outside 0 xs b fits (i * orderWidth + 4) 0 (λ _. omega arith),
+      over-outside 0 xs b fits (i * orderWidth + 5) 0 (λ _. omega arith),
+      over-outside 0 xs b fits (i * orderWidth + 6) 0 (λ _. omega arith),
+      over-outside 0 xs b fits (i * orderWidth + 7) 0 (λ _. omega arith),
     )
 
-pub side-there : (xs b : List ℕ) (i : ℕ) → length xs ≤ i * 8 → i < 256 → 2048 ≤ length b → sideAt (over 0 xs b) i ≡ sideAt b i
-side-there xs b i h s l = over-outside 0 xs b (omega arith) (i * 8 + 3) 0 (λ _. omega arith)
+pub side-there : (xs b : List ℕ) (i : ℕ) → length xs ≤ i * orderWidth → i < 256 → bookLength ≤ length b → sideAt (over 0 xs b) i ≡ sideAt b i
+side-there xs b i h s l = over-outside 0 xs b (omega arith) (i * orderWidth + 3) 0 (λ _. omega arith)
 
 -- An order written where it stands changes its lots.
-pub lots-written : (b : List ℕ) (i q : ℕ) → i * 8 + 8 ≤ length b → sideAt b i ≤ 1 → set b (i * 8 + 5) q ≡ over (i * 8) (orderPlaces (withLots q (orderAt b i))) b
+pub lots-written : (b : List ℕ) (i q : ℕ) → i * orderWidth + 8 ≤ length b → sideAt b i ≤ 1 → set b (i * orderWidth + 5) q ≡ over (i * orderWidth) (orderPlaces (withLots q (orderAt b i))) b
 lots-written b i q h s =
-    let at = i * 8 in
+    let at = i * orderWidth in
     let behind = suc (suc (suc (suc (suc at)))) in
     sym
     (sym (stored (orderPlaces (withLots q (orderAt b i))) b at h)
@@ -137,7 +139,7 @@ lots-written b i q h s =
       set-getD (set b behind q) (suc (suc behind)) 0,
     ))
 
-pub places-length : (os : List Order) → length (flatMap orderPlaces os) ≡ length os * 8
+pub places-length : (os : List Order) → length (flatMap orderPlaces os) ≡ length os * orderWidth
 places-length os = flat-length 8 orderPlaces (λ o. refl) os
 
 module _ (qs b : List ℕ) where
@@ -148,7 +150,7 @@ module _ (qs b : List ℕ) where
   pub left-few : (i : ℕ) → length (leftTo i) ≤ i
   left-few i = omega (arith, left-most qs (ordersIn i b), orders-length b i)
 
-  module _ (i : ℕ) (small : i < 256) (long : 2048 ≤ length b) (column : i < length qs) where
+  module _ (i : ℕ) (small : i < 256) (long : bookLength ≤ length b) (column : i < length qs) where
     left-next : leftTo (i + 1) ≡ leftTo i ++ cond (eqb (getD qs i 0) 0) [] (withLots (getD qs i 0) (orderAt b i) ∷ [])
     left-next = rw (orders-more b i, left-more qs (ordersIn i b) (orderAt b i) (omega (arith, orders-length b i)), orders-length b i)
 
@@ -158,17 +160,18 @@ module _ (qs b : List ℕ) where
         (true-or (eqb (getD qs i 0) 0) (λ t. rw t (omega arith)) (λ t. rw t (omega arith)))
 
     written : (o : Order) → o ≡ orderAt b i
-        → cond (eqb (getD qs i 0) 0) (over 0 (flatMap orderPlaces (leftTo i)) b) (over (length (leftTo i) * 8) (orderPlaces (withLots (getD qs i 0) o)) (over 0 (flatMap orderPlaces (leftTo i)) b))
+        → cond (eqb (getD qs i 0) 0) (over 0 (flatMap orderPlaces (leftTo i)) b) (over (length (leftTo i) * orderWidth) (orderPlaces (withLots (getD qs i 0) o))
+        (over 0 (flatMap orderPlaces (leftTo i)) b))
         ≡ over 0 (flatMap orderPlaces (leftTo (i + 1))) b
     written o e =
         let rest = withLots (getD qs i 0) (orderAt b i) in
         rw (e, left-next)
         (true-or (eqb (getD qs i 0) 0) (λ t. rw (t, append-nil (leftTo i)))
         (λ t. rw (t, flat-append orderPlaces (leftTo i) (rest ∷ []), flat-one orderPlaces rest)
-        (over-more (length (leftTo i) * 8) (flatMap orderPlaces (leftTo i)) (orderPlaces rest) b (places-length (leftTo i)))))
+        (over-more (length (leftTo i) * orderWidth) (flatMap orderPlaces (leftTo i)) (orderPlaces rest) b (places-length (leftTo i)))))
 
     pub kept-book : (free : ℕ) (book : List ℕ) → free ≡ length (leftTo i) → book ≡ over 0 (flatMap orderPlaces (leftTo i)) b
-        → cond (eqb (getD qs i 0) 0) book (over (free * 8) (orderPlaces (withLots (getD qs i 0) (orderAt book i))) book) ≡ over 0 (flatMap orderPlaces (leftTo (i + 1))) b
+        → cond (eqb (getD qs i 0) 0) book (over (free * orderWidth) (orderPlaces (withLots (getD qs i 0) (orderAt book i))) book) ≡ over 0 (flatMap orderPlaces (leftTo (i + 1))) b
     kept-book free book e f =
         rw (f, e) (written (orderAt (over 0 (flatMap orderPlaces (leftTo i)) b) i)
         (order-there (flatMap orderPlaces (leftTo i)) b i (omega (arith, places-length (leftTo i), left-few i)) small long))

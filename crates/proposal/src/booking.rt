@@ -1,9 +1,9 @@
 // A proposal is booked: one line a leg, and each leg's lots taken from its order.
 ghost use mathlib.Core.Path.{_≡_};
-ghost use Prim.Native.Nat.{ℕ, _-_, _≤_, _<_};
+ghost use Prim.Native.Nat.{ℕ, _*_, _-_, _≤_, _<_};
 ghost use lib.ListN.{length, getD};
 ghost use Rattle.arith.specs.Lists.{total, from};
-ghost use Rattle.rules.specs.Ranges.{mostOrders};
+ghost use Rattle.rules.specs.Ranges.{mostLegs, mostLots, mostOrders};
 ghost use Rattle.rules.specs.Ledger.{Tables, withHead, withRows, withBook, withLines, withOrders, headLength, bookLength, sideAt, booked};
 ghost use Rattle.tables.specs.Fit.{BookFit, ordersIn, orderCountIn};
 ghost use Rattle.order_book.specs.Left.{leftOver};
@@ -22,7 +22,7 @@ use rules::layout::ORDERS;
 // The lots of all legs together.
 pub fn total_lots(lots: &[u64], prices: &[u64]) -> u64
     requires { ⌜ LegsFit (length (now lots)) (now lots) (now prices) ⌝ }
-    ensures { λ r. ⌜ (r ≡ total (λ i. getD (now (lots .entry)) i 0) (from 0 (length (now (lots .entry))))) × (r ≤ 1200) ⌝ }
+    ensures { λ r. ⌜ (r ≡ total (λ i. getD (now (lots .entry)) i 0) (from 0 (length (now (lots .entry))))) × (r ≤ mostLegs * mostLots) ⌝ }
 {
     let mut sum: u64 = 0;
     let mut i: usize = 0;

@@ -12,6 +12,7 @@ use borrow.Author.Tests.{lt-ltb, le-ltb, eq-eqb, ne-eqb}
 use Rattle.arith.specs.Lists.{All, from}
 use Rattle.arith.proofs.Alls.{all-map}
 use Rattle.arith.proofs.Tests.{by-bool, true-or, le-or-lt, same-or, and-left, and-right}
+use Rattle.rules.specs.Ranges.{contractCount, mostPrice}
 use Rattle.rules.specs.declared.order.Order.{Order}
 use Rattle.rules.specs.declared.order.Side.{Side}
 use Rattle.rules.specs.declared.order.Side.the-variants.{Buy, Sell}
@@ -88,8 +89,8 @@ module _ (d s : ℕ) (side : Side) where
       (λ t. rw t (by-bool (λ u. getD q c 0 ≡ cond (u && false) (betterQuote side (o .price .0) (getD q c 0)) (getD q c 0)) (eqb (o .contract) c) (λ _. refl) (λ _. refl)))
 
   pub quotes-next : (q : List ℕ) (o : Order) (os : List Order) → All (λ o. 1 ≤ o .price .0) os → o .contract < length q
-      → ((c : ℕ) → c < 102 → getD q c 0 ≡ bestPrice d s side os c)
-      → (c : ℕ) → c < 102 → getD (cond (quotesAt d s side o) (set q (o .contract) (betterQuote side (o .price .0) (getD q (o .contract) 0))) q) c 0 ≡ bestPrice d s side (o ∷ os) c
+      → ((c : ℕ) → c < contractCount → getD q c 0 ≡ bestPrice d s side os c)
+      → (c : ℕ) → c < contractCount → getD (cond (quotesAt d s side o) (set q (o .contract) (betterQuote side (o .price .0) (getD q (o .contract) 0))) q) c 0 ≡ bestPrice d s side (o ∷ os) c
   quotes-next q o os a h f c b = noted q o c h ∙ rw (f c b) (sym (price-more o os c a))
 
   pub quotes-none : (c : ℕ) → bestPrice d s side [] c ≡ 0
@@ -97,13 +98,13 @@ module _ (d s : ℕ) (side : Side) where
   quotes-none c = refl
 
   -- no price that quotes passes the most
-  pub price-most : (os : List Order) (c : ℕ) → All (λ o. o .price .0 ≤ 1000000) os → bestPrice d s side os c ≤ 1000000
+  pub price-most : (os : List Order) (c : ℕ) → All (λ o. o .price .0 ≤ mostPrice) os → bestPrice d s side os c ≤ mostPrice
   unfolding bestPrice
   price-most os c a =
       let p : Order → Bool = λ o. eqb (o .contract) c && quotesAt d s side o in
-      go (best p os) (best-holds (λ b. b .price .0 ≤ 1000000) p os (all-map (λ o. o .price .0 ≤ 1000000) (λ o. p o ≡ true → o .price .0 ≤ 1000000) os (λ o l e. l) a))
+      go (best p os) (best-holds (λ b. b .price .0 ≤ mostPrice) p os (all-map (λ o. o .price .0 ≤ mostPrice) (λ o. p o ≡ true → o .price .0 ≤ mostPrice) os (λ o l e. l) a))
     where
-      go : (x : Option Order) → Holds (λ b. b .price .0 ≤ 1000000) x → quoteOf x ≤ 1000000
+      go : (x : Option Order) → Holds (λ b. b .price .0 ≤ mostPrice) x → quoteOf x ≤ mostPrice
       go none h = omega arith
       go (some b) h = h
 

@@ -13,6 +13,8 @@ use borrow.Author.Tests.{ne-eqb, lt-ltb}
 use Rattle.arith.specs.Lists.{All, kept}
 use Rattle.arith.proofs.Alls.{all-map}
 use Rattle.arith.proofs.Tests.{true-or, same-or}
+use Rattle.rules.specs.Ledger.{priceWidth, pricesLength}
+use Rattle.rules.specs.Ranges.{contractCount, mostLotsRun, mostPrice}
 use Rattle.rules.specs.declared.contract.ContractKind.{ContractKind}
 use Rattle.rules.specs.declared.contract.ContractKind.the-variants.{Year, Quarter, Month}
 use Rattle.rules.specs.declared.order.Order.{Order}
@@ -49,8 +51,8 @@ module _ (t : Tables) (s : ℕ) (a : All (λ o. 1 ≤ o .price .0) (orders t)) w
   unfolding ggfFrom priceFrom ggfAtClose
   ggf-is buys sells c e f =
       rw (e, f, ← quote-is Buy c, ← quote-is Sell c)
-      (ap (cond (leb (thresholdOf (kindOf c)) (getD (t .prices) (c * 5 + 3) 0)) (roundedHalfUp (getD (t .prices) (c * 5 + 4) 0) (getD (t .prices) (c * 5 + 3) 0)))
-      (sym (quoted-is (getD (t .prices) (c * 5 + 3) 0) (getD (t .prices) (c * 5 + 4) 0) (getD (t .prices) (c * 5) 0) (bestQuote t s c Buy) (bestQuote t s c Sell)
+      (ap (cond (leb (thresholdOf (kindOf c)) (getD (t .prices) (c * priceWidth + 3) 0)) (roundedHalfUp (getD (t .prices) (c * priceWidth + 4) 0) (getD (t .prices) (c * priceWidth + 3) 0)))
+      (sym (quoted-is (getD (t .prices) (c * priceWidth + 3) 0) (getD (t .prices) (c * priceWidth + 4) 0) (getD (t .prices) (c * priceWidth) 0) (bestQuote t s c Buy) (bestQuote t s c Sell)
       (quote-holds Buy c) (quote-holds Sell c))))
 
 -- ---- a price that was written is not made anew from itself, nor another from it
@@ -59,53 +61,53 @@ unfolding priceFrom quotedFrom
 price-again threshold m v former b s =
     true-or (leb threshold m) (λ e. rw e) (λ e. rw e (true-or (eqb b 0 || eqb s 0) (λ f. rw f) (λ f. rw f)))
 
-module _ (buys sells l : List ℕ) (long : 510 ≤ length l) where
-  ggf-again : (x c : ℕ) → x < 102 → ggfFrom buys sells (set l (x * 5) (ggfFrom buys sells l x)) c ≡ ggfFrom buys sells l c
+module _ (buys sells l : List ℕ) (long : pricesLength ≤ length l) where
+  ggf-again : (x c : ℕ) → x < contractCount → ggfFrom buys sells (set l (x * priceWidth) (ggfFrom buys sells l x)) c ≡ ggfFrom buys sells l c
   unfolding ggfFrom
   ggf-again x c b =
       let v = ggfFrom buys sells l x in
-      let lots = getD-set-other l (x * 5) (c * 5 + 3) v 0 (omega arith) in
-      let value = getD-set-other l (x * 5) (c * 5 + 4) v 0 (omega arith) in
+      let lots = getD-set-other l (x * priceWidth) (c * priceWidth + 3) v 0 (omega arith) in
+      let value = getD-set-other l (x * priceWidth) (c * priceWidth + 4) v 0 (omega arith) in
       same-or c x
-      (λ e. rw (lots, value, e, getD-set-same l (x * 5) v 0 (omega arith))
-      (price-again (thresholdOf (kindOf x)) (getD l (x * 5 + 3) 0) (getD l (x * 5 + 4) 0) (getD l (x * 5) 0) (getD buys x 0) (getD sells x 0)))
-      (λ e. rw (lots, value, getD-set-other l (x * 5) (c * 5) v 0 (omega arith)))
+      (λ e. rw (lots, value, e, getD-set-same l (x * priceWidth) v 0 (omega arith))
+      (price-again (thresholdOf (kindOf x)) (getD l (x * priceWidth + 3) 0) (getD l (x * priceWidth + 4) 0) (getD l (x * priceWidth) 0) (getD buys x 0) (getD sells x 0)))
+      (λ e. rw (lots, value, getD-set-other l (x * priceWidth) (c * priceWidth) v 0 (omega arith)))
 
-pub ggfs-are : (t : Tables) (s : ℕ) (buys sells cs l : List ℕ) → 510 ≤ length l → All (λ c. c < 102) cs → ((c : ℕ) → c < 102 → ggfFrom buys sells l c ≡ ggfAtClose t s c)
+pub ggfs-are : (t : Tables) (s : ℕ) (buys sells cs l : List ℕ) → pricesLength ≤ length l → All (λ c. c < contractCount) cs → ((c : ℕ) → c < contractCount → ggfFrom buys sells l c ≡ ggfAtClose t s c)
     → ggfsFrom buys sells cs l ≡ withGgfs t s cs l
 unfolding ggfsFrom withGgfs
 ggfs-are t s buys sells [] l long below same = refl
 ggfs-are t s buys sells (c ∷ cs) l long below same =
     let v = ggfFrom buys sells l c in
-    ggfs-are t s buys sells cs (set l (c * 5) v) (rw (length-set l (c * 5) v) long) (below .1) (λ x h. ggf-again buys sells l long c x (below .0) ∙ same x h)
-    ∙ ap (λ p. withGgfs t s cs (set l (c * 5) p)) (same c (below .0))
+    ggfs-are t s buys sells cs (set l (c * priceWidth) v) (rw (length-set l (c * priceWidth) v) long) (below .1) (λ x h. ggf-again buys sells l long c x (below .0) ∙ same x h)
+    ∙ ap (λ p. withGgfs t s cs (set l (c * priceWidth) p)) (same c (below .0))
 
 -- ---- the loop over a kind's contracts
-deals-set : (l : List ℕ) (c v : ℕ) → DealsFit l → DealsFit (set l (c * 5) v)
+deals-set : (l : List ℕ) (c v : ℕ) → DealsFit l → DealsFit (set l (c * priceWidth) v)
 deals-set l c v d =
     record {
-      long = rw (length-set l (c * 5) v) (d .long);
-      most-lots = λ x h. rw (getD-set-other l (c * 5) (x * 5 + 3) v 0 (omega arith)) (d .most-lots x h);
-      most-value = λ x h. rw (getD-set-other l (c * 5) (x * 5 + 4) v 0 (omega arith)) (d .most-value x h);
+      long = rw (length-set l (c * priceWidth) v) (d .long);
+      most-lots = λ x h. rw (getD-set-other l (c * priceWidth) (x * priceWidth + 3) v 0 (omega arith)) (d .most-lots x h);
+      most-value = λ x h. rw (getD-set-other l (c * priceWidth) (x * priceWidth + 4) v 0 (omega arith)) (d .most-value x h);
     }
 
-pub deals-if : (t : Bool) (l : List ℕ) (c v : ℕ) → DealsFit l → DealsFit (cond t (set l (c * 5) v) l)
+pub deals-if : (t : Bool) (l : List ℕ) (c v : ℕ) → DealsFit l → DealsFit (cond t (set l (c * priceWidth) v) l)
 deals-if true l c v d = deals-set l c v d
 deals-if false l c v d = d
 
 pub deals-ggfs : (buys sells cs l : List ℕ) → DealsFit l → DealsFit (ggfsFrom buys sells cs l)
 unfolding ggfsFrom
 deals-ggfs buys sells [] l d = d
-deals-ggfs buys sells (c ∷ cs) l d = deals-ggfs buys sells cs (set l (c * 5) (ggfFrom buys sells l c)) (deals-set l c (ggfFrom buys sells l c) d)
+deals-ggfs buys sells (c ∷ cs) l d = deals-ggfs buys sells cs (set l (c * priceWidth) (ggfFrom buys sells l c)) (deals-set l c (ggfFrom buys sells l c) d)
 
 pub ggfs-append : (buys sells xs ys l : List ℕ) → ggfsFrom buys sells (xs ++ ys) l ≡ ggfsFrom buys sells ys (ggfsFrom buys sells xs l)
 unfolding ggfsFrom
 ggfs-append buys sells [] ys l = refl
-ggfs-append buys sells (c ∷ xs) ys l = ggfs-append buys sells xs ys (set l (c * 5) (ggfFrom buys sells l c))
+ggfs-append buys sells (c ∷ xs) ys l = ggfs-append buys sells xs ys (set l (c * priceWidth) (ggfFrom buys sells l c))
 
 -- one more contract that may be open
 pub open-next : (buys sells l all : List ℕ) (w : ℕ → Bool) (more c : ℕ) (rest : List ℕ) → ggfsFrom buys sells (take more (kept w (c ∷ rest))) l ≡ all
-    → ggfsFrom buys sells (take (cond (w c) (more - 1) more) (kept w rest)) (cond (w c && ltb 0 more) (set l (c * 5) (ggfFrom buys sells l c)) l) ≡ all
+    → ggfsFrom buys sells (take (cond (w c) (more - 1) more) (kept w rest)) (cond (w c && ltb 0 more) (set l (c * priceWidth) (ggfFrom buys sells l c)) l) ≡ all
 unfolding ggfsFrom kept
 open-next buys sells l all w zero c rest e = true-or (w c) (λ t. rw t e) (λ t. rw t e)
 open-next buys sells l all w (suc more) c rest e =
@@ -118,5 +120,5 @@ least-threshold Quarter = omega arith
 least-threshold Month = omega arith
 
 -- no product passes its place
-pub quoted-most : (m b s : ℕ) → m ≤ 5000000 → b ≤ 1000000 → s ≤ 1000000 → m * (b + s) ≤ 10000000000000
+pub quoted-most : (m b s : ℕ) → m ≤ mostLotsRun → b ≤ mostPrice → s ≤ mostPrice → m * (b + s) ≤ 10000000000000
 quoted-most m b s h g k = let both : b + s ≤ 2000000 = omega arith in mul-le-mul h both

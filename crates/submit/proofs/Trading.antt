@@ -7,6 +7,7 @@ use native.Mathlib.Nat.{add-zero}
 use lib.ListN.{length, getD}
 use lib.Seq.{set-getD}
 use Rattle.arith.specs.Lists.{from, total, All}
+use Rattle.rules.specs.Ledger.{orderCountPlace}
 use Rattle.rules.specs.declared.order.Order.{Order}
 use Rattle.rules.specs.Ranges.{mostLots}
 use Rattle.rules.specs.Ledger.{Tables, lent, withHead, withBook, withOrders, withDealt, dayLotsPlace, dayValuePlace}
@@ -114,7 +115,7 @@ module _ (head prices book : List ℕ) (o : Order) (x : Tradable head prices boo
         let zero-dealt = nothing (matched o os .deals) (untouched .deals) in
         let c = o .contract in
         record {
-          head-after = rw (rs, orders-length book n) (sym (set-getD head 7 0));
+          head-after = rw (rs, orders-length book n) (sym (set-getD head orderCountPlace 0));
           prices-after =
               rw (zero-dealt .0, zero-dealt .1, add-zero (getD prices (dayLotsPlace c) 0), add-zero (getD prices (dayValuePlace c) 0), set-getD prices (dayLotsPlace c) 0)
               (sym (set-getD prices (dayValuePlace c) 0));

@@ -15,6 +15,8 @@ use Rattle.arith.proofs.Among.{every-from}
 use Rattle.arith.proofs.EachBlock.{block, block-at, block-passes}
 use Rattle.arith.specs.Lists.{every, from}
 use Rattle.arith.proofs.Tests.{and-left, and-right, passed, passes}
+use Rattle.rules.specs.Ledger.{priceWidth, rowWidth}
+use Rattle.rules.specs.Ranges.{contractCount}
 use Rattle.rules.specs.Ranges.{mostPrice}
 use Rattle.rules.specs.Ledger.{Tables, calendar, members, lotsRun, orderCount, limit, mark, rowsLength, sideAt, orderAt, orders}
 use Rattle.rules.specs.Records.{sideSound}
@@ -51,20 +53,20 @@ unfolding contractPricesSound
 contract-fits run l c e =
     let all = all-hold _ e in
     let b = block 5 c l in
-    let ggf-at : getD b 0 0 ≡ getD l (c * 5) 0 = block-at 5 c 0 l 0 (omega arith) ∙ ap (λ i. getD l i 0) (add-zero (c * 5)) in
+    let ggf-at : getD b 0 0 ≡ getD l (c * priceWidth) 0 = block-at 5 c 0 l 0 (omega arith) ∙ ap (λ i. getD l i 0) (add-zero (c * priceWidth)) in
     let low-at = block-at 5 c 1 l 0 (omega arith) in
     let high-at = block-at 5 c 2 l 0 (omega arith) in
     let lots-at = block-at 5 c 3 l 0 (omega arith) in
     let value-at = block-at 5 c 4 l 0 (omega arith) in
-    let low-and = and-left (leb 1 (getD b 1 0) && leb (getD b 1 0) (getD b 2 0)) (leb (getD b 2 0) 1000000) (all .1 .0) in
+    let low-and = and-left (leb 1 (getD b 1 0) && leb (getD b 1 0) (getD b 2 0)) (leb (getD b 2 0) mostPrice) (all .1 .0) in
     record {
-      most-ggf = omega (arith, ggf-at, leb-true (getD b 0 0) 1000000 (all .0));
+      most-ggf = omega (arith, ggf-at, leb-true (getD b 0 0) mostPrice (all .0));
       least-low = omega (arith, low-at, leb-true 1 (getD b 1 0) (and-left (leb 1 (getD b 1 0)) (leb (getD b 1 0) (getD b 2 0)) low-and));
       low-high = omega (arith, low-at, high-at, leb-true (getD b 1 0) (getD b 2 0) (and-right (leb 1 (getD b 1 0)) (leb (getD b 1 0) (getD b 2 0)) low-and));
-      most-high = omega (arith, high-at, leb-true (getD b 2 0) 1000000 (and-right (leb 1 (getD b 1 0) && leb (getD b 1 0) (getD b 2 0)) (leb (getD b 2 0) 1000000) (all .1 .0)));
+      most-high = omega (arith, high-at, leb-true (getD b 2 0) mostPrice (and-right (leb 1 (getD b 1 0) && leb (getD b 1 0) (getD b 2 0)) (leb (getD b 2 0) mostPrice) (all .1 .0)));
       most-day-lots = omega (arith, lots-at, leb-true (getD b 3 0) run (all .1 .1 .0));
       least-day-value = omega (arith, lots-at, value-at, leb-true (getD b 3 0) (getD b 4 0) (all .1 .1 .1 .0));
-      most-day-value = omega (arith, lots-at, value-at, leb-true (getD b 4 0) (1000000 * getD b 3 0) (all .1 .1 .1 .1 .0));
+      most-day-value = omega (arith, lots-at, value-at, leb-true (getD b 4 0) (mostPrice * getD b 3 0) (all .1 .1 .1 .1 .0));
     }
 
 prices-fit : (t : Tables) → Undamaged t → PricesFit (lotsRun t) (t .prices)
@@ -72,18 +74,18 @@ unfolding pricesSound
 prices-fit t u =
     record {
       long = u .long .prices;
-      contract-fit = λ c h. contract-fits (lotsRun t) (t .prices) c (block-passes 5 (contractPricesSound (lotsRun t)) 102 (t .prices) (u .prices-sound) c h);
+      contract-fit = λ c h. contract-fits (lotsRun t) (t .prices) c (block-passes 5 (contractPricesSound (lotsRun t)) contractCount (t .prices) (u .prices-sound) c h);
     }
 
 rows-fit : (n b : ℕ) (l : List ℤ) → n ≤ 32 → rowsLength ≤ length l → everyRow (λ z. leb (natAbs z) b) n l ≡ true → RowsFit n b l
 unfolding everyRow
-rows-fit n b l few long e = record { long = long; within = λ c m h k. one c m h k (block-passes 32 (λ rows. every (λ z. leb (natAbs z) b) (take n rows)) 102 l e c h) }
+rows-fit n b l few long e = record { long = long; within = λ c m h k. one c m h k (block-passes 32 (λ rows. every (λ z. leb (natAbs z) b) (take n rows)) contractCount l e c h) }
   where
-    one : (c m : ℕ) → c < 102 → m < n → every (λ z. leb (natAbs z) b) (take n (block 32 c l)) ≡ true → natAbs (getD l (c * 32 + m) (pos 0)) ≤ b
+    one : (c m : ℕ) → c < contractCount → m < n → every (λ z. leb (natAbs z) b) (take n (block 32 c l)) ≡ true → natAbs (getD l (c * rowWidth + m) (pos 0)) ≤ b
     one c m h k f =
         let rows = take n (block 32 c l) in
         let fits : length rows ≡ n = simp (length-take, length-drop) (omega arith) in
-        let same : getD rows m (pos 0) ≡ getD l (c * 32 + m) (pos 0) = getD-take n (block 32 c l) m (pos 0) k ∙ block-at 32 c m l (pos 0) (omega arith) in
+        let same : getD rows m (pos 0) ≡ getD l (c * rowWidth + m) (pos 0) = getD-take n (block 32 c l) m (pos 0) k ∙ block-at 32 c m l (pos 0) (omega arith) in
         rw same at (leb-true _ b (all-place (λ z. leb (natAbs z) b ≡ true) (pos 0) rows (every-all (λ z. leb (natAbs z) b) rows f) m (omega arith)))
 
 order-fits : (t : Tables) (i : ℕ) → sideSound (sideAt (t .book) i) ≡ true → orderSound t (orderAt (t .book) i) ≡ true → OrderFit (t .head) (t .book) i

@@ -1,4 +1,5 @@
 use mathlib.Core.List.{[]}
+use Rattle.rules.specs.Ledger.{orderCountPlace, timePlace}
 use Rattle.rules.specs.Ledger.{lent}
 use Rattle.tables.specs.Fit.{OrdersFit}
 use mathlib.Core.Path.{sym, ap, subst, _∙_}
@@ -15,7 +16,7 @@ use Rattle.cancel.proofs.apply.Tie as tie
 
 returns : tie.Need-returns
 unfolding cancelSpec
-returns c = λ t. rw (lt-ltb (c .before .before .before .before .args .e .time) (getD (c .before .before .before .before .args .head .now) 4 0) (c .if1 .taken))
+returns c = λ t. rw (lt-ltb (c .before .before .before .before .args .e .time) (getD (c .before .before .before .before .args .head .now) timePlace 0) (c .if1 .taken))
 
 would-any-leave-requires : tie.Need-would-any-leave-requires
 would-any-leave-requires c κs = (c .before .before .before .before .before .before .pre .0 .most-orders, c .before .before .before .before .before .before .pre .1 .long)
@@ -25,7 +26,7 @@ unfolding cancelSpec orders
 returns-2 c =
     let args = c .before .before .before .before .before .before .before .before .args in
     let if1 = c .before .before .before .before .if1 in
-    λ t. rw (le-ltb (args .e .time) (getD (args .head .now) 4 0) (if1 .left), sym (c .before .would-any-leave .ensures) ∙ not-true _ (c .if2 .taken))
+    λ t. rw (le-ltb (args .e .time) (getD (args .head .now) timePlace 0) (if1 .left), sym (c .before .would-any-leave .ensures) ∙ not-true _ (c .if2 .taken))
 
 set-time-requires : tie.Need-set-time-requires
 set-time-requires c κs =
@@ -38,7 +39,7 @@ remove-orders-requires c κs =
     let a = c .before .before .before .before .before .before .before .before .before .before .before .before .before .before .args in
     let set-time = c .before .before .before .before .set-time in
     let u = lent (a .head .now) [] [] [] (a .book .now) [] in
-    let count = ap (λ t. getD (t .head) 7 0) (set-time .ensures u) ∙ timed-place (a .e .time) u (pre .0 .long) (pre .0 .most-members) 7 (omega arith) (λ e. omega arith) in
+    let count = ap (λ t. getD (t .head) orderCountPlace 0) (set-time .ensures u) ∙ timed-place (a .e .time) u (pre .0 .long) (pre .0 .most-members) 7 (omega arith) (λ e. omega arith) in
     (omega (arith, set-time .kept .0, pre .0 .long), subst (λ n. OrdersFit n (a .book .now)) (sym count) (orders-fit (a .head .now) (a .book .now) (pre .0) (pre .1)))
 
 returns-3 : tie.Need-returns-3
@@ -53,9 +54,9 @@ returns-3 c =
     let remove-orders = c .before .before .before .before .remove-orders in
     λ t.
     let u = withHead (a .head .now) (withBook (a .book .now) t) in
-    let count = ap (λ t. getD (t .head) 7 0) (set-time .ensures u) ∙ timed-place (a .e .time) u (pre .0 .long) (pre .0 .most-members) 7 (omega arith) (λ e. omega arith) in
+    let count = ap (λ t. getD (t .head) orderCountPlace 0) (set-time .ensures u) ∙ timed-place (a .e .time) u (pre .0 .long) (pre .0 .most-members) 7 (omega arith) (λ e. omega arith) in
     rw (
-      le-ltb (a .e .time) (getD (a .head .now) 4 0) (if1 .left),
+      le-ltb (a .e .time) (getD (a .head .now) timePlace 0) (if1 .left),
       sym (would-any-leave .ensures) ∙ not-false _ (if2 .left),
       ← set-time .ensures (withBook (a .book .now) t),
       booked-none _,

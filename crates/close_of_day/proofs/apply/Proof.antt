@@ -1,3 +1,4 @@
+use Rattle.rules.specs.Ledger.{timePlace}
 use Rattle.rules.specs.Ledger.{withHead, withPrices, withRows, withBook}
 use Rattle.close_of_day.proofs.Closes.{close-last, close-next}
 use mathlib.Core.Path.{_≡_, sym, _∙_}
@@ -12,7 +13,7 @@ use Rattle.close_of_day.proofs.apply.Tie as tie
 
 returns : tie.Need-returns
 unfolding closeSpec
-returns c = λ t. rw (lt-ltb (c .before .before .before .before .before .args .time) (getD (c .before .before .before .before .before .args .head .now) 4 0) (c .if1 .taken))
+returns c = λ t. rw (lt-ltb (c .before .before .before .before .before .args .time) (getD (c .before .before .before .before .before .args .head .now) timePlace 0) (c .if1 .taken))
 
 returns-2 : tie.Need-returns-2
 returns-2 c =

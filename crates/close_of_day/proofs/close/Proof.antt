@@ -5,6 +5,7 @@ use native.Mathlib.Omega.{arith}
 use lib.ListN.{getD, length}
 use lib.Seq.{getD-set-other}
 use Rattle.arith.specs.Lists.{kept}
+use Rattle.rules.specs.Ledger.{membersPlace, orderCountPlace}
 use Rattle.rules.specs.Ledger.{lent, withHead, withPrices, withRows, withBook, withOrders, orders}
 use Rattle.rules.specs.CloseOfDay.{allCascaded, onDay}
 use Rattle.tables.specs.Fit.{ordersIn}
@@ -58,7 +59,7 @@ begin-day-requires c κs =
     let a = long-before .before .before .args in
     let remove-closing = c .before .before .before .before .before .remove-closing in
     let u = lent (a .head .now) [] [] [] (a .book .now) [] in
-    let same = ap (λ t. getD (t .head) 1 0) (remove-closing .ensures u) ∙ getD-set-other (a .head .now) 7 1 _ 0 (λ e. omega arith) in
+    let same = ap (λ t. getD (t .head) membersPlace 0) (remove-closing .ensures u) ∙ getD-set-other (a .head .now) 7 1 _ 0 (λ e. omega arith) in
     (omega (arith, remove-closing .kept .0, pre .0 .0 .long), omega (arith, same, pre .0 .0 .most-members))
 
 returns : tie.Need-returns
@@ -79,13 +80,13 @@ returns c =
     let lots = cascade-all .last .0 in
     let value = cascade-all2 .last .0 in
     let book = remove-closing .last .1 .0 in
-    let n = getD (a .head .now) 1 0 in
+    let n = getD (a .head .now) membersPlace 0 in
     λ t.
     let u = withHead (a .head .now) (withPrices (a .prices .now) (withRows (a .lots .now) (a .value .now) (withBook (a .book .now) t))) in
     let column = write-phases .ensures in
     begin-day .ensures (withPrices prices (withRows lots value (withBook book t)))
     ∙ ap (onDay (a .next .0)) (remove-closing .ensures (withPrices prices (withRows lots value t))
-    ∙ ap (λ k. withOrders (kept (λ o. not (closes k (o .contract))) (ordersIn (getD (a .head .now) 7 0) (a .book .now))) (withPrices prices (withRows lots value u))) column)
+    ∙ ap (λ k. withOrders (kept (λ o. not (closes k (o .contract))) (ordersIn (getD (a .head .now) orderCountPlace 0) (a .book .now))) (withPrices prices (withRows lots value u))) column)
     ∙ closed-is u (a .time) (a .next .0) prices lots value (book-reads (a .head .now) (a .book .now) (pre .0 .0) (pre .0 .2))
     (ap (λ x. x .prices) (write-prices .ensures (withRows (a .lots .now) (a .value .now) t)))
     (cascade-all .ensures ∙ ap (λ k. allCascaded n (closing k) (a .lots .now)) column)

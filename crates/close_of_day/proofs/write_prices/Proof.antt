@@ -1,6 +1,8 @@
 use mathlib.Core.Path.{refl, ap, _∙_}
 use Prim.Native.Nat.{_≤_}
 use lib.ListN.{getD, length}
+use Rattle.rules.specs.Ranges.{mostPrice}
+use Rattle.rules.specs.Ledger.{orderCountPlace}
 use Rattle.rules.specs.Ledger.{withHead, withPrices, withBook, orders}
 use Rattle.rules.specs.CloseOfDay.{priced, withoutDeals}
 use Rattle.order_book.proofs.Left.{all-orders}
@@ -31,8 +33,8 @@ write-ggfs-requires c κs =
     let a = c .before .before .before .before .before .before .before .before .before .before .before .before .before .before .before .args in
     let write-quotes = c .before .before .before .before .before .before .before .write-quotes in
     let write-quotes2 = c .before .before .before .before .write-quotes2 in
-    let n = getD (a .head .now) 7 0 in
-    let most = all-orders (λ o. o .price .0 ≤ 1000000) (a .book .now) n (λ i h. pre .0 .2 .order-fit i h .most-price) in (
+    let n = getD (a .head .now) orderCountPlace 0 in
+    let most = all-orders (λ o. o .price .0 ≤ mostPrice) (a .book .now) n (λ i h. pre .0 .2 .order-fit i h .most-price) in (
       deals-fit (a .head .now) (a .prices .now) (pre .0 .0) (pre .0 .1),
       record { all = search needs; most = λ x h. rw (write-quotes .ensures x h) (price-most _ _ _ _ x most) },
       record { all = search needs; most = λ x h. rw (write-quotes2 .ensures x h) (price-most _ _ _ _ x most) },
@@ -52,7 +54,7 @@ returns c =
     let sells = write-quotes2 .last .1 .1 .1 .1 .1 .0 in
     λ t.
     let u = withHead (a .head .now) (withPrices (a .prices .now) (withBook (a .book .now) t)) in
-    let least = all-orders (λ o. 1 ≤ o .price .0) (a .book .now) (getD (a .head .now) 7 0) (λ i h. pre .0 .2 .order-fit i h .least-price) in
+    let least = all-orders (λ o. 1 ≤ o .price .0) (a .book .now) (getD (a .head .now) orderCountPlace 0) (λ i h. pre .0 .2 .order-fit i h .least-price) in
     ap (λ p. withPrices p u)
     (clear-deals .ensures ∙ ap withoutDeals (write-ggfs .ensures ∙ ap (λ k. ggfsFrom buys sells (allOpenIn k) (a .prices .now)) (pre .1))
     ∙ priced-is u (a .time) buys sells (pre .0 .1 .long) least (write-quotes .ensures) (write-quotes2 .ensures))

@@ -5,7 +5,7 @@ use native.Mathlib.Nat.{add-zero}
 use lib.ListN.{getD, length-take}
 use borrow.Author.Tests.{not-true, not-false}
 use borrow.Author.Needs.{needs}
-use Rattle.rules.specs.Ledger.{withPrices, withRows, withLines}
+use Rattle.rules.specs.Ledger.{priceWidth, withPrices, withRows, withLines}
 use Rattle.close_out.proofs.Running.{put}
 use Rattle.close_out.proofs.Verdicts.{not-open, no-reference}
 use Rattle.close_out.proofs.apply.Statement.{statement}
@@ -21,8 +21,8 @@ returns-2 c =
     let a = c .before .before .before .before .before .before .before .args in
     let is-contract-open = c .before .before .before .is-contract-open in
     let if1 = c .before .before .if1 in
-    let same : getD (a .prices .now) (a .e .contract * 5 + 0) 0 ≡ getD (a .prices .now) (a .e .contract * 5) 0 =
-    ap (λ i. getD (a .prices .now) i 0) (add-zero (a .e .contract * 5)) in
+    let same : getD (a .prices .now) (a .e .contract * priceWidth + 0) 0 ≡ getD (a .prices .now) (a .e .contract * priceWidth) 0 =
+    ap (λ i. getD (a .prices .now) i 0) (add-zero (a .e .contract * priceWidth)) in
     λ t. no-reference (withPrices (a .prices .now) (put (a .head .now) (a .lots .now) (a .value .now) (a .lines .now) t)) (a .e)
     (sym (is-contract-open .ensures (withPrices (a .prices .now) (withRows (a .lots .now) (a .value .now) (withLines (a .lines .now) t)))) ∙ not-false _ (if1 .left))
     (sym same ∙ c .if2 .taken)
@@ -47,8 +47,8 @@ close-out-lots-requires c κs =
     let pre = c .before .before .before .before .before .before .before .before .before .before .before .before .before .before .before .pre in
     let a = c .before .before .before .before .before .before .before .before .before .before .before .before .before .before .before .args in
     let if2 = c .before .before .before .before .before .before .before .before .if2 in
-    let same : getD (a .prices .now) (a .e .contract * 5 + 0) 0 ≡ getD (a .prices .now) (a .e .contract * 5) 0 =
-    ap (λ i. getD (a .prices .now) i 0) (add-zero (a .e .contract * 5)) in
+    let same : getD (a .prices .now) (a .e .contract * priceWidth + 0) 0 ≡ getD (a .prices .now) (a .e .contract * priceWidth) 0 =
+    ap (λ i. getD (a .prices .now) i 0) (add-zero (a .e .contract * priceWidth)) in
     let few = pre .0 .0 .most-members in (
       (pre .0 .0, pre .0 .1),
       (
@@ -65,8 +65,8 @@ returns-3 c =
     let is-contract-open = earlier .before .before .before .before .before .before .before .before .before .before .is-contract-open in
     let if1 = earlier .before .before .before .before .before .before .before .before .before .if1 in
     let close-out-lots = c .before .before .before .before .before .before .before .before .close-out-lots in
-    let same : getD (a .prices .now) (a .e .contract * 5 + 0) 0 ≡ getD (a .prices .now) (a .e .contract * 5) 0 =
-    ap (λ i. getD (a .prices .now) i 0) (add-zero (a .e .contract * 5)) in
+    let same : getD (a .prices .now) (a .e .contract * priceWidth + 0) 0 ≡ getD (a .prices .now) (a .e .contract * priceWidth) 0 =
+    ap (λ i. getD (a .prices .now) i 0) (add-zero (a .e .contract * priceWidth)) in
     λ t. close-out-lots .ensures (withPrices (a .prices .now) t)
     (sym (is-contract-open .ensures (withPrices (a .prices .now) (withRows (a .lots .now) (a .value .now) (withLines (a .lines .now) t)))) ∙ not-false _ (if1 .left)) (sym same)
 

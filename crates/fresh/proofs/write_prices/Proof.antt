@@ -7,16 +7,18 @@ use mathlib.Core.List.{List, [], _∷_}
 use Prim.Native.Nat.{ℕ, _*_, _-_, _≤_}
 use lib.ListN.{length, take, drop, length-set, length-take}
 use Rattle.arith.specs.Lists.{inEachBlock}
+use Rattle.rules.specs.Ledger.{priceWidth}
+use Rattle.rules.specs.Ranges.{contractCount, mostPrice}
 use Rattle.rules.specs.Ledger.{freshPrices}
 use Rattle.arith.proofs.Writes.{stored, over-all, block-written}
 use Rattle.fresh.proofs.write_prices.Statement.{statement}
 use Rattle.fresh.proofs.write_prices.Tie as tie
 
 abbrev Inv-loop : tie.InvT-loop
-Inv-loop prices₀ contract₀ prices contract = (contract ≤ 102) × (length prices ≡ length prices₀) × (prices ≡ inEachBlock 5 (λ five. 0 ∷ 1 ∷ 1000000 ∷ 0 ∷ 0 ∷ []) contract prices₀)
+Inv-loop prices₀ contract₀ prices contract = (contract ≤ contractCount) × (length prices ≡ length prices₀) × (prices ≡ inEachBlock 5 (λ five. 0 ∷ 1 ∷ mostPrice ∷ 0 ∷ 0 ∷ []) contract prices₀)
 
 abbrev μ-loop : tie.MeasureT-loop
-μ-loop prices₀ contract₀ prices contract = 102 - contract
+μ-loop prices₀ contract₀ prices contract = contractCount - contract
 
 loop-holds : tie.Need-loop-holds Inv-loop μ-loop
 unfolding inEachBlock
@@ -38,8 +40,8 @@ loop-again : tie.Need-loop-again Inv-loop μ-loop
 loop-again c =
     let d = c .before .before .args .prices .now in
     let l = c .before .loop in
-    let at = l .contract * 5 in
-    let five : List ℕ = 0 ∷ 1 ∷ 1000000 ∷ 0 ∷ 0 ∷ [] in
+    let at = l .contract * priceWidth in
+    let five : List ℕ = 0 ∷ 1 ∷ mostPrice ∷ 0 ∷ 0 ∷ [] in
     let block = take 5 (drop at d) in (
       omega arith,
       simp length-set (omega arith),
@@ -49,7 +51,7 @@ loop-again c =
 
 returns : tie.Need-returns Inv-loop μ-loop
 unfolding freshPrices
-returns c = let l = c .before .loop in let e : l .contract ≡ 102 = omega arith in rw e at (l .inv .2)
+returns c = let l = c .before .loop in let e : l .contract ≡ contractCount = omega arith in rw e at (l .inv .2)
 
 pub write-prices-spec : {M : Type 1} → statement M
 write-prices-spec =

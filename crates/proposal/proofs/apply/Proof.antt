@@ -2,6 +2,7 @@ use native.Mathlib.Omega.{arith}
 use mathlib.Core.Path.{sym}
 use lib.ListN.{getD, replicate}
 use lib.Seq.{length-take-le}
+use Rattle.rules.specs.Ledger.{orderCountPlace}
 use Rattle.proposal_check.proofs.Named.{places-long, places-as-many, places-front}
 use borrow.Author.Needs.{needs}
 use Rattle.proposal.proofs.apply.Statement.{statement}
@@ -22,13 +23,14 @@ array-share-prefix-places : tie.Need-array-share-prefix-places
 array-share-prefix-places c =
     let at-write-places = c .before .before .before .before .before .before in
     let start = at-write-places .before .before .before .before .before .before .before .before .before .before in
-    let a = start .args in places-long (getD (a .head .now) 7 0) (a .book .now) (a .orders .now) _ (replicate 12 0) (at-write-places .write-places .ensures) (start .pre .1 .1 .most-legs)
+    let a = start .args in places-long (getD (a .head .now) orderCountPlace 0) (a .book .now) (a .orders .now) _ (replicate 12 0) (at-write-places .write-places .ensures) (start .pre .1 .1 .most-legs)
 
 slice-aggregate-apply-at : tie.Need-slice-aggregate-apply-at
 slice-aggregate-apply-at c =
     let at-write-places = c .before .before .before .before .before .before .before in
     let start = at-write-places .before .before .before .before .before .before .before .before .before .before in
-    let a = start .args in places-as-many (getD (a .head .now) 7 0) (a .book .now) (a .orders .now) _ (replicate 12 0) (at-write-places .write-places .ensures) (start .pre .1 .1 .most-legs)
+    let a = start .args in places-as-many (getD (a .head .now) orderCountPlace 0) (a .book .now) (a .orders .now) _ (replicate 12 0) (at-write-places .write-places .ensures)
+    (start .pre .1 .1 .most-legs)
 
 apply-at-requires : tie.Need-apply-at-requires
 apply-at-requires c κs =
@@ -40,7 +42,7 @@ apply-at-requires c κs =
         start .pre .1 .0,
         (
           start .pre .1 .1,
-          places-front (getD (a .head .now) 7 0) (a .book .now) (a .orders .now) _ (replicate 12 0) (at-write-places .write-places .ensures)
+          places-front (getD (a .head .now) orderCountPlace 0) (a .book .now) (a .orders .now) _ (replicate 12 0) (at-write-places .write-places .ensures)
               (start .pre .1 .1 .most-legs),
         ),
       ),

@@ -4,6 +4,7 @@ use Prim.Native.Nat.{ℕ, _≤_}
 use native.Mathlib.Omega.{arith}
 use lib.ListN.{getD, replicate}
 use lib.Seq.{length-take-le}
+use Rattle.rules.specs.Ledger.{orderCountPlace}
 use Rattle.rules.specs.declared.order.Order.{Order}
 use Rattle.rules.specs.Ledger.{withHead, withBook, withOrders}
 use Rattle.order_book.proofs.Left.{all-orders, column-long, column-many, column-kept}
@@ -19,7 +20,7 @@ write-left-requires : tie.Need-write-left-requires
 write-left-requires c κs =
     let pre = c .before .before .before .before .before .before .pre in
     let a = c .before .before .before .before .before .before .args in
-    (rw (length-take-le {A = ℕ} (getD (a .head .now) 7 0) (replicate 256 0) (pre .1 .most-orders)) (pre .1), pre .2)
+    (rw (length-take-le {A = ℕ} (getD (a .head .now) orderCountPlace 0) (replicate 256 0) (pre .1 .most-orders)) (pre .1), pre .2)
 
 array-share-prefix-left : tie.Need-array-share-prefix-left
 array-share-prefix-left c =
@@ -27,7 +28,7 @@ array-share-prefix-left c =
     let a = c .before .before .before .before .before .before .before .before .before .before .args in
     let write-left = c .before .before .before .write-left in
     let p : Order → Bool = λ o. closes (a .column .now) (o .contract) in
-    column-long p (getD (a .head .now) 7 0) _ (replicate 256 0) (a .book .now) (pre .1 .most-orders) (write-left .ensures)
+    column-long p (getD (a .head .now) orderCountPlace 0) _ (replicate 256 0) (a .book .now) (pre .1 .most-orders) (write-left .ensures)
 
 slice-aggregate-keep-orders : tie.Need-slice-aggregate-keep-orders
 slice-aggregate-keep-orders c =
@@ -35,13 +36,13 @@ slice-aggregate-keep-orders c =
     let a = c .before .before .before .before .before .before .before .before .before .before .before .args in
     let write-left = c .before .before .before .before .write-left in
     let p : Order → Bool = λ o. closes (a .column .now) (o .contract) in
-    column-many p (getD (a .head .now) 7 0) _ (replicate 256 0) (a .book .now) (pre .1 .most-orders) (write-left .ensures)
+    column-many p (getD (a .head .now) orderCountPlace 0) _ (replicate 256 0) (a .book .now) (pre .1 .most-orders) (write-left .ensures)
 
 keep-orders-requires : tie.Need-keep-orders-requires
 keep-orders-requires c κs =
     let start = c .before .before .before .before .before .before .before .before .before .before .before in
     let a = start .args in
-    let n = getD (a .head .now) 7 0 in
+    let n = getD (a .head .now) orderCountPlace 0 in
     let p : Order → Bool = λ o. closes (a .column .now) (o .contract) in
     let reads = start .pre .1 in
     let left = c .before .before .before .before .write-left in
@@ -54,7 +55,7 @@ returns c =
     let a = c .before .before .before .before .before .before .before .before .before .before .before .before .before .before .before .before .args in
     let write-left = c .before .before .before .before .before .before .before .before .before .write-left in
     let keep-orders = c .before .before .before .before .keep-orders in
-    let n = getD (a .head .now) 7 0 in
+    let n = getD (a .head .now) orderCountPlace 0 in
     let p : Order → Bool = λ o. closes (a .column .now) (o .contract) in
     λ t. keep-orders .ensures t
     ∙ ap (λ os. withOrders os (withHead (a .head .now) (withBook (a .book .now) t)))

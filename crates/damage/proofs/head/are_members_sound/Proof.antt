@@ -8,6 +8,8 @@ use lib.Dec.{leb}
 use lib.IntN.{ℤ}
 use lib.ListN.{getD}
 use Rattle.arith.specs.Lists.{every, from}
+use Rattle.rules.specs.Ranges.{mostLimit}
+use Rattle.rules.specs.Ledger.{limitsFrom, marksFrom, submitsFrom}
 use Rattle.rules.specs.Refusals.{memberSound}
 use Rattle.rules.specs.Ledger.{lent}
 use Rattle.arith.proofs.Scans.{each-start, each-next, each-end}
@@ -34,7 +36,7 @@ loop-again c =
     let loop-test = c .before .before .before .loop-test in
     let h = args .head .now in (
       omega arith,
-      λ p l v b n. rw (all-three (leb (getD h (128 + s .m) 0) 100000) (leb (getD h (160 + s .m) 0) 1) (leb (getD h (192 + s .m) 0) 5))
+      λ p l v b n. rw (all-three (leb (getD h (limitsFrom + s .m) 0) mostLimit) (leb (getD h (marksFrom + s .m) 0) 1) (leb (getD h (submitsFrom + s .m) 0) 5))
           (each-next (memberSound (lent h p l v b n)) (args .members) (s .m) (s .ok) (every (memberSound (lent h p l v b n)) (from 0 (args .members))) (s .inv .1 p l v b n)
           (loop-test .taken)),
     )

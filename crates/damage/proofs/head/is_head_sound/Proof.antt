@@ -6,6 +6,7 @@ use lib.Dec.{leb}
 use lib.ListN.{take, drop, getD}
 use borrow.Author.Tests.{le-leb, lt-leb}
 use Rattle.arith.specs.Lists.{every, allOf, from}
+use Rattle.rules.specs.Ranges.{lastSecond, mostAcceptedSubmits, mostLotsRun}
 use Rattle.rules.specs.Days.{Calendar}
 use Rattle.rules.specs.Header.{calendarSound, membersSound, daySound}
 use Rattle.rules.specs.Refusals.{headSound, memberSound}
@@ -74,8 +75,8 @@ returns-5 c =
     let some : membersSound (getD h 1 0) ≡ true = rw (le-leb 1 (getD h 1 0) (if3 .left), le-leb (getD h 1 0) 32 (if4 .left)) in
     let day = rw cut at (is-day-sound .ensures (getD h 0 0) (pre .2 _)) in
     λ p l v b n. rw (day, c .are-members-sound .ensures p l v b n)
-    (all-nine (leb (getD h 2 0) 120) (calendarSound k) (membersSound (getD h 1 0)) (daySound k (getD h 3 0)) (leb (getD h 4 0) 86399) (leb (getD h 5 0) 4000000000)
-    (leb (getD h 6 0) 5000000) (leb (getD h 7 0) 256) (every (memberSound (lent h p l v b n)) (from 0 (getD h 1 0)))
+    (all-nine (leb (getD h 2 0) 120) (calendarSound k) (membersSound (getD h 1 0)) (daySound k (getD h 3 0)) (leb (getD h 4 0) lastSecond) (leb (getD h 5 0) mostAcceptedSubmits)
+    (leb (getD h 6 0) mostLotsRun) (leb (getD h 7 0) 256) (every (memberSound (lent h p l v b n)) (from 0 (getD h 1 0)))
     (le-leb _ _ (if1 .left)) calendar some)
 
 pub is-head-sound-spec : {M : Type 1} → statement M

@@ -7,15 +7,18 @@ use lib.ListN.{drop, length-take, length-drop}
 use mathlib.Core.Bool.{true}
 use Rattle.arith.specs.Lists.{everyBlock}
 use Rattle.arith.proofs.Scans.{block-end, pass-block, stop-block}
+use Rattle.rules.specs.Ledger.{priceWidth}
+use Rattle.rules.specs.Ranges.{contractCount}
 use Rattle.rules.specs.Refusals.{contractPricesSound}
 use Rattle.damage.proofs.prices.are_prices_sound.Statement.{statement}
 use Rattle.damage.proofs.prices.are_prices_sound.Tie as tie
 
 abbrev Inv-loop : tie.InvT-loop
-Inv-loop prices run contract₀ contract = (contract ≤ 102) × (everyBlock 5 (contractPricesSound run) (102 - contract) (drop (contract * 5) prices) ≡ everyBlock 5 (contractPricesSound run) 102 prices)
+Inv-loop prices run contract₀ contract = (contract ≤ contractCount) × (everyBlock 5 (contractPricesSound run) (contractCount - contract) (drop (contract * priceWidth) prices)
+    ≡ everyBlock 5 (contractPricesSound run) contractCount prices)
 
 abbrev μ-loop : tie.MeasureT-loop
-μ-loop prices run contract₀ contract = 102 - contract
+μ-loop prices run contract₀ contract = contractCount - contract
 
 loop-holds : tie.Need-loop-holds Inv-loop μ-loop
 loop-holds c = (omega arith, refl)
@@ -28,8 +31,8 @@ returns c =
     let a = c .before .before .before .before .before .before .args in
     let l = c .before .before .before .before .loop in
     let loop-test = c .before .before .before .loop-test in
-    let cut : l .contract * 5 + 5 - l .contract * 5 ≡ 5 = omega arith in
-    stop-block 5 (contractPricesSound (a .run)) 102 (a .prices .now) (l .contract) (everyBlock 5 (contractPricesSound (a .run)) 102 (a .prices .now)) (l .inv .1) (loop-test .taken)
+    let cut : l .contract * priceWidth + 5 - l .contract * priceWidth ≡ 5 = omega arith in
+    stop-block 5 (contractPricesSound (a .run)) contractCount (a .prices .now) (l .contract) (everyBlock 5 (contractPricesSound (a .run)) contractCount (a .prices .now)) (l .inv .1) (loop-test .taken)
     (asked-false (rw cut at (c .before .is-contract-sound .ensures)) (c .if1 .taken))
 
 loop-again : tie.Need-loop-again Inv-loop μ-loop
@@ -37,9 +40,9 @@ loop-again c =
     let a = c .before .before .before .before .before .before .args in
     let l = c .before .before .before .before .loop in
     let loop-test = c .before .before .before .loop-test in
-    let cut : l .contract * 5 + 5 - l .contract * 5 ≡ 5 = omega arith in (
+    let cut : l .contract * priceWidth + 5 - l .contract * priceWidth ≡ 5 = omega arith in (
       omega arith,
-      pass-block 5 (contractPricesSound (a .run)) 102 (a .prices .now) (l .contract) (everyBlock 5 (contractPricesSound (a .run)) 102 (a .prices .now)) (l .inv .1)
+      pass-block 5 (contractPricesSound (a .run)) contractCount (a .prices .now) (l .contract) (everyBlock 5 (contractPricesSound (a .run)) contractCount (a .prices .now)) (l .inv .1)
           (loop-test .taken)
           (asked-true (rw cut at (c .before .is-contract-sound .ensures)) (c .if1 .left)),
     )
@@ -48,7 +51,8 @@ returns-2 : tie.Need-returns-2 Inv-loop μ-loop
 returns-2 c =
     let a = c .before .before .before .args in
     let l = c .before .loop in
-    block-end 5 (contractPricesSound (a .run)) 102 (a .prices .now) (l .contract) true (everyBlock 5 (contractPricesSound (a .run)) 102 (a .prices .now)) (l .inv .1) (c .loop-test .left)
+    block-end 5 (contractPricesSound (a .run)) contractCount (a .prices .now) (l .contract) true (everyBlock 5 (contractPricesSound (a .run)) contractCount (a .prices .now)) (l .inv .1)
+    (c .loop-test .left)
 
 pub are-prices-sound-spec : {M : Type 1} → statement M
 are-prices-sound-spec =

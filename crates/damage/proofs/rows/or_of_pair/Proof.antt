@@ -6,6 +6,8 @@ use Prim.Native.Nat.{ℕ, _+_, _*_, _-_, _≤_, _^_}
 use lib.Dec.{ltb}
 use lib.IntN.{ℤ, pos}
 use lib.ListN.{getD, drop}
+use Rattle.rules.specs.Ledger.{rowWidth}
+use Rattle.rules.specs.Ranges.{contractCount}
 use Rattle.arith.specs.Bits.{inWindow}
 use Rattle.arith.specs.Lists.{everyBlock}
 use Rattle.arith.proofs.Bits.{or-windows, none-below}
@@ -22,12 +24,12 @@ abbrev bothIn : ℕ → ℕ → List ℤ → Bool
 bothIn w member b = inWindow w (getD b member (pos 0)) && inWindow w (getD b (member + 1) (pos 0))
 
 abbrev Inv-loop : tie.InvT-loop
-Inv-loop rows member half seen₀ contract₀ seen contract = (contract ≤ 102)
-    × ((k : ℕ) → IsHalf half k → ltb seen (2 ^ k) && everyBlock 32 (bothIn (2 ^ k) member) (102 - contract) (drop (contract * 32) rows) ≡ everyBlock 32
-    (bothIn (2 ^ k) member) 102 rows)
+Inv-loop rows member half seen₀ contract₀ seen contract = (contract ≤ contractCount)
+    × ((k : ℕ) → IsHalf half k → ltb seen (2 ^ k) && everyBlock 32 (bothIn (2 ^ k) member) (contractCount - contract) (drop (contract * rowWidth) rows) ≡ everyBlock 32
+    (bothIn (2 ^ k) member) contractCount rows)
 
 abbrev μ-loop : tie.MeasureT-loop
-μ-loop rows member half seen₀ contract₀ seen contract = 102 - contract
+μ-loop rows member half seen₀ contract₀ seen contract = contractCount - contract
 
 loop-holds : tie.Need-loop-holds Inv-loop μ-loop
 loop-holds c = (omega arith, λ k h. rw (none-below k))
@@ -40,10 +42,10 @@ loop-again c =
     let x-here = c .before .before .before .x in
     let y-here = c .before .before .y in
     let rows = a .rows .now in
-    let place = l .contract * 32 + a .member in
+    let place = l .contract * rowWidth + a .member in
     let x = getD rows place (pos 0) in
     let y = getD rows (place + 1) (pos 0) in
-    let next : place + 1 ≡ l .contract * 32 + (a .member + 1) = omega arith in
+    let next : place + 1 ≡ l .contract * rowWidth + (a .member + 1) = omega arith in
     let first = c .before .raised in
     let second = c .raised2 in
     let x-fits = x-here .given in
@@ -57,7 +59,7 @@ loop-again c =
         ← place-at rows (pos 0) 32 (l .contract) (a .member) (omega arith),
         ← place-at rows (pos 0) 32 (l .contract) (a .member + 1) (omega arith),
       )
-          (block-next 32 (bothIn (2 ^ k) (a .member)) 102 rows (l .contract) (ltb (l .seen) (2 ^ k)) (everyBlock 32 (bothIn (2 ^ k) (a .member)) 102 rows) (l .inv .1 k h)
+          (block-next 32 (bothIn (2 ^ k) (a .member)) contractCount rows (l .contract) (ltb (l .seen) (2 ^ k)) (everyBlock 32 (bothIn (2 ^ k) (a .member)) contractCount rows) (l .inv .1 k h)
           (loop-test .taken)),
     )
 
@@ -67,8 +69,9 @@ returns c =
     let a = c .before .before .args in
     let l = c .before .loop in
     let rows = a .rows .now in
-    λ k h. block-end 32 (bothIn (2 ^ k) (a .member)) 102 rows (l .contract) (ltb (l .seen) (2 ^ k)) (everyBlock 32 (bothIn (2 ^ k) (a .member)) 102 rows) (l .inv .1 k h) (c .loop-test .left)
-    ∙ blocks-both (λ b. inWindow (2 ^ k) (getD b (a .member) (pos 0))) (λ b. inWindow (2 ^ k) (getD b (a .member + 1) (pos 0))) 32 102 rows
+    λ k h. block-end 32 (bothIn (2 ^ k) (a .member)) contractCount rows (l .contract) (ltb (l .seen) (2 ^ k)) (everyBlock 32 (bothIn (2 ^ k) (a .member)) contractCount rows) (l .inv .1 k h)
+    (c .loop-test .left)
+    ∙ blocks-both (λ b. inWindow (2 ^ k) (getD b (a .member) (pos 0))) (λ b. inWindow (2 ^ k) (getD b (a .member + 1) (pos 0))) 32 contractCount rows
 
 pub or-of-pair-spec : {M : Type 1} → statement M
 or-of-pair-spec =

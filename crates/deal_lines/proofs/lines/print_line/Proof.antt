@@ -3,6 +3,7 @@ use native.Mathlib.Nat.{add-zero}
 use native.Mathlib.Numerals.{add-one, add-two, add-three}
 use Prim.Native.Nat.{_*_}
 use lib.ListN.{length-set}
+use Rattle.rules.specs.Ledger.{lineWidth}
 use Rattle.rules.specs.Ledger.{linePlaces}
 use Rattle.deal_lines.specs.Lines.{lineOf}
 use Rattle.arith.proofs.Signed.{rd-pos, back}
@@ -25,7 +26,7 @@ returns c =
     let args = c .before .before .before .before .before .args in
     let with-sign = c .before .before .before .before .with-sign in
     let l = args .line in
-    let at = args .i * 4 in
+    let at = args .i * lineWidth in
     rw (
       rd-pos (l .member) (omega arith),
       rd-pos (l .contract) (omega arith),

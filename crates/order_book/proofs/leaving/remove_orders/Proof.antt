@@ -3,6 +3,7 @@ use lib.ListN.{replicate}
 use native.Mathlib.Omega.{arith}
 use Prim.Native.Nat.{_≤_}
 use Rattle.order_book.proofs.Left.{column-kept}
+use Rattle.rules.specs.Ledger.{orderCountPlace}
 use Rattle.rules.specs.Ledger.{withHead, withBook, withOrders}
 use mathlib.Core.Path.{sym, ap, _∙_}
 use lib.Seq.{length-take-le}
@@ -28,20 +29,22 @@ array-share-prefix-left c =
     let at-write-left = c .before .before .before in
     let start = at-write-left .before .before .before .before .before .before in
     let a = start .args in
-    column-long (leaves (a .w)) (getD (a .head .now) 7 0) (at-write-left .write-left .last .1 .0) (replicate 256 0) (a .book .now) (start .pre .1 .most-orders) (at-write-left .write-left .ensures)
+    column-long (leaves (a .w)) (getD (a .head .now) orderCountPlace 0) (at-write-left .write-left .last .1 .0) (replicate 256 0) (a .book .now) (start .pre .1 .most-orders)
+    (at-write-left .write-left .ensures)
 
 slice-aggregate-keep-orders : tie.Need-slice-aggregate-keep-orders
 slice-aggregate-keep-orders c =
     let at-write-left = c .before .before .before .before in
     let start = at-write-left .before .before .before .before .before .before in
     let a = start .args in
-    column-many (leaves (a .w)) (getD (a .head .now) 7 0) (at-write-left .write-left .last .1 .0) (replicate 256 0) (a .book .now) (start .pre .1 .most-orders) (at-write-left .write-left .ensures)
+    column-many (leaves (a .w)) (getD (a .head .now) orderCountPlace 0) (at-write-left .write-left .last .1 .0) (replicate 256 0) (a .book .now) (start .pre .1 .most-orders)
+    (at-write-left .write-left .ensures)
 
 keep-orders-requires : tie.Need-keep-orders-requires
 keep-orders-requires c κs =
     let start = c .before .before .before .before .before .before .before .before .before .before in
     let a = start .args in
-    let n = getD (a .head .now) 7 0 in
+    let n = getD (a .head .now) orderCountPlace 0 in
     let fit = start .pre .1 in
     let left = c .before .before .before .before .write-left in
     let many = column-many (leaves (a .w)) n (left .last .1 .0) (replicate 256 0) (a .book .now) (fit .most-orders) (left .ensures) in
@@ -55,8 +58,8 @@ returns c =
     let a = start .args in
     λ t. at-keep-orders .keep-orders .ensures t
     ∙ ap (λ os. withOrders os (withHead (a .head .now) (withBook (a .book .now) t)))
-    (column-kept (leaves (a .w)) (getD (a .head .now) 7 0) _ (replicate 256 0) (a .book .now) (start .pre .1 .most-orders) (at-write-left .write-left .ensures)
-    (all-orders (λ o. 1 ≤ o .lots .0) (a .book .now) (getD (a .head .now) 7 0) (λ i h. start .pre .1 .least-lots i h)))
+    (column-kept (leaves (a .w)) (getD (a .head .now) orderCountPlace 0) _ (replicate 256 0) (a .book .now) (start .pre .1 .most-orders) (at-write-left .write-left .ensures)
+    (all-orders (λ o. 1 ≤ o .lots .0) (a .book .now) (getD (a .head .now) orderCountPlace 0) (λ i h. start .pre .1 .least-lots i h)))
 
 pub remove-orders-spec : {M : Type 1} → statement M
 remove-orders-spec =

@@ -3,6 +3,7 @@ use native.Mathlib.Nat.{add-zero}
 use native.Mathlib.Numerals.{add-one, add-two, add-three, add-four, add-five, add-six, add-seven}
 use Prim.Native.Nat.{_*_}
 use lib.ListN.{length-set}
+use Rattle.rules.specs.Ledger.{orderWidth}
 use Rattle.rules.specs.Ledger.{orderPlaces}
 use Rattle.arith.proofs.Writes.{stored}
 use borrow.Author.Needs.{needs}
@@ -32,7 +33,7 @@ slice-write-book-8 c = simp length-set (omega arith)
 
 returns : tie.Need-returns
 returns c =
-    let at = c .before .before .args .i * 8 in
+    let at = c .before .before .args .i * orderWidth in
     rw (c .side-number .ensures .0, add-zero at, add-one at, add-two at, add-three at, add-four at, add-five at, add-six at, add-seven at)
     (stored (orderPlaces (c .before .before .args .o)) (c .before .before .args .book .now) at (omega arith))
 

@@ -2,6 +2,7 @@ use native.Mathlib.Omega.{arith}
 use mathlib.Core.Path.{sym, ap, subst, _∙_}
 use lib.ListN.{getD, length, replicate}
 use lib.Seq.{length-take-le}
+use Rattle.rules.specs.Ledger.{orderCountPlace}
 use Rattle.rules.specs.Ledger.{withHead, withBook, withOrders}
 use Rattle.tables.specs.Fit.{ordersIn}
 use Rattle.order_book.specs.Left.{leftOver}
@@ -23,13 +24,13 @@ write-left-requires c κs =
 array-share-prefix-left : tie.Need-array-share-prefix-left
 array-share-prefix-left c =
     let start = c .before .before .before .before .before .before .before .before .before .before .before in
-    let a = start .args in left-long (a .places .now) (a .lots .now) (length (a .places .now)) (getD (a .head .now) 7 0) _ (replicate 256 0) (a .book .now) (start .pre .1)
+    let a = start .args in left-long (a .places .now) (a .lots .now) (length (a .places .now)) (getD (a .head .now) orderCountPlace 0) _ (replicate 256 0) (a .book .now) (start .pre .1)
     (c .before .before .before .write-left .ensures)
 
 slice-aggregate-keep-orders : tie.Need-slice-aggregate-keep-orders
 slice-aggregate-keep-orders c =
     let start = c .before .before .before .before .before .before .before .before .before .before .before .before in
-    let a = start .args in left-many (a .places .now) (a .lots .now) (length (a .places .now)) (getD (a .head .now) 7 0) _ (replicate 256 0) (a .book .now) (start .pre .1)
+    let a = start .args in left-many (a .places .now) (a .lots .now) (length (a .places .now)) (getD (a .head .now) orderCountPlace 0) _ (replicate 256 0) (a .book .now) (start .pre .1)
     (c .before .before .before .before .write-left .ensures)
 
 keep-orders-requires : tie.Need-keep-orders-requires
@@ -37,7 +38,7 @@ keep-orders-requires c κs =
     let at-before = c .before .before .before .before .before .before .before .before .before .before .before in
     let start = c .before .before .before .before .before .before .before .before .before .before .before .before in
     let a = start .args in
-    let n = getD (a .head .now) 7 0 in
+    let n = getD (a .head .now) orderCountPlace 0 in
     let p = start .pre in
     let left = c .before .before .before .before .write-left in
     let many = left-many (a .places .now) (a .lots .now) (length (a .places .now)) n _ (replicate 256 0) (a .book .now) (p .1) (left .ensures) in
@@ -47,7 +48,7 @@ returns : tie.Need-returns
 returns c =
     let at-write-left = c .before .before .before .before .before .before .before .before .before in
     let start = at-write-left .before .before .before .before .before .before .before .before in
-    let a = start .args in let n = getD (a .head .now) 7 0 in
+    let a = start .args in let n = getD (a .head .now) orderCountPlace 0 in
     λ t. c .before .before .before .before .keep-orders .ensures t
     ∙ ap (λ left. withOrders (leftOver left (ordersIn n (a .book .now))) (withHead (a .head .now) (withBook (a .book .now) t)))
     (left-front (a .places .now) (a .lots .now) (length (a .places .now)) n _ (replicate 256 0) (a .book .now) (start .pre .1) (at-write-left .write-left .ensures))

@@ -3,6 +3,7 @@ use mathlib.Core.Path.{refl, sym, _∙_}
 use borrow.Author.Tests.{not-true, not-false}
 use lib.ListN.{getD}
 use Rattle.tables.specs.Fit.{orderCountIn, ordersIn}
+use Rattle.rules.specs.Ledger.{orderCountPlace}
 use Rattle.rules.specs.Ledger.{withHead, withPrices, withBook, orders, calendar}
 use Rattle.proposal_check.proofs.Checks.{two-columns, balanced-columns, priority-columns, acceptable-not, acceptable-found, legs-found}
 use Rattle.proposal_check.proofs.LastRanks.{orders-ranked}
@@ -15,7 +16,7 @@ unfolding orders
 returns c =
     let start = c .before .before .before .before .before .before .before .before .before .before in
     let a = start .args in
-    λ t. sym (acceptable-not (withHead (a .head .now) (withPrices (a .prices .now) (withBook (a .book .now) t))) (getD (a .head .now) 7 0) (a .book .now) (a .places .now)
+    λ t. sym (acceptable-not (withHead (a .head .now) (withPrices (a .prices .now) (withBook (a .book .now) t))) (getD (a .head .now) orderCountPlace 0) (a .book .now) (a .places .now)
     (a .orders .now) (a .leg-lots .now) (a .leg-prices .now) (start .pre .1 .0) refl (start .pre .1 .1) (sym (c .before .are-found .ensures) ∙ not-true _ (c .if1 .taken)))
 
 do-two-occur-requires : tie.Need-do-two-occur-requires

@@ -5,6 +5,7 @@ use mathlib.Core.Bool.{not, _||_}
 use Prim.Native.Nat.{_+_, _*_, _-_, _≤_}
 use lib.Dec.{eqb}
 use lib.ListN.{length, getD, drop}
+use Rattle.rules.specs.Ledger.{orderWidth}
 use Rattle.arith.specs.Lists.{any}
 use Rattle.arith.proofs.Tests.{any-next, any-end}
 use Rattle.proposal_check.proofs.conditions.do_two_occur.Statement.{statement}
@@ -12,7 +13,7 @@ use Rattle.proposal_check.proofs.conditions.do_two_occur.Tie as tie
 
 abbrev Inv-loop : tie.InvT-loop
 Inv-loop book places field first found₀ i₀ found i = (i ≤ length places)
-    × (found || any (λ p. not (eqb (getD book (p * 8 + field) 0) first)) (drop i places) ≡ any (λ p. not (eqb (getD book (p * 8 + field) 0) first)) places)
+    × (found || any (λ p. not (eqb (getD book (p * orderWidth + field) 0) first)) (drop i places) ≡ any (λ p. not (eqb (getD book (p * orderWidth + field) 0) first)) places)
 
 abbrev μ-loop : tie.MeasureT-loop
 μ-loop book places field first found₀ i₀ found i = length places - i

@@ -6,6 +6,7 @@ use mathlib.Core.List.{map}
 use Prim.Native.Nat.{_+_, _*_, _-_, _≤_}
 use lib.ListN.{getD}
 use Rattle.arith.specs.Lists.{from}
+use Rattle.rules.specs.Ledger.{orderWidth}
 use Rattle.rules.specs.Ledger.{orderAt}
 use Rattle.proposal_check.specs.Columns.{placeOf}
 use Rattle.proposal_check.proofs.Named.{place-here, place-next, place-end}
@@ -23,13 +24,13 @@ loop-holds c = let a = c .args in (omega arith, rw (sub-zero (a .count)) (zero-a
 
 returns : tie.Need-returns Inv-loop μ-loop
 returns c = let a = c .before .before .before .before .args in let l = c .before .before .before .loop in
-    place-here (a .number) (a .book .now) (a .count) (l .i) _ (l .inv .1) (c .before .before .loop-test .taken) (ap (λ j. getD (a .book .now) j 0) (sym (add-zero (l .i * 8))) ∙ c .if1 .taken)
+    place-here (a .number) (a .book .now) (a .count) (l .i) _ (l .inv .1) (c .before .before .loop-test .taken) (ap (λ j. getD (a .book .now) j 0) (sym (add-zero (l .i * orderWidth))) ∙ c .if1 .taken)
 
 loop-again : tie.Need-loop-again Inv-loop μ-loop
 loop-again c = let a = c .before .before .before .before .args in let l = c .before .before .before .loop in (
   omega arith,
   place-next (a .number) (a .book .now) (a .count) (l .i) _ (l .inv .1) (c .before .before .loop-test .taken)
-      (λ e. c .if1 .left (ap (λ j. getD (a .book .now) j 0) (add-zero (l .i * 8)) ∙ e)),
+      (λ e. c .if1 .left (ap (λ j. getD (a .book .now) j 0) (add-zero (l .i * orderWidth)) ∙ e)),
 )
 
 returns-2 : tie.Need-returns-2 Inv-loop μ-loop

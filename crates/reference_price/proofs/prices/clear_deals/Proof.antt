@@ -8,16 +8,18 @@ use native.Mathlib.Numerals.{add-one}
 use lib.ListN.{length, length-set}
 use Rattle.arith.specs.Lists.{over, inEachBlock}
 use Rattle.arith.proofs.Writes.{stored}
+use Rattle.rules.specs.Ledger.{priceWidth}
+use Rattle.rules.specs.Ranges.{contractCount}
 use Rattle.rules.specs.CloseOfDay.{withoutDeals}
 use Rattle.reference_price.proofs.Blocks.{inside-written}
 use Rattle.reference_price.proofs.prices.clear_deals.Statement.{statement}
 use Rattle.reference_price.proofs.prices.clear_deals.Tie as tie
 
 abbrev Inv-loop : tie.InvT-loop
-Inv-loop prices₀ contract₀ prices contract = (contract ≤ 102) × (length prices ≡ length prices₀) × (prices ≡ inEachBlock 5 (over 3 (0 ∷ 0 ∷ [])) contract prices₀)
+Inv-loop prices₀ contract₀ prices contract = (contract ≤ contractCount) × (length prices ≡ length prices₀) × (prices ≡ inEachBlock 5 (over 3 (0 ∷ 0 ∷ [])) contract prices₀)
 
 abbrev μ-loop : tie.MeasureT-loop
-μ-loop prices₀ contract₀ prices contract = 102 - contract
+μ-loop prices₀ contract₀ prices contract = contractCount - contract
 
 loop-holds : tie.Need-loop-holds Inv-loop μ-loop
 unfolding inEachBlock
@@ -31,7 +33,7 @@ loop-again c =
     let d = c .before .before .args .prices .now in
     let l = c .before .loop in
     let none : List ℕ = 0 ∷ 0 ∷ [] in
-    let at = l .contract * 5 in
+    let at = l .contract * priceWidth in
     let next : at + 4 ≡ suc (at + 3) = omega arith in
     let both : set (set (l .prices) (at + 3) 0) (at + 4) 0 ≡ over (at + 3) none (l .prices) = rw next (stored none (l .prices) (at + 3) (omega arith)) in (
       omega arith,
@@ -44,7 +46,7 @@ same-length c = c .before .loop .inv .1
 
 returns : tie.Need-returns Inv-loop μ-loop
 unfolding withoutDeals
-returns c = let l = c .before .loop in let e : l .contract ≡ 102 = omega arith in rw e at (l .inv .2)
+returns c = let l = c .before .loop in let e : l .contract ≡ contractCount = omega arith in rw e at (l .inv .2)
 
 pub clear-deals-spec : {M : Type 1} → statement M
 clear-deals-spec =

@@ -1,5 +1,6 @@
 use Prim.Native.Nat.{_*_}
 use native.Mathlib.Nat.{add-zero}
+use Rattle.rules.specs.Ledger.{priceWidth}
 use Rattle.rules.specs.declared.contract.ContractKind.{ContractKind}
 use Rattle.reference_price.specs.Columns.{ggfFrom}
 use Rattle.reference_price.proofs.Ggfs.{least-threshold}
@@ -27,7 +28,7 @@ returns c =
     let args = c .before .before .before .before .before .before .before .before .before .before .before .args in
     let kind-of = c .before .before .before .before .before .before .before .kind-of in
     let threshold = c .before .before .before .before .before .before .threshold in
-    rw (c .reference-price .ensures, threshold .ensures, kind-of .ensures, add-zero (args .contract * 5))
+    rw (c .reference-price .ensures, threshold .ensures, kind-of .ensures, add-zero (args .contract * priceWidth))
 
 pub write-ggf-spec : {M : Type 1} → statement M
 write-ggf-spec =

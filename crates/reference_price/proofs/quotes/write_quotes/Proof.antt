@@ -8,6 +8,7 @@ use native.Mathlib.Nat.{sub-zero}
 use lib.ListN.{length, getD, getD-replicate, length-replicate}
 use Rattle.arith.specs.Lists.{from}
 use Rattle.arith.proofs.Scans.{from-next, from-end}
+use Rattle.rules.specs.Ranges.{contractCount}
 use Rattle.rules.specs.Ledger.{orderAt}
 use Rattle.reference_price.specs.Columns.{bestPrice}
 use Rattle.reference_price.proofs.BestPrices.{quotes-next, quotes-none, all-from-place}
@@ -15,8 +16,8 @@ use Rattle.reference_price.proofs.quotes.write_quotes.Statement.{statem
 use Rattle.reference_price.proofs.quotes.write_quotes.Tie as tie
 
 abbrev Inv-loop : tie.InvT-loop
-Inv-loop book count side day time quotes₀ i₀ quotes i = (i ≤ count) × (length quotes ≡ 102)
-    × ((c : ℕ) → c < 102 → getD quotes c 0 ≡ bestPrice (day .0) time side (map (orderAt book) (from i (count - i))) c)
+Inv-loop book count side day time quotes₀ i₀ quotes i = (i ≤ count) × (length quotes ≡ contractCount)
+    × ((c : ℕ) → c < contractCount → getD quotes c 0 ≡ bestPrice (day .0) time side (map (orderAt book) (from i (count - i))) c)
 
 abbrev μ-loop : tie.MeasureT-loop
 μ-loop book count side day time quotes₀ i₀ quotes i = i
@@ -27,8 +28,8 @@ loop-holds c =
     let a = c .before .before .args in
     let n = a .count in (
       omega arith,
-      rw (pre .1) (length-replicate {A = ℕ} 102 0),
-      λ x h. rw (pre .1, getD-replicate {A = ℕ} 102 x 0 0 h, from-end n n (omega arith)) (sym (quotes-none (a .day .0) (a .time) (a .side) x)),
+      rw (pre .1) (length-replicate {A = ℕ} contractCount 0),
+      λ x h. rw (pre .1, getD-replicate {A = ℕ} contractCount x 0 0 h, from-end n n (omega arith)) (sym (quotes-none (a .day .0) (a .time) (a .side) x)),
     )
 
 order-at-requires : tie.Need-order-at-requires Inv-loop μ-loop

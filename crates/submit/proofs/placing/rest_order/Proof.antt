@@ -1,6 +1,8 @@
 use Prim.Native.Nat.{_*_}
 use lib.ListN.{getD}
 use Rattle.arith.specs.Lists.{over}
+use Rattle.rules.specs.Ledger.{orderWidth}
+use Rattle.rules.specs.Ledger.{orderCountPlace}
 use Rattle.rules.specs.Ledger.{orderPlaces}
 use native.Mathlib.Omega.{arith}
 use mathlib.Core.Path.{refl, ap, _∙_}
@@ -29,7 +31,7 @@ returns c =
     let a = start .args in (
       rw (← (at-is-resting .is-resting .ensures), at-if1 .if1 .taken) refl,
       rw (← (at-is-resting .is-resting .ensures), at-if1 .if1 .taken)
-          (c .before .before .put-order .ensures ∙ ap (λ x. over (getD (a .head .now) 7 0 * 8) (orderPlaces x) (a .book .now)) (c .before .before .before .with-lots .ensures)),
+          (c .before .before .put-order .ensures ∙ ap (λ x. over (getD (a .head .now) orderCountPlace 0 * orderWidth) (orderPlaces x) (a .book .now)) (c .before .before .before .with-lots .ensures)),
     )
 
 returns-2 : tie.Need-returns-2
