@@ -11,7 +11,7 @@ ghost use Rattle.rules.specs.Ranges.{mostOrders, mostAcceptedSubmits};
 ghost use Rattle.rules.specs.Ledger.{lent, headLength, bookLength, firstYearPlace, acceptedSubmitsPlace, orderCountPlace};
 ghost use Rattle.rules.specs.Refusals.{distinct, bookSound};
 ghost use Rattle.damage.specs.Orders.{numberAt, restSound, placesSound};
-ghost use Rattle.damage.specs.Spans.{IsSpanOf};
+ghost use Rattle.months.specs.Spans.{IsSpanOf};
 use crate::between::is_between;
 use months::Span;
 use rules::layout;

@@ -9,7 +9,7 @@ ghost use Rattle.rules.specs.Ranges.{mostMembers};
 ghost use Rattle.rules.specs.Ledger.{lent, headLength, firstYearPlace};
 ghost use Rattle.rules.specs.Refusals.{memberSound, headSound};
 ghost use Rattle.months.specs.Bounds.{FirstYear};
-ghost use Rattle.damage.specs.Spans.{IsSpanOf};
+ghost use Rattle.months.specs.Spans.{IsSpanOf};
 use calendar::is_calendar_sound;
 use calendar::is_day_sound;
 use months::Span;
