@@ -98,7 +98,7 @@ fn are_orders_sound(book: &[u64], count: usize, accepted: u64, members: u64, spa
         least = number + 1;
         i += 1;
     }
-    if 2 <= sides {
+    if ranges::LAST_SIDE < sides {
         return false;
     }
     if falls < TOP_BIT {

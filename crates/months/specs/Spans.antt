@@ -25,6 +25,10 @@ liesIn s d = leb (s .start .0) d && ltb d (s .end .0)
 unfoldable pub startsOf : Calendar → List ℕ
 startsOf k = map (λ i. monthStart (firstMonth k + i)) (from 0 (monthsInSpan + 1))
 
--- January 2100 begins on this day, and no month of the table later.
+-- The last month of the table, January 2100, counted from January 2020.
+abbrev pub lastMonth : ℕ
+lastMonth = 960
+
+-- Its first day; `last-month` of rules/proofs/CalendarLaws says that monthStart gives it.
 abbrev pub lastMonthStart : ℕ
 lastMonthStart = 29220

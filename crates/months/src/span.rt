@@ -1,9 +1,10 @@
 // A ledger's span: six years from the first day of its first year.
 ghost use mathlib.Core.Path.{_≡_};
 ghost use mathlib.Core.List.{List};
-ghost use Prim.Native.Nat.{ℕ, _+_, _*_, _-_};
+ghost use Prim.Native.Nat.{ℕ, _+_};
 ghost use lib.ListN.{length};
-ghost use Rattle.rules.specs.Ranges.{yearOfDayZero, monthsInSpan};
+ghost use Rattle.rules.specs.Ranges.{monthsInSpan};
+ghost use Rattle.rules.specs.Days.{firstMonth};
 ghost use Rattle.months.specs.Bounds.{FirstYear};
 ghost use Rattle.months.specs.Spans.{IsSpanOf, liesIn, startsOf};
 use crate::months::Span;
@@ -11,14 +12,15 @@ use crate::months::months_span;
 use crate::months::read_months;
 use rules::DayNo;
 use rules::ranges::MONTHS_IN_SPAN;
+use rules::ranges::MONTHS_IN_YEAR;
 use rules::ranges::YEAR_OF_DAY_ZERO;
 
-// The span's first month.
+// The span's first month, whatever the holidays.
 pub fn first_month(first_year: u64) -> u64
     requires { ⌜ FirstYear «first_year» ⌝ }
-    ensures { λ r. ⌜ r ≡ 12 * («first_year» - yearOfDayZero) ⌝ }
+    ensures { λ r. ⌜ ((h : List ℕ) → r ≡ firstMonth (record { firstYear = «first_year»; holidays = h })) ⌝ }
 {
-    12 * (first_year - YEAR_OF_DAY_ZERO)
+    MONTHS_IN_YEAR * (first_year - YEAR_OF_DAY_ZERO)
 }
 
 // The ledger's span, whatever the holidays.
