@@ -4,8 +4,9 @@
 A link must lead to a file. A link is `[Days](../crates/rules/specs/Days.antt)`, or `[Days]` where the page ends with
 `[Days]: ../crates/rules/specs/Days.antt`; a label without such a line is missing, and so is a line whose label no text has.
 A name in backticks that follows a link and a colon must be defined in that file: `[Days]: \\`yearStart\\`, \\`sunday\\``. Any
-other name in backticks must be a crate, a path, a command, or be defined somewhere. What is missing is printed, and the
-exit status is 1.
+other name in backticks must be a crate, a path, a command, or be defined somewhere. A name in quotes that follows a link to
+cases.txt and a colon must begin a case there: `[cases.txt]: 'own order met'`. What is missing is printed, and the exit
+status is 1.
 """
 import pathlib
 import re
@@ -20,6 +21,9 @@ LINK = re.compile(r"\[[^\]]*\]\(([^)\s]+)\)")
 REFERENCE = re.compile(r"^\[([^\]]+)\]: (\S+)$", re.M)
 LABEL = re.compile(r"(`[^`]*`)|\[([^\]]+)\](?!\()")
 CODE = re.compile(r"`([^`]+)`")
+# A quoted name; an apostrophe within it has a letter behind it.
+QUOTED = re.compile(r"'(.+?)'(?!\w)")
+CASE = re.compile(r"^case (.*)$", re.M)
 NAME = re.compile(r"[^\W\d][\w'·-]*$")
 
 # How a name is defined: a signature, field or case of a specification; an item, field or variant of a program.
@@ -83,6 +87,13 @@ def is_path(text, page):
     return any((base / text).exists() for base in (ROOT, page.parent))
 
 
+def missing_cases(path, words):
+    """The quoted names, up to a semicolon or the end of the cell, that no case of the file begins with."""
+    cases = CASE.findall(path.read_text(encoding="utf-8"))
+    names = QUOTED.findall(re.split(r"[;|]", words, maxsplit=1)[0])
+    return [name for name in names if not any(case.startswith(name) for case in cases)]
+
+
 def cited(page, known):
     """What the page cites and is not there."""
     text, wrong = with_links(re.sub(r"^(```|    ).*$", "", page.read_text(encoding="utf-8"), flags=re.M))
@@ -95,6 +106,8 @@ def cited(page, known):
                 if not path.exists():
                     yield number, f"no file {target}"
                     path = None
+            if path and path.name == "cases.txt" and words.startswith(":"):
+                yield from ((number, f"no case '{name}' in {target}") for name in missing_cases(path, words))
             # The names of a file stand after a colon, up to a semicolon, a full stop or the end of the cell.
             own, rest = "", words
             if path and words.startswith(":"):

@@ -13,6 +13,9 @@ enum { MOST_NUMBERS = 16, LAST_SECOND = 86399 };
 static Tables tables;
 static int64_t *lots, *value, *lines;
 
+/* Whether the present case has made its ledger. */
+static bool made;
+
 /* A line of the file: what is left of its words, and all its numbers. */
 typedef struct {
   const char *words;
@@ -49,11 +52,13 @@ static Line line_of(const char *text) {
   return line;
 }
 
-/* Whether the line begins with the words, which are then behind it. */
+/* Whether the line begins with the words, whole ones, which are then behind it. */
 static bool begins(Line *line, const char *words) {
   size_t length = strlen(words);
   if (strncmp(line->words, words, length) != 0) return false;
-  line->words += length;
+  const char *rest = line->words + length;
+  if (*rest != ' ' && *rest != '\0') return false;
+  line->words = *rest == ' ' ? rest + 1 : rest;
   return true;
 }
 
@@ -71,6 +76,7 @@ static void take_ledger(const Line *line) {
     if (day % 7 != 3 && day % 7 != 4) holidays[below(line, count++, LEDGER_MOST_HOLIDAYS)] = day;
   Bytes bytes = header_from(line->n[0], line->n[1], line->n[2], line->n[3], holidays, count);
   if (make(&tables, bytes.at, bytes.length) != LEDGER_ACCEPTED) stop(line);
+  made = true;
 }
 
 static void show_answer(uint64_t number, uint64_t detail) {
@@ -106,10 +112,10 @@ static bool is_submit(Line *line, Bytes *record) {
   static const struct {
     const char *words;
     uint64_t side, order_kind;
-  } submits[] = {{"buy ", LEDGER_BUY, LEDGER_RESTING},
-                 {"sell ", LEDGER_SELL, LEDGER_RESTING},
-                 {"OEYE buy ", LEDGER_BUY, LEDGER_OEYE},
-                 {"TEYE buy ", LEDGER_BUY, LEDGER_TEYE}};
+  } submits[] = {{"buy", LEDGER_BUY, LEDGER_RESTING},
+                 {"sell", LEDGER_SELL, LEDGER_RESTING},
+                 {"OEYE buy", LEDGER_BUY, LEDGER_OEYE},
+                 {"TEYE buy", LEDGER_BUY, LEDGER_TEYE}};
   for (size_t i = 0; i < sizeof submits / sizeof *submits; i++)
     if (begins(line, submits[i].words)) {
       needs(line, 5);
@@ -141,15 +147,15 @@ static Bytes record_named(Line *line) {
     const char *words;
     uint8_t kind;
     size_t fields;
-  } others[] = {{"cancel ", LEDGER_KIND_CANCEL, 3},
-                {"limits ", LEDGER_KIND_DAY_LIMITS, 3},
-                {"default ", LEDGER_KIND_DEFAULT, 1},
-                {"close-out ", LEDGER_KIND_CLOSE_OUT, 2},
-                {"close ", LEDGER_KIND_CLOSE_OF_DAY, 1}};
+  } others[] = {{"cancel", LEDGER_KIND_CANCEL, 3},
+                {"limits", LEDGER_KIND_DAY_LIMITS, 3},
+                {"default", LEDGER_KIND_DEFAULT, 1},
+                {"close-out", LEDGER_KIND_CLOSE_OUT, 2},
+                {"close", LEDGER_KIND_CLOSE_OF_DAY, 1}};
   Bytes record = {{0}, 0};
   if (is_submit(line, &record)) return record;
-  if (begins(line, "proposal ")) return proposal(line);
-  if (begins(line, "bytes ")) return bytes_of(line);
+  if (begins(line, "proposal")) return proposal(line);
+  if (begins(line, "bytes")) return bytes_of(line);
   for (size_t i = 0; i < sizeof others / sizeof *others; i++)
     if (begins(line, others[i].words)) {
       needs(line, others[i].fields);
@@ -159,10 +165,10 @@ static Bytes record_named(Line *line) {
   return record;
 }
 
-/* Of a submit, then how many, each a second after the one before it. */
+/* Of a submit, then how many, each a second after the one before it, up to the last second of the day. */
 static void take_series(Line *line) {
-  uint64_t side = begins(line, "buy ") ? LEDGER_BUY : LEDGER_SELL;
-  if (side == LEDGER_SELL && !begins(line, "sell ")) stop(line);
+  uint64_t side = begins(line, "buy") ? LEDGER_BUY : LEDGER_SELL;
+  if (side == LEDGER_SELL && !begins(line, "sell")) stop(line);
   needs(line, 6);
   for (uint64_t i = 0; i < line->n[5]; i++) {
     Bytes record = submit(line->n, side, LEDGER_RESTING);
@@ -197,15 +203,15 @@ static void lend_order(const Line *line) {
 
 /* What a host lends that no record of the case led to. */
 static void take_lent(Line *line) {
-  if (begins(line, "order ")) {
+  if (begins(line, "order")) {
     lend_order(line);
-  } else if (begins(line, "row ")) {
+  } else if (begins(line, "row")) {
     needs(line, 3);
     lots[row(line)] = (int64_t)line->n[2];
-  } else if (begins(line, "head ")) {
+  } else if (begins(line, "head")) {
     needs(line, 2);
     tables.at[HEAD][below(line, line->n[0], LEDGER_HEAD)] = line->n[1];
-  } else if (begins(line, "GGF ")) {
+  } else if (begins(line, "GGF")) {
     needs(line, 2);
     *ggf(line) = line->n[1];
   } else stop(line);
@@ -223,34 +229,39 @@ static void show_book(void) {
 static void take_show(Line *line) {
   if (begins(line, "book")) {
     show_book();
-  } else if (begins(line, "row ")) {
+  } else if (begins(line, "row")) {
     needs(line, 2);
     printf(" [ %" PRId64 " %" PRId64 " ]", lots[row(line)], value[row(line)]);
-  } else if (begins(line, "head ")) {
+  } else if (begins(line, "head")) {
     needs(line, 1);
     printf(" %" PRIu64, tables.at[HEAD][below(line, line->n[0], LEDGER_HEAD)]);
-  } else if (begins(line, "GGF ")) {
+  } else if (begins(line, "GGF")) {
     needs(line, 1);
     printf(" %" PRIu64, *ggf(line));
   } else stop(line);
 }
 
+/* A case makes its ledger before any other step. */
 static void take_step(Line *line) {
   static const struct {
     const char *words;
     Shown shown;
-  } records[] = {{"given ", REFUSAL}, {"asked ", ANSWER}, {"counted ", LINE_COUNT}};
+  } records[] = {{"given", REFUSAL}, {"asked", ANSWER}, {"counted", LINE_COUNT}};
+  if (begins(line, "ledger")) {
+    take_ledger(line);
+    return;
+  }
+  if (!made) stop(line);
   for (size_t i = 0; i < sizeof records / sizeof *records; i++)
     if (begins(line, records[i].words)) {
       Bytes record = record_named(line);
       take_record(&record, records[i].shown);
       return;
     }
-  if (begins(line, "ledger ")) take_ledger(line);
-  else if (begins(line, "series ")) take_series(line);
-  else if (begins(line, "leg ")) take_leg(line);
-  else if (begins(line, "lent ")) take_lent(line);
-  else if (begins(line, "show ")) take_show(line);
+  if (begins(line, "series")) take_series(line);
+  else if (begins(line, "leg")) take_leg(line);
+  else if (begins(line, "lent")) take_lent(line);
+  else if (begins(line, "show")) take_show(line);
   else stop(line);
 }
 
@@ -262,6 +273,7 @@ static void take_line(const char *text) {
     leg_numbers = 0;
   } else if (strncmp(text, "case ", 5) == 0) {
     printf("%s:", text + 5);
+    made = false;
   } else {
     Line line = line_of(text);
     take_step(&line);
@@ -276,8 +288,9 @@ int main(int count, char **arguments) {
   lots = (int64_t *)tables.at[LOTS];
   value = (int64_t *)tables.at[VALUE];
   lines = (int64_t *)tables.at[LINES];
-  for (char *at = text; (end = strchr(at, '\n')) != NULL; at = end + 1) {
-    *end = '\0';
+  for (char *at = text; *at != '\0'; at = end) {
+    end = at + strcspn(at, "\n");
+    if (*end == '\n') *end++ = '\0';
     take_line(at);
   }
   give_back(&tables);

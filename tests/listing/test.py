@@ -103,7 +103,7 @@ def main():
         for what, other in [*other_bytes(data), *each_turned(data)]:
             test_listed(what, other)
     story = ROOT / "examples/winter"
-    expect("the listing of winter", (story.with_suffix(".listing").read_bytes(), 0), listed(story.with_suffix(".vjr").read_bytes()))
+    expect("the listing of winter", listed(story.with_suffix(".vjr").read_bytes()), (story.with_suffix(".listing").read_bytes(), 0))
     long = sound[0] + bytes([7, 0, 0, 0, 0]) * 60_000
     test_listed("a long journal", long)
     test_statuses(long)

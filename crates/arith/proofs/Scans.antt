@@ -9,7 +9,7 @@ use native.Mathlib.Numerals.{add-one}
 use lib.ListN.{length, getD, take, drop, drop-of-length-le}
 use lib.Seq.{drop-cons, drop-drop}
 use Rattle.arith.specs.Lists.{every, any, from, everyBlock}
-use Rattle.arith.proofs.Tests.{and-left, and-right, and-true, and-false, or-false, any-cons}
+use Rattle.arith.proofs.Tests.{and-left, and-right, and-true, and-false, or-false}
 
 pub less-one : (n i : ℕ) → i < n → n - i ≡ suc (n - (i + 1))
 less-one n i h = omega arith

@@ -10,9 +10,11 @@ use rules::Day;
 use rules::DayNo;
 
 // Days of the week, counted from Wednesday, which day 0 is.
-const SATURDAY: u64 = 3;
+pub const DAYS_IN_WEEK: u64 = 7;
 
-const SUNDAY: u64 = 4;
+pub const SATURDAY: u64 = 3;
+
+pub const SUNDAY: u64 = 4;
 
 // Reads the whole list, with no branch out of the loop.
 fn is_holiday(holidays: &[u64], day: DayNo) -> bool
@@ -31,7 +33,7 @@ fn is_holiday(holidays: &[u64], day: DayNo) -> bool
 pub fn is_business_day(holidays: &[u64], day: DayNo) -> bool
     ensures { λ r. ⌜ ((y : ℕ) → r ≡ businessDay (record { firstYear = y; holidays = now (holidays .entry) }) (day .0)) ⌝ }
 {
-    let weekday = day.0 % 7;
+    let weekday = day.0 % DAYS_IN_WEEK;
     if weekday == SATURDAY {
         return false;
     }

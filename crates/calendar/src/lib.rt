@@ -3,6 +3,9 @@
 mod days;
 mod sound;
 
+pub use days::DAYS_IN_WEEK;
+pub use days::SATURDAY;
+pub use days::SUNDAY;
 pub use days::business_day_before;
 pub use days::is_business_day;
 pub use days::next_business_day;

@@ -1,11 +1,12 @@
 // Which first years, holidays and days are sound. The span is found once and handed on.
 ghost use mathlib.Core.Path.{_≡_};
+ghost use mathlib.Core.Bool.{_&&_};
 ghost use Prim.Native.Nat.{ℕ};
 ghost use Rattle.arith.specs.Lists.{every};
-ghost use Rattle.rules.specs.Days.{Calendar, inSpan};
-ghost use Rattle.rules.specs.Header.{rising, firstYearSound, calendarSound, daySound};
+ghost use Rattle.rules.specs.Days.{Calendar, businessDay, inSpan};
+ghost use Rattle.rules.specs.Header.{rising, firstYearSound, calendarSound};
 ghost use Rattle.months.specs.Bounds.{FirstYear};
-ghost use Rattle.months.specs.Spans.{IsSpan};
+ghost use Rattle.months.specs.Spans.{IsSpan, liesIn};
 use crate::days::is_business_day;
 use months::Span;
 use months::is_in;
@@ -56,9 +57,9 @@ pub fn is_calendar_sound(first_year: u64, span: Span, holidays: &[u64]) -> bool
     are_rising(holidays) & are_in(span, holidays)
 }
 
-// A business day in the span.
+// A business day in the span, whatever the first year.
 pub fn is_day_sound(span: Span, holidays: &[u64], day: DayNo) -> bool
-    ensures { λ r. ⌜ ((y : ℕ) → IsSpan span (record { firstYear = y; holidays = now (holidays .entry) }) → r ≡ daySound (record { firstYear = y; holidays = now (holidays .entry) }) (day .0)) ⌝ }
+    ensures { λ r. ⌜ ((y : ℕ) → r ≡ liesIn span (day .0) && businessDay (record { firstYear = y; holidays = now (holidays .entry) }) (day .0)) ⌝ }
 {
     is_in(span, day) & is_business_day(holidays, day)
 }

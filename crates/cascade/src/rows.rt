@@ -7,22 +7,24 @@ ghost use lib.Dec.{eqb};
 ghost use lib.ListN.{length, getD, take, drop};
 ghost use lib.IntN.{pos, natAbs, _+ℤ_};
 ghost use Rattle.arith.specs.Lists.{from, over, kept};
-ghost use Rattle.rules.specs.Ranges.{contractCount, contractsInYear, mostMembers};
+ghost use Rattle.rules.specs.Ranges.{contractCount, contractsInYear, quartersInSpan, lastQuarter, mostMembers};
 ghost use Rattle.rules.specs.OtherForms.{sizeOf};
 ghost use Rattle.rules.specs.Contracts.{contractsOf};
 ghost use Rattle.rules.specs.Ledger.{rowsLength, rowsFrom, rowPlace};
 ghost use Rattle.rules.specs.CloseOfDay.{contractRows, addedTo, zeroRows, cascaded, allCascaded};
 ghost use Rattle.tables.specs.Fit.{RowsFit};
-ghost use Rattle.contract_phases.specs.Phases.{closes, closing};
+ghost use Rattle.contract_phases.specs.Phases.{closingPhase, closes, closing};
 ghost use Rattle.cascade.specs.Rows.{mostRow};
 use contract_phases::CLOSING;
 use contracts::contract_of;
 use contracts::contracts_in;
 use rules::ContractKind;
+use rules::layout::CONTRACTS_IN_YEAR;
+use rules::layout::FIRST_QUARTER;
+use rules::layout::JANUARY;
+use rules::layout::MONTHS_IN_QUARTER;
+use rules::layout::QUARTERS_IN_YEAR;
 use rules::layout::ROW_WIDTH;
-use rules::ranges::CONTRACTS_IN_YEAR;
-
-const PER_YEAR: usize = CONTRACTS_IN_YEAR as usize;
 
 // The rows from a place on, copied out of the column.
 fn rows_from(rows: &[i64], at: usize, members: usize) -> [i64; ROW_WIDTH]
@@ -93,22 +95,24 @@ fn move_rows(rows: &mut [i64], members: usize, contract: usize, first: usize, en
 // A year's or a quarter's rows go to its children.
 fn cascade(rows: &mut [i64], members: usize, contract: usize)
     requires { ⌜ RowsFit members (2 ^ 61) (now rows) × (members ≤ mostMembers) ⌝ }
-    requires { ⌜ (contract < contractCount) × (contract % contractsInYear ≤ 4) ⌝ }
+    requires { ⌜ (contract < contractCount) × (contract % contractsInYear ≤ lastQuarter) ⌝ }
     ensures { λ _. ⌜ now (rows .exit) ≡ cascaded members contract (now (rows .entry)) ⌝ }
 {
-    let k = contract % PER_YEAR;
+    let k = contract % CONTRACTS_IN_YEAR;
     if k == 0 {
-        move_rows(rows, members, contract, contract + 1, contract + 5);
+        let first = contract + FIRST_QUARTER;
+        move_rows(rows, members, contract, first, first + QUARTERS_IN_YEAR);
         return;
     }
-    let first = PER_YEAR * (contract / PER_YEAR) + 5 + 3 * (k - 1);
-    move_rows(rows, members, contract, first, first + 3);
+    let january = CONTRACTS_IN_YEAR * (contract / CONTRACTS_IN_YEAR) + JANUARY;
+    let first = january + MONTHS_IN_QUARTER * (k - FIRST_QUARTER);
+    move_rows(rows, members, contract, first, first + MONTHS_IN_QUARTER);
 }
 
 fn cascade_closing(rows: &mut [i64], members: usize, contract: usize, phase: u64)
     requires { ⌜ RowsFit members (2 ^ 61) (now rows) × (members ≤ mostMembers) ⌝ }
-    requires { ⌜ (contract < contractCount) × (contract % contractsInYear ≤ 4) ⌝ }
-    ensures { λ _. ⌜ now (rows .exit) ≡ cond (eqb phase 1) (cascaded members contract (now (rows .entry))) (now (rows .entry)) ⌝ }
+    requires { ⌜ (contract < contractCount) × (contract % contractsInYear ≤ lastQuarter) ⌝ }
+    ensures { λ _. ⌜ now (rows .exit) ≡ cond (eqb phase closingPhase) (cascaded members contract (now (rows .entry))) (now (rows .entry)) ⌝ }
 {
     if phase == CLOSING {
         cascade(rows, members, contract);
@@ -118,7 +122,7 @@ fn cascade_closing(rows: &mut [i64], members: usize, contract: usize, phase: u64
 // Of a kind that has children. A row grows by one parent's at a time, so none comes near the end of its place.
 fn cascade_kind(rows: &mut [i64], column: &[u64], members: usize, kind: ContractKind)
     requires { ⌜ RowsFit members (7 * mostRow) (now rows) × (members ≤ mostMembers) ⌝ }
-    requires { ⌜ (sizeOf kind ≤ 24) × (length (now column) ≡ contractCount) ⌝ }
+    requires { ⌜ (sizeOf kind ≤ quartersInSpan) × (length (now column) ≡ contractCount) ⌝ }
     ensures { λ _. ⌜ now (rows .exit) ≡ allCascaded members (kept (closes (now (column .entry))) (contractsOf kind)) (now (rows .entry)) ⌝ }
 {
     let count = contracts_in(kind);

@@ -56,7 +56,7 @@ fn write_prices(head: &[u64], prices: &mut [u64], book: &[u64], column: &[u64], 
     reference_price::clear_deals(prices);
 }
 
-// The second's counts and the time become 0.
+// The day is written; the second's counts and the time become 0.
 fn begin_day(head: &mut [u64], day: DayNo)
     requires { ⌜ (headLength ≤ length (now head)) × (membersIn (now head) ≤ mostMembers) ⌝ }
     ensures { λ _. ⌜ ((t : Tables) → withHead (now (head .exit)) t ≡ onDay (day .0) (withHead (now (head .entry)) t)) ⌝ }

@@ -9,7 +9,7 @@ ghost use Rattle.rules.specs.Ranges.{contractCount};
 ghost use Rattle.rules.specs.Ledger.{Tables, withHead, withBook, headLength, withOrders};
 ghost use Rattle.tables.specs.Fit.{orderCountIn, ordersIn};
 ghost use Rattle.order_book.specs.Left.{staying};
-ghost use Rattle.contract_phases.specs.Phases.{closes};
+ghost use Rattle.contract_phases.specs.Phases.{closingPhase, closes};
 ghost use Rattle.reference_price.specs.Columns.{BookReads};
 use contract_phases::CLOSING;
 use rules::Order;
@@ -17,7 +17,7 @@ use rules::layout::ORDER_COUNT;
 use rules::layout::ORDERS;
 
 fn left_of(o: Order, phase: u64) -> u64
-    ensures { λ r. ⌜ r ≡ cond (eqb phase 1) 0 (o .lots .0) ⌝ }
+    ensures { λ r. ⌜ r ≡ cond (eqb phase closingPhase) 0 (o .lots .0) ⌝ }
 {
     if phase == CLOSING {
         return 0;

@@ -19,6 +19,7 @@ use rules::layout::DAY;
 use rules::layout::FIRST_YEAR;
 use rules::layout::HOLIDAY_COUNT;
 use rules::layout::HOLIDAYS;
+use rules::layout::MARKED;
 use rules::layout::MARKS;
 use rules::layout::ROW_WIDTH;
 
@@ -69,7 +70,11 @@ fn write_weights(head: &[u64], sums: &[u64], weights: &mut [u64])
 {
     let mut i: usize = 0;
     while i < weights.len() {
-        weights[i] = if head[MARKS + i] == 1 { 0 } else { sums[i] };
+        weights[i] = if head[MARKS + i] == MARKED {
+            0
+        } else {
+            sums[i]
+        };
         i += 1;
     }
 }

@@ -9,10 +9,10 @@ use big_endian::u8_or_zero;
 use big_endian::u16_at;
 use big_endian::u32_at;
 use record_kinds::leg_place;
-use record_kinds::places::KIND;
-use record_kinds::places::LEG_LOTS;
-use record_kinds::places::LEG_PRICE;
-use record_kinds::places::PROPOSAL_LEGS;
+use record_kinds::places::KIND_BYTE;
+use record_kinds::places::LEG_LOTS_BYTE;
+use record_kinds::places::LEG_PRICE_BYTE;
+use record_kinds::places::PROPOSAL_LEGS_BYTE;
 use record_kinds::record_length;
 use rules::Kurus;
 use rules::Leg;
@@ -46,8 +46,8 @@ fn leg_at(bytes: &[u8], at: usize) -> Leg
     ensures { λ r. ⌜ r ≡ legAt (now (bytes .entry)) at ⌝ }
 {
     let order = u32_at(bytes, at);
-    let lots = u16_at(bytes, at + LEG_LOTS);
-    let price = u32_at(bytes, at + LEG_PRICE);
+    let lots = u16_at(bytes, at + LEG_LOTS_BYTE);
+    let price = u32_at(bytes, at + LEG_PRICE_BYTE);
     Leg {
         order: order,
         lots: Lots(lots),
@@ -59,10 +59,10 @@ fn leg_at(bytes: &[u8], at: usize) -> Leg
 fn legs_held(bytes: &[u8]) -> usize
     ensures { λ r. ⌜ Held (now (bytes .entry)) r ⌝ }
 {
-    if u8_or_zero(bytes, KIND) != PROPOSAL {
+    if u8_or_zero(bytes, KIND_BYTE) != PROPOSAL {
         return 0;
     }
-    let count = u8_or_zero(bytes, PROPOSAL_LEGS);
+    let count = u8_or_zero(bytes, PROPOSAL_LEGS_BYTE);
     if MOST_LEGS < count {
         return 0;
     }

@@ -16,24 +16,25 @@ use header::is_member_count_sound;
 use record_kinds::kind_number;
 use record_kinds::leg_count;
 use record_kinds::order_kind_of;
-use record_kinds::places::CANCEL_MEMBER;
-use record_kinds::places::CANCEL_ORDER;
-use record_kinds::places::CANCEL_TIME;
-use record_kinds::places::CLOSE_OF_DAY_TIME;
-use record_kinds::places::CLOSE_OUT_CONTRACT;
-use record_kinds::places::CLOSE_OUT_RATIO;
-use record_kinds::places::DAY_LIMITS_CONTRACT;
-use record_kinds::places::DAY_LIMITS_HIGH;
-use record_kinds::places::DAY_LIMITS_LOW;
-use record_kinds::places::KIND;
-use record_kinds::places::PROPOSAL_LEGS;
-use record_kinds::places::SUBMIT_CONTRACT;
-use record_kinds::places::SUBMIT_LOTS;
-use record_kinds::places::SUBMIT_MEMBER;
-use record_kinds::places::SUBMIT_ORDER_KIND;
-use record_kinds::places::SUBMIT_PRICE;
-use record_kinds::places::SUBMIT_SIDE;
-use record_kinds::places::SUBMIT_TIME;
+use record_kinds::places::CANCEL_MEMBER_BYTE;
+use record_kinds::places::CANCEL_ORDER_BYTE;
+use record_kinds::places::CANCEL_TIME_BYTE;
+use record_kinds::places::CLOSE_OF_DAY_TIME_BYTE;
+use record_kinds::places::CLOSE_OUT_CONTRACT_BYTE;
+use record_kinds::places::CLOSE_OUT_RATIO_BYTE;
+use record_kinds::places::DAY_LIMITS_CONTRACT_BYTE;
+use record_kinds::places::DAY_LIMITS_HIGH_BYTE;
+use record_kinds::places::DAY_LIMITS_LOW_BYTE;
+use record_kinds::places::DEFAULT_MEMBER_BYTE;
+use record_kinds::places::KIND_BYTE;
+use record_kinds::places::PROPOSAL_LEGS_BYTE;
+use record_kinds::places::SUBMIT_CONTRACT_BYTE;
+use record_kinds::places::SUBMIT_LOTS_BYTE;
+use record_kinds::places::SUBMIT_MEMBER_BYTE;
+use record_kinds::places::SUBMIT_ORDER_KIND_BYTE;
+use record_kinds::places::SUBMIT_PRICE_BYTE;
+use record_kinds::places::SUBMIT_SIDE_BYTE;
+use record_kinds::places::SUBMIT_TIME_BYTE;
 use record_kinds::record_length;
 use rules::Cancellation;
 use rules::CloseOutTerms;
@@ -42,7 +43,6 @@ use rules::Kurus;
 use rules::Lots;
 use rules::NewDayLimits;
 use rules::Reading;
-use rules::Side;
 use rules::Submission;
 use rules::kinds::CANCEL;
 use rules::kinds::CLOSE_OF_DAY;
@@ -51,28 +51,30 @@ use rules::kinds::DAY_LIMITS;
 use rules::kinds::DEFAULT;
 use rules::kinds::PROPOSAL;
 use rules::kinds::SUBMIT;
+use rules::ranges::LAST_ORDER_KIND;
+use rules::ranges::LAST_SIDE;
 use sides::side_of;
 
 fn submit_of(bytes: &[u8]) -> Reading
     requires { ⌜ submitLength ≤ length (now bytes) ⌝ }
     ensures { λ r. ⌜ r ≡ submitOf (now (bytes .entry)) ⌝ }
 {
-    let side = u8_at(bytes, SUBMIT_SIDE);
-    let kind = u8_at(bytes, SUBMIT_ORDER_KIND);
-    if 1 < side {
+    let side = u8_at(bytes, SUBMIT_SIDE_BYTE);
+    let kind = u8_at(bytes, SUBMIT_ORDER_KIND_BYTE);
+    if LAST_SIDE < side {
         return Reading::Unsound;
     }
-    if 2 < kind {
+    if LAST_ORDER_KIND < kind {
         return Reading::Unsound;
     }
     Reading::Sound(Event::Submit(Submission {
-        time: u32_at(bytes, SUBMIT_TIME),
-        member: u8_at(bytes, SUBMIT_MEMBER),
-        contract: u8_at(bytes, SUBMIT_CONTRACT),
+        time: u32_at(bytes, SUBMIT_TIME_BYTE),
+        member: u8_at(bytes, SUBMIT_MEMBER_BYTE),
+        contract: u8_at(bytes, SUBMIT_CONTRACT_BYTE),
         side: side_of(side),
         kind: order_kind_of(kind),
-        price: Kurus(u32_at(bytes, SUBMIT_PRICE)),
-        lots: Lots(u16_at(bytes, SUBMIT_LOTS)),
+        price: Kurus(u32_at(bytes, SUBMIT_PRICE_BYTE)),
+        lots: Lots(u16_at(bytes, SUBMIT_LOTS_BYTE)),
     }))
 }
 
@@ -81,9 +83,9 @@ fn cancellation_of(bytes: &[u8]) -> Cancellation
     ensures { λ r. ⌜ r ≡ cancellationOf (now (bytes .entry)) ⌝ }
 {
     Cancellation {
-        time: u32_at(bytes, CANCEL_TIME),
-        member: u8_at(bytes, CANCEL_MEMBER),
-        order: u32_at(bytes, CANCEL_ORDER),
+        time: u32_at(bytes, CANCEL_TIME_BYTE),
+        member: u8_at(bytes, CANCEL_MEMBER_BYTE),
+        order: u32_at(bytes, CANCEL_ORDER_BYTE),
     }
 }
 
@@ -92,9 +94,9 @@ fn new_day_limits_of(bytes: &[u8]) -> NewDayLimits
     ensures { λ r. ⌜ r ≡ newDayLimitsOf (now (bytes .entry)) ⌝ }
 {
     NewDayLimits {
-        contract: u8_at(bytes, DAY_LIMITS_CONTRACT),
-        low: Kurus(u32_at(bytes, DAY_LIMITS_LOW)),
-        high: Kurus(u32_at(bytes, DAY_LIMITS_HIGH)),
+        contract: u8_at(bytes, DAY_LIMITS_CONTRACT_BYTE),
+        low: Kurus(u32_at(bytes, DAY_LIMITS_LOW_BYTE)),
+        high: Kurus(u32_at(bytes, DAY_LIMITS_HIGH_BYTE)),
     }
 }
 
@@ -103,8 +105,8 @@ fn close_out_of(bytes: &[u8]) -> CloseOutTerms
     ensures { λ r. ⌜ r ≡ closeOutOf (now (bytes .entry)) ⌝ }
 {
     CloseOutTerms {
-        contract: u8_at(bytes, CLOSE_OUT_CONTRACT),
-        ratio: u16_at(bytes, CLOSE_OUT_RATIO),
+        contract: u8_at(bytes, CLOSE_OUT_CONTRACT_BYTE),
+        ratio: u16_at(bytes, CLOSE_OUT_RATIO_BYTE),
     }
 }
 
@@ -112,19 +114,19 @@ fn close_out_of(bytes: &[u8]) -> CloseOutTerms
 fn fields_of(bytes: &[u8]) -> Reading
     ensures { λ r. ⌜ r ≡ fieldsOf (now (bytes .entry)) ⌝ }
 {
-    let kind = u8_or_zero(bytes, KIND);
-    let second = u8_or_zero(bytes, PROPOSAL_LEGS);
-    if bytes.len() as u64 != record_length(kind, second) {
+    let kind = u8_or_zero(bytes, KIND_BYTE);
+    let legs = u8_or_zero(bytes, PROPOSAL_LEGS_BYTE);
+    if bytes.len() as u64 != record_length(kind, legs) {
         return Reading::Unsound;
     }
     match kind {
         SUBMIT => submit_of(bytes),
         CANCEL => Reading::Sound(Event::Cancel(cancellation_of(bytes))),
         DAY_LIMITS => Reading::Sound(Event::DayLimits(new_day_limits_of(bytes))),
-        PROPOSAL => Reading::Sound(Event::Proposal(second)),
-        DEFAULT => Reading::Sound(Event::Default(second)),
+        PROPOSAL => Reading::Sound(Event::Proposal(legs)),
+        DEFAULT => Reading::Sound(Event::Default(u8_at(bytes, DEFAULT_MEMBER_BYTE))),
         CLOSE_OUT => Reading::Sound(Event::CloseOut(close_out_of(bytes))),
-        CLOSE_OF_DAY => Reading::Sound(Event::CloseOfDay(u32_at(bytes, CLOSE_OF_DAY_TIME))),
+        CLOSE_OF_DAY => Reading::Sound(Event::CloseOfDay(u32_at(bytes, CLOSE_OF_DAY_TIME_BYTE))),
         _ => Reading::Unsound,
     }
 }

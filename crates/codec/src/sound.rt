@@ -28,9 +28,7 @@ use rules::ranges::MOST_LEGS;
 use rules::ranges::MOST_LOTS;
 use rules::ranges::MOST_PRICE;
 use rules::ranges::MOST_RATIO;
-
-// Order numbers are any u32.
-const ORDER_NUMBERS: u64 = 4294967296;
+use rules::ranges::ORDER_NUMBERS_END;
 
 fn is_price_sound(price: Kurus) -> bool
     ensures { λ r. ⌜ r ≡ priceSound (price .0) ⌝ }
@@ -55,7 +53,7 @@ fn is_submit_sound(members: u64, e: Submission) -> bool
 fn is_cancel_sound(members: u64, e: Cancellation) -> bool
     ensures { λ r. ⌜ r ≡ eventSound members (Cancel e) [] ⌝ }
 {
-    (e.time <= LAST_SECOND) & (e.member < members) & (e.order < ORDER_NUMBERS)
+    (e.time <= LAST_SECOND) & (e.member < members) & (e.order < ORDER_NUMBERS_END)
 }
 
 fn are_day_limits_sound(e: NewDayLimits) -> bool
@@ -77,7 +75,7 @@ fn is_leg_sound(leg: Leg) -> bool
 {
     let lots = are_lots_sound(leg.lots);
     let price = is_price_sound(leg.price);
-    (leg.order < ORDER_NUMBERS) & lots & price
+    (leg.order < ORDER_NUMBERS_END) & lots & price
 }
 
 fn are_legs_sound(count: u64, legs: Legs) -> bool

@@ -2,8 +2,8 @@
 ghost use mathlib.Core.Path.{_≡_};
 ghost use Rattle.rules.specs.Records.{frontOf};
 use big_endian::u8_or_zero;
-use record_kinds::places::KIND;
-use record_kinds::places::PROPOSAL_LEGS;
+use record_kinds::places::KIND_BYTE;
+use record_kinds::places::PROPOSAL_LEGS_BYTE;
 use record_kinds::record_length;
 use rules::Front;
 
@@ -14,7 +14,10 @@ pub fn front_record(bytes: &[u8]) -> Front
     if bytes.len() == 0 {
         return Front::Cut;
     }
-    let n = record_length(u8_or_zero(bytes, KIND), u8_or_zero(bytes, PROPOSAL_LEGS));
+    let n = record_length(
+        u8_or_zero(bytes, KIND_BYTE),
+        u8_or_zero(bytes, PROPOSAL_LEGS_BYTE),
+    );
     if n == 0 {
         return Front::UnknownKind;
     }

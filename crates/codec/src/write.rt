@@ -7,6 +7,7 @@ ghost use Rattle.arith.specs.Lists.{over};
 ghost use Rattle.rules.specs.declared.event.Event.the-variants.{Submit, Cancel, DayLimits, Proposal, Default, CloseOut, CloseOfDay};
 ghost use Rattle.rules.specs.Ranges.{mostLegs};
 ghost use Rattle.rules.specs.Records.{submitLength, cancelLength, dayLimitsLength, defaultLength, closeOutLength, closeOfDayLength, legLength, legPlace, recordLength};
+ghost use Rattle.rules.specs.Records.{firstFieldByte, firstLegByte};
 ghost use Rattle.rules.specs.Records.{legBytes, kindNumber, fieldBytes, writeSpec};
 ghost use Rattle.record_kinds.specs.LegCount.{legCount};
 ghost use Rattle.codec.specs.Columns.{legRows, OneByteFields};
@@ -21,27 +22,27 @@ use record_kinds::kind_number;
 use record_kinds::leg_count;
 use record_kinds::leg_place;
 use record_kinds::order_kind_number;
-use record_kinds::places::CANCEL_MEMBER;
-use record_kinds::places::CANCEL_ORDER;
-use record_kinds::places::CANCEL_TIME;
-use record_kinds::places::CLOSE_OF_DAY_TIME;
-use record_kinds::places::CLOSE_OUT_CONTRACT;
-use record_kinds::places::CLOSE_OUT_RATIO;
-use record_kinds::places::DAY_LIMITS_CONTRACT;
-use record_kinds::places::DAY_LIMITS_HIGH;
-use record_kinds::places::DAY_LIMITS_LOW;
-use record_kinds::places::DEFAULT_MEMBER;
-use record_kinds::places::KIND;
-use record_kinds::places::LEG_LOTS;
-use record_kinds::places::LEG_PRICE;
-use record_kinds::places::PROPOSAL_LEGS;
-use record_kinds::places::SUBMIT_CONTRACT;
-use record_kinds::places::SUBMIT_LOTS;
-use record_kinds::places::SUBMIT_MEMBER;
-use record_kinds::places::SUBMIT_ORDER_KIND;
-use record_kinds::places::SUBMIT_PRICE;
-use record_kinds::places::SUBMIT_SIDE;
-use record_kinds::places::SUBMIT_TIME;
+use record_kinds::places::CANCEL_MEMBER_BYTE;
+use record_kinds::places::CANCEL_ORDER_BYTE;
+use record_kinds::places::CANCEL_TIME_BYTE;
+use record_kinds::places::CLOSE_OF_DAY_TIME_BYTE;
+use record_kinds::places::CLOSE_OUT_CONTRACT_BYTE;
+use record_kinds::places::CLOSE_OUT_RATIO_BYTE;
+use record_kinds::places::DAY_LIMITS_CONTRACT_BYTE;
+use record_kinds::places::DAY_LIMITS_HIGH_BYTE;
+use record_kinds::places::DAY_LIMITS_LOW_BYTE;
+use record_kinds::places::DEFAULT_MEMBER_BYTE;
+use record_kinds::places::KIND_BYTE;
+use record_kinds::places::LEG_LOTS_BYTE;
+use record_kinds::places::LEG_PRICE_BYTE;
+use record_kinds::places::PROPOSAL_LEGS_BYTE;
+use record_kinds::places::SUBMIT_CONTRACT_BYTE;
+use record_kinds::places::SUBMIT_LOTS_BYTE;
+use record_kinds::places::SUBMIT_MEMBER_BYTE;
+use record_kinds::places::SUBMIT_ORDER_KIND_BYTE;
+use record_kinds::places::SUBMIT_PRICE_BYTE;
+use record_kinds::places::SUBMIT_SIDE_BYTE;
+use record_kinds::places::SUBMIT_TIME_BYTE;
 use record_kinds::record_length;
 use rules::Answer;
 use rules::Cancellation;
@@ -49,41 +50,40 @@ use rules::CloseOutTerms;
 use rules::Event;
 use rules::Leg;
 use rules::NewDayLimits;
-use rules::Side;
 use rules::Submission;
 use sides::side_number;
 
 fn put_submit(out: &mut [u8], e: Submission)
     requires { ⌜ (submitLength ≤ length (now out)) × (e .member < 256) × (e .contract < 256) ⌝ }
-    ensures { λ r. ⌜ now (out .exit) ≡ over 1 (fieldBytes (Submit e) []) (now (out .entry)) ⌝ }
+    ensures { λ r. ⌜ now (out .exit) ≡ over firstFieldByte (fieldBytes (Submit e) []) (now (out .entry)) ⌝ }
 {
     let side = e.side;
     let kind = e.kind;
-    put_u32(out, SUBMIT_TIME, e.time);
-    put_u8(out, SUBMIT_MEMBER, e.member);
-    put_u8(out, SUBMIT_CONTRACT, e.contract);
-    put_u8(out, SUBMIT_SIDE, side_number(side));
-    put_u8(out, SUBMIT_ORDER_KIND, order_kind_number(kind));
-    put_u32(out, SUBMIT_PRICE, e.price.0);
-    put_u16(out, SUBMIT_LOTS, e.lots.0);
+    put_u32(out, SUBMIT_TIME_BYTE, e.time);
+    put_u8(out, SUBMIT_MEMBER_BYTE, e.member);
+    put_u8(out, SUBMIT_CONTRACT_BYTE, e.contract);
+    put_u8(out, SUBMIT_SIDE_BYTE, side_number(side));
+    put_u8(out, SUBMIT_ORDER_KIND_BYTE, order_kind_number(kind));
+    put_u32(out, SUBMIT_PRICE_BYTE, e.price.0);
+    put_u16(out, SUBMIT_LOTS_BYTE, e.lots.0);
 }
 
 fn put_cancel(out: &mut [u8], e: Cancellation)
     requires { ⌜ (cancelLength ≤ length (now out)) × (e .member < 256) ⌝ }
-    ensures { λ r. ⌜ now (out .exit) ≡ over 1 (fieldBytes (Cancel e) []) (now (out .entry)) ⌝ }
+    ensures { λ r. ⌜ now (out .exit) ≡ over firstFieldByte (fieldBytes (Cancel e) []) (now (out .entry)) ⌝ }
 {
-    put_u32(out, CANCEL_TIME, e.time);
-    put_u8(out, CANCEL_MEMBER, e.member);
-    put_u32(out, CANCEL_ORDER, e.order);
+    put_u32(out, CANCEL_TIME_BYTE, e.time);
+    put_u8(out, CANCEL_MEMBER_BYTE, e.member);
+    put_u32(out, CANCEL_ORDER_BYTE, e.order);
 }
 
 fn put_day_limits(out: &mut [u8], e: NewDayLimits)
     requires { ⌜ (dayLimitsLength ≤ length (now out)) × (e .contract < 256) ⌝ }
-    ensures { λ r. ⌜ now (out .exit) ≡ over 1 (fieldBytes (DayLimits e) []) (now (out .entry)) ⌝ }
+    ensures { λ r. ⌜ now (out .exit) ≡ over firstFieldByte (fieldBytes (DayLimits e) []) (now (out .entry)) ⌝ }
 {
-    put_u8(out, DAY_LIMITS_CONTRACT, e.contract);
-    put_u32(out, DAY_LIMITS_LOW, e.low.0);
-    put_u32(out, DAY_LIMITS_HIGH, e.high.0);
+    put_u8(out, DAY_LIMITS_CONTRACT_BYTE, e.contract);
+    put_u32(out, DAY_LIMITS_LOW_BYTE, e.low.0);
+    put_u32(out, DAY_LIMITS_HIGH_BYTE, e.high.0);
 }
 
 fn put_leg(out: &mut [u8], at: usize, leg: Leg)
@@ -91,13 +91,13 @@ fn put_leg(out: &mut [u8], at: usize, leg: Leg)
     ensures { λ r. ⌜ now (out .exit) ≡ over at (legBytes leg) (now (out .entry)) ⌝ }
 {
     put_u32(out, at, leg.order);
-    put_u16(out, at + LEG_LOTS, leg.lots.0);
-    put_u32(out, at + LEG_PRICE, leg.price.0);
+    put_u16(out, at + LEG_LOTS_BYTE, leg.lots.0);
+    put_u32(out, at + LEG_PRICE_BYTE, leg.price.0);
 }
 
 fn put_legs(out: &mut [u8], count: usize, legs: Legs)
     requires { ⌜ (legPlace count ≤ length (now out)) × (count ≤ mostLegs) ⌝ }
-    ensures { λ r. ⌜ now (out .exit) ≡ over 2 (flatMap legBytes (legRows count legs)) (now (out .entry)) ⌝ }
+    ensures { λ r. ⌜ now (out .exit) ≡ over firstLegByte (flatMap legBytes (legRows count legs)) (now (out .entry)) ⌝ }
 {
     let mut i: usize = 0;
     while i < count {
@@ -108,37 +108,37 @@ fn put_legs(out: &mut [u8], count: usize, legs: Legs)
 
 fn put_proposal(out: &mut [u8], count: u64, legs: Legs)
     requires { ⌜ (legPlace count ≤ length (now out)) × (count ≤ mostLegs) ⌝ }
-    ensures { λ r. ⌜ now (out .exit) ≡ over 1 (fieldBytes (Proposal count) (legRows count legs)) (now (out .entry)) ⌝ }
+    ensures { λ r. ⌜ now (out .exit) ≡ over firstFieldByte (fieldBytes (Proposal count) (legRows count legs)) (now (out .entry)) ⌝ }
 {
-    put_u8(out, PROPOSAL_LEGS, count);
+    put_u8(out, PROPOSAL_LEGS_BYTE, count);
     put_legs(out, count as usize, legs);
 }
 
 fn put_default(out: &mut [u8], member: u64)
     requires { ⌜ (defaultLength ≤ length (now out)) × (member < 256) ⌝ }
-    ensures { λ r. ⌜ now (out .exit) ≡ over 1 (fieldBytes (Default member) []) (now (out .entry)) ⌝ }
+    ensures { λ r. ⌜ now (out .exit) ≡ over firstFieldByte (fieldBytes (Default member) []) (now (out .entry)) ⌝ }
 {
-    put_u8(out, DEFAULT_MEMBER, member);
+    put_u8(out, DEFAULT_MEMBER_BYTE, member);
 }
 
 fn put_close_out(out: &mut [u8], e: CloseOutTerms)
     requires { ⌜ (closeOutLength ≤ length (now out)) × (e .contract < 256) ⌝ }
-    ensures { λ r. ⌜ now (out .exit) ≡ over 1 (fieldBytes (CloseOut e) []) (now (out .entry)) ⌝ }
+    ensures { λ r. ⌜ now (out .exit) ≡ over firstFieldByte (fieldBytes (CloseOut e) []) (now (out .entry)) ⌝ }
 {
-    put_u8(out, CLOSE_OUT_CONTRACT, e.contract);
-    put_u16(out, CLOSE_OUT_RATIO, e.ratio);
+    put_u8(out, CLOSE_OUT_CONTRACT_BYTE, e.contract);
+    put_u16(out, CLOSE_OUT_RATIO_BYTE, e.ratio);
 }
 
 fn put_close_of_day(out: &mut [u8], time: u64)
     requires { ⌜ closeOfDayLength ≤ length (now out) ⌝ }
-    ensures { λ r. ⌜ now (out .exit) ≡ over 1 (fieldBytes (CloseOfDay time) []) (now (out .entry)) ⌝ }
+    ensures { λ r. ⌜ now (out .exit) ≡ over firstFieldByte (fieldBytes (CloseOfDay time) []) (now (out .entry)) ⌝ }
 {
-    put_u32(out, CLOSE_OF_DAY_TIME, time);
+    put_u32(out, CLOSE_OF_DAY_TIME_BYTE, time);
 }
 
 fn put_fields(out: &mut [u8], event: Event, legs: Legs)
     requires { ⌜ (recordLength (kindNumber event) (legCount event) ≤ length (now out)) × OneByteFields event ⌝ }
-    ensures { λ r. ⌜ now (out .exit) ≡ over 1 (fieldBytes event (legRows (legCount event) legs)) (now (out .entry)) ⌝ }
+    ensures { λ r. ⌜ now (out .exit) ≡ over firstFieldByte (fieldBytes event (legRows (legCount event) legs)) (now (out .entry)) ⌝ }
 {
     match event {
         Event::Submit(e) => put_submit(out, e),
@@ -166,7 +166,7 @@ pub fn write_record(members: u64, event: Event, legs: Legs, out: &mut [u8]) -> A
     if (out.len() as u64) < n {
         return Answer::TableUnsound;
     }
-    put_u8(out, KIND, kind);
+    put_u8(out, KIND_BYTE, kind);
     put_fields(out, event, legs);
     Answer::Accepted(n)
 }

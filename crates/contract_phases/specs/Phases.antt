@@ -1,4 +1,4 @@
--- The phase of each contract at the close of a day, one number a contract: 0 closed before the day, 1 closes on it, 2 later.
+-- The phase of each contract at the close of a day, one number a contract.
 use Prim.Native.Nat.{ℕ}
 use mathlib.Core.Bool.{Bool, cond}
 use mathlib.Core.List.{List, _++_, map}
@@ -14,13 +14,23 @@ use Rattle.rules.specs.Ranges.{contractCount}
 use Rattle.rules.specs.Days.{Calendar}
 use Rattle.rules.specs.Contracts.{termOf, termClosingDay, contractsOf, openCount}
 
-abbrev pub phaseOf : Day → ℕ → ℕ
-phaseOf (On x) d = cond (ltb (x .0) d) 0 (cond (eqb (x .0) d) 1 2)
-phaseOf NoDay d = 0
+-- It closed before the day, closes on it, or later.
+abbrev pub closedPhase : ℕ
+closedPhase = 0
 
--- By a contract's first delivery day f: `least` is the least one of those still to close on the day, `later` on the day after.
+abbrev pub closingPhase : ℕ
+closingPhase = 1
+
+abbrev pub laterPhase : ℕ
+laterPhase = 2
+
+abbrev pub phaseOf : Day → ℕ → ℕ
+phaseOf (On x) d = cond (ltb (x .0) d) closedPhase (cond (eqb (x .0) d) closingPhase laterPhase)
+phaseOf NoDay d = closedPhase
+
+-- By a contract's first delivery day f: from `least` on it is still to close on the day, from `later` on on the day after.
 abbrev pub phaseFrom : ℕ → ℕ → ℕ → ℕ
-phaseFrom f least later = cond (leb least f) (cond (leb later f) 2 1) 0
+phaseFrom f least later = cond (leb least f) (cond (leb later f) laterPhase closingPhase) closedPhase
 
 abbrev pub termPhase : Calendar → ℕ → Term → ℕ
 termPhase k d t = phaseOf (termClosingDay k t) d
@@ -30,10 +40,10 @@ phases k d = map (λ c. termPhase k d (termOf c)) (from 0 contractCount)
 
 -- What a column of phases says of a contract.
 abbrev pub closes : List ℕ → ℕ → Bool
-closes column c = eqb (getD column c 0) 1
+closes column c = eqb (getD column c 0) closingPhase
 
 abbrev pub waits : List ℕ → ℕ → Bool
-waits column c = ltb 0 (getD column c 0)
+waits column c = ltb closedPhase (getD column c 0)
 
 -- The open contracts of a kind, by the column.
 unfoldable pub openIn : List ℕ → ContractKind → List ℕ

@@ -26,7 +26,7 @@ pub const CLOSED: u64 = 0;
 
 pub const CLOSING: u64 = 1;
 
-pub const LATER: u64 = 2;
+const LATER: u64 = 2;
 
 // By a contract's first delivery day, beside the least one of those still to close on the day and on the day after it.
 fn phase_from(first: u64, least: DayNo, later: DayNo) -> u64

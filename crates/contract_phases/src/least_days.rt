@@ -2,17 +2,15 @@
 // where `is_open` of `contracts` looks for two closing days of one contract.
 ghost use mathlib.Core.Path.{_≡_};
 ghost use Prim.Native.Nat.{ℕ, _≤_, _<_};
-ghost use lib.Dec.{leb};
-ghost use Rattle.rules.specs.Days.{businessDayBefore};
 ghost use Rattle.rules.specs.declared.contract.ContractKind.{ContractKind};
-ghost use Rattle.rules.specs.Contracts.{closingDistance, notBefore};
+ghost use Rattle.rules.specs.Contracts.{closingDistance};
 ghost use Rattle.months.specs.Spans.{lastMonthStart};
-ghost use Rattle.contract_phases.specs.Least.{leastOf};
+ghost use Rattle.contract_phases.specs.Least.{leastFirstDay, leastOf};
 use calendar::is_business_day;
 use rules::ContractKind;
 use rules::DayNo;
 
-// Of each kind, the least first delivery day of a contract that is still to close.
+// Of each kind, the day from which on a contract has to deliver first to be still to close.
 pub struct LeastDays {
     pub year: DayNo,
     pub quarter: DayNo,
@@ -32,7 +30,7 @@ pub fn least_of(least: LeastDays, kind: ContractKind) -> DayNo
 // The day after the nth business day from `day` on, or the day after `end` where fewer lie before `end`.
 fn least_first_day(holidays: &[u64], day: DayNo, n: u64, end: DayNo) -> DayNo
     requires { ⌜ (0 < n) × (end .0 ≤ lastMonthStart) ⌝ }
-    ensures { λ r. ⌜ ((y f : ℕ) → f ≤ end .0 → notBefore (businessDayBefore (record { firstYear = y; holidays = now (holidays .entry) }) n f) (day .0) ≡ leb (r .0) f) ⌝ }
+    ensures { λ r. ⌜ ((y : ℕ) → r .0 ≡ leastFirstDay (record { firstYear = y; holidays = now (holidays .entry) }) (day .0) n (end .0)) ⌝ }
 {
     let mut x = day.0;
     let mut left = n;
@@ -48,10 +46,11 @@ fn least_first_day(holidays: &[u64], day: DayNo, n: u64, end: DayNo) -> DayNo
     DayNo(end.0 + 1)
 }
 
+// Whatever the first year. Every first delivery day up to `end` is looked at.
 pub fn find_least(holidays: &[u64], day: DayNo, end: DayNo) -> LeastDays
     requires { ⌜ end .0 ≤ lastMonthStart ⌝ }
-    ensures { λ r. ⌜ ((y : ℕ) (s : ContractKind) (f : ℕ) → f ≤ end .0
-        → notBefore (businessDayBefore (record { firstYear = y; holidays = now (holidays .entry) }) (closingDistance s) f) (day .0) ≡ leb (leastOf r s) f) ⌝ }
+    ensures { λ r. ⌜ ((y : ℕ) (s : ContractKind) → leastOf r s
+        ≡ leastFirstDay (record { firstYear = y; holidays = now (holidays .entry) }) (day .0) (closingDistance s) (end .0)) ⌝ }
 {
     let year = least_first_day(holidays, day, ContractKind::YEAR_DISTANCE, end);
     let quarter = least_first_day(holidays, day, ContractKind::QUARTER_DISTANCE, end);

@@ -1,5 +1,5 @@
-// Contracts as the ledger's code asks for them: each promise is the definition of `rules`. Callers, which are all proved code,
-// hold contracts to 0 .. 101: what reads a record tests it first.
+// Contracts as the ledger's code asks for them: each promise is the definition of `rules`. `is_open` asks for a contract of
+// 0 to 101: of a record the reader tests it, of the orders of lent tables `damage` does.
 mod opening;
 mod terms;
 

@@ -6,7 +6,15 @@ ghost use Rattle.rules.specs.OtherForms.{numberOf, sizeOf};
 use rules::ContractKind;
 use rules::Term;
 use rules::ranges::CONTRACTS_IN_YEAR;
+use rules::ranges::FIRST_QUARTER;
+use rules::ranges::JANUARY;
+use rules::ranges::LAST_QUARTER;
+use rules::ranges::MONTHS_IN_QUARTER;
 use rules::ranges::MONTHS_IN_SPAN;
+use rules::ranges::MONTHS_IN_YEAR;
+use rules::ranges::QUARTERS_IN_SPAN;
+use rules::ranges::QUARTERS_IN_YEAR;
+use rules::ranges::YEARS_IN_SPAN;
 
 pub fn term_of(contract: u64) -> Term
     ensures { λ r. ⌜ r ≡ termOf contract ⌝ }
@@ -19,15 +27,15 @@ pub fn term_of(contract: u64) -> Term
             index: year,
         };
     }
-    if k <= 4 {
+    if k <= LAST_QUARTER {
         return Term {
             kind: ContractKind::Quarter,
-            index: 4 * year + (k - 1),
+            index: QUARTERS_IN_YEAR * year + (k - FIRST_QUARTER),
         };
     }
     Term {
         kind: ContractKind::Month,
-        index: 12 * year + (k - 5),
+        index: MONTHS_IN_YEAR * year + (k - JANUARY),
     }
 }
 
@@ -42,8 +50,8 @@ pub fn months_in(kind: ContractKind) -> u64
     ensures { λ r. ⌜ r ≡ monthsIn kind ⌝ }
 {
     match kind {
-        ContractKind::Year => 12,
-        ContractKind::Quarter => 3,
+        ContractKind::Year => MONTHS_IN_YEAR,
+        ContractKind::Quarter => MONTHS_IN_QUARTER,
         ContractKind::Month => 1,
     }
 }
@@ -53,8 +61,8 @@ pub fn contracts_in(kind: ContractKind) -> u64
     ensures { λ r. ⌜ r ≡ sizeOf kind ⌝ }
 {
     match kind {
-        ContractKind::Year => 6,
-        ContractKind::Quarter => 24,
+        ContractKind::Year => YEARS_IN_SPAN,
+        ContractKind::Quarter => QUARTERS_IN_SPAN,
         ContractKind::Month => MONTHS_IN_SPAN,
     }
 }
@@ -66,7 +74,11 @@ pub fn contract_of(kind: ContractKind, index: u64) -> u64
 {
     match kind {
         ContractKind::Year => CONTRACTS_IN_YEAR * index,
-        ContractKind::Quarter => CONTRACTS_IN_YEAR * (index / 4) + 1 + index % 4,
-        ContractKind::Month => CONTRACTS_IN_YEAR * (index / 12) + 5 + index % 12,
+        ContractKind::Quarter => CONTRACTS_IN_YEAR * (index / QUARTERS_IN_YEAR)
+            + FIRST_QUARTER
+            + index % QUARTERS_IN_YEAR,
+        ContractKind::Month => CONTRACTS_IN_YEAR * (index / MONTHS_IN_YEAR)
+            + JANUARY
+            + index % MONTHS_IN_YEAR,
     }
 }

@@ -11,7 +11,7 @@ ghost use Rattle.rules.specs.Ranges.{mostOrders, mostAcceptedSubmits};
 ghost use Rattle.rules.specs.Ledger.{lent, headLength, bookLength, firstYearPlace, acceptedSubmitsPlace, orderCountPlace};
 ghost use Rattle.rules.specs.Refusals.{distinct, bookSound};
 ghost use Rattle.damage.specs.Orders.{numberAt, restSound, placesSound};
-ghost use Rattle.damage.specs.Spans.{IsSpanOf};
+ghost use Rattle.months.specs.Spans.{IsSpanOf};
 use crate::between::is_between;
 use months::Span;
 use rules::layout;
@@ -98,7 +98,7 @@ fn are_orders_sound(book: &[u64], count: usize, accepted: u64, members: u64, spa
         least = number + 1;
         i += 1;
     }
-    if 2 <= sides {
+    if ranges::LAST_SIDE < sides {
         return false;
     }
     if falls < TOP_BIT {

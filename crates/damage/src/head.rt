@@ -9,7 +9,7 @@ ghost use Rattle.rules.specs.Ranges.{mostMembers};
 ghost use Rattle.rules.specs.Ledger.{lent, headLength, firstYearPlace};
 ghost use Rattle.rules.specs.Refusals.{memberSound, headSound};
 ghost use Rattle.months.specs.Bounds.{FirstYear};
-ghost use Rattle.damage.specs.Spans.{IsSpanOf};
+ghost use Rattle.months.specs.Spans.{IsSpanOf};
 use calendar::is_calendar_sound;
 use calendar::is_day_sound;
 use months::Span;
@@ -28,7 +28,7 @@ fn are_members_sound(head: &[u64], members: u64) -> bool
     while m < count {
         ok = ok
             & ((head[layout::LIMITS + m] <= ranges::MOST_LIMIT)
-                & (head[layout::MARKS + m] <= 1)
+                & (head[layout::MARKS + m] <= layout::MARKED)
                 & (head[layout::SUBMITS + m] <= ranges::MOST_SUBMITS_IN_SECOND));
         m += 1;
     }

@@ -15,18 +15,18 @@ use Rattle.rules.specs.declared.event.Reading.the-variants.{Sound}
 use Rattle.rules.specs.Ranges.{mostLegs}
 use Rattle.record_kinds.specs.LegCount.{legCount}
 use Rattle.codec.proofs.Fields.{nothing, if-true}
-use Rattle.fields.specs.RecordFields.{kindField, submitSide, submitOrderKind, proposalLegs, defaultMember, closeOfDayTime, submissionIn, cancellationIn, newDayLimitsIn}
+use Rattle.fields.specs.RecordFields.{kindField, submitSideField, submitOrderKindField, proposalLegsField, defaultMemberField, closeOfDayTimeField, submissionIn, cancellationIn, newDayLimitsIn}
 use Rattle.fields.specs.RecordFields.{closeOutIn, submitIn, proposalIn, eventByKind, eventIn, firstLegs, legsIn}
 use Rattle.fields.proofs.Rows.{no-kind}
 
 pub data Gives (f : List ℕ) : Event → Type 0 where
-  submits : getD f kindField 0 ≡ 1 → getD f submitSide 0 ≤ 1 → getD f submitOrderKind 0 ≤ 2 → Gives f (Submit (submissionIn f))
+  submits : getD f kindField 0 ≡ 1 → getD f submitSideField 0 ≤ 1 → getD f submitOrderKindField 0 ≤ 2 → Gives f (Submit (submissionIn f))
   cancels : getD f kindField 0 ≡ 2 → Gives f (Cancel (cancellationIn f))
   limits : getD f kindField 0 ≡ 3 → Gives f (DayLimits (newDayLimitsIn f))
-  proposes : getD f kindField 0 ≡ 4 → getD f proposalLegs 0 ≤ mostLegs → Gives f (Proposal (getD f proposalLegs 0))
-  defaults : getD f kindField 0 ≡ 5 → Gives f (Default (getD f defaultMember 0))
+  proposes : getD f kindField 0 ≡ 4 → getD f proposalLegsField 0 ≤ mostLegs → Gives f (Proposal (getD f proposalLegsField 0))
+  defaults : getD f kindField 0 ≡ 5 → Gives f (Default (getD f defaultMemberField 0))
   closes-out : getD f kindField 0 ≡ 6 → Gives f (CloseOut (closeOutIn f))
-  closes : getD f kindField 0 ≡ 7 → Gives f (CloseOfDay (getD f closeOfDayTime 0))
+  closes : getD f kindField 0 ≡ 7 → Gives f (CloseOfDay (getD f closeOfDayTimeField 0))
 
 pub gives : (f : List ℕ) (e : Event) → eventIn f ≡ Sound e → Gives f e
 unfolding eventByKind
@@ -48,16 +48,16 @@ gives f e h =
 
     submit : getD f kindField 0 ≡ 1 → submitIn f ≡ Sound e → Gives f e
     submit k w =
-        let side = leb (getD f submitSide 0) 1 in
-        let order = leb (getD f submitOrderKind 0) 2 in
+        let side = leb (getD f submitSideField 0) 1 in
+        let order = leb (getD f submitOrderKindField 0) 2 in
         let both = if-true (side && order) (Sound (Submit (submissionIn f))) e w in
-        let one = leb-true (getD f submitSide 0) 1 (and-left side order (both .0)) in
-        is (both .1) (submits k one (leb-true (getD f submitOrderKind 0) 2 (and-right side order (both .0))))
+        let one = leb-true (getD f submitSideField 0) 1 (and-left side order (both .0)) in
+        is (both .1) (submits k one (leb-true (getD f submitOrderKindField 0) 2 (and-right side order (both .0))))
 
     proposal : getD f kindField 0 ≡ 4 → proposalIn f ≡ Sound e → Gives f e
     proposal k w =
-        let few = if-true (leb (getD f proposalLegs 0) mostLegs) (Sound (Proposal (getD f proposalLegs 0))) e w in
-        is (few .1) (proposes k (leb-true (getD f proposalLegs 0) mostLegs (few .0)))
+        let few = if-true (leb (getD f proposalLegsField 0) mostLegs) (Sound (Proposal (getD f proposalLegsField 0))) e w in
+        is (few .1) (proposes k (leb-true (getD f proposalLegsField 0) mostLegs (few .0)))
 
 -- ---- the legs beside it
 module _ (f : List ℕ) where

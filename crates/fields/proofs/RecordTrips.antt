@@ -31,7 +31,7 @@ use Rattle.record_kinds.specs.LegCount.{legCount}
 use Rattle.codec.specs.Columns.{legRows, legColumns, heldLegs}
 use Rattle.codec.proofs.LegColumns.{length-rows, rows-of-columns}
 use Rattle.codec.proofs.Trips as codec
-use Rattle.fields.specs.RecordFields.{recordFields, proposalLegs, legField, legNumbers, numbersOf, eventByKind, eventIn, legIn, firstLegs, legsIn, readFields, writeFields}
+use Rattle.fields.specs.RecordFields.{recordFields, proposalLegsField, legField, legNumbers, numbersOf, eventByKind, eventIn, legIn, firstLegs, legsIn, readFields, writeFields}
 use Rattle.fields.specs.Trips.{NumbersGiveEvent, EventGivesNumbers, ReadIsWritten, WrittenIsRead}
 use Rattle.fields.proofs.Given.{Gives, submits, cancels, limits, proposes, defaults, closes-out, closes, gives, legs-given}
 use Rattle.fields.proofs.RecordOutcomes.{length-legs, read-short, read-by, few-read, rows-read, write-short, write-by}
@@ -76,7 +76,7 @@ module _ (f : List ℕ) where
       let third : i + 2 + 1 ≡ i + 3 = omega arith in
       rw (← third, number-again (i + 2) (omega arith), ← second, number-again (i + 1) (omega arith)) (number-again i (omega arith))
 
-  proposal-again : (k : ℕ) → k ≡ getD f proposalLegs 0 → getD f 0 0 ≡ 4 → legField k ≤ length f
+  proposal-again : (k : ℕ) → k ≡ getD f proposalLegsField 0 → getD f 0 0 ≡ 4 → legField k ≤ length f
       → 4 ∷ k ∷ flatMap legNumbers (firstLegs f k) ++ drop (legField k) f ≡ f
   unfolding firstLegs
   proposal-again k c e h =
@@ -96,7 +96,7 @@ module _ (f : List ℕ) where
   again e h (cancels k) = take-firsts 4 f (omega arith) ∙ rw k refl
   again e h (limits k) = take-firsts 4 f (omega arith) ∙ rw k refl
   again e h (proposes k m) =
-      let count = getD f proposalLegs 0 in
+      let count = getD f proposalLegsField 0 in
       proposal-front count (legsIn f) (legs-given f (Proposal count) (proposes k m)) (proposal-again count refl k (omega arith))
   again e h (defaults k) = take-firsts 2 f (omega arith) ∙ rw k refl
   again e h (closes-out k) = take-firsts 3 f (omega arith) ∙ rw k refl

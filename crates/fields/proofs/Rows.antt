@@ -18,7 +18,7 @@ use Rattle.rules.specs.declared.event.Event.the-variants.{Proposal}
 use Rattle.rules.specs.declared.event.Leg.{Leg}
 use Rattle.rules.specs.declared.event.Reading.the-variants.{Unsound}
 use Rattle.rules.specs.Records.{proposalKind}
-use Rattle.fields.specs.RecordFields.{kindField, submitSide, submitOrderKind, legField, legNumbers, numbersOf, submitIn, eventByKind, eventIn, withNumbers}
+use Rattle.fields.specs.RecordFields.{kindField, submitSideField, submitOrderKindField, legField, legNumbers, numbersOf, submitIn, eventByKind, eventIn, withNumbers}
 
 -- ---- stores
 -- Numbers stored one after the other from the front.
@@ -52,8 +52,8 @@ module _ (f : List ℕ) where
   unfolding eventByKind
   no-kind k n₁ n₂ n₃ n₄ n₅ n₆ n₇ = simp (ne-eqb k 1 n₁, ne-eqb k 2 n₂, ne-eqb k 3 n₃, ne-eqb k 4 n₄, ne-eqb k 5 n₅, ne-eqb k 6 n₆, ne-eqb k 7 n₇)
 
-  pub no-side : 1 < getD f submitSide 0 → Unsound ≡ submitIn f
-  no-side h = rw (lt-leb (getD f submitSide 0) 1 h) refl
+  pub no-side : 1 < getD f submitSideField 0 → Unsound ≡ submitIn f
+  no-side h = rw (lt-leb (getD f submitSideField 0) 1 h) refl
 
-  pub no-order-kind : 2 < getD f submitOrderKind 0 → Unsound ≡ submitIn f
-  no-order-kind h = rw (lt-leb (getD f submitOrderKind 0) 2 h, and-false (leb (getD f submitSide 0) 1)) refl
+  pub no-order-kind : 2 < getD f submitOrderKindField 0 → Unsound ≡ submitIn f
+  no-order-kind h = rw (lt-leb (getD f submitOrderKindField 0) 2 h, and-false (leb (getD f submitSideField 0) 1)) refl

@@ -30,64 +30,64 @@ recordFields = 38
 abbrev pub kindField : ℕ
 kindField = 0
 
-abbrev pub submitTime : ℕ
-submitTime = 1
+abbrev pub submitTimeField : ℕ
+submitTimeField = 1
 
-abbrev pub submitMember : ℕ
-submitMember = 2
+abbrev pub submitMemberField : ℕ
+submitMemberField = 2
 
-abbrev pub submitContract : ℕ
-submitContract = 3
+abbrev pub submitContractField : ℕ
+submitContractField = 3
 
-abbrev pub submitSide : ℕ
-submitSide = 4
+abbrev pub submitSideField : ℕ
+submitSideField = 4
 
-abbrev pub submitOrderKind : ℕ
-submitOrderKind = 5
+abbrev pub submitOrderKindField : ℕ
+submitOrderKindField = 5
 
-abbrev pub submitPrice : ℕ
-submitPrice = 6
+abbrev pub submitPriceField : ℕ
+submitPriceField = 6
 
-abbrev pub submitLots : ℕ
-submitLots = 7
+abbrev pub submitLotsField : ℕ
+submitLotsField = 7
 
-abbrev pub cancelTime : ℕ
-cancelTime = 1
+abbrev pub cancelTimeField : ℕ
+cancelTimeField = 1
 
-abbrev pub cancelMember : ℕ
-cancelMember = 2
+abbrev pub cancelMemberField : ℕ
+cancelMemberField = 2
 
-abbrev pub cancelOrder : ℕ
-cancelOrder = 3
+abbrev pub cancelOrderField : ℕ
+cancelOrderField = 3
 
-abbrev pub dayLimitsContract : ℕ
-dayLimitsContract = 1
+abbrev pub dayLimitsContractField : ℕ
+dayLimitsContractField = 1
 
-abbrev pub dayLimitsLow : ℕ
-dayLimitsLow = 2
+abbrev pub dayLimitsLowField : ℕ
+dayLimitsLowField = 2
 
-abbrev pub dayLimitsHigh : ℕ
-dayLimitsHigh = 3
+abbrev pub dayLimitsHighField : ℕ
+dayLimitsHighField = 3
 
 -- How many legs a proposal has.
-abbrev pub proposalLegs : ℕ
-proposalLegs = 1
+abbrev pub proposalLegsField : ℕ
+proposalLegsField = 1
 
 -- Where leg j begins, and so where a proposal of j legs ends: order number, lots and price of each.
 abbrev pub legField : ℕ → ℕ
 legField j = 2 + 3 * j
 
-abbrev pub defaultMember : ℕ
-defaultMember = 1
+abbrev pub defaultMemberField : ℕ
+defaultMemberField = 1
 
-abbrev pub closeOutContract : ℕ
-closeOutContract = 1
+abbrev pub closeOutContractField : ℕ
+closeOutContractField = 1
 
-abbrev pub closeOutRatio : ℕ
-closeOutRatio = 2
+abbrev pub closeOutRatioField : ℕ
+closeOutRatioField = 2
 
-abbrev pub closeOfDayTime : ℕ
-closeOfDayTime = 1
+abbrev pub closeOfDayTimeField : ℕ
+closeOfDayTimeField = 1
 
 -- ---- the numbers of an event, with its legs
 abbrev pub legNumbers : Leg → List ℕ
@@ -107,31 +107,31 @@ numbersOf (CloseOfDay s) legs = closeOfDayKind ∷ s ∷ []
 abbrev pub submissionIn : List ℕ → Submission
 submissionIn f =
     record {
-      time = getD f submitTime 0;
-      member = getD f submitMember 0;
-      contract = getD f submitContract 0;
-      side = sideOf (getD f submitSide 0);
-      kind = orderKindOf (getD f submitOrderKind 0);
-      price = record { 0 = getD f submitPrice 0 };
-      lots = record { 0 = getD f submitLots 0 };
+      time = getD f submitTimeField 0;
+      member = getD f submitMemberField 0;
+      contract = getD f submitContractField 0;
+      side = sideOf (getD f submitSideField 0);
+      kind = orderKindOf (getD f submitOrderKindField 0);
+      price = record { 0 = getD f submitPriceField 0 };
+      lots = record { 0 = getD f submitLotsField 0 };
     }
 
 abbrev pub cancellationIn : List ℕ → Cancellation
-cancellationIn f = record { time = getD f cancelTime 0; member = getD f cancelMember 0; order = getD f cancelOrder 0 }
+cancellationIn f = record { time = getD f cancelTimeField 0; member = getD f cancelMemberField 0; order = getD f cancelOrderField 0 }
 
 abbrev pub newDayLimitsIn : List ℕ → NewDayLimits
-newDayLimitsIn f = record { contract = getD f dayLimitsContract 0; low = record { 0 = getD f dayLimitsLow 0 }; high = record { 0 = getD f dayLimitsHigh 0 } }
+newDayLimitsIn f = record { contract = getD f dayLimitsContractField 0; low = record { 0 = getD f dayLimitsLowField 0 }; high = record { 0 = getD f dayLimitsHighField 0 } }
 
 abbrev pub closeOutIn : List ℕ → CloseOutTerms
-closeOutIn f = record { contract = getD f closeOutContract 0; ratio = getD f closeOutRatio 0 }
+closeOutIn f = record { contract = getD f closeOutContractField 0; ratio = getD f closeOutRatioField 0 }
 
 -- No side is above 1, no order kind above 2,
 abbrev pub submitIn : List ℕ → Reading
-submitIn f = cond (sideSound (getD f submitSide 0) && orderKindSound (getD f submitOrderKind 0)) (Sound (Submit (submissionIn f))) Unsound
+submitIn f = cond (sideSound (getD f submitSideField 0) && orderKindSound (getD f submitOrderKindField 0)) (Sound (Submit (submissionIn f))) Unsound
 
 -- and a row has room for 12 legs.
 abbrev pub proposalIn : List ℕ → Reading
-proposalIn f = cond (leb (getD f proposalLegs 0) mostLegs) (Sound (Proposal (getD f proposalLegs 0))) Unsound
+proposalIn f = cond (leb (getD f proposalLegsField 0) mostLegs) (Sound (Proposal (getD f proposalLegsField 0))) Unsound
 
 unfoldable pub eventByKind : ℕ → List ℕ → Reading
 eventByKind kind f =
@@ -139,9 +139,9 @@ eventByKind kind f =
     (cond (eqb kind cancelKind) (Sound (Cancel (cancellationIn f)))
     (cond (eqb kind dayLimitsKind) (Sound (DayLimits (newDayLimitsIn f)))
     (cond (eqb kind proposalKind) (proposalIn f)
-    (cond (eqb kind defaultKind) (Sound (Default (getD f defaultMember 0)))
+    (cond (eqb kind defaultKind) (Sound (Default (getD f defaultMemberField 0)))
     (cond (eqb kind closeOutKind) (Sound (CloseOut (closeOutIn f)))
-    (cond (eqb kind closeOfDayKind) (Sound (CloseOfDay (getD f closeOfDayTime 0)))
+    (cond (eqb kind closeOfDayKind) (Sound (CloseOfDay (getD f closeOfDayTimeField 0)))
     Unsound))))))
 
 abbrev pub eventIn : List ℕ → Reading
@@ -157,7 +157,7 @@ firstLegs f n = map (λ j. legIn f (legField j)) (from 0 n)
 
 -- The legs of a row, if it is a proposal.
 unfoldable pub legsIn : List ℕ → List Leg
-legsIn f = cond (eqb (getD f kindField 0) proposalKind) (firstLegs f (getD f proposalLegs 0)) []
+legsIn f = cond (eqb (getD f kindField 0) proposalKind) (firstLegs f (getD f proposalLegsField 0)) []
 
 -- ---- bytes read to a row, and written from one
 -- An event's numbers over the front of a row; the answer gives how many.

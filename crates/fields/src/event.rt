@@ -5,27 +5,27 @@ ghost use lib.ListN.{length};
 ghost use Rattle.rules.specs.Ranges.{mostLegs};
 ghost use Rattle.codec.specs.Columns.{legColumns};
 ghost use Rattle.fields.specs.RecordFields.{recordFields, cancellationIn, newDayLimitsIn, closeOutIn, submitIn, proposalIn, eventIn, legIn, firstLegs};
-use crate::places::CANCEL_MEMBER;
-use crate::places::CANCEL_ORDER;
-use crate::places::CANCEL_TIME;
-use crate::places::CLOSE_OF_DAY_TIME;
-use crate::places::CLOSE_OUT_CONTRACT;
-use crate::places::CLOSE_OUT_RATIO;
-use crate::places::DAY_LIMITS_CONTRACT;
-use crate::places::DAY_LIMITS_HIGH;
-use crate::places::DAY_LIMITS_LOW;
-use crate::places::DEFAULT_MEMBER;
-use crate::places::FIRST_LEG;
-use crate::places::KIND;
+use crate::places::CANCEL_MEMBER_FIELD;
+use crate::places::CANCEL_ORDER_FIELD;
+use crate::places::CANCEL_TIME_FIELD;
+use crate::places::CLOSE_OF_DAY_TIME_FIELD;
+use crate::places::CLOSE_OUT_CONTRACT_FIELD;
+use crate::places::CLOSE_OUT_RATIO_FIELD;
+use crate::places::DAY_LIMITS_CONTRACT_FIELD;
+use crate::places::DAY_LIMITS_HIGH_FIELD;
+use crate::places::DAY_LIMITS_LOW_FIELD;
+use crate::places::DEFAULT_MEMBER_FIELD;
+use crate::places::FIRST_LEG_FIELD;
+use crate::places::KIND_FIELD;
 use crate::places::LEG_WIDTH;
-use crate::places::PROPOSAL_LEGS;
-use crate::places::SUBMIT_CONTRACT;
-use crate::places::SUBMIT_LOTS;
-use crate::places::SUBMIT_MEMBER;
-use crate::places::SUBMIT_ORDER_KIND;
-use crate::places::SUBMIT_PRICE;
-use crate::places::SUBMIT_SIDE;
-use crate::places::SUBMIT_TIME;
+use crate::places::PROPOSAL_LEGS_FIELD;
+use crate::places::SUBMIT_CONTRACT_FIELD;
+use crate::places::SUBMIT_LOTS_FIELD;
+use crate::places::SUBMIT_MEMBER_FIELD;
+use crate::places::SUBMIT_ORDER_KIND_FIELD;
+use crate::places::SUBMIT_PRICE_FIELD;
+use crate::places::SUBMIT_SIDE_FIELD;
+use crate::places::SUBMIT_TIME_FIELD;
 use codec::Legs;
 use record_kinds::order_kind_of;
 use rules::Cancellation;
@@ -45,6 +45,8 @@ use rules::kinds::DEFAULT;
 use rules::kinds::PROPOSAL;
 use rules::kinds::SUBMIT;
 use rules::layout::LEG_PLACES;
+use rules::ranges::LAST_ORDER_KIND;
+use rules::ranges::LAST_SIDE;
 use rules::ranges::MOST_LEGS;
 use sides::side_of;
 
@@ -52,22 +54,22 @@ fn submit_in(row: &[u64]) -> Reading
     requires { ⌜ recordFields ≤ length (now row) ⌝ }
     ensures { λ r. ⌜ r ≡ submitIn (now (row .entry)) ⌝ }
 {
-    let side = row[SUBMIT_SIDE];
-    let kind = row[SUBMIT_ORDER_KIND];
-    if 1 < side {
+    let side = row[SUBMIT_SIDE_FIELD];
+    let kind = row[SUBMIT_ORDER_KIND_FIELD];
+    if LAST_SIDE < side {
         return Reading::Unsound;
     }
-    if 2 < kind {
+    if LAST_ORDER_KIND < kind {
         return Reading::Unsound;
     }
     Reading::Sound(Event::Submit(Submission {
-        time: row[SUBMIT_TIME],
-        member: row[SUBMIT_MEMBER],
-        contract: row[SUBMIT_CONTRACT],
+        time: row[SUBMIT_TIME_FIELD],
+        member: row[SUBMIT_MEMBER_FIELD],
+        contract: row[SUBMIT_CONTRACT_FIELD],
         side: side_of(side),
         kind: order_kind_of(kind),
-        price: Kurus(row[SUBMIT_PRICE]),
-        lots: Lots(row[SUBMIT_LOTS]),
+        price: Kurus(row[SUBMIT_PRICE_FIELD]),
+        lots: Lots(row[SUBMIT_LOTS_FIELD]),
     }))
 }
 
@@ -76,9 +78,9 @@ fn cancellation_in(row: &[u64]) -> Cancellation
     ensures { λ r. ⌜ r ≡ cancellationIn (now (row .entry)) ⌝ }
 {
     Cancellation {
-        time: row[CANCEL_TIME],
-        member: row[CANCEL_MEMBER],
-        order: row[CANCEL_ORDER],
+        time: row[CANCEL_TIME_FIELD],
+        member: row[CANCEL_MEMBER_FIELD],
+        order: row[CANCEL_ORDER_FIELD],
     }
 }
 
@@ -87,9 +89,9 @@ fn new_day_limits_in(row: &[u64]) -> NewDayLimits
     ensures { λ r. ⌜ r ≡ newDayLimitsIn (now (row .entry)) ⌝ }
 {
     NewDayLimits {
-        contract: row[DAY_LIMITS_CONTRACT],
-        low: Kurus(row[DAY_LIMITS_LOW]),
-        high: Kurus(row[DAY_LIMITS_HIGH]),
+        contract: row[DAY_LIMITS_CONTRACT_FIELD],
+        low: Kurus(row[DAY_LIMITS_LOW_FIELD]),
+        high: Kurus(row[DAY_LIMITS_HIGH_FIELD]),
     }
 }
 
@@ -97,7 +99,7 @@ fn proposal_in(row: &[u64]) -> Reading
     requires { ⌜ recordFields ≤ length (now row) ⌝ }
     ensures { λ r. ⌜ r ≡ proposalIn (now (row .entry)) ⌝ }
 {
-    let count = row[PROPOSAL_LEGS];
+    let count = row[PROPOSAL_LEGS_FIELD];
     if MOST_LEGS < count {
         return Reading::Unsound;
     }
@@ -109,8 +111,8 @@ fn close_out_in(row: &[u64]) -> CloseOutTerms
     ensures { λ r. ⌜ r ≡ closeOutIn (now (row .entry)) ⌝ }
 {
     CloseOutTerms {
-        contract: row[CLOSE_OUT_CONTRACT],
-        ratio: row[CLOSE_OUT_RATIO],
+        contract: row[CLOSE_OUT_CONTRACT_FIELD],
+        ratio: row[CLOSE_OUT_RATIO_FIELD],
     }
 }
 
@@ -118,15 +120,15 @@ pub fn event_in(row: &[u64]) -> Reading
     requires { ⌜ recordFields ≤ length (now row) ⌝ }
     ensures { λ r. ⌜ r ≡ eventIn (now (row .entry)) ⌝ }
 {
-    let kind = row[KIND];
+    let kind = row[KIND_FIELD];
     match kind {
         SUBMIT => submit_in(row),
         CANCEL => Reading::Sound(Event::Cancel(cancellation_in(row))),
         DAY_LIMITS => Reading::Sound(Event::DayLimits(new_day_limits_in(row))),
         PROPOSAL => proposal_in(row),
-        DEFAULT => Reading::Sound(Event::Default(row[DEFAULT_MEMBER])),
+        DEFAULT => Reading::Sound(Event::Default(row[DEFAULT_MEMBER_FIELD])),
         CLOSE_OUT => Reading::Sound(Event::CloseOut(close_out_in(row))),
-        CLOSE_OF_DAY => Reading::Sound(Event::CloseOfDay(row[CLOSE_OF_DAY_TIME])),
+        CLOSE_OF_DAY => Reading::Sound(Event::CloseOfDay(row[CLOSE_OF_DAY_TIME_FIELD])),
         _ => Reading::Unsound,
     }
 }
@@ -152,7 +154,7 @@ pub fn legs_in(row: &[u64], count: usize) -> Legs
     let mut prices = [0u64; LEG_PLACES];
     let mut i: usize = 0;
     while i < count {
-        let leg = leg_in(row, FIRST_LEG + LEG_WIDTH * i);
+        let leg = leg_in(row, FIRST_LEG_FIELD + LEG_WIDTH * i);
         orders[i] = leg.order;
         lots[i] = leg.lots.0;
         prices[i] = leg.price.0;

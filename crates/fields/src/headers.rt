@@ -7,13 +7,13 @@ ghost use Rattle.arith.specs.Lists.{over};
 ghost use Rattle.rules.specs.Ranges.{mostHolidays, mostMembers};
 ghost use Rattle.header.specs.Journal.{headerColumns};
 ghost use Rattle.fields.specs.HeaderFields.{headerFields, holidaysField, limitsField, membersField, holidayCountField, withHeader, numbersAt, headerIn, readHeaderFields, writeHeaderFields};
-use crate::places::FIRST_YEAR;
+use crate::places::FIRST_YEAR_FIELD;
 use crate::places::HEADER_FIELDS;
-use crate::places::HOLIDAY_COUNT;
-use crate::places::HOLIDAYS;
-use crate::places::LIMITS;
-use crate::places::MEMBERS;
-use crate::places::START_DAY;
+use crate::places::HOLIDAY_COUNT_FIELD;
+use crate::places::HOLIDAYS_FIELD;
+use crate::places::LIMITS_FIELD;
+use crate::places::MEMBERS_FIELD;
+use crate::places::START_DAY_FIELD;
 use header::JournalHeader;
 use header::read_header;
 use header::write_header;
@@ -43,12 +43,12 @@ fn put_header(row: &mut [u64], first_year: u64, start: DayNo, holidays: &[u64], 
         ≡ withHeader (record { firstYear = «first_year»; startDay = start .0; members = length (now (limits .entry)); holidays = now (holidays .entry); limits = now (limits .entry) })
         (now (row .entry)) ⌝ }
 {
-    row[FIRST_YEAR] = first_year;
-    row[START_DAY] = start.0;
-    row[MEMBERS] = limits.len() as u64;
-    row[HOLIDAY_COUNT] = holidays.len() as u64;
-    put_list(&mut *row, HOLIDAYS, holidays);
-    put_list(&mut *row, LIMITS, limits);
+    row[FIRST_YEAR_FIELD] = first_year;
+    row[START_DAY_FIELD] = start.0;
+    row[MEMBERS_FIELD] = limits.len() as u64;
+    row[HOLIDAY_COUNT_FIELD] = holidays.len() as u64;
+    put_list(&mut *row, HOLIDAYS_FIELD, holidays);
+    put_list(&mut *row, LIMITS_FIELD, limits);
 }
 
 // Reads the header that bytes begin with: TableUnsound for a short row before HeaderUnsound, and nothing written on
@@ -86,7 +86,7 @@ fn holidays_in(row: &[u64], count: usize) -> [u64; HOLIDAY_PLACES]
     let mut column = [0u64; HOLIDAY_PLACES];
     let mut i: usize = 0;
     while i < count {
-        column[i] = row[HOLIDAYS + i];
+        column[i] = row[HOLIDAYS_FIELD + i];
         i += 1;
     }
     column
@@ -99,7 +99,7 @@ fn limits_in(row: &[u64], count: usize) -> [u64; MEMBER_PLACES]
     let mut column = [0u64; MEMBER_PLACES];
     let mut i: usize = 0;
     while i < count {
-        column[i] = row[LIMITS + i];
+        column[i] = row[LIMITS_FIELD + i];
         i += 1;
     }
     column
@@ -109,13 +109,13 @@ fn header_in(row: &[u64]) -> JournalHeader
     requires { ⌜ (headerFields ≤ length (now row)) × (getD (now row) membersField 0 ≤ mostMembers) × (getD (now row) holidayCountField 0 ≤ mostHolidays) ⌝ }
     ensures { λ r. ⌜ r ≡ headerColumns (headerIn (now (row .entry))) ⌝ }
 {
-    let members = row[MEMBERS];
-    let count = row[HOLIDAY_COUNT];
+    let members = row[MEMBERS_FIELD];
+    let count = row[HOLIDAY_COUNT_FIELD];
     let holidays = holidays_in(row, count as usize);
     let limits = limits_in(row, members as usize);
     JournalHeader {
-        first_year: row[FIRST_YEAR],
-        start_day: DayNo(row[START_DAY]),
+        first_year: row[FIRST_YEAR_FIELD],
+        start_day: DayNo(row[START_DAY_FIELD]),
         members: members,
         holiday_count: count,
         holidays: holidays,
@@ -131,10 +131,10 @@ pub fn write_header_fields(row: &[u64], out: &mut [u8]) -> Answer
     if row.len() < HEADER_FIELDS {
         return Answer::TableUnsound;
     }
-    if MOST_MEMBERS < row[MEMBERS] {
+    if MOST_MEMBERS < row[MEMBERS_FIELD] {
         return Answer::HeaderUnsound;
     }
-    if MOST_HOLIDAYS < row[HOLIDAY_COUNT] {
+    if MOST_HOLIDAYS < row[HOLIDAY_COUNT_FIELD] {
         return Answer::HeaderUnsound;
     }
     write_header(header_in(row), out)

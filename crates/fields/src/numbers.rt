@@ -11,32 +11,32 @@ ghost use Rattle.record_kinds.specs.LegCount.{legCount};
 ghost use Rattle.codec.specs.Columns.{legRows};
 ghost use Rattle.fields.specs.RecordFields.{recordFields, legNumbers, withNumbers};
 use crate::places::CANCEL_FIELDS;
-use crate::places::CANCEL_MEMBER;
-use crate::places::CANCEL_ORDER;
-use crate::places::CANCEL_TIME;
+use crate::places::CANCEL_MEMBER_FIELD;
+use crate::places::CANCEL_ORDER_FIELD;
+use crate::places::CANCEL_TIME_FIELD;
 use crate::places::CLOSE_OF_DAY_FIELDS;
-use crate::places::CLOSE_OF_DAY_TIME;
-use crate::places::CLOSE_OUT_CONTRACT;
+use crate::places::CLOSE_OF_DAY_TIME_FIELD;
+use crate::places::CLOSE_OUT_CONTRACT_FIELD;
 use crate::places::CLOSE_OUT_FIELDS;
-use crate::places::CLOSE_OUT_RATIO;
-use crate::places::DAY_LIMITS_CONTRACT;
+use crate::places::CLOSE_OUT_RATIO_FIELD;
+use crate::places::DAY_LIMITS_CONTRACT_FIELD;
 use crate::places::DAY_LIMITS_FIELDS;
-use crate::places::DAY_LIMITS_HIGH;
-use crate::places::DAY_LIMITS_LOW;
+use crate::places::DAY_LIMITS_HIGH_FIELD;
+use crate::places::DAY_LIMITS_LOW_FIELD;
 use crate::places::DEFAULT_FIELDS;
-use crate::places::DEFAULT_MEMBER;
-use crate::places::FIRST_LEG;
-use crate::places::KIND;
+use crate::places::DEFAULT_MEMBER_FIELD;
+use crate::places::FIRST_LEG_FIELD;
+use crate::places::KIND_FIELD;
 use crate::places::LEG_WIDTH;
-use crate::places::PROPOSAL_LEGS;
-use crate::places::SUBMIT_CONTRACT;
+use crate::places::PROPOSAL_LEGS_FIELD;
+use crate::places::SUBMIT_CONTRACT_FIELD;
 use crate::places::SUBMIT_FIELDS;
-use crate::places::SUBMIT_LOTS;
-use crate::places::SUBMIT_MEMBER;
-use crate::places::SUBMIT_ORDER_KIND;
-use crate::places::SUBMIT_PRICE;
-use crate::places::SUBMIT_SIDE;
-use crate::places::SUBMIT_TIME;
+use crate::places::SUBMIT_LOTS_FIELD;
+use crate::places::SUBMIT_MEMBER_FIELD;
+use crate::places::SUBMIT_ORDER_KIND_FIELD;
+use crate::places::SUBMIT_PRICE_FIELD;
+use crate::places::SUBMIT_SIDE_FIELD;
+use crate::places::SUBMIT_TIME_FIELD;
 use codec::Legs;
 use codec::leg_of;
 use record_kinds::order_kind_number;
@@ -61,14 +61,14 @@ fn put_submit(row: &mut [u64], e: Submission) -> u64
 {
     let side = e.side;
     let kind = e.kind;
-    row[KIND] = SUBMIT;
-    row[SUBMIT_TIME] = e.time;
-    row[SUBMIT_MEMBER] = e.member;
-    row[SUBMIT_CONTRACT] = e.contract;
-    row[SUBMIT_SIDE] = side_number(side);
-    row[SUBMIT_ORDER_KIND] = order_kind_number(kind);
-    row[SUBMIT_PRICE] = e.price.0;
-    row[SUBMIT_LOTS] = e.lots.0;
+    row[KIND_FIELD] = SUBMIT;
+    row[SUBMIT_TIME_FIELD] = e.time;
+    row[SUBMIT_MEMBER_FIELD] = e.member;
+    row[SUBMIT_CONTRACT_FIELD] = e.contract;
+    row[SUBMIT_SIDE_FIELD] = side_number(side);
+    row[SUBMIT_ORDER_KIND_FIELD] = order_kind_number(kind);
+    row[SUBMIT_PRICE_FIELD] = e.price.0;
+    row[SUBMIT_LOTS_FIELD] = e.lots.0;
     SUBMIT_FIELDS
 }
 
@@ -76,10 +76,10 @@ fn put_cancel(row: &mut [u64], e: Cancellation) -> u64
     requires { ⌜ recordFields ≤ length (now row) ⌝ }
     ensures { λ r. ⌜ record { answer = Accepted r; after = now (row .exit) } ≡ withNumbers (Cancel e) [] (now (row .entry)) ⌝ }
 {
-    row[KIND] = CANCEL;
-    row[CANCEL_TIME] = e.time;
-    row[CANCEL_MEMBER] = e.member;
-    row[CANCEL_ORDER] = e.order;
+    row[KIND_FIELD] = CANCEL;
+    row[CANCEL_TIME_FIELD] = e.time;
+    row[CANCEL_MEMBER_FIELD] = e.member;
+    row[CANCEL_ORDER_FIELD] = e.order;
     CANCEL_FIELDS
 }
 
@@ -87,10 +87,10 @@ fn put_day_limits(row: &mut [u64], e: NewDayLimits) -> u64
     requires { ⌜ recordFields ≤ length (now row) ⌝ }
     ensures { λ r. ⌜ record { answer = Accepted r; after = now (row .exit) } ≡ withNumbers (DayLimits e) [] (now (row .entry)) ⌝ }
 {
-    row[KIND] = DAY_LIMITS;
-    row[DAY_LIMITS_CONTRACT] = e.contract;
-    row[DAY_LIMITS_LOW] = e.low.0;
-    row[DAY_LIMITS_HIGH] = e.high.0;
+    row[KIND_FIELD] = DAY_LIMITS;
+    row[DAY_LIMITS_CONTRACT_FIELD] = e.contract;
+    row[DAY_LIMITS_LOW_FIELD] = e.low.0;
+    row[DAY_LIMITS_HIGH_FIELD] = e.high.0;
     DAY_LIMITS_FIELDS
 }
 
@@ -109,7 +109,7 @@ fn put_legs(row: &mut [u64], count: usize, legs: Legs)
 {
     let mut i: usize = 0;
     while i < count {
-        put_leg(row, FIRST_LEG + LEG_WIDTH * i, leg_of(legs, i));
+        put_leg(row, FIRST_LEG_FIELD + LEG_WIDTH * i, leg_of(legs, i));
         i += 1;
     }
 }
@@ -118,18 +118,18 @@ fn put_proposal(row: &mut [u64], count: u64, legs: Legs) -> u64
     requires { ⌜ (recordFields ≤ length (now row)) × (count ≤ mostLegs) ⌝ }
     ensures { λ r. ⌜ record { answer = Accepted r; after = now (row .exit) } ≡ withNumbers (Proposal count) (legRows count legs) (now (row .entry)) ⌝ }
 {
-    row[KIND] = PROPOSAL;
-    row[PROPOSAL_LEGS] = count;
+    row[KIND_FIELD] = PROPOSAL;
+    row[PROPOSAL_LEGS_FIELD] = count;
     put_legs(row, count as usize, legs);
-    (FIRST_LEG as u64) + (LEG_WIDTH as u64) * count
+    (FIRST_LEG_FIELD as u64) + (LEG_WIDTH as u64) * count
 }
 
 fn put_default(row: &mut [u64], member: u64) -> u64
     requires { ⌜ recordFields ≤ length (now row) ⌝ }
     ensures { λ r. ⌜ record { answer = Accepted r; after = now (row .exit) } ≡ withNumbers (Default member) [] (now (row .entry)) ⌝ }
 {
-    row[KIND] = DEFAULT;
-    row[DEFAULT_MEMBER] = member;
+    row[KIND_FIELD] = DEFAULT;
+    row[DEFAULT_MEMBER_FIELD] = member;
     DEFAULT_FIELDS
 }
 
@@ -137,9 +137,9 @@ fn put_close_out(row: &mut [u64], e: CloseOutTerms) -> u64
     requires { ⌜ recordFields ≤ length (now row) ⌝ }
     ensures { λ r. ⌜ record { answer = Accepted r; after = now (row .exit) } ≡ withNumbers (CloseOut e) [] (now (row .entry)) ⌝ }
 {
-    row[KIND] = CLOSE_OUT;
-    row[CLOSE_OUT_CONTRACT] = e.contract;
-    row[CLOSE_OUT_RATIO] = e.ratio;
+    row[KIND_FIELD] = CLOSE_OUT;
+    row[CLOSE_OUT_CONTRACT_FIELD] = e.contract;
+    row[CLOSE_OUT_RATIO_FIELD] = e.ratio;
     CLOSE_OUT_FIELDS
 }
 
@@ -147,8 +147,8 @@ fn put_close_of_day(row: &mut [u64], time: u64) -> u64
     requires { ⌜ recordFields ≤ length (now row) ⌝ }
     ensures { λ r. ⌜ record { answer = Accepted r; after = now (row .exit) } ≡ withNumbers (CloseOfDay time) [] (now (row .entry)) ⌝ }
 {
-    row[KIND] = CLOSE_OF_DAY;
-    row[CLOSE_OF_DAY_TIME] = time;
+    row[KIND_FIELD] = CLOSE_OF_DAY;
+    row[CLOSE_OF_DAY_TIME_FIELD] = time;
     CLOSE_OF_DAY_FIELDS
 }
 

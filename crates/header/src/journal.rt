@@ -1,9 +1,9 @@
 // The header of a journal, and which are sound.
 ghost use mathlib.Core.Path.{_≡_};
-ghost use Prim.Native.Nat.{_+_, _*_, _<_, _≤_};
+ghost use Prim.Native.Nat.{_<_, _≤_};
 ghost use Rattle.arith.specs.Lists.{every};
 ghost use Rattle.rules.specs.Ranges.{mostMembers, mostHolidays};
-ghost use Rattle.rules.specs.Header.{membersSound, limitSound, headerSound};
+ghost use Rattle.rules.specs.Header.{lengthOfHeader, membersSound, limitSound, headerSound};
 ghost use Rattle.header.specs.Journal.{firsts, daysSound, headerFrom};
 use rules::DayNo;
 use rules::layout::HOLIDAY_PLACES;
@@ -13,18 +13,18 @@ use rules::ranges::MOST_LIMIT;
 use rules::ranges::MOST_MEMBERS;
 
 // The three letters VJR and the 16-bit version, 1.
-pub const LETTERS_AND_VERSION: [u8; FIRST_YEAR_PLACE] = *b"VJR\x00\x01";
+pub const LETTERS_AND_VERSION: [u8; FIRST_YEAR_BYTE] = *b"VJR\x00\x01";
 
 // Where the other fields of a header stand, in bytes; the limits stand behind the holidays.
-pub const FIRST_YEAR_PLACE: usize = 5;
+pub const FIRST_YEAR_BYTE: usize = 5;
 
-pub const START_DAY_PLACE: usize = 7;
+pub const START_DAY_BYTE: usize = 7;
 
-pub const MEMBERS_PLACE: usize = 9;
+pub const MEMBERS_BYTE: usize = 9;
 
-pub const HOLIDAY_COUNT_PLACE: usize = 10;
+pub const HOLIDAY_COUNT_BYTE: usize = 10;
 
-pub const FIRST_HOLIDAY_PLACE: usize = 11;
+pub const FIRST_HOLIDAY_BYTE: usize = 11;
 
 // How many bytes a holiday and a limit take.
 pub const HOLIDAY_LENGTH: usize = 2;
@@ -34,9 +34,9 @@ pub const LIMIT_LENGTH: usize = 4;
 // How many bytes the header of so many members and holidays takes.
 pub fn header_length(members: u64, holidays: u64) -> u64
     requires { ⌜ (members < 256) × (holidays < 256) ⌝ }
-    ensures { λ r. ⌜ r ≡ 11 + 2 * holidays + 4 * members ⌝ }
+    ensures { λ r. ⌜ r ≡ lengthOfHeader members holidays ⌝ }
 {
-    FIRST_HOLIDAY_PLACE as u64 + HOLIDAY_LENGTH as u64 * holidays + LIMIT_LENGTH as u64 * members
+    FIRST_HOLIDAY_BYTE as u64 + HOLIDAY_LENGTH as u64 * holidays + LIMIT_LENGTH as u64 * members
 }
 
 // The first of the holidays and of the limits count, as many as there are holidays and members; the places past them are surplus.

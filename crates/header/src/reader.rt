@@ -4,18 +4,19 @@ ghost use Prim.Native.Nat.{_+_, _*_, _<_, _≤_};
 ghost use lib.ListN.{length, getD, take};
 ghost use Rattle.rules.specs.Ranges.{mostMembers, mostHolidays};
 ghost use Rattle.rules.specs.Header.{u16sAt, u32sAt, sameBytes, lettersAndVersion, headerOf, headerLength};
+ghost use Rattle.rules.specs.Header.{firstYearByte, membersByte, holidayCountByte, firstHolidayByte, firstLimitByte, limitLength};
 ghost use Rattle.rules.specs.declared.answer.Answer.the-variants.{HeaderUnsound};
 ghost use Rattle.arith.specs.Columns.{padded};
 ghost use Rattle.header.specs.Journal.{headerColumns, blankHeader, headerReading};
-use crate::journal::FIRST_HOLIDAY_PLACE;
-use crate::journal::FIRST_YEAR_PLACE;
-use crate::journal::HOLIDAY_COUNT_PLACE;
+use crate::journal::FIRST_HOLIDAY_BYTE;
+use crate::journal::FIRST_YEAR_BYTE;
+use crate::journal::HOLIDAY_COUNT_BYTE;
 use crate::journal::HOLIDAY_LENGTH;
 use crate::journal::JournalHeader;
 use crate::journal::LETTERS_AND_VERSION;
 use crate::journal::LIMIT_LENGTH;
-use crate::journal::MEMBERS_PLACE;
-use crate::journal::START_DAY_PLACE;
+use crate::journal::MEMBERS_BYTE;
+use crate::journal::START_DAY_BYTE;
 use crate::journal::header_length;
 use crate::journal::is_header_sound;
 use big_endian::u8_at;
@@ -35,20 +36,20 @@ pub struct HeaderReading {
 }
 
 fn holidays_at(bytes: &[u8], count: usize) -> [u64; HOLIDAY_PLACES]
-    requires { ⌜ (count ≤ mostHolidays) × (11 + 2 * count ≤ length (now bytes)) ⌝ }
-    ensures { λ r. ⌜ r ≡ padded mostHolidays (u16sAt (now (bytes .entry)) 11 count) ⌝ }
+    requires { ⌜ (count ≤ mostHolidays) × (firstLimitByte count ≤ length (now bytes)) ⌝ }
+    ensures { λ r. ⌜ r ≡ padded mostHolidays (u16sAt (now (bytes .entry)) firstHolidayByte count) ⌝ }
 {
     let mut column = [0u64; HOLIDAY_PLACES];
     let mut i: usize = 0;
     while i < count {
-        column[i] = u16_at(bytes, FIRST_HOLIDAY_PLACE + HOLIDAY_LENGTH * i);
+        column[i] = u16_at(bytes, FIRST_HOLIDAY_BYTE + HOLIDAY_LENGTH * i);
         i += 1;
     }
     column
 }
 
 fn limits_at(bytes: &[u8], at: usize, count: usize) -> [u64; MEMBER_PLACES]
-    requires { ⌜ (count ≤ mostMembers) × (at + 4 * count ≤ length (now bytes)) ⌝ }
+    requires { ⌜ (count ≤ mostMembers) × (at + limitLength * count ≤ length (now bytes)) ⌝ }
     ensures { λ r. ⌜ r ≡ padded mostMembers (u32sAt (now (bytes .entry)) at count) ⌝ }
 {
     let mut column = [0u64; MEMBER_PLACES];
@@ -62,17 +63,17 @@ fn limits_at(bytes: &[u8], at: usize, count: usize) -> [u64; MEMBER_PLACES]
 
 // The fields, in whatever ranges.
 fn fields_at(bytes: &[u8], members: u64, holiday_count: u64) -> JournalHeader
-    requires { ⌜ (11 ≤ length (now bytes)) × (members ≡ getD (now bytes) 9 0) × («holiday_count» ≡ getD (now bytes) 10 0) ⌝ }
+    requires { ⌜ (firstHolidayByte ≤ length (now bytes)) × (members ≡ getD (now bytes) membersByte 0) × («holiday_count» ≡ getD (now bytes) holidayCountByte 0) ⌝ }
     requires { ⌜ (members ≤ mostMembers) × («holiday_count» ≤ mostHolidays) × (headerLength (now bytes) ≤ length (now bytes)) ⌝ }
     ensures { λ r. ⌜ r ≡ headerColumns (headerOf (now (bytes .entry))) ⌝ }
 {
-    let year = u16_at(bytes, FIRST_YEAR_PLACE);
-    let start = u16_at(bytes, START_DAY_PLACE);
+    let year = u16_at(bytes, FIRST_YEAR_BYTE);
+    let start = u16_at(bytes, START_DAY_BYTE);
     let n = holiday_count as usize;
     let holidays = holidays_at(bytes, n);
     let limits = limits_at(
         bytes,
-        FIRST_HOLIDAY_PLACE + HOLIDAY_LENGTH * n,
+        FIRST_HOLIDAY_BYTE + HOLIDAY_LENGTH * n,
         members as usize,
     );
     JournalHeader {
@@ -86,11 +87,11 @@ fn fields_at(bytes: &[u8], members: u64, holiday_count: u64) -> JournalHeader
 }
 
 fn begins_with_letters(bytes: &[u8]) -> bool
-    requires { ⌜ 11 ≤ length (now bytes) ⌝ }
-    ensures { λ r. ⌜ r ≡ sameBytes (take 5 (now (bytes .entry))) lettersAndVersion ⌝ }
+    requires { ⌜ firstHolidayByte ≤ length (now bytes) ⌝ }
+    ensures { λ r. ⌜ r ≡ sameBytes (take firstYearByte (now (bytes .entry))) lettersAndVersion ⌝ }
 {
     let letters = LETTERS_AND_VERSION;
-    check::same(&bytes[..FIRST_YEAR_PLACE], &letters)
+    check::same(&bytes[..FIRST_YEAR_BYTE], &letters)
 }
 
 fn unsound() -> HeaderReading
@@ -113,14 +114,14 @@ fn unsound() -> HeaderReading
 pub fn read_header(bytes: &[u8]) -> HeaderReading
     ensures { λ r. ⌜ r ≡ headerReading (now (bytes .entry)) ⌝ }
 {
-    if bytes.len() < FIRST_HOLIDAY_PLACE {
+    if bytes.len() < FIRST_HOLIDAY_BYTE {
         return unsound();
     }
     if !begins_with_letters(bytes) {
         return unsound();
     }
-    let members = u8_at(bytes, MEMBERS_PLACE);
-    let holiday_count = u8_at(bytes, HOLIDAY_COUNT_PLACE);
+    let members = u8_at(bytes, MEMBERS_BYTE);
+    let holiday_count = u8_at(bytes, HOLIDAY_COUNT_BYTE);
     if MOST_MEMBERS < members {
         return unsound();
     }

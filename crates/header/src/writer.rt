@@ -6,16 +6,17 @@ ghost use lib.ListN.{length};
 ghost use Rattle.arith.specs.Lists.{over};
 ghost use Rattle.rules.specs.Ranges.{mostMembers, mostHolidays};
 ghost use Rattle.rules.specs.Header.{u16Bytes, u32Bytes, lettersAndVersion, headerBytes, writeHeaderSpec};
+ghost use Rattle.rules.specs.Header.{firstYearByte, firstHolidayByte, firstLimitByte, limitLength, lengthOfHeader};
 ghost use Rattle.header.specs.Journal.{firsts, headerFrom};
-use crate::journal::FIRST_HOLIDAY_PLACE;
-use crate::journal::FIRST_YEAR_PLACE;
-use crate::journal::HOLIDAY_COUNT_PLACE;
+use crate::journal::FIRST_HOLIDAY_BYTE;
+use crate::journal::FIRST_YEAR_BYTE;
+use crate::journal::HOLIDAY_COUNT_BYTE;
 use crate::journal::HOLIDAY_LENGTH;
 use crate::journal::JournalHeader;
 use crate::journal::LETTERS_AND_VERSION;
 use crate::journal::LIMIT_LENGTH;
-use crate::journal::MEMBERS_PLACE;
-use crate::journal::START_DAY_PLACE;
+use crate::journal::MEMBERS_BYTE;
+use crate::journal::START_DAY_BYTE;
 use crate::journal::header_length;
 use crate::journal::is_header_sound;
 use big_endian::put_u8;
@@ -27,7 +28,7 @@ use rules::layout::HOLIDAY_PLACES;
 use rules::layout::MEMBER_PLACES;
 
 fn put_letters(out: &mut [u8])
-    requires { ⌜ 5 ≤ length (now out) ⌝ }
+    requires { ⌜ firstYearByte ≤ length (now out) ⌝ }
     ensures { λ r. ⌜ now (out .exit) ≡ over 0 lettersAndVersion (now (out .entry)) ⌝ }
 {
     let letters = LETTERS_AND_VERSION;
@@ -39,18 +40,18 @@ fn put_letters(out: &mut [u8])
 }
 
 fn put_holidays(out: &mut [u8], list: [u64; HOLIDAY_PLACES], count: usize)
-    requires { ⌜ (count ≤ mostHolidays) × (11 + 2 * count ≤ length (now out)) ⌝ }
-    ensures { λ r. ⌜ now (out .exit) ≡ over 11 (flatMap u16Bytes (firsts count list)) (now (out .entry)) ⌝ }
+    requires { ⌜ (count ≤ mostHolidays) × (firstLimitByte count ≤ length (now out)) ⌝ }
+    ensures { λ r. ⌜ now (out .exit) ≡ over firstHolidayByte (flatMap u16Bytes (firsts count list)) (now (out .entry)) ⌝ }
 {
     let mut i: usize = 0;
     while i < count {
-        put_u16(out, FIRST_HOLIDAY_PLACE + HOLIDAY_LENGTH * i, list[i]);
+        put_u16(out, FIRST_HOLIDAY_BYTE + HOLIDAY_LENGTH * i, list[i]);
         i += 1;
     }
 }
 
 fn put_limits(out: &mut [u8], at: usize, list: [u64; MEMBER_PLACES], count: usize)
-    requires { ⌜ (count ≤ mostMembers) × (at + 4 * count ≤ length (now out)) ⌝ }
+    requires { ⌜ (count ≤ mostMembers) × (at + limitLength * count ≤ length (now out)) ⌝ }
     ensures { λ r. ⌜ now (out .exit) ≡ over at (flatMap u32Bytes (firsts count list)) (now (out .entry)) ⌝ }
 {
     let mut i: usize = 0;
@@ -61,21 +62,21 @@ fn put_limits(out: &mut [u8], at: usize, list: [u64; MEMBER_PLACES], count: usiz
 }
 
 fn put_header(out: &mut [u8], h: JournalHeader)
-    requires { ⌜ (h .members ≤ mostMembers) × (h .«holiday_count» ≤ mostHolidays) × (11 + 2 * h .«holiday_count» + 4 * h .members ≤ length (now out)) ⌝ }
+    requires { ⌜ (h .members ≤ mostMembers) × (h .«holiday_count» ≤ mostHolidays) × (lengthOfHeader (h .members) (h .«holiday_count») ≤ length (now out)) ⌝ }
     ensures { λ r. ⌜ now (out .exit) ≡ over 0 (headerBytes (headerFrom h)) (now (out .entry)) ⌝ }
 {
     let holidays = h.holidays;
     let limits = h.limits;
     let n = h.holiday_count as usize;
     put_letters(out);
-    put_u16(out, FIRST_YEAR_PLACE, h.first_year);
-    put_u16(out, START_DAY_PLACE, h.start_day.0);
-    put_u8(out, MEMBERS_PLACE, h.members);
-    put_u8(out, HOLIDAY_COUNT_PLACE, h.holiday_count);
+    put_u16(out, FIRST_YEAR_BYTE, h.first_year);
+    put_u16(out, START_DAY_BYTE, h.start_day.0);
+    put_u8(out, MEMBERS_BYTE, h.members);
+    put_u8(out, HOLIDAY_COUNT_BYTE, h.holiday_count);
     put_holidays(out, holidays, n);
     put_limits(
         out,
-        FIRST_HOLIDAY_PLACE + HOLIDAY_LENGTH * n,
+        FIRST_HOLIDAY_BYTE + HOLIDAY_LENGTH * n,
         limits,
         h.members as usize,
     );

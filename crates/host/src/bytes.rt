@@ -4,6 +4,7 @@ ghost use Rattle.rules.specs.Records.{frontOf, toldFront};
 ghost use Rattle.fields.specs.HeaderFields.{readHeaderFields, writeHeaderFields};
 ghost use Rattle.fields.specs.RecordFields.{readFields, writeFields};
 ghost use Rattle.host.specs.Sent.{sent};
+use rules::Answer;
 use rules::Front;
 use told::Told;
 use told::numbered;
@@ -68,8 +69,8 @@ fn told_front(front: Front) -> Told
 {
     match front {
         Front::Whole(length) => numbered(0, length),
-        Front::Cut => numbered(3, 0),
-        Front::UnknownKind => numbered(3, 0),
+        Front::Cut => told_of(Answer::RecordUnsound),
+        Front::UnknownKind => told_of(Answer::RecordUnsound),
     }
 }
 

@@ -162,6 +162,7 @@ fn is_ended(stage: Stage) -> bool {
     }
 }
 
+// Asked only of a stage that has ended.
 fn ending_of(stage: Stage) -> Ending {
     match stage {
         Stage::ReadToEnd => Ending::ReadToEnd,
@@ -341,8 +342,8 @@ fn status(ending: Ending) -> i32
     }
 }
 
-// The exit status: 0 if the journal was read to its end, 2 after a header and 3 after a record that is unsound, 4 if it could
-// not be read, 5 if its output could not be written. After 4 and 5 a message stands on standard error.
+// The exit status, promised to be one of five; which one is tested: 0 if the journal was read to its end, 2 after a header and 3
+// after a record that is unsound, and, with a message on standard error, 4 if it could not be read, 5 if not written.
 #[no_mangle]
 pub extern "C" fn journal_run() -> i32
     ensures { λ r. ⌜ ((ending : Ending) × (r ≡ statusOf ending)) ⌝ }

@@ -22,8 +22,8 @@ use crate::shapes::FIXED_FIELDS;
 use crate::shapes::count_of_kind;
 use crate::shapes::field_at;
 use big_endian::u8_or_zero;
-use header::HOLIDAY_COUNT_PLACE;
-use header::MEMBERS_PLACE;
+use header::HOLIDAY_COUNT_BYTE;
+use header::MEMBERS_BYTE;
 use listing_numbers::put_contract;
 use listing_numbers::put_price;
 use listing_numbers::put_time;
@@ -37,8 +37,8 @@ use listing_words::name_of;
 use listing_words::order_kind_word;
 use listing_words::put_word;
 use listing_words::side_word;
-use record_kinds::places::KIND;
-use record_kinds::places::PROPOSAL_LEGS;
+use record_kinds::places::KIND_BYTE;
+use record_kinds::places::PROPOSAL_LEGS_BYTE;
 use text::put_byte;
 use text::put_bytes;
 use text::put_decimal;
@@ -255,8 +255,8 @@ pub fn put_header_line(bytes: &[u8], out: &mut [u8], start: usize) -> Listed
     requires { ⌜ (start + lineRoom ≤ length (now out)) × (length (now bytes) ≤ mostBytes) ⌝ }
     ensures { λ r. ⌜ ListedAs lineRoom start (headerLine (now (bytes .entry))) (headerFault (now (bytes .entry))) (now (out .entry)) (now (out .exit)) r ⌝ }
 {
-    let members = u8_or_zero(bytes, MEMBERS_PLACE);
-    let holidays = u8_or_zero(bytes, HOLIDAY_COUNT_PLACE);
+    let members = u8_or_zero(bytes, MEMBERS_BYTE);
+    let holidays = u8_or_zero(bytes, HOLIDAY_COUNT_BYTE);
     let count = FIXED_FIELDS + (holidays + members);
     let shape = Shape::Header {
         holidays: holidays,
@@ -283,8 +283,8 @@ pub fn put_record_line(
     requires { ⌜ («first_year» ≤ 2 ^ 32) × (base ≤ 2 ^ 62) ⌝ }
     ensures { λ r. ⌜ ListedAs lineRoom start (recordLine members «first_year» number base (now (bytes .entry))) (faultOf members (now (bytes .entry))) (now (out .entry)) (now (out .exit)) r ⌝ }
 {
-    let kind = u8_or_zero(bytes, KIND);
-    let legs = u8_or_zero(bytes, PROPOSAL_LEGS);
+    let kind = u8_or_zero(bytes, KIND_BYTE);
+    let legs = u8_or_zero(bytes, PROPOSAL_LEGS_BYTE);
     let count = 1 + count_of_kind(kind, legs);
     let i = put_decimal(&mut *out, start, number);
     let shape = Shape::Record {

@@ -9,20 +9,25 @@ ghost use Rattle.listing_words.specs.Fields.{sizeOf, quantityOf, range as range
 ghost use Rattle.listing.specs.Sizes.{mostBytes};
 ghost use Rattle.listing_words.specs.Words.{otherWayRound};
 use big_endian::u8_or_zero;
+use calendar::DAYS_IN_WEEK;
+use calendar::SATURDAY;
+use calendar::SUNDAY;
 use calendar::is_first_year_sound;
-use header::FIRST_HOLIDAY_PLACE;
-use header::FIRST_YEAR_PLACE;
-use header::START_DAY_PLACE;
+use header::FIRST_HOLIDAY_BYTE;
+use header::FIRST_YEAR_BYTE;
+use header::START_DAY_BYTE;
 use listing_words::Field;
 use listing_words::Quantity;
 use listing_words::Range;
 use listing_words::Verdict;
 use months::span_of;
-use record_kinds::places::DAY_LIMITS_LOW;
+use record_kinds::places::DAY_LIMITS_LOW_BYTE;
 use rules::kinds::CLOSE_OF_DAY;
 use rules::kinds::SUBMIT;
 use rules::ranges::LAST_CONTRACT;
+use rules::ranges::LAST_ORDER_KIND;
 use rules::ranges::LAST_SECOND;
+use rules::ranges::LAST_SIDE;
 use rules::ranges::LEAST_FIRST_YEAR;
 use rules::ranges::LEAST_LEGS;
 use rules::ranges::MOST_FIRST_YEAR;
@@ -33,8 +38,18 @@ use rules::ranges::MOST_LOTS;
 use rules::ranges::MOST_MEMBERS;
 use rules::ranges::MOST_PRICE;
 use rules::ranges::MOST_RATIO;
+use rules::ranges::ORDER_NUMBERS_END;
 
-const LAST_ORDER_NUMBER: u64 = 4294967295;
+const LAST_ORDER_NUMBER: u64 = ORDER_NUMBERS_END - 1;
+
+// What a header begins with, as LETTERS_AND_VERSION of `header` has it.
+const LETTER_V: u64 = b'V' as u64;
+
+const LETTER_J: u64 = b'J' as u64;
+
+const LETTER_R: u64 = b'R' as u64;
+
+const VERSION: u64 = 1;
 
 pub fn size_of(field: Field) -> usize
     ensures { λ r. ⌜ (r ≡ sizeOf field) × (r ≤ 4) ⌝ }
@@ -149,8 +164,8 @@ fn holiday_range(bytes: &[u8], place: usize) -> Range
     requires { ⌜ place ≤ mostBytes ⌝ }
     ensures { λ r. ⌜ r ≡ holidayRange (now (bytes .entry)) place ⌝ }
 {
-    let span = span_range(u16_or_zero(bytes, FIRST_YEAR_PLACE));
-    if place <= FIRST_HOLIDAY_PLACE {
+    let span = span_range(u16_or_zero(bytes, FIRST_YEAR_BYTE));
+    if place <= FIRST_HOLIDAY_BYTE {
         return span;
     }
     range(u16_or_zero(bytes, place - 2) + 1, span.most)
@@ -170,12 +185,12 @@ pub fn range_of(members: u64, bytes: &[u8], place: usize, field: Field) -> Range
     ensures { λ r. ⌜ r ≡ rangeOf members (now (bytes .entry)) place field ⌝ }
 {
     match field {
-        Field::LetterV => range(86, 86),
-        Field::LetterJ => range(74, 74),
-        Field::LetterR => range(82, 82),
-        Field::Version => range(1, 1),
+        Field::LetterV => range(LETTER_V, LETTER_V),
+        Field::LetterJ => range(LETTER_J, LETTER_J),
+        Field::LetterR => range(LETTER_R, LETTER_R),
+        Field::Version => range(VERSION, VERSION),
         Field::FirstYear => range(LEAST_FIRST_YEAR, MOST_FIRST_YEAR),
-        Field::StartDay => span_range(u16_or_zero(bytes, FIRST_YEAR_PLACE)),
+        Field::StartDay => span_range(u16_or_zero(bytes, FIRST_YEAR_BYTE)),
         Field::Members => range(1, MOST_MEMBERS),
         Field::HolidayCount => range(0, MOST_HOLIDAYS),
         Field::Holiday => holiday_range(bytes, place),
@@ -184,13 +199,13 @@ pub fn range_of(members: u64, bytes: &[u8], place: usize, field: Field) -> Range
         Field::Time => range(0, LAST_SECOND),
         Field::Member => range(0, last_member(members)),
         Field::Contract => range(0, LAST_CONTRACT),
-        Field::Side => range(0, 1),
-        Field::OrderKind => range(0, 2),
+        Field::Side => range(0, LAST_SIDE),
+        Field::OrderKind => range(0, LAST_ORDER_KIND),
         Field::Price => range(1, MOST_PRICE),
         Field::Lots => range(1, MOST_LOTS),
         Field::Order => range(0, LAST_ORDER_NUMBER),
         Field::Low => range(1, MOST_PRICE),
-        Field::High => range(u32_or_zero(bytes, DAY_LIMITS_LOW), MOST_PRICE),
+        Field::High => range(u32_or_zero(bytes, DAY_LIMITS_LOW_BYTE), MOST_PRICE),
         Field::Legs => range(LEAST_LEGS, MOST_LEGS),
         Field::Ratio => range(1, MOST_RATIO),
     }
@@ -217,7 +232,7 @@ pub fn is_within(range: Range, number: u64) -> bool
 fn is_weekend(day: u64) -> bool
     ensures { λ r. ⌜ r ≡ saturday day || sunday day ⌝ }
 {
-    (day % 7 == 3) | (day % 7 == 4)
+    (day % DAYS_IN_WEEK == SATURDAY) | (day % DAYS_IN_WEEK == SUNDAY)
 }
 
 fn day_verdict(bytes: &[u8], quantity: Quantity, number: u64) -> Verdict
@@ -232,7 +247,7 @@ fn day_verdict(bytes: &[u8], quantity: Quantity, number: u64) -> Verdict
             }
         }
         Quantity::HolidayNumber => {
-            if number == u16_or_zero(bytes, START_DAY_PLACE) {
+            if number == u16_or_zero(bytes, START_DAY_BYTE) {
                 Verdict::OnStartDay
             } else {
                 Verdict::Passes

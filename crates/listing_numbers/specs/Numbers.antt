@@ -3,6 +3,7 @@ use Prim.Native.Nat.{ℕ, _+_, _/_, _%_}
 use mathlib.Core.List.{List, [], _∷_, _++_}
 use Rattle.rules.specs.declared.contract.ContractKind.{ContractKind}
 use Rattle.rules.specs.declared.contract.ContractKind.the-variants.{Year, Quarter, Month}
+use Rattle.rules.specs.Ranges.{quartersInYear, monthsInYear}
 use Rattle.rules.specs.Contracts.{termOf}
 use Rattle.rules.specs.Text.{space, digit, decimal}
 
@@ -20,16 +21,16 @@ priceText k = decimal (k / 100) ++ (46 ∷ twoDigits (k % 100))
 
 -- " Q1" and "-03" of the nth quarter and month.
 unfoldable pub quarterText : ℕ → List ℕ
-quarterText n = space ∷ 81 ∷ digit (1 + n % 4) ∷ []
+quarterText n = space ∷ 81 ∷ digit (1 + n % quartersInYear) ∷ []
 
 unfoldable pub monthText : ℕ → List ℕ
-monthText n = 45 ∷ twoDigits (1 + n % 12)
+monthText n = 45 ∷ twoDigits (1 + n % monthsInYear)
 
 -- The nth year from a first year on, the nth quarter, the nth month: 2022, 2022 Q1, 2022-03.
 unfoldable pub termName : ℕ → ContractKind → ℕ → List ℕ
 termName first Year n = decimal (first + n)
-termName first Quarter n = decimal (first + n / 4) ++ quarterText n
-termName first Month n = decimal (first + n / 12) ++ monthText n
+termName first Quarter n = decimal (first + n / quartersInYear) ++ quarterText n
+termName first Month n = decimal (first + n / monthsInYear) ++ monthText n
 
 abbrev pub contractName : ℕ → ℕ → List ℕ
 contractName first c = termName first (termOf c .kind) (termOf c .index)

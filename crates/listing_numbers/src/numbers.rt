@@ -7,6 +7,8 @@ ghost use Rattle.listing_numbers.specs.Short.{Short};
 ghost use Rattle.listing_numbers.specs.Numbers.{twoDigits, timeText, priceText, quarterText, monthText, termName, contractText};
 use contracts::term_of;
 use rules::ContractKind;
+use rules::ranges::MONTHS_IN_YEAR;
+use rules::ranges::QUARTERS_IN_YEAR;
 use text::put_byte;
 use text::put_bytes;
 use text::put_decimal;
@@ -49,7 +51,7 @@ fn put_quarter(out: &mut [u8], place: usize, index: u64) -> usize
     requires { ⌜ place + 3 ≤ length (now out) ⌝ }
     ensures { λ r. ⌜ Short 3 place (quarterText index) (now (out .entry)) (now (out .exit)) r ⌝ }
 {
-    let quarter = 1 + index % 4;
+    let quarter = 1 + index % QUARTERS_IN_YEAR;
     let i = put_byte(&mut *out, place, b' ');
     let i = put_byte(&mut *out, i, b'Q');
     put_byte(out, i, b'0' + quarter as u8)
@@ -60,7 +62,7 @@ fn put_month(out: &mut [u8], place: usize, index: u64) -> usize
     ensures { λ r. ⌜ Short 3 place (monthText index) (now (out .entry)) (now (out .exit)) r ⌝ }
 {
     let i = put_byte(&mut *out, place, b'-');
-    put_two_digits(out, i, 1 + index % 12)
+    put_two_digits(out, i, 1 + index % MONTHS_IN_YEAR)
 }
 
 fn put_term(out: &mut [u8], place: usize, first_year: u64, kind: ContractKind, index: u64) -> usize
@@ -70,11 +72,11 @@ fn put_term(out: &mut [u8], place: usize, first_year: u64, kind: ContractKind, i
     match kind {
         ContractKind::Year => put_decimal(out, place, first_year + index),
         ContractKind::Quarter => {
-            let i = put_decimal(&mut *out, place, first_year + index / 4);
+            let i = put_decimal(&mut *out, place, first_year + index / QUARTERS_IN_YEAR);
             put_quarter(out, i, index)
         }
         ContractKind::Month => {
-            let i = put_decimal(&mut *out, place, first_year + index / 12);
+            let i = put_decimal(&mut *out, place, first_year + index / MONTHS_IN_YEAR);
             put_month(out, i, index)
         }
     }

@@ -7,12 +7,12 @@ ghost use Rattle.listing.specs.Sizes.{lineRoom};
 ghost use Rattle.listing_program.specs.Places.{inputLength, outputLength, mostTurns, mostInTwoBytes, filledTo, LedgerOf, Stands, nextStands, statusOf};
 ghost use Rattle.listing_program.specs.declared.shell.Ending.{Ending};
 use big_endian::u8_or_zero;
-use header::FIRST_HOLIDAY_PLACE;
-use header::FIRST_YEAR_PLACE;
-use header::HOLIDAY_COUNT_PLACE;
+use header::FIRST_HOLIDAY_BYTE;
+use header::FIRST_YEAR_BYTE;
+use header::HOLIDAY_COUNT_BYTE;
 use header::HOLIDAY_LENGTH;
 use header::LIMIT_LENGTH;
-use header::MEMBERS_PLACE;
+use header::MEMBERS_BYTE;
 use header::header_length;
 use libc::STDERR_FILENO;
 use libc::STDIN_FILENO;
@@ -32,7 +32,7 @@ const INPUT: usize = 65536;
 const OUTPUT: usize = 131072;
 
 // The longest header that can be sound.
-const LONGEST_HEADER: usize = FIRST_HOLIDAY_PLACE
+const LONGEST_HEADER: usize = FIRST_HOLIDAY_BYTE
     + HOLIDAY_LENGTH * MOST_HOLIDAYS as usize
     + LIMIT_LENGTH * MOST_MEMBERS as usize;
 
@@ -272,12 +272,12 @@ fn fill_header(input: &mut [u8]) -> Filled
 fn ledger_of(bytes: &[u8]) -> Ledger
     ensures { λ r. ⌜ LedgerOf (now (bytes .entry)) r ⌝ }
 {
-    let members = u8_or_zero(bytes, MEMBERS_PLACE);
-    let holidays = u8_or_zero(bytes, HOLIDAY_COUNT_PLACE);
+    let members = u8_or_zero(bytes, MEMBERS_BYTE);
+    let holidays = u8_or_zero(bytes, HOLIDAY_COUNT_BYTE);
     Ledger {
         members: members,
-        first_year: u8_or_zero(bytes, FIRST_YEAR_PLACE) * 256
-            + u8_or_zero(bytes, FIRST_YEAR_PLACE + 1),
+        first_year: u8_or_zero(bytes, FIRST_YEAR_BYTE) * 256
+            + u8_or_zero(bytes, FIRST_YEAR_BYTE + 1),
         header_size: header_length(members, holidays),
     }
 }
@@ -326,8 +326,8 @@ fn status(ending: Ending) -> i32
     }
 }
 
-// The exit status: 0 if the journal was listed to its end, 2 after a header and 3 after a record that is unsound, 4 if it could
-// not be read, 5 if the lines could not be written. After 4 and 5 a message stands on standard error.
+// The exit status, promised to be one of five; which one is tested: 0 if the journal was listed to its end, 2 after a header and 3
+// after a record that is unsound, and, with a message on standard error, 4 if it could not be read, 5 if not written.
 #[no_mangle]
 pub extern "C" fn listing_run() -> i32
     ensures { λ r. ⌜ ((ending : Ending) × (r ≡ statusOf ending)) ⌝ }

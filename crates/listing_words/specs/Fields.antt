@@ -5,7 +5,7 @@ use mathlib.Core.Bool.{Bool, true, false, cond, _&&_, _||_}
 use mathlib.Core.List.{List, [], _∷_, _++_}
 use lib.Dec.{eqb, leb, ltb}
 use lib.ListN.{length, getD, replicate}
-use Rattle.rules.specs.Ranges.{contractCount, leastFirstYear, mostFirstYear, mostMembers, lastSecond, mostHolidays, mostLimit, mostPrice, mostLots, leastLegs, mostLegs, mostRatio}
+use Rattle.rules.specs.Ranges.{contractCount, leastFirstYear, mostFirstYear, mostMembers, lastSecond, mostHolidays, mostLimit, mostPrice, mostLots, leastLegs, mostLegs, orderNumbersEnd, mostRatio}
 use Rattle.rules.specs.Days.{Calendar, saturday, sunday, spanStart, dayAfterSpan}
 use Rattle.rules.specs.Header.{u16At, u32At, firstYearSound}
 use Rattle.rules.specs.Records.{submitKind, cancelKind, dayLimitsKind, proposalKind, defaultKind, closeOutKind, closeOfDayKind}
@@ -173,7 +173,7 @@ rangeOf n s place Side = range 0 1
 rangeOf n s place OrderKind = range 0 2
 rangeOf n s place Price = range 1 mostPrice
 rangeOf n s place Lots = range 1 mostLots
-rangeOf n s place Order = range 0 4294967295
+rangeOf n s place Order = range 0 (orderNumbersEnd - 1)
 rangeOf n s place Low = range 1 mostPrice
 rangeOf n s place High = range (u32At s lowPlace) mostPrice
 rangeOf n s place Legs = range leastLegs mostLegs

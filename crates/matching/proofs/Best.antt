@@ -1,24 +1,24 @@
 -- The best order is the one of the lowest rank. Assumes nothing.
 use mathlib.Core.Path.{_≡_, refl, sym, ap, _∙_}
-use mathlib.Core.Bool.{Bool, true, false, cond, _&&_, _||_}
+use mathlib.Core.Bool.{Bool, true, false, cond, _&&_}
 use mathlib.Core.List.{List, [], _∷_}
 use mathlib.Core.Option.{Option, none, some}
 use Prim.Native.Nat.{ℕ, zero, suc, _+_, _*_, _-_, _≤_, _<_}
 use native.Mathlib.Omega.{arith}
 use lib.Dec.{eqb, ltb}
 use lib.ListN.{length, getD}
-use borrow.Author.Tests.{lt-ltb, le-ltb, eq-eqb, ne-eqb, lt-leb, leb-false, ltb-true}
+use borrow.Author.Tests.{lt-ltb, le-ltb, ne-eqb, lt-leb, leb-false, ltb-true}
 use Rattle.arith.specs.Lists.{All}
 use Rattle.arith.proofs.Alls.{all-map, all-place}
-use Rattle.arith.proofs.Tests.{by-bool, true-or, le-or-lt, by-eqb, and-left, and-right, same-ltb}
+use Rattle.arith.proofs.Tests.{by-bool, true-or, by-eqb, and-left, and-right}
 use Rattle.rules.specs.declared.order.Order.{Order}
 use Rattle.rules.specs.declared.order.Side.{Side}
 use Rattle.rules.specs.declared.order.Side.the-variants.{Buy, Sell}
-use Rattle.rules.specs.Ranges.{mostPrice, mostOrders}
+use Rattle.rules.specs.Ranges.{mostPrice, mostOrders, orderNumbersEnd}
 use Rattle.rules.specs.Sides.{otherSide}
-use Rattle.rules.specs.Matching.{betterPrice, precedes, better, best, opposes, meetsPrice, meets, withLots}
+use Rattle.rules.specs.Matching.{precedes, better, best, opposes, meetsPrice, meets, withLots}
 use Rattle.order_book.specs.Left.{leftOver}
-use Rattle.order_priority.specs.Priority.{numbersEnd, Ranked, priceRank, rankOf}
+use Rattle.order_priority.specs.Priority.{Ranked, priceRank, rankOf}
 use Rattle.order_priority.proofs.Ranks.{precedes-rank, price-below}
 use Rattle.matching.specs.Ranks.{noRank, rankIn, ranksOf, Lowest}
 use Rattle.rules.proofs.Sides.{opposing-side}
@@ -34,8 +34,8 @@ unfolding rankOf
 rank-room r f = omega (arith, price-below r f)
 
 -- A price that does not meet stays so for every order of a higher rank.
-module _ (p q m n v : ℕ) (hp : p ≤ mostPrice) (hq : q ≤ mostPrice) (hm : m < numbersEnd) (hn : n < numbersEnd) where
-  far-price : (s : Side) → meetsPrice s v p ≡ false → priceRank (otherSide s) p * numbersEnd + m ≤ priceRank (otherSide s) q * numbersEnd + n → meetsPrice s v q ≡ false
+module _ (p q m n v : ℕ) (hp : p ≤ mostPrice) (hq : q ≤ mostPrice) (hm : m < orderNumbersEnd) (hn : n < orderNumbersEnd) where
+  far-price : (s : Side) → meetsPrice s v p ≡ false → priceRank (otherSide s) p * orderNumbersEnd + m ≤ priceRank (otherSide s) q * orderNumbersEnd + n → meetsPrice s v q ≡ false
   far-price Buy e h = lt-leb q v (omega (arith, leb-false p v e))
   far-price Sell e h = lt-leb v q (omega (arith, leb-false v p e))
 

@@ -3,7 +3,7 @@
 ghost use mathlib.Core.Path.{_≡_};
 ghost use mathlib.Core.Bool.{cond};
 ghost use mathlib.Core.List.{map};
-ghost use Prim.Native.Nat.{ℕ, _+_, _-_, _≤_, _<_, min};
+ghost use Prim.Native.Nat.{ℕ, _+_, _-_, _≤_, _<_};
 ghost use lib.Dec.{eqb};
 ghost use lib.ListN.{length, getD, set, replicate};
 ghost use Rattle.tables.specs.Fit.{ordersIn};
@@ -16,6 +16,7 @@ use order_book::order_at;
 use order_priority::does_oppose;
 use order_priority::rank_of;
 use rules::Order;
+use rules::layout::ORDERS;
 use rules::ranges::MOST_ORDERS;
 
 // The rank of an order that is not to be met.
@@ -23,6 +24,8 @@ pub const NO_RANK: u64 = 18446744073709551615;
 
 // How many places of the book make a block.
 const BLOCK: usize = 16;
+
+pub const BLOCKS: usize = ORDERS / BLOCK;
 
 // The rank of the order at place i, with that place in its last digits to the base 256: the lowest tells where it stands.
 fn rank_at(o: Order, r: Order, i: usize) -> u64

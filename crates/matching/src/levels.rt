@@ -10,6 +10,7 @@ ghost use Rattle.tables.specs.Fit.{ordersIn};
 ghost use Rattle.matching.specs.Deals.{dealWidth};
 ghost use Rattle.matching.specs.Matching.{DealMade, Matchable, MatchMade};
 ghost use Rattle.matching.specs.Ranks.{lotsOf, firstRank, Placed, BlockLows};
+use crate::columns::BLOCKS;
 use crate::columns::NO_RANK;
 use crate::columns::best_place;
 use crate::columns::use_lots;
@@ -129,7 +130,7 @@ pub fn match_orders(book: &[u64], o: Order, left: &mut [u64], deals: &mut [u64])
     ensures { λ r. ⌜ MatchMade o (now (book .entry)) (length (now (left .entry))) (now (deals .entry)) r (now (left .exit)) (now (deals .exit)) ⌝ }
 {
     let mut ranks = [NO_RANK; ORDERS];
-    let mut lows = [NO_RANK; 16];
+    let mut lows = [NO_RANK; BLOCKS];
     write_columns(book, o, &mut *left, &mut ranks);
     write_lows(&ranks, &mut lows);
     match_levels(book, o, &mut *left, &mut ranks, &mut lows, &mut *deals)

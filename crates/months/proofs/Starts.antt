@@ -14,7 +14,8 @@ use Rattle.arith.proofs.Columns.{mapped-at, mapped-length}
 use Rattle.rules.specs.Ranges.{monthsInSpan, mostFirstYear}
 use Rattle.rules.specs.Days.{Calendar, monthStart, firstMonth, spanStart, dayAfterSpan, inSpan}
 use Rattle.rules.proofs.CalendarLaws.{month-le, last-month}
-use Rattle.months.specs.Spans.{startsOf, lastMonthStart}
+use Rattle.months.specs.declared.months.Span.{Span}
+use Rattle.months.specs.Spans.{IsSpan, liesIn, startsOf, lastMonthStart}
 
 module _ (k : Calendar) where
   pub starts-length : length (startsOf k) ≡ monthsInSpan + 1
@@ -36,6 +37,10 @@ module _ (k : Calendar) where
   pub span-most : k .firstYear ≤ mostFirstYear → dayAfterSpan k ≤ lastMonthStart
   unfolding dayAfterSpan
   span-most h = omega (arith, month-le (firstMonth k + monthsInSpan) 960 (omega arith), last-month)
+
+  pub lies-in : (s : Span) (d : ℕ) → IsSpan s k → liesIn s d ≡ inSpan k d
+  unfolding inSpan
+  lies-in s d i = rw (i .starts, i .ends)
 
   -- A day of the span lies in the table.
   pub day-most : (d : ℕ) → k .firstYear ≤ mostFirstYear → inSpan k d ≡ true → d ≤ lastMonthStart

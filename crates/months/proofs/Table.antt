@@ -1,4 +1,5 @@
--- The table of months' first days: each entry is the one before it and that month's days, one test that antt computes, carried to each entry. Assumes nothing.
+-- The table of months' first days: each entry is the one before it and that month's days. It is one test of the whole table, carried to each entry;
+-- antt computes it in the proof of each function that reads the table, since a constant array stands in the code of each. Assumes nothing.
 use Prim.Native.Nat.{ℕ, zero, suc, _+_, _<_}
 use mathlib.Core.Path.{_≡_, sym, ap, _∙_}
 use mathlib.Core.Bool.{Bool, true, false}

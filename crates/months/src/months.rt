@@ -5,9 +5,13 @@ ghost use Prim.Native.Nat.{_+_, _≤_};
 ghost use lib.ListN.{length};
 ghost use Rattle.arith.specs.Lists.{from};
 ghost use Rattle.rules.specs.Days.{monthStart};
+ghost use Rattle.months.specs.Spans.{lastMonth};
 use rules::DayNo;
 
-const STARTS: [u16; 961] = [
+// The months of the table, and January 2100, whose first day is the last entry.
+const MONTHS: usize = 960;
+
+const STARTS: [u16; MONTHS + 1] = [
     0,
     31,
     60,
@@ -985,7 +989,7 @@ pub struct Span {
 
 // The first day of a month; months are counted from January 2020.
 pub fn month_start(month: u64) -> DayNo
-    requires { ⌜ month ≤ 960 ⌝ }
+    requires { ⌜ month ≤ lastMonth ⌝ }
     ensures { λ r. ⌜ r .0 ≡ monthStart month ⌝ }
 {
     let starts = STARTS;
@@ -995,7 +999,7 @@ pub fn month_start(month: u64) -> DayNo
 // From the first day of one month to that of another. A constant array is copied
 // whole to be read, so both days are read from one copy.
 pub fn months_span(first: u64, end: u64) -> Span
-    requires { ⌜ (first ≤ 960) × (end ≤ 960) ⌝ }
+    requires { ⌜ (first ≤ lastMonth) × (end ≤ lastMonth) ⌝ }
     ensures { λ r. ⌜ (r .start .0 ≡ monthStart first) × (r .end .0 ≡ monthStart end) ⌝ }
 {
     let starts = STARTS;
@@ -1007,7 +1011,7 @@ pub fn months_span(first: u64, end: u64) -> Span
 
 // The first days of the months from one on, as many as there are places.
 pub fn read_months(first: u64, out: &mut [u64])
-    requires { ⌜ first + length (now out) ≤ 961 ⌝ }
+    requires { ⌜ first + length (now out) ≤ lastMonth + 1 ⌝ }
     ensures { λ _. ⌜ now (out .exit) ≡ map (λ i. monthStart (first + i)) (from 0 (length (now (out .entry)))) ⌝ }
 {
     let starts = STARTS;

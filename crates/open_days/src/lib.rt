@@ -44,7 +44,7 @@ fn is_open_from(starts: &[u64], least: DayNo, t: Term) -> bool
     starts[(n * (i - count)) as usize] < least.0
 }
 
-// The delivery days of a contract, none if it is not open.
+// The delivery days of a contract, 0 if it is not open.
 fn days_if_open(starts: &[u64], least: DayNo, t: Term) -> u64
     requires { ⌜ (length (now starts) ≡ monthsInSpan + 1) × InLedger t × NoneEarlier (now starts) ⌝ }
     ensures { λ r. ⌜ ((k : Calendar) (d : ℕ) → now (starts .entry) ≡ startsOf k → IsLeast k d (closingDistance (t .kind)) (least .0) → r
@@ -72,7 +72,7 @@ fn write_open_days(starts: &[u64], least: LeastDays, days: &mut [u64])
     }
 }
 
-// Of every contract that is open on a day its delivery days, of the others none.
+// Of every contract that is open on a day its delivery days, of the others 0.
 pub fn find_open_days(first_year: u64, holidays: &[u64], day: DayNo, days: &mut [u64])
     requires { ⌜ FirstYear «first_year» × (length (now days) ≡ contractCount) ⌝ }
     ensures { λ _. ⌜ now (days .exit) ≡ openDays (record { firstYear = «first_year»; holidays = now (holidays .entry) }) (day .0) ⌝ }

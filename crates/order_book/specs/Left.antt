@@ -8,7 +8,8 @@ use Rattle.rules.specs.Matching.{withLots}
 use Rattle.order_book.specs.declared.leaving.Leaving.{Leaving}
 use Rattle.order_book.specs.declared.leaving.Leaving.the-variants.{Numbered, OfMember}
 
--- The orders with these lots left of them. A remainder keeps its number and its place in priority.
+-- The orders with these lots left of them. A remainder keeps its number and its place in priority. Orders past the column stay
+-- as they are; numbers past the orders are not used.
 unfoldable pub leftOver : List ℕ → List Order → List Order
 leftOver [] os = os
 leftOver (q ∷ qs) [] = []

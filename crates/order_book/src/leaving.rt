@@ -7,7 +7,7 @@ ghost use lib.Dec.{eqb};
 ghost use lib.ListN.{length};
 ghost use Rattle.arith.specs.Lists.{over, any, kept};
 ghost use Rattle.rules.specs.Ranges.{mostOrders};
-ghost use Rattle.rules.specs.Ledger.{Tables, withHead, withBook, headLength, bookLength, orderWidth, sideAt, orderAt, orderPlaces, orders, withOrders};
+ghost use Rattle.rules.specs.Ledger.{Tables, withHead, withBook, headLength, bookLength, orderWidth, sideAt, orderAt, orderPlaces, withOrders};
 ghost use Rattle.rules.specs.Matching.{withLots};
 ghost use Rattle.tables.specs.Fit.{OrdersFit, orderCountIn, ordersIn};
 ghost use Rattle.order_book.specs.Left.{leftOver, leaves, staying};

@@ -9,7 +9,6 @@ use rules::DayNo;
 use rules::Kurus;
 use rules::Lots;
 use rules::Order;
-use rules::Side;
 use rules::layout::ORDER_CONTRACT;
 use rules::layout::ORDER_DAY;
 use rules::layout::ORDER_LOTS;

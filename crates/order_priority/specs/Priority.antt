@@ -1,18 +1,14 @@
--- Priority as one number: of two orders of one contract and side the one of lower rank comes first.
+-- Priority as one number: of two orders of one contract and side, both Ranked, the one of lower rank comes first.
 use Prim.Native.Nat.{ℕ, _+_, _*_, _-_, _≤_, _<_}
 use Rattle.rules.specs.declared.order.Order.{Order}
 use Rattle.rules.specs.declared.order.Side.{Side}
 use Rattle.rules.specs.declared.order.Side.the-variants.{Buy, Sell}
-use Rattle.rules.specs.Ranges.{mostPrice}
+use Rattle.rules.specs.Ranges.{mostPrice, orderNumbersEnd}
 
--- Order numbers are below it.
-abbrev pub numbersEnd : ℕ
-numbersEnd = 4294967296
-
--- An order whose price and number are in their ranges.
+-- An order whose price and number are not above the ends of their fields.
 pub record Ranked (r : Order) : Type 0 where
   pub price : r .price .0 ≤ mostPrice
-  pub number : r .number < numbersEnd
+  pub number : r .number < orderNumbersEnd
 
 abbrev pub priceRank : Side → ℕ → ℕ
 priceRank Buy p = mostPrice - p
@@ -20,4 +16,4 @@ priceRank Sell p = p
 
 -- Best price first, then lower number.
 unfoldable pub rankOf : Order → ℕ
-rankOf r = priceRank (r .side) (r .price .0) * numbersEnd + r .number
+rankOf r = priceRank (r .side) (r .price .0) * orderNumbersEnd + r .number

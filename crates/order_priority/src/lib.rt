@@ -7,11 +7,9 @@ ghost use Rattle.order_priority.specs.Priority.{Ranked, priceRank, rankO
 use rules::Order;
 use rules::Side;
 use rules::ranges::MOST_PRICE;
+use rules::ranges::ORDER_NUMBERS_END;
 use sides::is_same_side;
 use sides::other_side;
-
-// Order numbers are below it.
-const NUMBERS_END: u64 = 4294967296;
 
 // Whether the resting order r has the incoming order's contract and the other side. Most have another contract: one
 // comparison passes them over.
@@ -55,5 +53,5 @@ pub fn rank_of(r: Order) -> u64
     ensures { λ x. ⌜ x ≡ rankOf r ⌝ }
 {
     let side = r.side;
-    price_rank(side, r.price.0) * NUMBERS_END + r.number
+    price_rank(side, r.price.0) * ORDER_NUMBERS_END + r.number
 }

@@ -6,7 +6,7 @@ use Prim.Native.Nat.{ℕ, _+_, _*_}
 use native.Mathlib.Nat.{zero-add}
 use lib.Dec.{eqb}
 use borrow.Author.Tests.{eq-eqb, eqb-true, not-false}
-use Rattle.arith.specs.Lists.{every, any, kept, total, from}
+use Rattle.arith.specs.Lists.{every, any, kept, total}
 use Rattle.arith.proofs.Tests.{true-or, or-left, or-right}
 use Rattle.arith.proofs.Scans.{every-both}
 use Rattle.rules.specs.declared.order.Order.{Order}

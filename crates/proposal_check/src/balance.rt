@@ -17,7 +17,11 @@ use crate::side_places::SIDES;
 use crate::side_places::side_place;
 use order_book::order_at;
 use rules::ranges::CONTRACTS_IN_YEAR;
+use rules::ranges::FIRST_QUARTER;
+use rules::ranges::JANUARY;
+use rules::ranges::MONTHS_IN_QUARTER;
 use rules::ranges::MONTHS_IN_SPAN;
+use rules::ranges::MONTHS_IN_YEAR;
 
 // What a lot adds to a sum beside its price: more than the values of all legs together, so that sums are equal exactly if
 // lots and values both are.
@@ -48,11 +52,11 @@ fn contracts_of(i: u64) -> MonthContracts
     requires { ⌜ i < monthsInSpan ⌝ }
     ensures { λ r. ⌜ (r .year ≡ yearOf i) × (r .quarter ≡ quarterOf i) × (r .month ≡ monthOf i) ⌝ }
 {
-    let first = CONTRACTS_IN_YEAR * (i / 12);
+    let first = CONTRACTS_IN_YEAR * (i / MONTHS_IN_YEAR);
     MonthContracts {
         year: first,
-        quarter: first + 1 + i % 12 / 3,
-        month: first + 5 + i % 12,
+        quarter: first + FIRST_QUARTER + i % MONTHS_IN_YEAR / MONTHS_IN_QUARTER,
+        month: first + JANUARY + i % MONTHS_IN_YEAR,
     }
 }
 

@@ -1,7 +1,7 @@
 // Every resting order of a leg's contract and side with better priority is a leg in full.
 ghost use mathlib.Core.Path.{_≡_};
 ghost use mathlib.Core.Bool.{not, _||_};
-ghost use Prim.Native.Nat.{_<_, max};
+ghost use Prim.Native.Nat.{_<_};
 ghost use lib.ListN.{length, replicate};
 ghost use Rattle.arith.specs.Lists.{every};
 ghost use Rattle.rules.specs.Ranges.{contractCount};

@@ -1,4 +1,5 @@
-// Kinds of record and of order by their numbers, and how many bytes a record takes: said once for reader, writer and splitter.
+// Kinds of record and of order by their numbers, how many bytes a record takes and where its fields begin: said once for
+// reader, writer and splitter.
 pub mod places;
 
 ghost use mathlib.Core.Path.{_≡_};
@@ -6,8 +7,14 @@ ghost use Prim.Native.Nat.{_<_, _≤_};
 ghost use Rattle.rules.specs.Ranges.{mostLegs};
 ghost use Rattle.rules.specs.Records.{orderKindNumber, orderKindOf, kindNumber, legPlace, recordLength};
 ghost use Rattle.record_kinds.specs.LegCount.{legCount};
-use places::FIRST_LEG;
+use places::CANCEL_LENGTH;
+use places::CLOSE_OF_DAY_LENGTH;
+use places::CLOSE_OUT_LENGTH;
+use places::DAY_LIMITS_LENGTH;
+use places::DEFAULT_LENGTH;
+use places::FIRST_LEG_BYTE;
 use places::LEG_LENGTH;
+use places::SUBMIT_LENGTH;
 use rules::Event;
 use rules::OrderKind;
 use rules::kinds::CANCEL;
@@ -76,7 +83,7 @@ pub fn leg_place(leg: usize) -> usize
     requires { ⌜ leg ≤ mostLegs ⌝ }
     ensures { λ r. ⌜ r ≡ legPlace leg ⌝ }
 {
-    FIRST_LEG + LEG_LENGTH * leg
+    FIRST_LEG_BYTE + LEG_LENGTH * leg
 }
 
 pub fn record_length(kind: u64, legs: u64) -> u64
@@ -84,13 +91,13 @@ pub fn record_length(kind: u64, legs: u64) -> u64
     ensures { λ r. ⌜ r ≡ recordLength kind legs ⌝ }
 {
     match kind {
-        SUBMIT => 15,
-        CANCEL => 10,
-        DAY_LIMITS => 10,
-        PROPOSAL => FIRST_LEG as u64 + LEG_LENGTH as u64 * legs,
-        DEFAULT => 2,
-        CLOSE_OUT => 4,
-        CLOSE_OF_DAY => 5,
+        SUBMIT => SUBMIT_LENGTH,
+        CANCEL => CANCEL_LENGTH,
+        DAY_LIMITS => DAY_LIMITS_LENGTH,
+        PROPOSAL => FIRST_LEG_BYTE as u64 + LEG_LENGTH as u64 * legs,
+        DEFAULT => DEFAULT_LENGTH,
+        CLOSE_OUT => CLOSE_OUT_LENGTH,
+        CLOSE_OF_DAY => CLOSE_OF_DAY_LENGTH,
         _ => 0,
     }
 }

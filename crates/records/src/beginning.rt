@@ -3,7 +3,7 @@ ghost use mathlib.Core.Path.{_≡_};
 ghost use Prim.Native.Nat.{_+_, _≤_, _<_};
 ghost use lib.ListN.{length};
 ghost use Rattle.printing.specs.Room.{lineRoom};
-ghost use Rattle.rules.specs.Header.{headerLength};
+ghost use Rattle.rules.specs.Header.{headerLength, lengthOfHeader};
 ghost use Rattle.rules.specs.Ledger.{lent, headLength};
 ghost use Rattle.records.specs.declared.stage.Stage.the-variants.{Header};
 ghost use Rattle.records.specs.Stages.{Advanced};
@@ -11,8 +11,8 @@ use crate::stage::Progress;
 use crate::stage::Stage;
 use crate::stage::Wants;
 use big_endian::u8_or_zero;
-use header::HOLIDAY_COUNT_PLACE;
-use header::MEMBERS_PLACE;
+use header::HOLIDAY_COUNT_BYTE;
+use header::MEMBERS_BYTE;
 use header::header_length;
 use printing::put_head;
 use printing::put_refusal;
@@ -24,10 +24,10 @@ const HEADER_NUMBER: u64 = 0;
 
 // How many bytes the header takes that the bytes begin with.
 fn length_of(bytes: &[u8]) -> usize
-    ensures { λ r. ⌜ (r ≡ headerLength (now (bytes .entry))) × (r < 2048) ⌝ }
+    ensures { λ r. ⌜ (r ≡ headerLength (now (bytes .entry))) × (r ≤ lengthOfHeader 255 255) ⌝ }
 {
-    let members = u8_or_zero(bytes, MEMBERS_PLACE);
-    let holidays = u8_or_zero(bytes, HOLIDAY_COUNT_PLACE);
+    let members = u8_or_zero(bytes, MEMBERS_BYTE);
+    let holidays = u8_or_zero(bytes, HOLIDAY_COUNT_BYTE);
     header_length(members, holidays) as usize
 }
 

@@ -8,6 +8,5 @@ mod stage;
 
 pub use advancing::advance;
 pub use stage::Progress;
-pub use stage::ROOM;
 pub use stage::Stage;
 pub use stage::Wants;

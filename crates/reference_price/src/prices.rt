@@ -7,7 +7,7 @@ ghost use lib.ListN.{length, set};
 ghost use Rattle.rules.specs.Ranges.{contractCount, mostPrice, mostLotsRun};
 ghost use Rattle.rules.specs.Ledger.{pricesLength, ggfPlace};
 ghost use Rattle.rules.specs.CloseOfDay.{roundedHalfUp, withoutDeals};
-ghost use Rattle.contract_phases.specs.Phases.{openIn, allOpenIn};
+ghost use Rattle.contract_phases.specs.Phases.{closedPhase, openIn, allOpenIn};
 ghost use Rattle.reference_price.specs.Columns.{DealsFit, ColumnFit, quotedFrom, priceFrom, ggfFrom, ggfsFrom};
 use contract_phases::CLOSED;
 use contracts::contract_of;
@@ -22,7 +22,7 @@ use rules::layout::PRICE_WIDTH;
 
 // Halves round up.
 fn rounded(n: u64, d: u64) -> u64
-    requires { ⌜ (1 ≤ d) × (d ≤ 1000000000) × (n ≤ 1000000000000000) ⌝ }
+    requires { ⌜ (1 ≤ d) × (d ≤ 8 * mostLotsRun) × (n ≤ 8 * (mostPrice * mostLotsRun)) ⌝ }
     ensures { λ r. ⌜ r ≡ roundedHalfUp n d ⌝ }
 {
     (2 * n + d) / (2 * d)
@@ -81,9 +81,10 @@ fn write_if_open(
     more: u64,
 ) -> u64
     requires { ⌜ DealsFit (now prices) × ColumnFit (now buys) × ColumnFit (now sells) × (contract < contractCount) ⌝ }
-    ensures { λ r. ⌜ r ≡ cond (ltb 0 phase) (more - 1) more ⌝ }
+    ensures { λ r. ⌜ r ≡ cond (ltb closedPhase phase) (more - 1) more ⌝ }
     ensures { λ _. ⌜ now (prices .exit)
-        ≡ cond (ltb 0 phase && ltb 0 more) (set (now (prices .entry)) (ggfPlace contract) (ggfFrom (now (buys .entry)) (now (sells .entry)) (now (prices .entry)) contract)) (now (prices .entry)) ⌝ }
+        ≡ cond (ltb closedPhase phase && ltb 0 more)
+        (set (now (prices .entry)) (ggfPlace contract) (ggfFrom (now (buys .entry)) (now (sells .entry)) (now (prices .entry)) contract)) (now (prices .entry)) ⌝ }
 {
     if phase == CLOSED {
         return more;

@@ -1,5 +1,5 @@
 -- Document 01, "Close of day".
-use Prim.Native.Nat.{_%_, ℕ, _+_, _*_, _/_}
+use Prim.Native.Nat.{ℕ, _+_, _*_, _/_}
 use mathlib.Core.Bool.{Bool, true, false, cond, not, _&&_, _||_}
 use mathlib.Core.List.{List, [], _∷_, _++_, zipWith}
 use mathlib.Core.Option.{Option, none, some}

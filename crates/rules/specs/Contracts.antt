@@ -10,7 +10,7 @@ use Rattle.rules.specs.declared.contract.ContractKind.the-variants.{Year
 use Rattle.rules.specs.declared.contract.Term.{Term}
 use Rattle.rules.specs.declared.units.Day.{Day}
 use Rattle.rules.specs.declared.units.Day.the-variants.{On, NoDay}
-use Rattle.rules.specs.Ranges.{contractCount, contractsInYear}
+use Rattle.rules.specs.Ranges.{contractCount, contractsInYear, quartersInYear, monthsInYear, monthsInQuarter, firstQuarter, lastQuarter, january}
 use Rattle.rules.specs.Days.{Calendar, monthStart, firstMonth, businessDayBefore}
 
 -- ---- kinds
@@ -33,8 +33,8 @@ closingDistance Quarter = 3
 closingDistance Month = 3
 
 abbrev pub monthsIn : ContractKind → ℕ
-monthsIn Year = 12
-monthsIn Quarter = 3
+monthsIn Year = monthsInYear
+monthsIn Quarter = monthsInQuarter
 monthsIn Month = 1
 
 abbrev pub sameKind : ContractKind → ContractKind → Bool
@@ -53,8 +53,8 @@ sameKind Month Month = true
 unfoldable pub termOf : ℕ → Term
 termOf c =
     cond (eqb (c % contractsInYear) 0) (record { kind = Year; index = c / contractsInYear })
-    (cond (leb (c % contractsInYear) 4) (record { kind = Quarter; index = 4 * (c / contractsInYear) + (c % contractsInYear - 1) })
-    (record { kind = Month; index = 12 * (c / contractsInYear) + (c % contractsInYear - 5) }))
+    (cond (leb (c % contractsInYear) lastQuarter) (record { kind = Quarter; index = quartersInYear * (c / contractsInYear) + (c % contractsInYear - firstQuarter) })
+    (record { kind = Month; index = monthsInYear * (c / contractsInYear) + (c % contractsInYear - january) }))
 
 abbrev pub kindOf : ℕ → ContractKind
 kindOf c = termOf c .kind
@@ -65,11 +65,12 @@ contractsOf s = kept (λ c. sameKind (kindOf c) s) (from 0 contractCount)
 
 -- A year or a quarter: a contract that cascades.
 abbrev pub isParent : ℕ → Bool
-isParent c = leb (c % contractsInYear) 4
+isParent c = leb (c % contractsInYear) lastQuarter
 
 -- A year's four quarters, a quarter's three months.
 unfoldable pub childrenOf : ℕ → List ℕ
-childrenOf c = cond (eqb (c % contractsInYear) 0) (from (c + 1) 4) (cond (isParent c) (from (contractsInYear * (c / contractsInYear) + 5 + 3 * (c % contractsInYear - 1)) 3) [])
+childrenOf c = cond (eqb (c % contractsInYear) 0) (from (c + firstQuarter) quartersInYear)
+    (cond (isParent c) (from (contractsInYear * (c / contractsInYear) + january + monthsInQuarter * (c % contractsInYear - firstQuarter)) monthsInQuarter) [])
 
 -- ---- periods
 -- The first delivery day of a term, and the first day after its last.

@@ -6,7 +6,7 @@ use lib.Dec.{eqb, leb, ltb}
 use Rattle.arith.specs.Lists.{any, total, from}
 use Rattle.rules.specs.declared.units.Day.{Day}
 use Rattle.rules.specs.declared.units.Day.the-variants.{On, NoDay}
-use Rattle.rules.specs.Ranges.{yearOfDayZero, monthsInSpan}
+use Rattle.rules.specs.Ranges.{yearOfDayZero, monthsInSpan, monthsInYear}
 
 -- What a ledger knows of days: its first year and its holiday list.
 pub record Calendar : Type 0 where
@@ -27,10 +27,10 @@ yearStart (suc n) = yearStart n + cond (leapYear (yearOfDayZero + n)) 366 365
 
 -- Months are counted from January 2020, month 0.
 unfoldable pub monthLength : ℕ → ℕ
-monthLength i = monthDays (yearOfDayZero + i / 12) (i % 12)
+monthLength i = monthDays (yearOfDayZero + i / monthsInYear) (i % monthsInYear)
 
 unfoldable pub monthStart : ℕ → ℕ
-monthStart i = yearStart (i / 12) + total (monthDays (yearOfDayZero + i / 12)) (from 0 (i % 12))
+monthStart i = yearStart (i / monthsInYear) + total (monthDays (yearOfDayZero + i / monthsInYear)) (from 0 (i % monthsInYear))
 
 -- Day 0 is a Wednesday.
 abbrev pub saturday : ℕ → Bool
@@ -46,7 +46,7 @@ businessDay k d = not (saturday d) && not (sunday d) && not (any (λ x. eqb x d)
 
 -- The span: six years from the first year; its first day, and the first day after its last.
 abbrev pub firstMonth : Calendar → ℕ
-firstMonth k = 12 * (k .firstYear - yearOfDayZero)
+firstMonth k = monthsInYear * (k .firstYear - yearOfDayZero)
 
 unfoldable pub spanStart : Calendar → ℕ
 spanStart k = monthStart (firstMonth k)

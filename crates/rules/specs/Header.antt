@@ -48,15 +48,46 @@ sameBytes [] (y ∷ ys) = false
 sameBytes (x ∷ xs) [] = false
 sameBytes (x ∷ xs) (y ∷ ys) = eqb x y && sameBytes xs ys
 
+-- Where the other fields of a header begin, in bytes; the limits stand behind the holidays.
+abbrev pub firstYearByte : ℕ
+firstYearByte = 5
+
+abbrev pub startDayByte : ℕ
+startDayByte = 7
+
+abbrev pub membersByte : ℕ
+membersByte = 9
+
+abbrev pub holidayCountByte : ℕ
+holidayCountByte = 10
+
+abbrev pub firstHolidayByte : ℕ
+firstHolidayByte = 11
+
+-- How many bytes a holiday and a limit take.
+abbrev pub holidayLength : ℕ
+holidayLength = 2
+
+abbrev pub limitLength : ℕ
+limitLength = 4
+
+-- Where the limits begin behind so many holidays.
+abbrev pub firstLimitByte : ℕ → ℕ
+firstLimitByte h = firstHolidayByte + holidayLength * h
+
+-- How many bytes the header of so many members and holidays takes.
+abbrev pub lengthOfHeader : ℕ → ℕ → ℕ
+lengthOfHeader n h = firstLimitByte h + limitLength * n
+
 -- How many bytes a header takes that begins as s does.
 unfoldable pub headerLength : List ℕ → ℕ
-headerLength s = 11 + 2 * getD s 10 0 + 4 * getD s 9 0
+headerLength s = lengthOfHeader (getD s membersByte 0) (getD s holidayCountByte 0)
 
 unfoldable pub headerOf : List ℕ → Header
 headerOf s =
-    let n = getD s 9 0 in
-    let h = getD s 10 0 in
-    record { firstYear = u16At s 5; startDay = u16At s 7; members = n; holidays = u16sAt s 11 h; limits = u32sAt s (11 + 2 * h) n }
+    let n = getD s membersByte 0 in
+    let h = getD s holidayCountByte 0 in
+    record { firstYear = u16At s firstYearByte; startDay = u16At s startDayByte; members = n; holidays = u16sAt s firstHolidayByte h; limits = u32sAt s (firstLimitByte h) n }
 
 unfoldable pub headerBytes : Header → List ℕ
 headerBytes h =
@@ -98,7 +129,7 @@ headerSound h =
 
 -- The bytes begin with a sound header; bytes past it are records.
 unfoldable pub beginsWithHeader : List ℕ → Bool
-beginsWithHeader s = leb 11 (length s) && sameBytes (take 5 s) lettersAndVersion && leb (headerLength s) (length s) && headerSound (headerOf s)
+beginsWithHeader s = leb firstHolidayByte (length s) && sameBytes (take firstYearByte s) lettersAndVersion && leb (headerLength s) (length s) && headerSound (headerOf s)
 
 -- Writing a header, as a record is written: an unsound one is 2, before a short output (1); nothing is written on either.
 unfoldable pub writeHeaderSpec : Header → List ℕ → Outcome (List ℕ)

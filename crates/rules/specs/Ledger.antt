@@ -118,7 +118,10 @@ holidays t = take (holidayCount t) (drop holidaysFrom (t .head))
 abbrev pub limit : Tables → ℕ → ℕ
 limit t m = getD (t .head) (limitsFrom + m) 0
 
--- A member's default mark.
+-- A member's default mark, and what it is once the member has defaulted.
+abbrev pub marked : ℕ
+marked = 1
+
 abbrev pub mark : Tables → ℕ → ℕ
 mark t m = getD (t .head) (marksFrom + m) 0
 
@@ -130,7 +133,7 @@ abbrev pub calendar : Tables → Calendar
 calendar t = record { firstYear = firstYear t; holidays = holidays t }
 
 abbrev pub defaulted : Tables → ℕ → Bool
-defaulted t m = eqb (mark t m) 1
+defaulted t m = eqb (mark t m) marked
 
 -- The contract is open on the ledger's day.
 unfoldable pub isOpen : Tables → ℕ → Bool
@@ -153,7 +156,7 @@ abbrev pub withOrderCount : ℕ → List ℕ → List ℕ
 withOrderCount n head = set head orderCountPlace n
 
 abbrev pub withMark : ℕ → List ℕ → List ℕ
-withMark m head = set head (marksFrom + m) 1
+withMark m head = set head (marksFrom + m) marked
 
 abbrev pub withSubmitsThisSecond : ℕ → ℕ → List ℕ → List ℕ
 withSubmitsThisSecond m n head = set head (submitsFrom + m) n

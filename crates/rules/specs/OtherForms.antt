@@ -8,7 +8,7 @@ use Rattle.rules.specs.declared.contract.ContractKind.{ContractKind}
 use Rattle.rules.specs.declared.contract.ContractKind.the-variants.{Year, Quarter, Month}
 use Rattle.rules.specs.declared.contract.Term.{Term}
 use Rattle.rules.specs.Days.{Calendar}
-use Rattle.rules.specs.Ranges.{contractsInYear, monthsInSpan}
+use Rattle.rules.specs.Ranges.{contractsInYear, yearsInSpan, quartersInSpan, monthsInSpan, quartersInYear, monthsInYear, monthsInQuarter, firstQuarter, january}
 use Rattle.rules.specs.Contracts.{openCount, stillToClose}
 
 -- ---- contracts of a kind
@@ -18,17 +18,17 @@ nth s i = record { kind = s; index = i }
 
 -- The number of a quarter's first month.
 abbrev pub firstMonthOf : ℕ → ℕ
-firstMonthOf c = contractsInYear * (c / contractsInYear) + 5 + 3 * (c % contractsInYear - 1)
+firstMonthOf c = contractsInYear * (c / contractsInYear) + january + monthsInQuarter * (c % contractsInYear - firstQuarter)
 
 -- The number of a kind's ith contract by delivery, and how many of the kind a ledger has.
 abbrev pub numberOf : ContractKind → ℕ → ℕ
 numberOf Year i = contractsInYear * i
-numberOf Quarter i = contractsInYear * (i / 4) + 1 + i % 4
-numberOf Month i = contractsInYear * (i / 12) + 5 + i % 12
+numberOf Quarter i = contractsInYear * (i / quartersInYear) + firstQuarter + i % quartersInYear
+numberOf Month i = contractsInYear * (i / monthsInYear) + january + i % monthsInYear
 
 abbrev pub sizeOf : ContractKind → ℕ
-sizeOf Year = 6
-sizeOf Quarter = 24
+sizeOf Year = yearsInSpan
+sizeOf Quarter = quartersInSpan
 sizeOf Month = monthsInSpan
 
 -- Open on a day, the same by counting those before it: how many of the kind deliver before its ith and are still to close; fewer than
@@ -41,13 +41,13 @@ openByCount k d t = stillToClose k d t && ltb (ahead k d (t .kind) (t .index)) (
 
 -- ---- which contracts hold a month: its year, its quarter and the month itself
 abbrev pub yearOf : ℕ → ℕ
-yearOf i = contractsInYear * (i / 12)
+yearOf i = contractsInYear * (i / monthsInYear)
 
 abbrev pub quarterOf : ℕ → ℕ
-quarterOf i = contractsInYear * (i / 12) + 1 + i % 12 / 3
+quarterOf i = contractsInYear * (i / monthsInYear) + firstQuarter + i % monthsInYear / monthsInQuarter
 
 abbrev pub monthOf : ℕ → ℕ
-monthOf i = contractsInYear * (i / 12) + 5 + i % 12
+monthOf i = contractsInYear * (i / monthsInYear) + january + i % monthsInYear
 
 unfoldable pub holdsMonth : ℕ → ℕ → Bool
 holdsMonth c i = eqb (yearOf i) c || (eqb (quarterOf i) c || eqb (monthOf i) c)

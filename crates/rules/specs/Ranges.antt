@@ -8,8 +8,33 @@ contractCount = 102
 abbrev pub contractsInYear : ℕ
 contractsInYear = 17
 
+abbrev pub yearsInSpan : ℕ
+yearsInSpan = 6
+
+abbrev pub quartersInSpan : ℕ
+quartersInSpan = 24
+
 abbrev pub monthsInSpan : ℕ
 monthsInSpan = 72
+
+abbrev pub quartersInYear : ℕ
+quartersInYear = 4
+
+abbrev pub monthsInYear : ℕ
+monthsInYear = 12
+
+abbrev pub monthsInQuarter : ℕ
+monthsInQuarter = 3
+
+-- The places of a year's contracts: 0 the year itself, 1 to 4 its quarters, 5 to 16 its months.
+abbrev pub firstQuarter : ℕ
+firstQuarter = 1
+
+abbrev pub lastQuarter : ℕ
+lastQuarter = 4
+
+abbrev pub january : ℕ
+january = 5
 
 -- Day 0 is 1 January of this year; that a first year may be it too is another sentence.
 abbrev pub yearOfDayZero : ℕ
@@ -56,6 +81,10 @@ leastLegs = 2
 
 abbrev pub mostLegs : ℕ
 mostLegs = 12
+
+-- An order number is a u32.
+abbrev pub orderNumbersEnd : ℕ
+orderNumbersEnd = 4294967296
 
 -- Per mille.
 abbrev pub mostRatio : ℕ

@@ -20,7 +20,7 @@ use Rattle.rules.specs.declared.event.Reading.{Reading}
 use Rattle.rules.specs.declared.event.Reading.the-variants.{Sound, Unsound}
 use Rattle.rules.specs.declared.event.Submission.{Submission}
 use Rattle.rules.specs.declared.order.Side.the-variants.{Sell}
-use Rattle.rules.specs.Ranges.{contractCount, lastSecond, mostPrice, mostLots, leastLegs, mostLegs, mostRatio}
+use Rattle.rules.specs.Ranges.{contractCount, lastSecond, mostPrice, mostLots, leastLegs, mostLegs, orderNumbersEnd, mostRatio}
 use Rattle.rules.specs.Sides.{sideNumber, sideOf}
 use Rattle.rules.specs.Answers.{Outcome, decide, Told, told}
 use Rattle.rules.specs.Header.{u16At, u32At, u16Bytes, u32Bytes, membersSound}
@@ -48,6 +48,77 @@ closeOutKind = 6
 abbrev pub closeOfDayKind : ℕ
 closeOfDayKind = 7
 
+-- Where each field of a record begins, in bytes, by the record's kind.
+abbrev pub kindByte : ℕ
+kindByte = 0
+
+abbrev pub firstFieldByte : ℕ
+firstFieldByte = 1
+
+abbrev pub submitTimeByte : ℕ
+submitTimeByte = 1
+
+abbrev pub submitMemberByte : ℕ
+submitMemberByte = 5
+
+abbrev pub submitContractByte : ℕ
+submitContractByte = 6
+
+abbrev pub submitSideByte : ℕ
+submitSideByte = 7
+
+abbrev pub submitOrderKindByte : ℕ
+submitOrderKindByte = 8
+
+abbrev pub submitPriceByte : ℕ
+submitPriceByte = 9
+
+abbrev pub submitLotsByte : ℕ
+submitLotsByte = 13
+
+abbrev pub cancelTimeByte : ℕ
+cancelTimeByte = 1
+
+abbrev pub cancelMemberByte : ℕ
+cancelMemberByte = 5
+
+abbrev pub cancelOrderByte : ℕ
+cancelOrderByte = 6
+
+abbrev pub dayLimitsContractByte : ℕ
+dayLimitsContractByte = 1
+
+abbrev pub dayLimitsLowByte : ℕ
+dayLimitsLowByte = 2
+
+abbrev pub dayLimitsHighByte : ℕ
+dayLimitsHighByte = 6
+
+abbrev pub proposalLegsByte : ℕ
+proposalLegsByte = 1
+
+abbrev pub firstLegByte : ℕ
+firstLegByte = 2
+
+-- In a leg, which begins with the order's number.
+abbrev pub legLotsByte : ℕ
+legLotsByte = 4
+
+abbrev pub legPriceByte : ℕ
+legPriceByte = 6
+
+abbrev pub defaultMemberByte : ℕ
+defaultMemberByte = 1
+
+abbrev pub closeOutContractByte : ℕ
+closeOutContractByte = 1
+
+abbrev pub closeOutRatioByte : ℕ
+closeOutRatioByte = 2
+
+abbrev pub closeOfDayTimeByte : ℕ
+closeOfDayTimeByte = 1
+
 -- How many bytes a record of each kind takes.
 abbrev pub submitLength : ℕ
 submitLength = 15
@@ -73,7 +144,7 @@ legLength = 10
 
 -- Where leg j of a proposal begins, and so where a proposal of j legs ends: after kind and count.
 abbrev pub legPlace : ℕ → ℕ
-legPlace j = 2 + legLength * j
+legPlace j = firstLegByte + legLength * j
 
 -- The length by a record's kind and, of a proposal, its number of legs; 0 where no kind has that number.
 unfoldable pub recordLength : ℕ → ℕ → ℕ
@@ -88,7 +159,7 @@ recordLength kind legs =
 
 -- The same of the record that bytes begin with: its second byte is a proposal's number of legs.
 abbrev pub frontLength : List ℕ → ℕ
-frontLength s = recordLength (getD s 0 0) (getD s 1 0)
+frontLength s = recordLength (getD s kindByte 0) (getD s proposalLegsByte 0)
 
 -- ---- side and order kind
 abbrev pub sideSound : ℕ → Bool
@@ -127,7 +198,7 @@ dayLimitsSound l h = leb 1 l && leb l h && leb h mostPrice
 
 -- An order number has no range of its own: it is any u32.
 abbrev pub numberSound : ℕ → Bool
-numberSound n = ltb n 4294967296
+numberSound n = ltb n orderNumbersEnd
 
 abbrev pub legSound : Leg → Bool
 legSound g = numberSound (g .order) && lotsSound (g .lots .0) && priceSound (g .price .0)
@@ -184,27 +255,28 @@ writeSpec n e legs out =
 abbrev pub submissionOf : List ℕ → Submission
 submissionOf s =
     record {
-      time = u32At s 1;
-      member = getD s 5 0;
-      contract = getD s 6 0;
-      side = sideOf (getD s 7 0);
-      kind = orderKindOf (getD s 8 0);
-      price = record { 0 = u32At s 9 };
-      lots = record { 0 = u16At s 13 };
+      time = u32At s submitTimeByte;
+      member = getD s submitMemberByte 0;
+      contract = getD s submitContractByte 0;
+      side = sideOf (getD s submitSideByte 0);
+      kind = orderKindOf (getD s submitOrderKindByte 0);
+      price = record { 0 = u32At s submitPriceByte };
+      lots = record { 0 = u16At s submitLotsByte };
     }
 
 abbrev pub cancellationOf : List ℕ → Cancellation
-cancellationOf s = record { time = u32At s 1; member = getD s 5 0; order = u32At s 6 }
+cancellationOf s = record { time = u32At s cancelTimeByte; member = getD s cancelMemberByte 0; order = u32At s cancelOrderByte }
 
 abbrev pub newDayLimitsOf : List ℕ → NewDayLimits
-newDayLimitsOf s = record { contract = getD s 1 0; low = record { 0 = u32At s 2 }; high = record { 0 = u32At s 6 } }
+newDayLimitsOf s =
+    record { contract = getD s dayLimitsContractByte 0; low = record { 0 = u32At s dayLimitsLowByte }; high = record { 0 = u32At s dayLimitsHighByte } }
 
 abbrev pub closeOutOf : List ℕ → CloseOutTerms
-closeOutOf s = record { contract = getD s 1 0; ratio = u16At s 2 }
+closeOutOf s = record { contract = getD s closeOutContractByte 0; ratio = u16At s closeOutRatioByte }
 
 -- A side or an order kind that no byte stands for is out of range.
 abbrev pub submitOf : List ℕ → Reading
-submitOf s = cond (sideSound (getD s 7 0) && orderKindSound (getD s 8 0)) (Sound (Submit (submissionOf s))) Unsound
+submitOf s = cond (sideSound (getD s submitSideByte 0) && orderKindSound (getD s submitOrderKindByte 0)) (Sound (Submit (submissionOf s))) Unsound
 
 -- The fields of a record of a kind.
 unfoldable pub fieldsByKind : ℕ → List ℕ → Reading
@@ -212,22 +284,22 @@ fieldsByKind kind s =
     cond (eqb kind submitKind) (submitOf s)
     (cond (eqb kind cancelKind) (Sound (Cancel (cancellationOf s)))
     (cond (eqb kind dayLimitsKind) (Sound (DayLimits (newDayLimitsOf s)))
-    (cond (eqb kind proposalKind) (Sound (Proposal (getD s 1 0)))
-    (cond (eqb kind defaultKind) (Sound (Default (getD s 1 0)))
+    (cond (eqb kind proposalKind) (Sound (Proposal (getD s proposalLegsByte 0)))
+    (cond (eqb kind defaultKind) (Sound (Default (getD s defaultMemberByte 0)))
     (cond (eqb kind closeOutKind) (Sound (CloseOut (closeOutOf s)))
-    (cond (eqb kind closeOfDayKind) (Sound (CloseOfDay (u32At s 1)))
+    (cond (eqb kind closeOfDayKind) (Sound (CloseOfDay (u32At s closeOfDayTimeByte)))
     Unsound))))))
 
 -- A record cut or with surplus bytes is unsound; the ranges of its fields are tested after.
 unfoldable pub fieldsOf : List ℕ → Reading
-fieldsOf s = cond (eqb (length s) (frontLength s)) (fieldsByKind (getD s 0 0) s) Unsound
+fieldsOf s = cond (eqb (length s) (frontLength s)) (fieldsByKind (getD s kindByte 0) s) Unsound
 
 abbrev pub legAt : List ℕ → ℕ → Leg
-legAt s i = record { order = u32At s i; lots = record { 0 = u16At s (i + 4) }; price = record { 0 = u32At s (i + 6) } }
+legAt s i = record { order = u32At s i; lots = record { 0 = u16At s (i + legLotsByte) }; price = record { 0 = u32At s (i + legPriceByte) } }
 
 -- The legs of a record, if it is a proposal.
 unfoldable pub legsOf : List ℕ → List Leg
-legsOf s = cond (eqb (getD s 0 0) proposalKind) (map (λ j. legAt s (legPlace j)) (from 0 (getD s 1 0))) []
+legsOf s = cond (eqb (getD s kindByte 0) proposalKind) (map (λ j. legAt s (legPlace j)) (from 0 (getD s proposalLegsByte 0))) []
 
 -- An event whose fields are in their ranges.
 abbrev pub ifSound : ℕ → List Leg → Reading → Reading

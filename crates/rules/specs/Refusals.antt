@@ -24,7 +24,7 @@ use Rattle.rules.specs.Answers.{Outcome, decide}
 use Rattle.rules.specs.Ranges.{contractCount, mostHolidays, mostPrice, mostOrders, mostSubmitsInSecond, mostLotsRun, mostAcceptedSubmits}
 use Rattle.rules.specs.Days.{inSpan}
 use Rattle.rules.specs.Header.{calendarSound, membersSound, limitSound, daySound, headerOf, beginsWithHeader}
-use Rattle.rules.specs.Ledger.{Tables, Line, withPrices, members, holidayCount, day, time, acceptedSubmits, lotsRun, orderCount, limit, mark, submitsThisSecond, calendar}
+use Rattle.rules.specs.Ledger.{Tables, Line, withPrices, members, holidayCount, day, time, acceptedSubmits, lotsRun, orderCount, limit, marked, mark, submitsThisSecond, calendar}
 use Rattle.rules.specs.Ledger.{defaulted, isOpen, priceWidth, ggfPlace, lowPlace, highPlace, dayLotsPlace, dayValuePlace, ggf, low, high, withDayLimits, rowWidth, sideAt}
 use Rattle.rules.specs.Ledger.{orders, withOrders, lineRun, booked, timed, ledgerShort, linesShort, fresh}
 use Rattle.rules.specs.Records.{timeSound, sideSound, contractSound, priceSound, lotsSound, dayLimitsSound, legsOf, readOf}
@@ -61,7 +61,7 @@ pricesSound t = everyBlock priceWidth (contractPricesSound (lotsRun t)) contract
 
 -- A member's limit, mark and count in the present second.
 unfoldable pub memberSound : Tables → ℕ → Bool
-memberSound t m = allOf (limitSound (limit t m) ∷ leb (mark t m) 1 ∷ leb (submitsThisSecond t m) mostSubmitsInSecond ∷ [])
+memberSound t m = allOf (limitSound (limit t m) ∷ leb (mark t m) marked ∷ leb (submitsThisSecond t m) mostSubmitsInSecond ∷ [])
 
 -- The header's fields, the day, the time, the counts of the ledger and the fields of each member.
 unfoldable pub headSound : Tables → Bool

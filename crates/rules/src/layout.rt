@@ -1,4 +1,5 @@
 // Every place, width and least length of the lent tables; specs/Ledger says what stands there.
+use crate::ranges;
 use crate::ranges::CONTRACT_COUNT;
 use crate::ranges::LEAST_LINES;
 use crate::ranges::MOST_HOLIDAYS;
@@ -12,6 +13,17 @@ pub const MEMBER_PLACES: usize = MOST_MEMBERS as usize;
 pub const HOLIDAY_PLACES: usize = MOST_HOLIDAYS as usize;
 
 pub const LEG_PLACES: usize = MOST_LEGS as usize;
+
+// ---- the contracts of a year, as places
+pub const CONTRACTS_IN_YEAR: usize = ranges::CONTRACTS_IN_YEAR as usize;
+
+pub const QUARTERS_IN_YEAR: usize = ranges::QUARTERS_IN_YEAR as usize;
+
+pub const MONTHS_IN_QUARTER: usize = ranges::MONTHS_IN_QUARTER as usize;
+
+pub const FIRST_QUARTER: usize = ranges::FIRST_QUARTER as usize;
+
+pub const JANUARY: usize = ranges::JANUARY as usize;
 
 // ---- the head
 pub const FIRST_YEAR: usize = 0;
@@ -38,6 +50,9 @@ pub const LIMITS: usize = HOLIDAYS + HOLIDAY_PLACES;
 pub const MARKS: usize = LIMITS + MEMBER_PLACES;
 
 pub const SUBMITS: usize = MARKS + MEMBER_PLACES;
+
+// A member's mark once it has defaulted.
+pub const MARKED: u64 = 1;
 
 pub const HEAD_LENGTH: usize = SUBMITS + MEMBER_PLACES;
 

@@ -2,7 +2,24 @@
 
 pub const CONTRACTS_IN_YEAR: u64 = 17;
 
+pub const YEARS_IN_SPAN: u64 = 6;
+
+pub const QUARTERS_IN_SPAN: u64 = 24;
+
 pub const MONTHS_IN_SPAN: u64 = 72;
+
+pub const QUARTERS_IN_YEAR: u64 = 4;
+
+pub const MONTHS_IN_YEAR: u64 = 12;
+
+pub const MONTHS_IN_QUARTER: u64 = 3;
+
+// The places of a year's contracts: 0 the year itself, 1 to 4 its quarters, 5 to 16 its months.
+pub const FIRST_QUARTER: u64 = 1;
+
+pub const LAST_QUARTER: u64 = 4;
+
+pub const JANUARY: u64 = 5;
 
 pub const CONTRACT_COUNT: u64 = 102;
 
@@ -35,6 +52,14 @@ pub const MOST_LOTS: u64 = 100;
 pub const LEAST_LEGS: u64 = 2;
 
 pub const MOST_LEGS: u64 = 12;
+
+// An order number is a u32.
+pub const ORDER_NUMBERS_END: u64 = 4294967296;
+
+// A side is 0 or 1, an order kind 0 to 2.
+pub const LAST_SIDE: u64 = 1;
+
+pub const LAST_ORDER_KIND: u64 = 2;
 
 pub const MOST_RATIO: u64 = 1000;
 

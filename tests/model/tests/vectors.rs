@@ -1,4 +1,4 @@
-//! The stored lists and journals, which another model made, and the stories, which were checked by hand.
+//! The stored lists and journals, which another model made, and the stories, whose output this model wrote and people read.
 use model::answer::{told, Answer};
 use model::apply::apply;
 use model::make::make;

@@ -6,6 +6,7 @@ use borrow.Author.Needs.{needs}
 use Rattle.rules.specs.Ranges.{monthsInSpan}
 use Rattle.rules.specs.Days.{Calendar}
 use Rattle.months.proofs.Starts.{starts-length, span-end, span-most, none-earlier}
+use Rattle.contract_phases.proofs.Least.{is-least, distance-positive}
 use Rattle.open_days.proofs.find_open_days.Statement.{statement}
 use Rattle.open_days.proofs.find_open_days.Tie as tie
 
@@ -27,7 +28,8 @@ returns c =
     let k : Calendar = record { firstYear = a .first-year; holidays = a .holidays .now } in
     let made = c .before .before .before .before .before .before .before .read-starts .ensures (k .holidays) in
     let end = ap (λ (x : List ℕ). getD x monthsInSpan 0) made ∙ span-end k in
-    c .before .before .write-open-days .ensures k (a .day .0) made (λ s f h. c .before .before .before .before .before .find-least .ensures (k .firstYear) s f (rw end h))
+    c .before .before .write-open-days .ensures k (a .day .0) made
+    (λ s. is-least k (a .day .0) _ _ _ (distance-positive s) end (c .before .before .before .before .before .find-least .ensures (k .firstYear) s))
 
 pub find-open-days-spec : {M : Type 1} → statement M
 find-open-days-spec =

@@ -1,6 +1,6 @@
 use mathlib.Core.Path.{ap}
 use Prim.Native.Nat.{_+_, _*_}
-use Rattle.order_priority.specs.Priority.{numbersEnd}
+use Rattle.rules.specs.Ranges.{orderNumbersEnd}
 use Rattle.order_priority.proofs.Ranks.{price-below}
 use Rattle.order_priority.specs.Priority.{rankOf}
 use native.Mathlib.Omega.{arith}
@@ -16,7 +16,7 @@ add-result c = omega (arith, c .before .price-rank .ensures, price-below (c .bef
 
 returns : tie.Need-returns
 unfolding rankOf
-returns c = ap (λ n. n * numbersEnd + c .before .before .args .r .number) (c .before .price-rank .ensures)
+returns c = ap (λ n. n * orderNumbersEnd + c .before .before .args .r .number) (c .before .price-rank .ensures)
 
 pub rank-of-spec : {M : Type 1} → statement M
 rank-of-spec =

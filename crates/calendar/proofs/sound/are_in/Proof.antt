@@ -8,6 +8,7 @@ use Rattle.arith.specs.Lists.{every}
 use Rattle.arith.proofs.Scans.{every-next, every-end}
 use Rattle.rules.specs.Days.{Calendar, inSpan}
 use Rattle.months.specs.Spans.{IsSpan}
+use Rattle.months.proofs.Starts.{lies-in}
 use Rattle.calendar.proofs.sound.are_in.Statement.{statement}
 use Rattle.calendar.proofs.sound.are_in.Tie as tie
 
@@ -26,7 +27,7 @@ loop-again c =
     let loop = c .before .before .before .loop in
     let start = c .before .before .before .before .before in
     let l = loop in
-    (omega arith, λ k s. rw (c .is-in .ensures k s) (every-next (inSpan k) (start .args .days .now) 0 (l .i) (l .ok) (l .inv .1 k s) (test .taken)))
+    (omega arith, λ k s. rw (c .is-in .ensures, lies-in k (start .args .span) _ s) (every-next (inSpan k) (start .args .days .now) 0 (l .i) (l .ok) (l .inv .1 k s) (test .taken)))
 
 returns : tie.Need-returns Inv-loop μ-loop
 returns c = let l = c .before .loop in λ k s. every-end (inSpan k) (c .before .before .before .args .days .now) 0 (l .i) (l .ok) (l .inv .1 k s) (c .loop-test .left)

@@ -1,11 +1,9 @@
-use Rattle.rules.specs.Header.{daySound}
 use borrow.Author.Needs.{needs}
 use Rattle.calendar.proofs.sound.is_day_sound.Statement.{statement}
 use Rattle.calendar.proofs.sound.is_day_sound.Tie as tie
 
 returns : tie.Need-returns
-unfolding daySound
-returns c = λ y s. rw (c .before .is-in .ensures _ s, c .is-business-day .ensures y)
+returns c = λ y. rw (c .before .is-in .ensures, c .is-business-day .ensures y)
 
 pub is-day-sound-spec : {M : Type 1} → statement M
 is-day-sound-spec =

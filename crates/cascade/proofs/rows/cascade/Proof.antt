@@ -1,8 +1,10 @@
-use Prim.Native.Nat.{_+_, _*_, _-_, _/_, _%_}
+use Prim.Native.Nat.{_+_, _-_, _%_}
 use mathlib.Core.Path.{_≡_}
 use native.Mathlib.Omega.{arith}
 use borrow.Author.Tests.{le-leb, eq-eqb, ne-eqb}
+use Rattle.rules.specs.Ranges.{contractsInYear, quartersInYear, monthsInQuarter, firstQuarter, lastQuarter}
 use Rattle.rules.specs.Contracts.{childrenOf}
+use Rattle.rules.specs.OtherForms.{firstMonthOf}
 use Rattle.rules.specs.CloseOfDay.{cascaded}
 use borrow.Author.Needs.{needs}
 use Rattle.cascade.proofs.rows.cascade.Statement.{statement}
@@ -12,16 +14,17 @@ returns : tie.Need-returns
 unfolding cascaded childrenOf
 returns c =
     let x = c .before .before .before .before .args .contract in
-    let four : x + 5 - (x + 1) ≡ 4 = omega arith in
-    rw (c .before .move-rows .ensures, four, le-leb (x % 17) 4 (omega arith), eq-eqb (x % 17) 0 (c .before .before .before .if1 .taken))
+    let first = x + firstQuarter in
+    let four : first + quartersInYear - first ≡ quartersInYear = omega arith in
+    rw (c .before .move-rows .ensures, four, le-leb (x % contractsInYear) lastQuarter (omega arith), eq-eqb (x % contractsInYear) 0 (c .before .before .before .if1 .taken))
 
 returns-2 : tie.Need-returns-2
 unfolding cascaded childrenOf
 returns-2 c =
     let x = c .before .before .before .before .args .contract in
-    let first = 17 * (x / 17) + 5 + 3 * (x % 17 - 1) in
-    let three : first + 3 - first ≡ 3 = omega arith in
-    rw (c .before .move-rows2 .ensures, three, le-leb (x % 17) 4 (omega arith), ne-eqb (x % 17) 0 (c .before .before .before .if1 .left))
+    let first = firstMonthOf x in
+    let three : first + monthsInQuarter - first ≡ monthsInQuarter = omega arith in
+    rw (c .before .move-rows2 .ensures, three, le-leb (x % contractsInYear) lastQuarter (omega arith), ne-eqb (x % contractsInYear) 0 (c .before .before .before .if1 .left))
 
 pub cascade-spec : {M : Type 1} → statement M
 cascade-spec =

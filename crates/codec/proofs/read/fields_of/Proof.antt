@@ -1,5 +1,5 @@
 use mathlib.Core.Path.{refl, sym, ap, _∙_}
-use Rattle.rules.specs.declared.event.Event.the-variants.{Proposal, Default}
+use Rattle.rules.specs.declared.event.Event.the-variants.{Proposal}
 use Rattle.rules.specs.declared.event.Reading.the-variants.{Sound}
 use native.Mathlib.Omega.{arith}
 use Rattle.rules.specs.Records.{recordLength, fieldsByKind}
@@ -40,6 +40,16 @@ new-day-limits-of-requires c κs =
     let start = c .before .before .before .before .before .before in
     let s = start .args .bytes .now in
     omega (arith, length-of-kind s (u8-or-zero .ensures .0) (u8-or-zero2 .ensures .0) (record-length .ensures) (c .before .if1 .left) 3 (c .match .keys3))
+
+u8-at-requires : tie.Need-u8-at-requires
+unfolding recordLength
+u8-at-requires c κs =
+    let record-length = c .before .before .record-length in
+    let u8-or-zero2 = c .before .before .before .u8-or-zero2 in
+    let u8-or-zero = c .before .before .before .before .u8-or-zero in
+    let start = c .before .before .before .before .before .before in
+    let s = start .args .bytes .now in
+    omega (arith, length-of-kind s (u8-or-zero .ensures .0) (u8-or-zero2 .ensures .0) (record-length .ensures) (c .before .if1 .left) 5 (c .match .keys5))
 
 close-out-of-requires : tie.Need-close-out-of-requires
 unfolding recordLength
@@ -101,12 +111,11 @@ returns-5 c =
 returns-6 : tie.Need-returns-6
 unfolding fieldsByKind
 returns-6 c =
-    let record-length = c .before .before .record-length in
-    let u8-or-zero2 = c .before .before .before .u8-or-zero2 in
-    let u8-or-zero = c .before .before .before .before .u8-or-zero in
-    let start = c .before .before .before .before .before .before in
-    let s = start .args .bytes .now in
-    ap (λ x. Sound (Default x)) (u8-or-zero2 .ensures .0) ∙ fields-of-kind s (u8-or-zero .ensures .0) (u8-or-zero2 .ensures .0) (record-length .ensures) (c .before .if1 .left) 5 (c .match .keys5)
+    let test1 = c .before .before .if1 in
+    let record-length = c .before .before .before .record-length in
+    let u8-or-zero2 = c .before .before .before .before .u8-or-zero2 in
+    let u8-or-zero = c .before .before .before .before .before .u8-or-zero in
+    rw (c .u8-at .ensures .0) (fields-of-kind _ (u8-or-zero .ensures .0) (u8-or-zero2 .ensures .0) (record-length .ensures) (test1 .left) 5 (c .before .match .keys5))
 
 returns-7 : tie.Need-returns-7
 unfolding fieldsByKind
@@ -141,5 +150,5 @@ pub fields-of-spec : {M : Type 1} → statement M
 fields-of-spec =
     tie.close
     (tie.spec (λ c κs. search needs) (λ c κs. search needs) (λ c κs. search needs) returns submit-of-requires
-    cancellation-of-requires new-day-limits-of-requires close-out-of-requires u32-at-requires returns-2 returns-3
+    cancellation-of-requires new-day-limits-of-requires u8-at-requires close-out-of-requires u32-at-requires returns-2 returns-3
     returns-4 returns-5 returns-6 returns-7 returns-8 returns-9)

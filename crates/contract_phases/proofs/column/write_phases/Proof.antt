@@ -1,4 +1,4 @@
-use Prim.Native.Nat.{ℕ}
+use Prim.Native.Nat.{ℕ, _+_}
 use mathlib.Core.Path.{ap, _∙_}
 use mathlib.Core.List.{List}
 use lib.ListN.{getD}
@@ -6,6 +6,7 @@ use borrow.Author.Needs.{needs}
 use Rattle.rules.specs.Ranges.{monthsInSpan}
 use Rattle.rules.specs.Days.{Calendar}
 use Rattle.months.proofs.Starts.{span-end, span-most}
+use Rattle.contract_phases.proofs.Least.{is-least, distance-positive}
 use Rattle.contract_phases.proofs.column.write_phases.Statement.{statement}
 use Rattle.contract_phases.proofs.column.write_phases.Tie as tie
 
@@ -29,8 +30,8 @@ returns c =
     let made = c .before .before .before .before .before .before .before .before .before .read-starts .ensures (k .holidays) in
     let end = ap (λ (x : List ℕ). getD x monthsInSpan 0) made ∙ span-end k in
     c .before .before .write-from .ensures k d made
-    (λ s f h. c .before .before .before .before .before .before .before .find-least .ensures (k .firstYear) s f (rw end h))
-    (λ s f h. c .before .before .before .before .before .find-least2 .ensures (k .firstYear) s f (rw end h))
+    (λ s. is-least k d _ _ _ (distance-positive s) end (c .before .before .before .before .before .before .before .find-least .ensures (k .firstYear) s))
+    (λ s. is-least k (d + 1) _ _ _ (distance-positive s) end (c .before .before .before .before .before .find-least2 .ensures (k .firstYear) s))
 
 pub write-phases-spec : {M : Type 1} → statement M
 write-phases-spec =

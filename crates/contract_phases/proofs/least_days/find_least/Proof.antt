@@ -1,10 +1,8 @@
-use Prim.Native.Nat.{ℕ, _≤_}
+use Prim.Native.Nat.{ℕ}
 use mathlib.Core.Path.{_≡_}
-use lib.Dec.{leb}
 use borrow.Author.Needs.{needs}
-use Rattle.rules.specs.Days.{businessDayBefore}
-use Rattle.rules.specs.Contracts.{closingDistance, notBefore}
-use Rattle.contract_phases.specs.Least.{leastOf}
+use Rattle.rules.specs.Contracts.{closingDistance}
+use Rattle.contract_phases.specs.Least.{leastFirstDay, leastOf}
 use Rattle.contract_phases.proofs.Least.{by-kind}
 use Rattle.contract_phases.proofs.least_days.find_least.Statement.{statement}
 use Rattle.contract_phases.proofs.least_days.find_least.Tie as tie
@@ -16,8 +14,8 @@ returns c =
     let quarter = c .before .least-first-day2 in
     let month = c .least-first-day3 in
     λ y. by-kind
-    (λ s. (f : ℕ) → f ≤ a .end .0 → notBefore (businessDayBefore (record { firstYear = y; holidays = a .holidays .now }) (closingDistance s) f) (a .day .0)
-    ≡ leb (leastOf (record { year = year .result; quarter = quarter .result; month = month .result }) s) f)
+    (λ s. leastOf (record { year = year .result; quarter = quarter .result; month = month .result }) s
+    ≡ leastFirstDay (record { firstYear = y; holidays = a .holidays .now }) (a .day .0) (closingDistance s) (a .end .0))
     (year .ensures y) (quarter .ensures y) (month .ensures y)
 
 pub find-least-spec : {M : Type 1} → statement M

@@ -82,7 +82,7 @@ returns-4 c =
     let sound = placeSound (a .accepted) (a .members) (a .span .start .0) (a .span .end .0) (a .book .now) in
     let all = each-end sound (a .count) (l .i) (ltb (l .sides) 2) _ (l .inv .2) (c .before .before .loop-test .left) in
     let rise = rises-end f (a .count) (l .i) (l .least) (ltb (l .falls) (2 ^ 63)) _ (l .inv .3) (c .before .before .loop-test .left) in
-    rw (sym all, lt-ltb _ _ (c .before .if3 .left), rises-distinct 0 (map f (from 0 (a .count))) (sym rise ∙ lt-ltb _ _ (c .if4 .taken)))
+    rw (sym all, lt-ltb (l .sides) 2 (omega arith), rises-distinct 0 (map f (from 0 (a .count))) (sym rise ∙ lt-ltb _ _ (c .if4 .taken)))
 
 returns-5 : tie.Need-returns-5 Inv-loop μ-loop
 returns-5 c =
@@ -90,7 +90,7 @@ returns-5 c =
     let l = c .before .before .before .before .loop in
     let sound = placeSound (a .accepted) (a .members) (a .span .start .0) (a .span .end .0) (a .book .now) in
     let all = each-end sound (a .count) (l .i) (ltb (l .sides) 2) _ (l .inv .2) (c .before .before .before .loop-test .left) in
-    rw (sym all, lt-ltb _ _ (c .before .before .if3 .left)) (c .is-none-repeated .ensures)
+    rw (sym all, lt-ltb (l .sides) 2 (omega arith)) (c .is-none-repeated .ensures)
 
 pub are-orders-sound-spec : {M : Type 1} → statement M
 are-orders-sound-spec =

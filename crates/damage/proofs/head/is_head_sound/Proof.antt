@@ -14,6 +14,7 @@ use Rattle.rules.specs.Ledger.{lent}
 use Rattle.damage.proofs.Tests.{all-nine}
 use borrow.Author.Needs.{needs}
 use Rattle.arith.proofs.Tests.{asked-true, asked-false}
+use Rattle.calendar.proofs.FirstYears.{day-in-span}
 use Rattle.damage.proofs.head.is_head_sound.Statement.{statement}
 use Rattle.damage.proofs.head.is_head_sound.Tie as tie
 
@@ -73,7 +74,7 @@ returns-5 c =
     let cut : 8 + getD h 2 0 - 8 ≡ getD h 2 0 = omega arith in
     let calendar = asked-true (rw cut at (is-calendar-sound .ensures)) (if2 .left) in
     let some : membersSound (getD h 1 0) ≡ true = rw (le-leb 1 (getD h 1 0) (if3 .left), le-leb (getD h 1 0) 32 (if4 .left)) in
-    let day = rw cut at (is-day-sound .ensures (getD h 0 0) (pre .2 _)) in
+    let day = day-in-span k _ _ _ (pre .2 _) (rw cut at (is-day-sound .ensures (getD h 0 0))) in
     λ p l v b n. rw (day, c .are-members-sound .ensures p l v b n)
     (all-nine (leb (getD h 2 0) 120) (calendarSound k) (membersSound (getD h 1 0)) (daySound k (getD h 3 0)) (leb (getD h 4 0) lastSecond) (leb (getD h 5 0) mostAcceptedSubmits)
     (leb (getD h 6 0) mostLotsRun) (leb (getD h 7 0) 256) (every (memberSound (lent h p l v b n)) (from 0 (getD h 1 0)))

@@ -1,7 +1,7 @@
 use mathlib.Core.Path.{refl, sym}
 use native.Mathlib.Omega.{arith}
 use lib.Seq.{length-take-le}
-use Rattle.calendar.proofs.FirstYears.{first-year-holds, year-unsound}
+use Rattle.calendar.proofs.FirstYears.{first-year-holds, year-unsound, day-in-span}
 use Rattle.rules.specs.Days.{Calendar}
 use Rattle.header.specs.Journal.{firsts}
 use Rattle.header.proofs.Headers.{take-firsts}
@@ -33,7 +33,7 @@ returns-2 c =
     let start = c .before .before .before .before .before .before .before in
     let a = start .args in
     let first = take-firsts (a .count) (a .t2) (omega (arith, start .good .1 .0 .1 .0 .1)) in
-    rw (← first) (rw (c .before .before .is-calendar-sound .ensures, c .is-day-sound .ensures (a .first-year) (c .before .before .before .before .span-of .ensures _)) refl)
+    rw (← first) (rw (c .before .before .is-calendar-sound .ensures, day-in-span _ _ _ _ (c .before .before .before .before .span-of .ensures _) (c .is-day-sound .ensures (a .first-year))) refl)
 
 pub are-days-sound-spec : {M : Type 1} → statement M
 are-days-sound-spec =

@@ -1,7 +1,6 @@
 use Prim.Native.Nat.{_*_}
 use native.Mathlib.Nat.{add-zero}
 use Rattle.rules.specs.Ledger.{priceWidth}
-use Rattle.rules.specs.declared.contract.ContractKind.{ContractKind}
 use Rattle.reference_price.specs.Columns.{ggfFrom}
 use Rattle.reference_price.proofs.Ggfs.{least-threshold}
 use borrow.Author.Needs.{needs}
