@@ -28,7 +28,7 @@ pub const CLOSING: u64 = 1;
 
 const LATER: u64 = 2;
 
-// By a contract's first delivery day, beside the least one of those still to close on the day and on the day after it.
+// By a contract's first delivery day: from `least` on it is still to close on the day, from `later` on on the day after.
 fn phase_from(first: u64, least: DayNo, later: DayNo) -> u64
     ensures { λ r. ⌜ r ≡ phaseFrom first (least .0) (later .0) ⌝ }
 {
