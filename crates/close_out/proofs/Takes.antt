@@ -4,7 +4,6 @@ use mathlib.Core.Path.{_≡_, refl, _∙_}
 use mathlib.Core.List.{List, [], _∷_}
 use native.Mathlib.Nat.{zero-add}
 use lib.IntN.{ℤ, natAbs}
-use lib.ListN.{take}
 use Rattle.arith.proofs.Tests.{same-or}
 use Rattle.rules.specs.Default.{changeLines}
 use Rattle.rules.specs.Ledger.{Tables, Line}
