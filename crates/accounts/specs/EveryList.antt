@@ -5,6 +5,7 @@ use mathlib.Core.Bool.{true, false, not}
 use mathlib.Core.List.{List}
 use lib.Dec.{T}
 use Rattle.arith.specs.Lists.{All}
+use Rattle.rules.specs.Ranges.{contractCount}
 use Rattle.rules.specs.declared.order.Order.{Order}
 use Rattle.rules.specs.declared.order.Side.the-variants.{Buy, Sell}
 use Rattle.rules.specs.Answers.{told}
@@ -65,4 +66,4 @@ DayIsTheLists = AfterEveryList (λ h t ls d. day t ≡ d)
 
 -- A GGF once found never becomes 0 again, whatever calls follow: t are any tables, so also those that a list leads to.
 abbrev pub GgfNeverLost : Type 0
-GgfNeverLost = (t : Tables) (calls : List Call) (c : ℕ) → c < 102 → 0 < ggf t c → 0 < ggf (after t calls) c
+GgfNeverLost = (t : Tables) (calls : List Call) (c : ℕ) → c < contractCount → 0 < ggf t c → 0 < ggf (after t calls) c

@@ -9,7 +9,7 @@ use months::span_of;
 use rules::Day;
 use rules::DayNo;
 
-// Days of the week, counted from Wednesday, which day 0 is.
+// The days of a week are counted from Wednesday, which day 0 is.
 pub const DAYS_IN_WEEK: u64 = 7;
 
 pub const SATURDAY: u64 = 3;

@@ -11,7 +11,7 @@ use Rattle.rules.specs.declared.event.Event.the-variants.{Submit, Cancel, DayLi
 use Rattle.rules.specs.declared.event.Event.{Event}
 use Rattle.rules.specs.declared.event.Leg.{Leg}
 use Rattle.rules.specs.Ranges.{mostLegs}
-use Rattle.rules.specs.Records.{proposalKind, legPlace, legsOf, legAt}
+use Rattle.rules.specs.Records.{kindByte, proposalLegsByte, proposalKind, legPlace, legsOf, legAt}
 use Rattle.codec.specs.declared.legs.Legs.{Legs}
 
 -- Leg i of the columns.
@@ -43,7 +43,9 @@ legColumns legs =
 
 -- The legs that a record holds whole: those of a proposal of at most 12, with none cut and nothing past them.
 unfoldable pub heldLegs : List ℕ → List Leg
-heldLegs s = cond (eqb (getD s 0 0) proposalKind && leb (getD s 1 0) mostLegs && eqb (length s) (legPlace (getD s 1 0))) (legsOf s) []
+heldLegs s =
+    let count = getD s proposalLegsByte 0 in
+    cond (eqb (getD s kindByte 0) proposalKind && leb count mostLegs && eqb (length s) (legPlace count)) (legsOf s) []
 
 -- The first n legs in a proposal's bytes.
 abbrev pub legsTo : List ℕ → ℕ → List Leg

@@ -17,11 +17,11 @@ dayAfterNth k none (suc m) n x =
     let idle = dayAfterNth k none m n (x + 1) in
     cond (businessDay k x) (cond (leb n 1) (x + 1) counted) idle
 
--- The least day, at most `end`, before which n business days lie from day d on; `end` + 1 where there is none.
+-- The least day, at most `end`, before which n business days, n at least 1, lie from day d on; `end` + 1 where there is none.
 abbrev pub leastFirstDay : Calendar → ℕ → ℕ → ℕ → ℕ
 leastFirstDay k d n end = dayAfterNth k (end + 1) (end - d) n d
 
--- A contract that closes n business days before its first delivery day f, in the span or the day after it, is still to close on
+-- A contract that closes n business days before its first delivery day f, at most the day after the span, is still to close on
 -- day d exactly if f is `least` or later. proofs/Least has the law `is-least`: leastFirstDay up to the day after the span is such a day.
 abbrev pub IsLeast : Calendar → ℕ → ℕ → ℕ → Type 0
 IsLeast k d n least = (f : ℕ) → f ≤ dayAfterSpan k → notBefore (businessDayBefore k n f) d ≡ leb least f

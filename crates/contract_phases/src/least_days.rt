@@ -46,7 +46,7 @@ fn least_first_day(holidays: &[u64], day: DayNo, n: u64, end: DayNo) -> DayNo
     DayNo(end.0 + 1)
 }
 
-// Whatever the first year. Every first delivery day up to `end` is looked at.
+// For each kind the first delivery day from which on a contract is still to close, whatever the first year.
 pub fn find_least(holidays: &[u64], day: DayNo, end: DayNo) -> LeastDays
     requires { ⌜ end .0 ≤ lastMonthStart ⌝ }
     ensures { λ r. ⌜ ((y : ℕ) (s : ContractKind) → leastOf r s

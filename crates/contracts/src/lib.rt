@@ -1,5 +1,5 @@
 // Contracts as the ledger's code asks for them: each promise is the definition of `rules`. `is_open` asks for a contract of
-// 0 to 101: of a record the reader tests it, of the orders of lent tables `damage` does.
+// 0 to 101, which the reader of a record tests.
 mod opening;
 mod terms;
 

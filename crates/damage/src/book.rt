@@ -75,7 +75,7 @@ fn is_none_repeated(book: &[u64], count: usize) -> bool
 }
 
 // Each order's places, and that no two share a number: where the numbers rise, this one pass tells. Of all sides the or
-// is tested, since 2 is a power of two.
+// is tested, since LAST_SIDE + 1 is a power of two.
 fn are_orders_sound(book: &[u64], count: usize, accepted: u64, members: u64, span: Span) -> bool
     requires { ⌜ (count ≤ mostOrders) × (accepted ≤ mostAcceptedSubmits) × (bookLength ≤ length (now book)) × (span .start .0 ≤ span .end .0) ⌝ }
     ensures { λ r. ⌜ r ≡ placesSound accepted members (span .start .0) (span .end .0) (now (book .entry)) count && distinct (map (numberAt (now (book .entry))) (from 0 count)) ⌝ }

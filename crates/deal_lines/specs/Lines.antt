@@ -12,7 +12,7 @@ use Rattle.tables.specs.Fit.{membersIn}
 abbrev pub lineOf : DealLine → Line
 lineOf l = record { member = l .member; contract = l .contract; lots = signed (l .side) (l .lots .0); price = l .price .0 }
 
--- A line of one of the ledger's members and contracts, at a price that an order can have.
+-- A line of one of the ledger's members and contracts, at no more than the highest price.
 pub record LineFit (head : List ℕ) (l : Line) : Type 0 where
   pub member-below : l .member < membersIn head
   pub contract-below : l .contract < contractCount

@@ -8,7 +8,7 @@ ghost use Rattle.rules.specs.Days.{monthStart};
 ghost use Rattle.months.specs.Spans.{lastMonth};
 use rules::DayNo;
 
-// The months of the table, and January 2100, whose first day is the last entry.
+// The months before January 2100, whose first day is the table's last entry.
 const MONTHS: usize = 960;
 
 const STARTS: [u16; MONTHS + 1] = [

@@ -5,7 +5,7 @@ use Rattle.rules.specs.declared.order.Side.{Side}
 use Rattle.rules.specs.declared.order.Side.the-variants.{Buy, Sell}
 use Rattle.rules.specs.Ranges.{mostPrice, orderNumbersEnd}
 
--- An order whose price and number are not above the ends of their fields.
+-- An order of no more than the highest price whose number is a u32.
 pub record Ranked (r : Order) : Type 0 where
   pub price : r .price .0 ≤ mostPrice
   pub number : r .number < orderNumbersEnd

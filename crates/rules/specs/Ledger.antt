@@ -118,10 +118,11 @@ holidays t = take (holidayCount t) (drop holidaysFrom (t .head))
 abbrev pub limit : Tables → ℕ → ℕ
 limit t m = getD (t .head) (limitsFrom + m) 0
 
--- A member's default mark, and what it is once the member has defaulted.
+-- What a member's mark is once it has defaulted.
 abbrev pub marked : ℕ
 marked = 1
 
+-- A member's default mark.
 abbrev pub mark : Tables → ℕ → ℕ
 mark t m = getD (t .head) (marksFrom + m) 0
 

@@ -1,4 +1,5 @@
-// Every place, width and least length of the lent tables; specs/Ledger says what stands there.
+// Every place, width and least length of the lent tables; specs/Ledger says what stands there. Beside them the places of a
+// year's contracts, as specs/Ranges has them.
 use crate::ranges;
 use crate::ranges::CONTRACT_COUNT;
 use crate::ranges::LEAST_LINES;

@@ -1,4 +1,4 @@
-// Numbers of document 01 that stand in several places, as specs/Ranges has them.
+// Numbers of document 01 that stand in several places, as specs/Ranges has them, and the last contract, side and order kind.
 
 pub const CONTRACTS_IN_YEAR: u64 = 17;
 

@@ -24,7 +24,7 @@ orderBooked kind o t =
     booked (flatMap (dealLines o) (m .deals))
     (withOrders (cond rests (m .resting ++ (withLots (m .left) o ∷ [])) (m .resting)) (withDeals (o .contract) (m .deals) t))
 
--- There is room for its lots in the lots run and for what rests of it.
+-- There is room for the lots of its deal lines in the lots run and for what rests of it.
 pub record Placeable (head prices : List ℕ) (lots value : List ℤ) (book : List ℕ) (lines : List ℤ) (kind : OrderKind) (o : Order) : Type 0 where
   pub tradable : Tradable head prices book o
   pub bookable : Bookable (lineRun (flatMap (dealLines o) (matched o (ordersIn (orderCountIn head) book) .deals))) head lots value lines

@@ -23,6 +23,7 @@ use rules::layout::HIGH;
 use rules::layout::LIMITS;
 use rules::layout::LOTS_RUN;
 use rules::layout::LOW;
+use rules::layout::MARKED;
 use rules::layout::MARKS;
 use rules::layout::ORDER_COUNT;
 use rules::layout::PRICE_WIDTH;
@@ -89,7 +90,7 @@ pub fn first_cause(head: &[u64], prices: &[u64], e: Submission) -> Verdict
     if time < head[TIME] {
         return Verdict::Refused(Answer::TimeBelowLedger);
     }
-    if head[MARKS + member as usize] == 1 {
+    if head[MARKS + member as usize] == MARKED {
         return Verdict::Refused(Answer::MemberDefaulted(member));
     }
     if !tables::is_contract_open(head, contract) {
