@@ -47,10 +47,10 @@ examples =
           { time = 256; member = 0; contract = 101; side = Buy; kind = Oeye; price = record { 0 = 1000000 }; lots = record { 0 = 1 } });
       legs = [];
     }
-    -- cancel: time 86,399 s, member 1, order number 16,909,060
+    -- cancel: time 86,399 s, member 2, order number 16,909,060
     ∷ record {
-      bytes = 2 ∷ 0 ∷ 1 ∷ 81 ∷ 127 ∷ 1 ∷ 1 ∷ 2 ∷ 3 ∷ 4 ∷ [];
-      event = Cancel (record { time = 86399; member = 1; order = 16909060 });
+      bytes = 2 ∷ 0 ∷ 1 ∷ 81 ∷ 127 ∷ 2 ∷ 1 ∷ 2 ∷ 3 ∷ 4 ∷ [];
+      event = Cancel (record { time = 86399; member = 2; order = 16909060 });
       legs = [];
     }
     -- day limits: contract 5, low 256, high 65,536
