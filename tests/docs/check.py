@@ -55,8 +55,11 @@ SIGNATURE = re.compile(r"^\s*(?:(?:pub|abbrev|unfoldable|data|record|mod|ruleset
 ITEM = re.compile(r"\b(?:fn|struct|enum|const|mod|type)\s+(\w+)")
 # A variant has a capital letter; a field has its type behind it. A call is neither.
 FIELD = re.compile(r"^\s*(?:pub\s+)?([A-Z]\w*(?=\s*[,({=])|[a-z]\w*(?=:\s))", re.M)
+# A function of C begins its line with its type; of Python, with def.
+FUNCTION = re.compile(r"^[a-z][\w *]*\b(\w+)\(", re.M)
+DEF = re.compile(r"^\s*def (\w+)", re.M)
 WORD = re.compile(r"\w+")
-DEFINES = {".antt": (SIGNATURE,), ".rt": (ITEM, FIELD)}
+DEFINES = {".antt": (SIGNATURE,), ".rt": (ITEM, FIELD), ".rs": (ITEM,), ".c": (FUNCTION,), ".py": (DEF,)}
 
 
 def text_of(path):
