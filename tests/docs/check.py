@@ -1,5 +1,5 @@
 #!/usr/bin/env python3
-"""Whether the pages cite what exists, and whether docs/ has its form. What is wrong is printed, and the exit status is 1.
+"""Whether the pages cite what exists, and whether they have their form. What is wrong is printed, and the exit status is 1.
 
 Citations, on README.md, docs/ and examples/:
 - A link must lead to a file. A link is `[Days](../crates/rules/specs/Days.antt)`, or `[Days]` where the page ends with
@@ -10,7 +10,7 @@ Citations, on README.md, docs/ and examples/:
 - A name in quotes that follows a link to cases.txt and a colon must begin a case there: `[cases.txt]: 'own order met'`.
 - A decision that is cited by its number, as in `[DECISIONS.md](DECISIONS.md), 26`, must be there.
 
-Form, of docs/:
+Form, of docs/ and examples/:
 - No line is longer than 120 characters. A line that only says where a label leads may be.
 - DECISIONS.md has the decisions 1, 2, 3 and so on, none missing, each with a reason and a place, each under one topic.
 - READING.md has a section for each refusal number of the rules, in rising order, each with the lines that it needs.
@@ -22,7 +22,8 @@ import sys
 
 ROOT = pathlib.Path(__file__).resolve().parents[2]
 DOCS = sorted((ROOT / "docs").rglob("*.md"))
-PAGES = [ROOT / "README.md", *DOCS, *sorted((ROOT / "examples").glob("*.md"))]
+STORIES = sorted((ROOT / "examples").glob("*.md"))
+PAGES = [ROOT / "README.md", *DOCS, *STORIES]
 DECISIONS = ROOT / "docs" / "DECISIONS.md"
 READING = ROOT / "docs" / "READING.md"
 ANSWERS = ROOT / "crates" / "rules" / "specs" / "Answers.antt"
@@ -241,7 +242,7 @@ def faults():
     for page in PAGES:
         yield from ((page, *fault) for fault in citations(page, known, decisions))
     yield from other_labels()
-    for page in DOCS:
+    for page in [*DOCS, *STORIES]:
         yield from ((page, *fault) for fault in long_lines(page))
     yield from ((DECISIONS, *fault) for fault in decision_faults())
     yield from ((READING, *fault) for fault in refusal_faults())
