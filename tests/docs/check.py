@@ -52,7 +52,8 @@ REFUSAL = re.compile(r"^### Refusal (\d+): .*$", re.M)
 TOLD_NUMBER = re.compile(r"\bnumber = (\d+)")
 
 # How a name is defined: a signature, field or case of a specification; an item, field or variant of a program.
-SIGNATURE = re.compile(r"^\s*(?:(?:pub|abbrev|unfoldable|data|record|mod|ruleset)\s+)*([^\s:(){}=,]+)(?=[\s:({=]|$)", re.M)
+# A signature has its type behind a colon; what a keyword names needs none.
+SIGNATURE = re.compile(r"^\s*(?:(?:pub|abbrev|unfoldable)\s+)*(?:(?:data|record|mod|ruleset)\s+([^\s:(){}=,]+)|([^\s:(){}=,]+) :)", re.M)
 ITEM = re.compile(r"\b(?:fn|struct|enum|const|mod|type)\s+(\w+)")
 # A variant has a capital letter; a field has its type behind it. A call is neither.
 FIELD = re.compile(r"^\s*(?:pub\s+)?([A-Z]\w*(?=\s*[,({=])|[a-z]\w*(?=:\s))", re.M)
@@ -69,7 +70,8 @@ def text_of(path):
 
 def defined(path):
     """The names that a file defines; of a file in another language, its words."""
-    return {name for pattern in DEFINES.get(path.suffix, (WORD,)) for name in pattern.findall(text_of(path))}
+    found = (match for pattern in DEFINES.get(path.suffix, (WORD,)) for match in pattern.finditer(text_of(path)))
+    return {match[match.lastindex or 0] for match in found}
 
 
 def known_names():
@@ -194,10 +196,10 @@ def sections(text, heading):
     """Each section under such a heading: its number, its line and its text."""
     found = list(heading.finditer(text))
     for here, following in zip(found, [*found[1:], None]):
-        body = text[here.end() : following.start() if following else len(text)]
         # A wider section ends it too; a narrower one is part of it.
         level = here.group(0).index(" ")
-        yield int(here.group(1)), text.count("\n", 0, here.start()) + 1, re.split(rf"^#{{1,{level}}} ", body, maxsplit=1, flags=re.M)[0]
+        body = re.split(rf"^#{{1,{level}}} ", text[here.end() : following.start() if following else None], maxsplit=1, flags=re.M)[0]
+        yield int(here.group(1)), text.count("\n", 0, here.start()) + 1, body
 
 
 def out_of_order(numbers, expected, what):
