@@ -29,8 +29,8 @@ use Rattle.rules.proofs.CalendarLaws.{next-business, before-or-not, closes-toda
 use Rattle.rules.proofs.HourLaws.{Cascading, year, quarter, cascading}
 use Rattle.rules.specs.Header.{Header, calendarOf}
 use Rattle.rules.specs.Ledger.{Tables, Line, withRows, members, day, calendar, orders, withOrders, withoutSubmits, firstLines}
-use Rattle.rules.specs.CloseOfDay.{cascaded, closingContracts, allCascaded, isOfAny, withClosed, priced, nextDay, onDay, closeBooked}
-use Rattle.rules.specs.Accounts.{Column, lots, value, row}
+use Rattle.rules.specs.CloseOfDay.{cascaded, closingContracts, allCascaded, isOfAny, withClosed, priced, hasNextDay, nextDay, onDay, closeBooked}
+use Rattle.rules.specs.Accounts.{Column, lots, value, row, dayReached}
 use Rattle.accounts.proofs.Cascade.{cascade-keeps}
 use Rattle.accounts.proofs.Heads.{SameHeader, field, changing, same-header, then-same, set-other, over-other, but-the-day}
 use Rattle.accounts.proofs.Holds.{Rows, Holds, holds-same}
@@ -339,3 +339,15 @@ module _ (h : Header) (d : ℕ) (t : Tables) (r : Runs h d t) (s : Sound t) (n :
               (λ q c m _ _. day-rows (nextDay t) v q c m ∙ closed-rows cs u q c m)
               (evening-all h d t r s log cs u (hasCascaded (calendarOf h) d) closing-all (evening log p) .holds)));
         }
+
+-- the list's day is then the next business day
+no-next : (h : Header) (d : ℕ) (t : Tables) → Runs h d t → nextBusinessDay (calendarOf h) d ≡ NoDay → hasNextDay t ≡ false
+unfolding hasNextDay
+no-next h d t r e = rw (ap (λ k. nextBusinessDay k (day t)) (runs-calendar r) ∙ ap (nextBusinessDay (calendarOf h)) (r .today) ∙ e, hasNextDay)
+
+pub close-shows : (t : Tables) → Sound t → (n : ℕ) → hasNextDay t ≡ true → (h : Header) (d : ℕ) → Runs h d t → Does h d (dayReached d (nextBusinessDay (calendarOf h) d)) t (closeBooked t n)
+close-shows t s n q h d r = go (nextBusinessDay (calendarOf h) d) refl
+  where
+    go : (z : Day) → nextBusinessDay (calendarOf h) d ≡ z → Does h d (dayReached d (nextBusinessDay (calendarOf h) d)) t (closeBooked t n)
+    go (On x) e = rw e (close-does h d t r s n x e)
+    go NoDay e = never (sym q ∙ no-next h d t r e)

@@ -19,6 +19,7 @@ use Rattle.rules.specs.Default.{defaultBooked, closeOutLines, closeOutBooked}
 use Rattle.rules.proofs.SoundTables.{Undamaged}
 use Rattle.accounts.proofs.Runs.{sound-of, orders-same, timed-same}
 use Rattle.accounts.proofs.Written.{orders-written}
+use Rattle.accounts.proofs.Remains.{Remain, remain-same, kept-remain, legs-remain}
 use Rattle.accounts.proofs.Books.{booked-place}
 use Rattle.accounts.proofs.Places.{evening-place}
 
@@ -64,3 +65,22 @@ module _ (t : Tables) (u : Undamaged t) where
       let v = withOrders (kept others (orders p)) p in
       orders-same v (closeBooked t n .after) (evening-place t u n 7 (omega arith) (omega arith)) refl ∙ orders-written (kept others (orders p)) p (omega (arith, u .long .head))
       ∙ ap (kept others) (orders-same t p refl refl)
+
+  -- any other record than a submit
+  pub cancel-remain : (n : ℕ) (p : Order → Bool) → Remain (orders t) (orders (booked [] (withOrders (kept p (orders t)) (timed n t)) .after))
+  cancel-remain n p = rw (cancel-orders n p) (kept-remain p (orders t))
+
+  pub limits-remain : (l : List ℕ) → Remain (orders t) (orders (booked [] (withPrices l t) .after))
+  limits-remain l = rw (limits-orders l) (remain-same (orders t))
+
+  pub proposal-remain : (legs : List Leg) → Remain (orders t) (orders (proposalBooked t legs .after))
+  proposal-remain legs = rw (proposal-orders legs) (legs-remain legs (orders t))
+
+  pub default-remain : (m : ℕ) → Remain (orders t) (orders (defaultBooked t m .after))
+  default-remain m = rw (default-orders m) (kept-remain _ (orders t))
+
+  pub close-out-remain : (e : CloseOutTerms) → Remain (orders t) (orders (closeOutBooked t e .after))
+  close-out-remain e = rw (close-out-orders e) (remain-same (orders t))
+
+  pub close-remain : (n : ℕ) → Remain (orders t) (orders (closeBooked t n .after))
+  close-remain n = rw (close-orders n) (kept-remain _ (orders t))

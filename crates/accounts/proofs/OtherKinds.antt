@@ -42,7 +42,7 @@ module _ (h : Header) (d : ℕ) (t : Tables) (r : Runs h d t) (s : Sound t) wher
       e v (no-lines h (hasCascaded (calendarOf h) d))
 
   pub cancel-does : (n : ℕ) (p : Order → Bool) → Does h d d t (booked [] (withOrders (kept p (orders t)) (timed n t)))
-  cancel-does n p = removed-does (timed n t) p (timed-header h d t r s n) (timed-rows h d t r s n .0) (timed-rows h d t r s n .1)
+  cancel-does n p = removed-does (timed n t) p (timed-header h d t r s n) (timed-rows n t .0) (timed-rows n t .1)
 
   pub default-does : (m : ℕ) → Does h d d t (defaultBooked t m)
   unfolding defaultBooked

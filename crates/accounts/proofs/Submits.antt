@@ -1,5 +1,5 @@
 -- A submit: its deals' lines come in pairs, and its orders rest in open contracts.
-use mathlib.Core.Path.{_≡_, refl, sym, ap, _∙_}
+use mathlib.Core.Path.{_≡_, refl, sym, ap, subst, _∙_}
 use mathlib.Core.Bool.{Bool, true, false, cond}
 use mathlib.Core.List.{List, [], _∷_, _++_, flatMap}
 use Prim.Native.Nat.{ℕ, _+_, _%_, _<_}
@@ -81,17 +81,29 @@ pub open-not-cascaded : (k : Calendar) (d c : ℕ) → openOn k d c ≡ true →
 unfolding hasCascaded stillToClose
 open-not-cascaded k d c e = rw (before-or-not d (termClosingDay k (termOf c)), open-to-close k d c e) (and-false (leb (c % 17) 4))
 
+-- ---- what needs the tables alone
+pub timed-rows : (n : ℕ) (t : Tables) → (timed n t .lots ≡ t .lots) × (timed n t .value ≡ t .value) × (timed n t .book ≡ t .book)
+unfolding timed
+timed-rows n t =
+    by-bool (λ b. let u = cond b (withHead (set (withoutSubmits t .head) 4 n) t) t in (u .lots ≡ t .lots) × (u .value ≡ t .value) × (u .book ≡ t .book)) (ltb (time t) n)
+    (λ _. (refl, refl, refl)) (λ _. (refl, refl, refl))
+
+-- a submit's lines fit the tables
+pub submit-fits : (t : Tables) → Sound t → (e : Submission) → e .contract < contractCount → e .member < members t → All (Fits (members t)) (submitLines t e)
+unfolding submitLines submitMatched matched
+submit-fits t s e contract< member< =
+    let o = incoming t e in
+    let ds = matching (length (orders t)) o (orders t) .deals in
+    let placed = dealt-all (λ b. b .member < members t) (λ b q p. p) (length (orders t)) o (orders t)
+    (all-map (λ b. (b .contract < contractCount) × (b .member < members t)) (λ b. b .member < members t) (orders t) (λ b p. p .1) (s .placed)) in
+    deals-each (Fits (members t)) o ds (all-map (λ x. x .resting .member < members t) _ ds
+    (λ x p. (record { contract< = contract<; member< = member< }, (record { contract< = contract<; member< = p }, tt))) placed)
+
 -- ---- a submit
 module _ (h : Header) (d : ℕ) (t : Tables) (r : Runs h d t) (s : Sound t) where
   -- an accepted record's time
   pub timed-header : (n : ℕ) → SameHeader 4 (t .head) (timed n t .head)
   timed-header n = timed-same n t s
-
-  pub timed-rows : (n : ℕ) → (timed n t .lots ≡ t .lots) × (timed n t .value ≡ t .value) × (timed n t .book ≡ t .book)
-  unfolding timed
-  timed-rows n =
-      by-bool (λ b. let u = cond b (withHead (set (withoutSubmits t .head) 4 n) t) t in (u .lots ≡ t .lots) × (u .value ≡ t .value) × (u .book ≡ t .book)) (ltb (time t) n)
-      (λ _. (refl, refl, refl)) (λ _. (refl, refl, refl))
 
   module _ (e : Submission) (opened : isOpen t (e .contract) ≡ true) (contract< : e .contract < contractCount) (member< : e .member < members t) where
     here : openOn (calendarOf h) d (e .contract) ≡ true
@@ -102,11 +114,8 @@ module _ (h : Header) (d : ℕ) (t : Tables) (r : Runs h d t) (s : Sound t) wher
     submit-fair =
         let o = incoming t e in
         let ds = matching (length (orders t)) o (orders t) .deals in
-        let placed = dealt-all (λ b. b .member < h .members) (λ b q p. p) (length (orders t)) o (orders t)
-        (all-map (λ b. (b .contract < contractCount) × (b .member < members t)) (λ b. b .member < h .members) (orders t) (λ b p. rw (r .size) at (p .1)) (s .placed)) in
         record {
-          fits = deals-each (Fits (h .members)) o ds (all-map (λ x. x .resting .member < h .members) _ ds
-              (λ x p. (record { contract< = contract<; member< = rw (r .size) at member< }, (record { contract< = contract<; member< = p }, tt))) placed);
+          fits = subst (λ n. All (Fits n) (submitLines t e)) (r .size) (submit-fits t s e contract< member<);
           balanced = λ x hour _. deals-balanced (calendarOf h) x hour o ds;
           clear = let c = open-not-cascaded (calendarOf h) d (e .contract) here in deals-each (λ l. hasCascaded (calendarOf h) d (l .contract) ≡ false) o ds (all-always _ ds (λ x. (c, (c, tt))));
         }
@@ -130,4 +139,4 @@ module _ (h : Header) (d : ℕ) (t : Tables) (r : Runs h d t) (s : Sound t) wher
         booked-does h d (submitLines t e) t (withOrders (submitOrders t e) v) r s
         (then-same a (set-other 4 (v .head) 7 (length (submitOrders t e)) (omega arith) (changing (omega arith) (omega arith))))
         (rw (orders-written (submitOrders t e) v (omega (arith, a .longer, s .head-long))) submit-rests)
-        (timed-rows (e .time) .0) (timed-rows (e .time) .1) submit-fair
+        (timed-rows (e .time) t .0) (timed-rows (e .time) t .1) submit-fair
