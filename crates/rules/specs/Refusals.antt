@@ -25,7 +25,7 @@ use Rattle.rules.specs.Days.{inSpan}
 use Rattle.rules.specs.Header.{calendarSound, membersSound, limitSound, daySound, headerOf, beginsWithHeader}
 use Rattle.rules.specs.Ledger.{Tables, Line, withPrices, members, holidayCount, day, time, acceptedSubmits, lotsRun, orderCount, limit, marked, mark, submitsThisSecond, calendar}
 use Rattle.rules.specs.Ledger.{defaulted, isOpen, priceWidth, ggfPlace, lowPlace, highPlace, dayLotsPlace, dayValuePlace, ggf, low, high, withDayLimits, rowWidth, sideAt}
-use Rattle.rules.specs.Ledger.{orders, withOrders, lineRun, booked, timed, ledgerShort, linesShort, fresh}
+use Rattle.rules.specs.Ledger.{orders, resting, withOrders, lineRun, booked, timed, ledgerShort, linesShort, fresh}
 use Rattle.rules.specs.Records.{timeSound, sideSound, contractSound, priceSound, lotsSound, dayLimitsSound, legsOf, readOf}
 use Rattle.rules.specs.Matching.{submitMatched, submitLines, isTeye, wouldRest, submitsAt, aboveLimit, submitBooked}
 use Rattle.rules.specs.Synthetic.{acceptable, proposalLines, proposalBooked}
@@ -132,7 +132,7 @@ abbrev pub isCancelled : Cancellation → Order → Bool
 isCancelled e o = eqb (o .number) (e .order) && eqb (o .member) (e .member)
 
 abbrev pub cancelCauses : Tables → Cancellation → List Cause
-cancelCauses t e = (ltb (e .time) (time t), TimeBelowLedger) ∷ (not (any (isCancelled e) (orders t)), NoSuchOrder) ∷ []
+cancelCauses t e = (ltb (e .time) (time t), TimeBelowLedger) ∷ (not (any (isCancelled e) (resting t)), NoSuchOrder) ∷ []
 
 abbrev pub dayLimitsCauses : Tables → NewDayLimits → List Cause
 dayLimitsCauses t e = (not (isOpen t (e .contract)), ContractNotOpen (e .contract)) ∷ []
@@ -166,6 +166,7 @@ kindCauses t (CloseOut e) legs = closeOutCauses t e
 kindCauses t (CloseOfDay s) legs = closeCauses t s
 
 -- ---- what each kind books where no cause holds
+-- That order goes from the table.
 abbrev pub cancelBooked : Tables → Cancellation → Outcome Tables
 cancelBooked t e = booked [] (withOrders (kept (λ o. not (isCancelled e o)) (orders t)) (timed (e .time) t))
 
