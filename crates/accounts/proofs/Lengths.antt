@@ -14,8 +14,8 @@ use Rattle.arith.proofs.Alls.{all-map}
 use Rattle.arith.proofs.EachBlock.{in-each-length}
 use Rattle.arith.proofs.Overs.{over-length}
 use Rattle.arith.proofs.Tests.{by-bool}
-use Rattle.rules.specs.Ledger.{bookLength, headLength, linesLength, rowsLength}
-use Rattle.rules.specs.Ranges.{contractCount, mostLegs}
+use Rattle.rules.specs.Ledger.{bookLength, headLength, linesLength, rowsLength, membersPlace, submitsFrom, orderWidth, lineWidth}
+use Rattle.rules.specs.Ranges.{contractCount, mostLegs, mostMembers, mostOrders, leastLines}
 use Rattle.rules.specs.declared.event.CloseOutTerms.{CloseOutTerms}
 use Rattle.rules.specs.declared.event.Leg.{Leg}
 use Rattle.rules.specs.declared.event.Submission.{Submission}
@@ -67,7 +67,7 @@ unfolding flatMap
 each-places w places e [] = sym (zero-mul w)
 each-places w places e (b ∷ bs) = simp length-append (omega (arith, e b, each-places w places e bs, suc-mul (length bs) w))
 
-booked-lengths : (ls : List Line) (u : Tables) → length ls ≤ 200 → linesLength ≤ length (u .lines) → SameLengths u (booked ls u .after)
+booked-lengths : (ls : List Line) (u : Tables) → length ls ≤ leastLines → linesLength ≤ length (u .lines) → SameLengths u (booked ls u .after)
 unfolding booked
 booked-lengths ls u few long = record {
   head = simp length-set;
@@ -75,17 +75,17 @@ booked-lengths ls u few long = record {
   lots = posted-length lineLots ls (u .lots);
   value = posted-length lineValue ls (u .value);
   book = refl;
-  lines = over-length 0 (flatMap linePlaces ls) (u .lines) (omega (arith, each-places 4 linePlaces (λ _. refl) ls));
+  lines = over-length 0 (flatMap linePlaces ls) (u .lines) (omega (arith, each-places lineWidth linePlaces (λ _. refl) ls));
 }
 
-written-lengths : (os : List Order) (u : Tables) → length os ≤ 256 → bookLength ≤ length (u .book) → SameLengths u (withOrders os u)
+written-lengths : (os : List Order) (u : Tables) → length os ≤ mostOrders → bookLength ≤ length (u .book) → SameLengths u (withOrders os u)
 unfolding withOrders
 written-lengths os u few long = record {
   head = simp length-set;
   prices = refl;
   lots = refl;
   value = refl;
-  book = over-length 0 (flatMap orderPlaces os) (u .book) (omega (arith, each-places 8 orderPlaces (λ _. refl) os));
+  book = over-length 0 (flatMap orderPlaces os) (u .book) (omega (arith, each-places orderWidth orderPlaces (λ _. refl) os));
   lines = refl;
 }
 
@@ -105,9 +105,9 @@ named-few os (g ∷ gs) = go (numbered (g .order) os) refl (named-few os gs)
 
 -- ---- what records are made of
 module _ (t : Tables) (u : Undamaged t) where
-  without-lengths : (v : Tables) → members v ≤ 32 → headLength ≤ length (v .head) → length (withoutSubmits v .head) ≡ length (v .head)
+  without-lengths : (v : Tables) → members v ≤ mostMembers → headLength ≤ length (v .head) → length (withoutSubmits v .head) ≡ length (v .head)
   unfolding withoutSubmits
-  without-lengths v m l = over-length 192 (replicate (members v) 0) (v .head) (omega (arith, length-replicate {A = ℕ} (members v) 0))
+  without-lengths v m l = over-length submitsFrom (replicate (members v) 0) (v .head) (omega (arith, length-replicate {A = ℕ} (members v) 0))
 
   timed-lengths : (n : ℕ) → SameLengths t (timed n t)
   unfolding timed
@@ -116,11 +116,11 @@ module _ (t : Tables) (u : Undamaged t) where
       (λ _. head-lengths t _ (simp length-set (without-lengths t (u .head .members-range .to) (u .long .head)))) (λ _. same-lengths t)
 
   -- what remains of the orders fits
-  remain-few : (os : List Order) → Remain (orders t) os → length os ≤ 256
+  remain-few : (os : List Order) → Remain (orders t) os → length os ≤ mostOrders
   remain-few os x = omega (arith, remain-length x, orders-count t, u .head .orders≤)
 
   -- orders and lines written in tables v, as long as t
-  both-lengths : (v : Tables) (os : List Order) (ls : List Line) → SameLengths t v → length os ≤ 256 → length ls ≤ 200 → SameLengths t (booked ls (withOrders os v) .after)
+  both-lengths : (v : Tables) (os : List Order) (ls : List Line) → SameLengths t v → length os ≤ mostOrders → length ls ≤ leastLines → SameLengths t (booked ls (withOrders os v) .after)
   both-lengths v os ls a o l =
       let w = then-lengths a (written-lengths os v o (omega (arith, a .book, u .long .book))) in
       then-lengths w (booked-lengths ls (withOrders os v) l (omega (arith, w .lines, u .lines)))
@@ -157,7 +157,7 @@ module _ (t : Tables) (u : Undamaged t) where
       let os = kept (λ o. not (isOfAny cs o)) (orders p) in
       let w = then-lengths (priced-lengths n) (written-lengths os p (rw (orders-same t p refl refl) (remain-few _ (kept-remain _ (orders t)))) (u .long .book)) in
       let v = withClosed cs p in
-      let day = without-lengths v (omega (arith, written-place os p 1 (λ q. omega arith), few)) (omega (arith, w .head, u .long .head)) in
+      let day = without-lengths v (omega (arith, written-place os p membersPlace (λ q. omega arith), few)) (omega (arith, w .head, u .long .head)) in
       record {
         head = simp length-set (day ∙ w .head);
         prices = w .prices;
@@ -171,9 +171,9 @@ module _ (t : Tables) (u : Undamaged t) where
 -- lengths stay, and an accepted record's lines fit
 pub record Fits (t : Tables) (o : Outcome Tables) : Type 0 where
   pub lengths : SameLengths t (o .after)
-  pub few : isAccepted (o .answer) ≡ true → told (o .answer) .value ≤ 200
+  pub few : isAccepted (o .answer) ≡ true → told (o .answer) .value ≤ leastLines
 
-booked-fits : (t u : Tables) (ls : List Line) → length ls ≤ 200 → SameLengths t (booked ls u .after) → Fits t (booked ls u)
+booked-fits : (t u : Tables) (ls : List Line) → length ls ≤ leastLines → SameLengths t (booked ls u .after) → Fits t (booked ls u)
 unfolding booked
 booked-fits t u ls few a = record { lengths = a; few = λ _. few }
 
@@ -187,7 +187,7 @@ module _ (t : Tables) (u : Undamaged t) where
   pub submit-lengths : (e : Submission) → SoundSubmission (members t) e → All (λ c. c .0 ≡ false) (submitCauses t e) → Fits t (submitBooked t e)
   unfolding submitBooked submitLines withDeals counted
   submit-lengths e f n =
-      let few : length (submitLines t e) ≤ 200 = omega (arith, deal-lines (incoming t e) (submitMatched t e .deals), submit-deals t e (u .book-sound), f .lots .to) in
+      let few : length (submitLines t e) ≤ leastLines = omega (arith, deal-lines (incoming t e) (submitMatched t e .deals), submit-deals t e (u .book-sound), f .lots .to) in
       let a = timed-lengths t u (e .time) in
       booked-fits t _ (submitLines t e) few
       (both-lengths t u (withDeals (e .contract) (submitMatched t e .deals) (counted (e .member) (timed (e .time) t))) (submitOrders t e) (submitLines t e)
@@ -206,7 +206,7 @@ module _ (t : Tables) (u : Undamaged t) where
   unfolding proposalBooked proposalLines
   proposal-lengths legs most =
       let os = usedByLegs legs (orders t) in
-      let few : length (proposalLines t legs) ≤ 200 = omega (arith, length-map (namedLegs (orders t) legs) legLine, named-few (orders t) legs) in
+      let few : length (proposalLines t legs) ≤ leastLines = omega (arith, length-map (namedLegs (orders t) legs) legLine, named-few (orders t) legs) in
       booked-fits t _ (proposalLines t legs) few (both-lengths t u t os (proposalLines t legs) (same-lengths t) (remain-few t u os (legs-remain legs (orders t))) few)
 
   pub default-lengths : (m : ℕ) → Fits t (defaultBooked t m)
@@ -216,7 +216,7 @@ module _ (t : Tables) (u : Undamaged t) where
   pub close-out-lengths : (e : CloseOutTerms) → Fits t (closeOutBooked t e)
   unfolding closeOutBooked
   close-out-lengths e =
-      let few : length (closeOutLines t e) ≤ 200 = omega (arith, close-out-few t e, u .head .members-range .to) in
+      let few : length (closeOutLines t e) ≤ leastLines = omega (arith, close-out-few t e, u .head .members-range .to) in
       booked-fits t t (closeOutLines t e) few (booked-lengths (closeOutLines t e) t few (u .lines))
 
   pub close-lengths : (n : ℕ) → Fits t (closeBooked t n)

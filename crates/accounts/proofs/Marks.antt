@@ -13,7 +13,7 @@ use Rattle.arith.specs.Lists.{All, kept}
 use Rattle.arith.proofs.Alls.{all-map, all-both, all-kept}
 use Rattle.arith.proofs.Tests.{never}
 use Rattle.rules.specs.Ledger.{marksFrom}
-use Rattle.rules.specs.Ranges.{contractCount}
+use Rattle.rules.specs.Ranges.{contractCount, mostMembers}
 use Rattle.rules.specs.declared.event.CloseOutTerms.{CloseOutTerms}
 use Rattle.rules.specs.declared.event.Leg.{Leg}
 use Rattle.rules.specs.declared.event.Submission.{Submission}
@@ -35,7 +35,7 @@ use Rattle.accounts.proofs.Complete.{submit-all}
 
 -- the marks of t′ are those of t
 abbrev SameMarks : Tables → Tables → Type 0
-SameMarks t t′ = (m : ℕ) → m < 32 → mark t′ m ≡ mark t m
+SameMarks t t′ = (m : ℕ) → m < mostMembers → mark t′ m ≡ mark t m
 
 booked-marks : (ls : List Line) (u : Tables) → SameMarks u (booked ls u .after)
 booked-marks ls u m h = booked-place ls u (marksFrom + m) (λ e. omega arith)
@@ -46,7 +46,7 @@ written-marks os u m h = written-place os u (marksFrom + m) (λ e. omega arith)
 -- ---- each kind
 -- what remains of the orders, with the same marks
 abbrev Fine : Tables → Order → Type 0
-Fine t o = (defaulted t (o .member) ≡ false) × (o .member < 32)
+Fine t o = (defaulted t (o .member) ≡ false) × (o .member < mostMembers)
 
 fine-kept : (t t′ : Tables) → SameMarks t t′ → (o : Order) → Fine t o → defaulted t′ (o .member) ≡ false
 fine-kept t t′ same o f = ap (λ n. eqb n 1) (same (o .member) (f .1)) ∙ f .0
@@ -54,7 +54,7 @@ fine-kept t t′ same o f = ap (λ n. eqb n 1) (same (o .member) (f .1)) ∙ f .
 module _ (t : Tables) (u : Undamaged t) (a : NoneDefaulted t) where
   all-fine : All (Fine t) (orders t)
   all-fine =
-      all-both (λ o. defaulted t (o .member) ≡ false) (λ o. o .member < 32) (orders t) a
+      all-both (λ o. defaulted t (o .member) ≡ false) (λ o. o .member < mostMembers) (orders t) a
       (all-map (λ o. (o .contract < contractCount) × (o .member < members t)) (λ o. o .member < 32) (orders t) (λ o p. omega (arith, u .head .members-range .to)) (sound-of u .placed))
 
   remaining : (t′ : Tables) → SameMarks t t′ → Remain (orders t) (orders t′) → NoneDefaulted t′
@@ -72,7 +72,7 @@ module _ (t : Tables) (u : Undamaged t) (a : NoneDefaulted t) where
       (λ _. fine-kept t t′ same (incoming t e) (d, omega (arith, u .head .members-range .to))))
 
   -- the member's orders are gone, and no other mark is set
-  default-mark : (m k : ℕ) → k < 32 → (k ≡ m → ⊥) → mark (defaultBooked t m .after) k ≡ mark t k
+  default-mark : (m k : ℕ) → k < mostMembers → (k ≡ m → ⊥) → mark (defaultBooked t m .after) k ≡ mark t k
   unfolding defaultBooked
   default-mark m k h d = booked-marks [] _ k h ∙ written-marks _ _ k h ∙ getD-set-other (t .head) (marksFrom + m) (marksFrom + k) 1 0 (λ e. d (omega arith))
 

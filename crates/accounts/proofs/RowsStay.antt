@@ -17,8 +17,8 @@ use Rattle.arith.proofs.EachBlock.{block-at, block-passes}
 use Rattle.arith.proofs.Overs.{over-length, over-outside}
 use Rattle.arith.proofs.Sizes.{abs-plus}
 use Rattle.arith.proofs.Tests.{by-bool, and-right}
-use Rattle.rules.specs.Ledger.{headLength, marksFrom, priceWidth, submitsFrom}
-use Rattle.rules.specs.Ranges.{contractCount, mostPrice}
+use Rattle.rules.specs.Ledger.{headLength, marksFrom, priceWidth, submitsFrom, membersPlace, dayPlace, timePlace, acceptedSubmitsPlace, lotsRunPlace, orderCountPlace, marked}
+use Rattle.rules.specs.Ranges.{contractCount, mostPrice, mostMembers}
 use Rattle.rules.specs.declared.event.CloseOutTerms.{CloseOutTerms}
 use Rattle.rules.specs.declared.event.Leg.{Leg}
 use Rattle.rules.specs.declared.event.Submission.{Submission}
@@ -45,39 +45,39 @@ use Rattle.accounts.proofs.Bounds.{Bounded, bounded-same, bounded-poste
 -- ---- a head on its way from l: members and lots run stand
 pub record SameRun (l l′ : List ℕ) : Type 0 where
   pub longer : length l ≤ length l′
-  pub size : getD l′ 1 0 ≡ getD l 1 0
-  pub run : getD l′ 6 0 ≡ getD l 6 0
+  pub size : getD l′ membersPlace 0 ≡ getD l membersPlace 0
+  pub run : getD l′ lotsRunPlace 0 ≡ getD l lotsRunPlace 0
 
 pub run-start : (l : List ℕ) → SameRun l l
 run-start l = record { longer = omega arith; size = refl; run = refl }
 
-run-set : {l u : List ℕ} (j v : ℕ) → (1 ≡ j → ⊥) → (6 ≡ j → ⊥) → SameRun l u → SameRun l (set u j v)
+run-set : {l u : List ℕ} (j v : ℕ) → (membersPlace ≡ j → ⊥) → (lotsRunPlace ≡ j → ⊥) → SameRun l u → SameRun l (set u j v)
 run-set {u = u} j v p q a = record {
   longer = omega (arith, length-set u j v, a .longer);
-  size = getD-set-other u j 1 v 0 p ∙ a .size;
-  run = getD-set-other u j 6 v 0 q ∙ a .run;
+  size = getD-set-other u j membersPlace v 0 p ∙ a .size;
+  run = getD-set-other u j lotsRunPlace v 0 q ∙ a .run;
 }
 
 -- the second's counts become zero
-run-zeros : {l u : List ℕ} (n : ℕ) → n ≤ 32 → headLength ≤ length l → SameRun l u → SameRun l (over 192 (replicate n 0) u)
+run-zeros : {l u : List ℕ} (n : ℕ) → n ≤ mostMembers → headLength ≤ length l → SameRun l u → SameRun l (over submitsFrom (replicate n 0) u)
 run-zeros {u = u} n few long a =
     let zeros : List ℕ = replicate n 0 in
-    let fit : 192 + length zeros ≤ length u = omega (arith, a .longer, length-replicate {A = ℕ} n 0) in
+    let fit : submitsFrom + length zeros ≤ length u = omega (arith, a .longer, length-replicate {A = ℕ} n 0) in
     record {
-      longer = omega (arith, over-length 192 zeros u fit, a .longer);
-      size = over-outside 192 zeros u fit 1 0 (λ z. absurd (omega arith)) ∙ a .size;
-      run = over-outside 192 zeros u fit 6 0 (λ z. absurd (omega arith)) ∙ a .run;
+      longer = omega (arith, over-length submitsFrom zeros u fit, a .longer);
+      size = over-outside submitsFrom zeros u fit membersPlace 0 (λ z. absurd (omega arith)) ∙ a .size;
+      run = over-outside submitsFrom zeros u fit lotsRunPlace 0 (λ z. absurd (omega arith)) ∙ a .run;
     }
 
 run-timed : (n : ℕ) (t : Tables) → Sound t → SameRun (t .head) (timed n t .head)
 unfolding timed withoutSubmits
 run-timed n t s =
-    by-bool (λ b. SameRun (t .head) ((cond b (withHead (set (withoutSubmits t .head) 4 n) t) t) .head)) (ltb (time t) n)
-    (λ _. run-set 4 n (omega arith) (omega arith) (run-zeros (members t) (s .few-members) (s .head-long) (run-start (t .head)))) (λ _. run-start (t .head))
+    by-bool (λ b. SameRun (t .head) ((cond b (withHead (set (withoutSubmits t .head) timePlace n) t) t) .head)) (ltb (time t) n)
+    (λ _. run-set timePlace n (omega arith) (omega arith) (run-zeros (members t) (s .few-members) (s .head-long) (run-start (t .head)))) (λ _. run-start (t .head))
 
 run-closed : {l : List ℕ} (cs : List ℕ) (t : Tables) → SameRun l (t .head) → SameRun l (withClosed cs t .head)
 unfolding withClosed withOrders
-run-closed cs t a = run-set 7 _ (omega arith) (omega arith) a
+run-closed cs t a = run-set orderCountPlace _ (omega arith) (omega arith) a
 
 -- ---- tables after a record
 -- t′ has the rows of t
@@ -106,8 +106,8 @@ booked-posts ls t u s same e v fit paid =
     record {
       lines = ls;
       printed = lines-printed ls (u .lines);
-      size = getD-set-other (u .head) 6 1 sum 0 (omega arith) ∙ same .size;
-      run = getD-set-same (u .head) 6 sum 0 (omega (arith, same .longer, s .head-long)) ∙ ap (λ r. r + lineRun ls) (same .run);
+      size = getD-set-other (u .head) lotsRunPlace membersPlace sum 0 (omega arith) ∙ same .size;
+      run = getD-set-same (u .head) lotsRunPlace sum 0 (omega (arith, same .longer, s .head-long)) ∙ ap (λ r. r + lineRun ls) (same .run);
       rows = λ x c m q. booked-row (members t) ls t u s (s .few-members) fit e v x c m (omega (arith, s .few-members));
       paid = paid;
     }
@@ -152,7 +152,7 @@ legs-priced os (g ∷ gs) h = go (numbered (g .order) os) refl (legs-priced os g
 ggf-most : (t : Tables) (c : ℕ) → pricesSound t ≡ true → c < contractCount → ggf t c ≤ mostPrice
 unfolding pricesSound contractPricesSound
 ggf-most t c e h =
-    let five = block-at 5 c 0 (t .prices) 0 (omega arith) ∙ ap (λ i. getD (t .prices) i 0) (add-zero (c * priceWidth)) in
+    let five = block-at priceWidth c 0 (t .prices) 0 (omega arith) ∙ ap (λ i. getD (t .prices) i 0) (add-zero (c * priceWidth)) in
     leb-true (ggf t c) mostPrice (ap (λ p. leb p mostPrice) (sym five) ∙ all-hold _ (block-passes 5 (contractPricesSound (lotsRun t)) contractCount (t .prices) e c h) .0)
 
 -- ---- each kind of record
@@ -163,7 +163,7 @@ module _ (t : Tables) (s : Sound t) where
       let u = timed (e .time) t in
       let ds = matching (length (orders t)) (incoming t e) (orders t) .deals in
       booked-posts (submitLines t e) t (withOrders (submitOrders t e) (withDeals (e .contract) (submitMatched t e .deals) (counted (e .member) u))) s
-      (run-set 7 _ (omega arith) (omega arith) (run-set 5 _ (omega arith) (omega arith) (run-set (submitsFrom + e .member) _ (omega arith) (omega arith) (run-timed (e .time) t s))))
+      (run-set orderCountPlace _ (omega arith) (omega arith) (run-set acceptedSubmitsPlace _ (omega arith) (omega arith) (run-set (submitsFrom + e .member) _ (omega arith) (omega arith) (run-timed (e .time) t s))))
       (timed-rows (e .time) t .0) (timed-rows (e .time) t .1) (submit-fits t s e c< m<)
       (deals-each (λ l. l .price ≤ mostPrice) (incoming t e) ds (all-map (λ x. x .resting .price .0 ≤ mostPrice) _ ds (λ x p. (p, (p, tt)))
       (dealt-all (λ b. b .price .0 ≤ mostPrice) (λ b q p. p) (length (orders t)) (incoming t e) (orders t) (orders-priced t book))))
@@ -171,7 +171,7 @@ module _ (t : Tables) (s : Sound t) where
   pub cancel-posts : (n : ℕ) (p : Order → Bool) → Posts t (booked [] (withOrders (kept p (orders t)) (timed n t)))
   unfolding withOrders
   cancel-posts n p =
-      booked-posts [] t (withOrders (kept p (orders t)) (timed n t)) s (run-set 7 _ (omega arith) (omega arith) (run-timed n t s))
+      booked-posts [] t (withOrders (kept p (orders t)) (timed n t)) s (run-set orderCountPlace _ (omega arith) (omega arith) (run-timed n t s))
       (timed-rows n t .0) (timed-rows n t .1) tt tt
 
   pub limits-posts : (l : List ℕ) → Posts t (booked [] (withPrices l t))
@@ -180,14 +180,14 @@ module _ (t : Tables) (s : Sound t) where
   pub proposal-posts : (legs : List Leg) → every legSound legs ≡ true → Posts t (proposalBooked t legs)
   unfolding proposalBooked withOrders proposalLines
   proposal-posts legs sound =
-      booked-posts (proposalLines t legs) t (withOrders (usedByLegs legs (orders t)) t) s (run-set 7 _ (omega arith) (omega arith) (run-start (t .head))) refl refl
+      booked-posts (proposalLines t legs) t (withOrders (usedByLegs legs (orders t)) t) s (run-set orderCountPlace _ (omega arith) (omega arith) (run-start (t .head))) refl refl
       (proposal-fits t s legs) (mapped-all (λ l. l .price ≤ mostPrice) legLine (namedLegs (orders t) legs) (legs-priced (orders t) legs (every-all legSound legs sound)))
 
   pub default-posts : (m : ℕ) → Posts t (defaultBooked t m)
   unfolding defaultBooked withOrders
   default-posts m =
-      booked-posts [] t (withOrders (kept (λ o. not (eqb (o .member) m)) (orders t)) (withHead (set (t .head) (marksFrom + m) 1) t)) s
-      (run-set 7 _ (omega arith) (omega arith) (run-set (marksFrom + m) 1 (omega arith) (omega arith) (run-start (t .head)))) refl refl tt tt
+      booked-posts [] t (withOrders (kept (λ o. not (eqb (o .member) m)) (orders t)) (withHead (set (t .head) (marksFrom + m) marked) t)) s
+      (run-set orderCountPlace _ (omega arith) (omega arith) (run-set (marksFrom + m) 1 (omega arith) (omega arith) (run-start (t .head)))) refl refl tt tt
 
   pub close-out-posts : (e : CloseOutTerms) → e .contract < contractCount → pricesSound t ≡ true → Posts t (closeOutBooked t e)
   unfolding closeOutBooked
@@ -208,5 +208,5 @@ module _ (t : Tables) (s : Sound t) where
       (record { size = refl; lots-long = s .lots-long; value-long = s .value-long })
       (within-kept t u (run-start (t .head)) refl refl a x)) in
       within-kept v (onDay (nextDay t) v)
-      (run-set 4 0 (omega arith) (omega arith) (run-set 3 (nextDay t) (omega arith) (omega arith)
+      (run-set timePlace 0 (omega arith) (omega arith) (run-set dayPlace (nextDay t) (omega arith) (omega arith)
       (run-zeros (members v) (omega (arith, same .size, s .few-members)) (omega (arith, same .longer, s .head-long)) (run-start (v .head))))) refl refl closed

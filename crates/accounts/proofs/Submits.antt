@@ -12,8 +12,8 @@ use Rattle.arith.specs.Lists.{All}
 use Rattle.arith.proofs.Alls.{all-always, all-map, all-append}
 use Rattle.arith.proofs.Tests.{by-bool, and-false}
 use Rattle.arith.proofs.Sums.{sorted, *ℤ-distrib}
-use Rattle.rules.specs.Ledger.{submitsFrom}
-use Rattle.rules.specs.Ranges.{contractCount}
+use Rattle.rules.specs.Ledger.{submitsFrom, timePlace, acceptedSubmitsPlace, orderCountPlace}
+use Rattle.rules.specs.Ranges.{contractCount, contractsInYear, lastQuarter}
 use Rattle.rules.specs.declared.event.Submission.{Submission}
 use Rattle.rules.specs.declared.order.Order.{Order}
 use Rattle.rules.specs.declared.order.Side.{Side}
@@ -79,13 +79,13 @@ open-here h d t c r = ap (λ k. openOn k (day t) c) (runs-calendar r) ∙ ap (λ
 
 pub open-not-cascaded : (k : Calendar) (d c : ℕ) → openOn k d c ≡ true → hasCascaded k d c ≡ false
 unfolding hasCascaded stillToClose
-open-not-cascaded k d c e = rw (before-or-not d (termClosingDay k (termOf c)), open-to-close k d c e) (and-false (leb (c % 17) 4))
+open-not-cascaded k d c e = rw (before-or-not d (termClosingDay k (termOf c)), open-to-close k d c e) (and-false (leb (c % contractsInYear) lastQuarter))
 
 -- ---- what needs the tables alone
 pub timed-rows : (n : ℕ) (t : Tables) → (timed n t .lots ≡ t .lots) × (timed n t .value ≡ t .value) × (timed n t .book ≡ t .book)
 unfolding timed
 timed-rows n t =
-    by-bool (λ b. let u = cond b (withHead (set (withoutSubmits t .head) 4 n) t) t in (u .lots ≡ t .lots) × (u .value ≡ t .value) × (u .book ≡ t .book)) (ltb (time t) n)
+    by-bool (λ b. let u = cond b (withHead (set (withoutSubmits t .head) timePlace n) t) t in (u .lots ≡ t .lots) × (u .value ≡ t .value) × (u .book ≡ t .book)) (ltb (time t) n)
     (λ _. (refl, refl, refl)) (λ _. (refl, refl, refl))
 
 -- a submit's lines fit the tables
@@ -102,7 +102,7 @@ submit-fits t s e contract< member< =
 -- ---- a submit
 module _ (h : Header) (d : ℕ) (t : Tables) (r : Runs h d t) (s : Sound t) where
   -- an accepted record's time
-  pub timed-header : (n : ℕ) → SameHeader 4 (t .head) (timed n t .head)
+  pub timed-header : (n : ℕ) → SameHeader timePlace (t .head) (timed n t .head)
   timed-header n = timed-same n t s
 
   module _ (e : Submission) (opened : isOpen t (e .contract) ≡ true) (contract< : e .contract < contractCount) (member< : e .member < members t) where
@@ -134,9 +134,9 @@ module _ (h : Header) (d : ℕ) (t : Tables) (r : Runs h d t) (s : Sound t) wher
     submit-does =
         let u = timed (e .time) t in
         let v = withDeals (e .contract) (submitMatched t e .deals) (counted (e .member) u) in
-        let a = then-same (timed-header (e .time)) (then-same (set-other 4 (u .head) (submitsFrom + e .member) (submitsThisSecond u (e .member) + 1) (omega arith) (ofMember (omega arith)))
-        (set-other 4 (set (u .head) (submitsFrom + e .member) (submitsThisSecond u (e .member) + 1)) 5 (acceptedSubmits u + 1) (omega arith) (changing (omega arith) (omega arith)))) in
+        let a = then-same (timed-header (e .time)) (then-same (set-other timePlace (u .head) (submitsFrom + e .member) (submitsThisSecond u (e .member) + 1) (omega arith) (ofMember (omega arith)))
+        (set-other timePlace (set (u .head) (submitsFrom + e .member) (submitsThisSecond u (e .member) + 1)) acceptedSubmitsPlace (acceptedSubmits u + 1) (omega arith) (changing (omega arith) (omega arith)))) in
         booked-does h d (submitLines t e) t (withOrders (submitOrders t e) v) r s
-        (then-same a (set-other 4 (v .head) 7 (length (submitOrders t e)) (omega arith) (changing (omega arith) (omega arith))))
+        (then-same a (set-other timePlace (v .head) orderCountPlace (length (submitOrders t e)) (omega arith) (changing (omega arith) (omega arith))))
         (rw (orders-written (submitOrders t e) v (omega (arith, a .longer, s .head-long))) submit-rests)
         (timed-rows (e .time) t .0) (timed-rows (e .time) t .1) submit-fair
