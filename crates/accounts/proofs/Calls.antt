@@ -11,7 +11,7 @@ use Rattle.rules.specs.Answers.{Outcome}
 use Rattle.rules.specs.Contracts.{hasCascaded}
 use Rattle.rules.specs.Header.{Header, calendarOf}
 use Rattle.rules.specs.Ranges.{mostMembers}
-use Rattle.rules.specs.Ledger.{Tables, Line, members, orders, lineLots, lineValue, booked, timePlace}
+use Rattle.rules.specs.Ledger.{Tables, Line, orders, lineLots, lineValue, booked, timePlace}
 use Rattle.rules.specs.Accounts.{Column, lots, value, row, amount, isAccepted, linesOf}
 use Rattle.accounts.proofs.Lines.{Fits, rowTotal}
 use Rattle.accounts.proofs.Heads.{SameHeader}

@@ -12,7 +12,7 @@ use Rattle.arith.proofs.Overs.{over-length, over-inside, over-outside}
 use Rattle.rules.specs.Ledger.{headLength, limitsFrom, marksFrom, rowWidth, rowsLength, submitsFrom, holidaysFrom, firstYearPlace, membersPlace, holidayCountPlace, dayPlace, timePlace, acceptedSubmitsPlace, lotsRunPlace, orderCountPlace}
 use Rattle.rules.specs.Ranges.{contractCount, mostMembers}
 use Rattle.rules.specs.Header.{Header}
-use Rattle.rules.specs.Ledger.{Tables, members, holidays, orders, freshHead, freshRows, fresh}
+use Rattle.rules.specs.Ledger.{Tables, orders, freshHead, freshRows, fresh}
 use Rattle.rules.specs.Accounts.{Column, lots, value, row}
 use Rattle.rules.proofs.SoundHeaders.{SoundHeader}
 use Rattle.accounts.proofs.Runs.{Runs}

@@ -15,7 +15,7 @@ use Rattle.arith.proofs.EachBlock.{block, block-at, in-each-block}
 use Rattle.arith.specs.Lists.{kept, over}
 use Rattle.arith.proofs.Overs.{over-length, over-outside}
 use Rattle.arith.proofs.Tests.{by-bool, le-or-lt, same-or}
-use Rattle.rules.specs.Ledger.{priceWidth, pricesLength}
+use Rattle.rules.specs.Ledger.{priceWidth, pricesLength, dayLotsPlace}
 use Rattle.rules.specs.Ranges.{contractCount}
 use Rattle.rules.specs.declared.contract.ContractKind.{ContractKind}
 use Rattle.rules.specs.declared.contract.ContractKind.the-variants.{Year, Quarter, Month}
@@ -58,17 +58,17 @@ quoted-least m v former (some b) (some s) a h f g =
     (λ e. rounded-least (6 * v + m * both) (8 * m) (omega (arith, ltb-true 0 m e)) (omega (arith, mul-le-mul-left m both≥))) (λ _. rounded-least both 2 (omega arith) (omega arith))
 
 -- M and V become 0, and nothing else
-front-stays : (b : List ℕ) → length b ≡ 5 → getD (over 3 (0 ∷ 0 ∷ []) b) 0 0 ≡ getD b 0 0
-front-stays b e = over-outside 3 (0 ∷ 0 ∷ []) b (omega arith) 0 0 (λ q. absurd (omega arith))
+front-stays : (b : List ℕ) → length b ≡ priceWidth → getD (over (dayLotsPlace 0) (0 ∷ 0 ∷ []) b) 0 0 ≡ getD b 0 0
+front-stays b e = over-outside (dayLotsPlace 0) (0 ∷ 0 ∷ []) b (omega arith) 0 0 (λ q. absurd (omega arith))
 
-first-of-block : (c : ℕ) (l : List ℕ) → getD (block 5 c l) 0 0 ≡ getD l (c * priceWidth) 0
-first-of-block c l = block-at 5 c 0 l 0 (omega arith) ∙ ap (λ i. getD l i 0) (add-zero (c * priceWidth))
+first-of-block : (c : ℕ) (l : List ℕ) → getD (block priceWidth c l) 0 0 ≡ getD l (c * priceWidth) 0
+first-of-block c l = block-at priceWidth c 0 l 0 (omega arith) ∙ ap (λ i. getD l i 0) (add-zero (c * priceWidth))
 
 without-deals-found : (c : ℕ) (l : List ℕ) → c < contractCount → pricesLength ≤ length l → getD (withoutDeals l) (c * priceWidth) 0 ≡ getD l (c * priceWidth) 0
 unfolding withoutDeals
 without-deals-found c l h long =
     let same = in-each-block 5 (over 3 (0 ∷ 0 ∷ [])) (λ b e. over-length 3 (0 ∷ 0 ∷ []) b (omega arith) ∙ e) contractCount l (omega arith) c h in
-    rw (← first-of-block c (withoutDeals l), same, ← first-of-block c l) (front-stays (block 5 c l) (simp (length-take, length-drop) (omega arith)))
+    rw (← first-of-block c (withoutDeals l), same, ← first-of-block c l) (front-stays (block priceWidth c l) (simp (length-take, length-drop) (omega arith)))
 
 module _ (t : Tables) (u : Undamaged t) where
   quote-priced : (s c : ℕ) (side : Side) (o : Order) → bestQuote t s c side ≡ some o → Priced o
@@ -116,7 +116,7 @@ abbrev pub Found : Tables → Tables → Type 0
 Found u u′ = (c : ℕ) → c < contractCount → 0 < ggf u c → 0 < ggf u′ c
 
 -- a contract's other places are written
-set-found : (l : List ℕ) (d j v c : ℕ) → 0 < j → j < 5 → getD (set l (d * priceWidth + j) v) (c * priceWidth) 0 ≡ getD l (c * priceWidth) 0
+set-found : (l : List ℕ) (d j v c : ℕ) → 0 < j → j < priceWidth → getD (set l (d * priceWidth + j) v) (c * priceWidth) 0 ≡ getD l (c * priceWidth) 0
 set-found l d j v c a b = getD-set-other l (d * priceWidth + j) (c * priceWidth) v 0 (λ e. omega arith)
 
 module _ (t : Tables) (u : Undamaged t) where

@@ -23,7 +23,7 @@ use Rattle.rules.specs.declared.order.Side.the-variants.{Buy, Sell}
 use Rattle.rules.specs.Days.{Calendar}
 use Rattle.rules.specs.Contracts.{holdsHour, hasCascaded}
 use Rattle.rules.specs.Header.{Header, calendarOf}
-use Rattle.rules.specs.Ledger.{Tables, members, orders, withOrders}
+use Rattle.rules.specs.Ledger.{Tables, members, orders, withOrders, timePlace, orderCountPlace}
 use Rattle.rules.specs.Sides.{sameSide, signed}
 use Rattle.rules.specs.Matching.{withLots, used}
 use Rattle.rules.specs.Synthetic.{numbered, Named, namedLegs, legLots, legValue, inHour, balancedInHour, balanced, acceptable, legLine, proposalLines, usedByLegs, proposalBooked}
@@ -156,5 +156,5 @@ module _ (h : Header) (d : ℕ) (t : Tables) (r : Runs h d t) (s : Sound t) (leg
   unfolding proposalBooked withOrders
   proposal-does =
       let os = usedByLegs legs (orders t) in
-      booked-does h d (proposalLines t legs) t (withOrders os t) r s (set-other 4 (t .head) 7 (length os) (omega arith) (changing (omega arith) (omega arith)))
+      booked-does h d (proposalLines t legs) t (withOrders os t) r s (set-other timePlace (t .head) orderCountPlace (length os) (omega arith) (changing (omega arith) (omega arith)))
       (rw (orders-written os t (omega (arith, s .head-long))) (legs-rest (InOpen h d) legs (orders t) (λ o q p. p) (r .resting))) refl refl proposal-fair

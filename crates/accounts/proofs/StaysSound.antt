@@ -1,20 +1,18 @@
--- Sound tables stay sound under every accepted record but a close of day; after a close only their rows can be unsound.
+-- Sound tables stay sound under every accepted record but a close of day; after a close only their rows can be unsound. That they can is
+-- computed in rule_examples, `damaged-by-a-close`.
 use mathlib.Core.Path.{_≡_, refl, sym, ap, subst, _∙_}
 use mathlib.Core.Bool.{Bool, true, false, not, _&&_}
-use mathlib.Core.List.{[], _∷_}
+use mathlib.Core.List.{[]}
 use Prim.Native.Nat.{_≤_}
 use native.Mathlib.Omega.{arith}
 use lib.ListN.{length}
-use lib.IntN.{pos}
 use borrow.Author.Tests.{le-ltb}
 use Rattle.arith.specs.Lists.{allOf}
 use Rattle.rules.specs.declared.event.Event.{Event}
 use Rattle.rules.specs.Answers.{Outcome}
-use Rattle.rules.specs.Ledger.{Tables, linesLength, linesShort, withLotsRun, booked}
+use Rattle.rules.specs.Ledger.{Tables, linesLength, linesShort}
 use Rattle.rules.specs.Records.{isCloseOfDay}
-use Rattle.rules.specs.Refusals.{headSound, pricesSound, rowsSound, bookSound, damaged, unsound, kindBooked, applySpec}
-use Rattle.rules.specs.Computed.{computed}
-use Rattle.rules.specs.ExampleRecords.{close, made, inHead, line}
+use Rattle.rules.specs.Refusals.{headSound, pricesSound, rowsSound, bookSound, damaged, unsound, kindBooked}
 use Rattle.rules.proofs.SoundTables.{Long, not-short, Undamaged, undamaged}
 use Rattle.accounts.specs.StaysSound.{closedBy, StaysSound, OnlyRowsChange}
 use Rattle.accounts.proofs.EachKind.{kind-decides, every-call, every-reading}
@@ -52,13 +50,3 @@ pub only-rows-change : OnlyRowsChange
 only-rows-change =
     every-call (λ t o. unsound t ≡ false → unsound (o .after) ≡ not (rowsSound (o .after))) (λ t a q e. e ∙ ap not (sym (undamaged t e .rows-sound)))
     (λ e t legs u q n _. keeps-by-rows e t (kindBooked t e legs) u (kind-keeps e t legs u q n))
-
--- ---- why a close of day is left out
--- Member 0 has 5 lots in the year 2021 and 5 in its first quarter, and the lots run is 5: each row is within it. The close of day 359,
--- the year's closing day, adds the one to the other.
-abbrev stacked : Tables
-stacked = inHead (withLotsRun 5) (booked (line 0 17 (pos 5) 30000 ∷ line 0 18 (pos 5) 30000 ∷ []) (made 2020 359 [] (1000 ∷ 1000 ∷ [])) .after)
-
-pub close-can-damage : (unsound stacked ≡ false) × (unsound (applySpec stacked (close 0) .after) ≡ true)
-unfolding computed
-close-can-damage = (refl, refl)

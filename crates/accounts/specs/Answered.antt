@@ -1,7 +1,7 @@
 -- What an answer means: the causes of a call in the order of their ranks, and that the answer names the lowest that holds.
 use Prim.Native.Nat.{ℕ, _<_}
 use mathlib.Core.Path.{_≡_}
-use mathlib.Core.Bool.{Bool, true, false}
+use mathlib.Core.Bool.{true, false}
 use mathlib.Core.List.{List, [], _∷_, List·Memᴰ}
 use Rattle.arith.specs.Lists.{All}
 use Rattle.rules.specs.declared.answer.Answer.{Answer}
