@@ -61,10 +61,10 @@ read-sound n bytes e =
     go Unsound = λ q. absurd (let z : _≡_ {A = ℕ} 0 1 = cc in omega arith)
 
 -- ---- the kinds of record
--- the ranks of causes rise, the first from above n on
 abbrev ranks : List Cause → List ℕ
 ranks causes = map (λ cause. rank (cause .1)) causes
 
+-- the ranks of causes rise, and are above n
 abbrev pub Rising : ℕ → List Cause → Type 0
 Rising n causes = rising (n ∷ ranks causes) ≡ true
 

@@ -90,8 +90,8 @@ kind-keeps e t legs u q n = go e q n
     s : runs.Sound t
     s = sound-of u
 
-    kept-so-far : BookKept t
-    kept-so-far = record { sound = u .book-sound; few = u .head .orders≤ }
+    book : BookKept t
+    book = record { sound = u .book-sound; few = u .head .orders≤ }
 
     head : headSound t ≡ true
     head = u .head-sound
@@ -112,7 +112,7 @@ kind-keeps e t legs u q n = go e q n
           fits = submit-lengths t u e f n;
           head = submit-head t head long e (f .time≤) (f .member<) n;
           prices = submit-prices t head long prices wide (orders-priced t (u .book-sound)) e (f .time≤) (f .member<) (f .contract<) n;
-          book = submit-book t s kept-so-far e f (today t u) (n .1 .1 .1 .1 .1 .1 .1 .0);
+          book = submit-book t s book e f (today t u) (n .1 .1 .1 .1 .1 .1 .1 .0);
           rows = submit-posts t s e (f .contract<) (f .member<) (u .book-sound);
           found = submit-found t u e;
           marks = λ a. submit-marks t u a e (f .member<) (n .1 .0);
@@ -126,7 +126,7 @@ kind-keeps e t legs u q n = go e q n
           fits = cancel-lengths t u (e .time) others;
           head = cancel-head t head long (e .time) others time≤;
           prices = cancel-prices t head long prices (e .time) others time≤;
-          book = cancel-book t s kept-so-far (e .time) others;
+          book = cancel-book t s book (e .time) others;
           rows = cancel-posts t s (e .time) others;
           found = cancel-found t u (e .time) others;
           marks = λ a. cancel-marks t u a (e .time) others;
@@ -139,7 +139,7 @@ kind-keeps e t legs u q n = go e q n
           fits = limits-lengths t u _ (simp length-set);
           head = limits-head t head long _;
           prices = limits-prices t head long prices wide e (f .contract<) (f .low≥) (f .ordered) (f .high≤);
-          book = limits-book t s kept-so-far _;
+          book = limits-book t s book _;
           rows = limits-posts t s _;
           found = limits-found t u e;
           marks = λ a. limits-marks t u a _;
@@ -152,7 +152,7 @@ kind-keeps e t legs u q n = go e q n
           fits = proposal-lengths t u legs (f .few);
           head = proposal-head t head long legs n;
           prices = proposal-prices t head long prices legs;
-          book = proposal-book t s kept-so-far legs;
+          book = proposal-book t s book legs;
           rows = proposal-posts t s legs (all-every legSound legs (f .each));
           found = proposal-found t u legs;
           marks = λ a. proposal-marks t u a legs;
@@ -165,7 +165,7 @@ kind-keeps e t legs u q n = go e q n
           fits = default-lengths t u m;
           head = default-head t head long m member<;
           prices = default-prices t head long prices m member<;
-          book = default-book t s kept-so-far m;
+          book = default-book t s book m;
           rows = default-posts t s m;
           found = default-found t u m;
           marks = λ a. default-marks t u a m;
@@ -178,7 +178,7 @@ kind-keeps e t legs u q n = go e q n
           fits = close-out-lengths t u e;
           head = close-out-head t head long e n;
           prices = close-out-prices t head long prices e;
-          book = close-out-book t s kept-so-far e;
+          book = close-out-book t s book e;
           rows = close-out-posts t s e contract< prices;
           found = close-out-found t u e;
           marks = λ a. close-out-marks t u a e;
@@ -189,7 +189,7 @@ kind-keeps e t legs u q n = go e q n
       fits = close-lengths t u i;
       head = close-head t head long i n;
       prices = close-prices t head long prices wide (orders-priced t (u .book-sound)) i;
-      book = close-book t s kept-so-far i;
+      book = close-book t s book i;
       rows = close-cascades t u i;
       found = close-found t u i;
       marks = λ a. close-marks t u a i;
