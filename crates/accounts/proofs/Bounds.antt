@@ -3,7 +3,7 @@
 use mathlib.Core.Path.{_≡_, refl, sym, ap, subst}
 use mathlib.Core.Bool.{Bool, true, false, cond}
 use mathlib.Core.List.{List, [], _∷_}
-use Prim.Native.Nat.{ℕ, suc, _+_, _*_, _-_, _/_, _%_, _≤_, _<_}
+use Prim.Native.Nat.{ℕ, _+_, _*_, _-_, _/_, _%_, _≤_, _<_}
 use native.Mathlib.Omega.{arith}
 use native.Mathlib.Nat.{le-trans, one-mul, mul-add, mul-le-mul-left}
 use lib.Dec.{eqb, leb}
@@ -17,13 +17,13 @@ use Rattle.arith.proofs.EachBlock.{block, every-block, block-at, block-passes}
 use Rattle.arith.specs.Ints.{when}
 use Rattle.arith.proofs.Sizes.{abs-plus, abs-times, abs-when}
 use Rattle.arith.proofs.Tests.{le-or-lt, same-or, and-left, and-right}
-use Rattle.rules.specs.Ledger.{headLength, rowsLength, rowWidth}
-use Rattle.rules.specs.Ranges.{contractCount, mostPrice, contractsInYear, lastQuarter, firstQuarter, january, mostMembers, monthsInYear, monthsInQuarter}
+use Rattle.rules.specs.Ledger.{headLength, rowsLength}
+use Rattle.rules.specs.Ranges.{contractCount, mostPrice}
 use Rattle.rules.specs.Contracts.{childrenOf}
 use Rattle.rules.specs.OtherForms.{yearOf, quarterOf, monthOf}
 use Rattle.rules.proofs.HourLaws.{cascading}
 use Rattle.rules.specs.Header.{Header}
-use Rattle.rules.specs.Ledger.{Tables, Line, members, lotsRun, rowPlace, lineRun, fresh}
+use Rattle.rules.specs.Ledger.{Tables, Line, members, lotsRun, rowWidth, rowPlace, lineRun, fresh}
 use Rattle.rules.specs.CloseOfDay.{cascaded, allCascaded, withClosed}
 use Rattle.rules.specs.Refusals.{everyRow, rowsSound}
 use Rattle.rules.specs.Accounts.{Column, lots, value, row, amount}
@@ -45,12 +45,12 @@ pub record Bounded (n bound : ℕ) (R : ℕ → ℕ → ℤ) : Type 0 where
 pub bounded-row : {n b : ℕ} {R : ℕ → ℕ → ℤ} → Bounded n b R → (c m : ℕ) → c < contractCount → m < n → natAbs (R c m) ≤ b
 bounded-row {R = R} a c m l q =
     let size : ℕ → ℕ = λ d. natAbs (R d m) in
-    let first = monthsInYear * (c / contractsInYear) in
-    same-or (c % contractsInYear) 0
+    let first = 12 * (c / 17) in
+    same-or (c % 17) 0
     (λ z. let e : yearOf first ≡ c = omega arith in omega (arith, a .within m first q (omega arith), ap size e))
-    (λ z. le-or-lt (c % contractsInYear) lastQuarter
-    (λ k. let i = first + monthsInQuarter * (c % contractsInYear - firstQuarter) in let e : quarterOf i ≡ c = omega arith in omega (arith, a .within m i q (omega arith), ap size e))
-    (λ k. let i = first + (c % contractsInYear - january) in let e : monthOf i ≡ c = omega arith in omega (arith, a .within m i q (omega arith), ap size e)))
+    (λ z. le-or-lt (c % 17) 4
+    (λ k. let i = first + 3 * (c % 17 - 1) in let e : quarterOf i ≡ c = omega arith in omega (arith, a .within m i q (omega arith), ap size e))
+    (λ k. let i = first + (c % 17 - 5) in let e : monthOf i ≡ c = omega arith in omega (arith, a .within m i q (omega arith), ap size e)))
 
 -- the rows may be told by other words
 pub bounded-same : {n b : ℕ} {R R′ : ℕ → ℕ → ℤ} → ((c m : ℕ) → c < contractCount → m < n → R′ c m ≡ R c m) → Bounded n b R → Bounded n b R′
@@ -89,9 +89,21 @@ module _ (amount : Line → ℤ) (w : ℕ) where
         mul-add w (natAbs (l .lots)) (lineRun ls),
       )
 
-  -- so what they add to one row
-  pub row-weighs : (ls : List Line) (c m : ℕ) → c < contractCount → All Weighs ls → natAbs (rowTotal amount c m ls) ≤ w * lineRun ls
-  row-weighs ls c m k h = let all : Bounded (suc m) (w * lineRun ls) (λ c m. rowTotal amount c m ls) = record { within = λ m i q j. lines-three ls m i h } in bounded-row all c m k (omega arith)
+  -- and to one row
+  pub lines-one : (ls : List Line) (c m : ℕ) → All Weighs ls → natAbs (rowTotal amount c m ls) ≤ w * lineRun ls
+  unfolding rowTotal lineRun total
+  lines-one [] c m h = omega arith
+  lines-one (l ∷ ls) c m h =
+      let v = when (eqb (l .member) m) (amount l) in
+      omega (
+        arith,
+        abs-plus (when (eqb (l .contract) c) v) (rowTotal amount c m ls),
+        abs-when (eqb (l .contract) c) v,
+        abs-when (eqb (l .member) m) (amount l),
+        h .0,
+        lines-one ls c m (h .1),
+        mul-add w (natAbs (l .lots)) (lineRun ls),
+      )
 
   pub bounded-posted : {n : ℕ} {R : ℕ → ℕ → ℤ} (run : ℕ) (ls : List Line) → All Weighs ls → Bounded n (w * run) R
       → Bounded n (w * (run + lineRun ls)) (λ c m. R c m +ℤ rowTotal amount c m ls)
@@ -118,7 +130,7 @@ to-next false true x y z w e f g = rw (f refl) (omega (arith, abs-plus x (pos 0)
 to-next false false x y z w e f g = omega (arith, abs-plus x (pos 0), abs-plus y (pos 0), abs-plus z (pos 0))
 
 -- R′ are the rows after a cascade of the year or quarter c, R those before it.
-pub bounded-cascaded : {n b : ℕ} (c : ℕ) (R R′ : ℕ → ℕ → ℤ) → c % contractsInYear < january
+pub bounded-cascaded : {n b : ℕ} (c : ℕ) (R R′ : ℕ → ℕ → ℤ) → c % 17 < 5
     → ((d m : ℕ) → m < n → R′ d m ≡ cond (eqb c d) (pos 0) (R d m +ℤ when (any (λ x. eqb x d) (childrenOf c)) (R c m)))
     → Bounded n b R → Bounded n b R′
 bounded-cascaded c R R′ h after a = record {
@@ -137,7 +149,7 @@ rowsIn l c m = getD l (rowPlace c m) (pos 0)
 
 column-cascaded : {b : ℕ} (n c : ℕ) (l : List ℤ) → c < contractCount → n ≤ 32 → rowsLength ≤ length l → Bounded n b (rowsIn l) → Bounded n b (rowsIn (cascaded n c l))
 column-cascaded n c l k q s a =
-    le-or-lt january (c % contractsInYear) (λ h. rw (cascaded-month n c l h) a)
+    le-or-lt 5 (c % 17) (λ h. rw (cascaded-month n c l h) a)
     (λ h. bounded-cascaded c (rowsIn l) (rowsIn (cascaded n c l)) h (λ d m p. cascaded-row n c l s k q d m h p) a)
 
 -- tables with rows for their n members
@@ -146,7 +158,7 @@ pub record Roomy (n : ℕ) (t : Tables) : Type 0 where
   pub lots-long : rowsLength ≤ length (t .lots)
   pub value-long : rowsLength ≤ length (t .value)
 
-module _ (n : ℕ) (few : n ≤ mostMembers) where
+module _ (n : ℕ) (few : n ≤ 32) where
   columns-cascaded : {b : ℕ} (cs : List ℕ) (l : List ℤ) → All (λ c. c < contractCount) cs → rowsLength ≤ length l → Bounded n b (rowsIn l) → Bounded n b (rowsIn (allCascaded n cs l))
   unfolding allCascaded
   columns-cascaded [] l h r a = a
@@ -190,7 +202,7 @@ pub rows-sound : (t : Tables) → RowsWithin t → rowsSound t ≡ true
 unfolding rowsSound
 rows-sound t a = rw (column-sound (members t) (lotsRun t) (t .lots) (rw (one-mul (lotsRun t)) at (a lots)), column-sound (members t) (mostPrice * lotsRun t) (t .value) (a value))
 
-pub rows-give : (t : Tables) → members t ≤ mostMembers → rowsLength ≤ length (t .lots) → rowsLength ≤ length (t .value) → rowsSound t ≡ true → RowsWithin t
+pub rows-give : (t : Tables) → members t ≤ 32 → rowsLength ≤ length (t .lots) → rowsLength ≤ length (t .value) → rowsSound t ≡ true → RowsWithin t
 unfolding rowsSound
 rows-give t few l v e =
     let n = members t in

@@ -15,8 +15,8 @@ use Rattle.arith.proofs.Among.{by-among, every-from}
 use Rattle.arith.specs.Ints.{when}
 use Rattle.arith.proofs.Overs.{over-outside}
 use Rattle.arith.proofs.Tests.{never, by-eqb, le-or-lt, true-or, and-left, and-right, passed}
-use Rattle.rules.specs.Ledger.{headLength, rowWidth, rowsLength, membersPlace, dayPlace, timePlace, orderCountPlace, submitsFrom}
-use Rattle.rules.specs.Ranges.{contractCount, mostMembers, contractsInYear, lastQuarter, firstQuarter, january, quartersInYear, monthsInQuarter}
+use Rattle.rules.specs.Ledger.{headLength, rowWidth, rowsLength}
+use Rattle.rules.specs.Ranges.{contractCount}
 use Rattle.rules.specs.declared.contract.ContractKind.the-variants.{Year, Quarter, Month}
 use Rattle.rules.specs.declared.order.Order.{Order}
 use Rattle.rules.specs.declared.units.Day.{Day}
@@ -28,7 +28,7 @@ use Rattle.rules.specs.OtherForms.{firstMonthOf}
 use Rattle.rules.proofs.CalendarLaws.{next-business, before-or-not, closes-today, closed-by-next, quarter-later-by-number, open-stays, open-in-ledger, open-to-close}
 use Rattle.rules.proofs.HourLaws.{Cascading, year, quarter, cascading}
 use Rattle.rules.specs.Header.{Header, calendarOf}
-use Rattle.rules.specs.Ledger.{Tables, Line, withRows, members, day, calendar, orders, withOrders, withoutSubmits, firstLines}
+use Rattle.rules.specs.Ledger.{membersPlace, dayPlace, timePlace, orderCountPlace, submitsFrom, Tables, Line, withRows, members, day, calendar, orders, withOrders, withoutSubmits, firstLines}
 use Rattle.rules.specs.CloseOfDay.{cascaded, closingContracts, allCascaded, isOfAny, withClosed, priced, hasNextDay, nextDay, onDay, closeBooked}
 use Rattle.rules.specs.Accounts.{Column, lots, value, row, dayReached}
 use Rattle.accounts.proofs.Cascade.{cascade-keeps}
@@ -44,7 +44,7 @@ childOf c e = any (λ x. eqb x e) (childrenOf c)
 
 -- ---- one cascade
 -- the accounts stay, and the parent's rows are empty; none of its children had been emptied
-holds-cascaded : (h : Header) (c : ℕ) (R R′ : Rows) (log : List Line) (K : ℕ → Bool) → c % contractsInYear < january → ((e : ℕ) → childOf c e ≡ true → K e ≡ false)
+holds-cascaded : (h : Header) (c : ℕ) (R R′ : Rows) (log : List Line) (K : ℕ → Bool) → c % 17 < 5 → ((e : ℕ) → childOf c e ≡ true → K e ≡ false)
     → ((x : Column) (e m : ℕ) → m < h .members → R′ x e m ≡ cond (eqb c e) (pos 0) (R x e m +ℤ when (childOf c e) (R x c m)))
     → Holds h R log K → Holds h R′ log (λ e. eqb c e || K e)
 holds-cascaded h c R R′ log K b clear moved a = record {
@@ -70,44 +70,44 @@ before-closed d NoDay e = refl
 module _ (k : Calendar) (d : ℕ) where
   -- only years and quarters that have closed are emptied
   abbrev Closed : (ℕ → Bool) → Type 0
-  Closed K = (e : ℕ) → K e ≡ true → (e % contractsInYear < january) × (stillToClose k (suc d) (termOf e) ≡ false)
+  Closed K = (e : ℕ) → K e ≡ true → (e % 17 < 5) × (stillToClose k (suc d) (termOf e) ≡ false)
 
   closed-before : Closed (hasCascaded k d)
   unfolding hasCascaded stillToClose
   closed-before e t = (
-    omega (arith, leb-true (e % contractsInYear) lastQuarter (and-left (leb (e % contractsInYear) lastQuarter) (isBefore (termClosingDay k (termOf e)) d) t)),
-    before-closed d (termClosingDay k (termOf e)) (and-right (leb (e % contractsInYear) lastQuarter) (isBefore (termClosingDay k (termOf e)) d) t),
+    omega (arith, leb-true (e % 17) 4 (and-left (leb (e % 17) 4) (isBefore (termClosingDay k (termOf e)) d) t)),
+    before-closed d (termClosingDay k (termOf e)) (and-right (leb (e % 17) 4) (isBefore (termClosingDay k (termOf e)) d) t),
   )
 
   -- so no child of a contract that closes this evening is
-  children-clear : (K : ℕ → Bool) (c : ℕ) → Closed K → isOn (termClosingDay k (termOf c)) d ≡ true → c % contractsInYear < january → (e : ℕ) → childOf c e ≡ true → K e ≡ false
+  children-clear : (K : ℕ → Bool) (c : ℕ) → Closed K → isOn (termClosingDay k (termOf c)) d ≡ true → c % 17 < 5 → (e : ℕ) → childOf c e ≡ true → K e ≡ false
   children-clear K c z o b e v = true-or (K e) (λ t. never (absurd (go (cascading c b) (z e t)))) (λ t. t)
     where
-      go : Cascading c → (e % contractsInYear < january) × (stillToClose k (suc d) (termOf e) ≡ false) → ⊥
+      go : Cascading c → (e % 17 < 5) × (stillToClose k (suc d) (termOf e) ≡ false) → ⊥
       go (year y is) f =
           let today = closes-today k d (termOf c) o in
-          by-among (λ q. q ≡ true → ⊥) (c + firstQuarter) quartersInYear e (λ l u _. never (sym (quarter-later-by-number k d c e y (omega arith) (omega arith) today) ∙ f .1)) (λ _ q. never (sym q)) (rw is at v)
+          by-among (λ q. q ≡ true → ⊥) (c + 1) 4 e (λ l u _. never (sym (quarter-later-by-number k d c e y (omega arith) (omega arith) today) ∙ f .1)) (λ _ q. never (sym q)) (rw is at v)
       go (quarter p q is) f =
-          by-among (λ w. w ≡ true → ⊥) (firstMonthOf c) monthsInQuarter e (λ l u _. let same : e / contractsInYear ≡ c / contractsInYear = omega arith in omega (arith, f .0)) (λ _ w. never (sym w)) (rw is at v)
+          by-among (λ w. w ≡ true → ⊥) (firstMonthOf c) 3 e (λ l u _. let same : e / 17 ≡ c / 17 = omega arith in omega (arith, f .0)) (λ _ w. never (sym w)) (rw is at v)
 
 -- ---- all contracts that close this evening
 -- the contracts emptied by the end of a list
 unfoldable closedBy : List ℕ → (ℕ → Bool) → ℕ → Bool
 closedBy [] K = K
-closedBy (c ∷ cs) K = closedBy cs (λ e. (eqb c e && leb (c % contractsInYear) lastQuarter) || K e)
+closedBy (c ∷ cs) K = closedBy cs (λ e. (eqb c e && leb (c % 17) 4) || K e)
 
 closed-keeps : (cs : List ℕ) (K : ℕ → Bool) (e : ℕ) → K e ≡ true → closedBy cs K e ≡ true
 unfolding closedBy
 closed-keeps [] K e t = t
-closed-keeps (c ∷ cs) K e t = closed-keeps cs _ e (rw t (or-true (eqb c e && leb (c % contractsInYear) lastQuarter)))
+closed-keeps (c ∷ cs) K e t = closed-keeps cs _ e (rw t (or-true (eqb c e && leb (c % 17) 4)))
 
-closed-has : (cs : List ℕ) (K : ℕ → Bool) (e : ℕ) → any (λ x. eqb x e) cs ≡ true → e % contractsInYear < january → closedBy cs K e ≡ true
+closed-has : (cs : List ℕ) (K : ℕ → Bool) (e : ℕ) → any (λ x. eqb x e) cs ≡ true → e % 17 < 5 → closedBy cs K e ≡ true
 unfolding closedBy any
 closed-has [] K e t b = never (sym t)
 closed-has (c ∷ cs) K e t b =
-    by-eqb (λ q. q || any (λ x. eqb x e) cs ≡ true → closedBy cs (λ e. (eqb c e && leb (c % contractsInYear) lastQuarter) || K e) e ≡ true) c e
-    (λ q _. closed-keeps cs (λ e. (eqb c e && leb (c % contractsInYear) lastQuarter) || K e) e (rw (eq-eqb c e q, q, le-leb (e % contractsInYear) lastQuarter (omega arith))))
-    (λ _ u. closed-has cs (λ e. (eqb c e && leb (c % contractsInYear) lastQuarter) || K e) e u b) t
+    by-eqb (λ q. q || any (λ x. eqb x e) cs ≡ true → closedBy cs (λ e. (eqb c e && leb (c % 17) 4) || K e) e ≡ true) c e
+    (λ q _. closed-keeps cs (λ e. (eqb c e && leb (c % 17) 4) || K e) e (rw (eq-eqb c e q, q, le-leb (e % 17) 4 (omega arith))))
+    (λ _ u. closed-has cs (λ e. (eqb c e && leb (c % 17) 4) || K e) e u b) t
 
 either : (a b q : Bool) → (a && b) || q ≡ true → a || q ≡ true
 either true b q e = refl
@@ -149,39 +149,39 @@ module _ (h : Header) (d : ℕ) (t : Tables) (r : Runs h d t) (s : Sound t) (log
     holds : Holds h (rowsOf u) log K
     closed : Closed k d K
 
-  few : h .members ≤ mostMembers
+  few : h .members ≤ 32
   few = rw (r .size) at (s .few-members)
 
   evening-next : (c : ℕ) (u : Tables) (K : ℕ → Bool) → c < contractCount → isOn (termClosingDay k (termOf c)) d ≡ true → Evening u K
-      → Evening (rowsCascaded c u) (λ e. (eqb c e && leb (c % contractsInYear) lastQuarter) || K e)
+      → Evening (rowsCascaded c u) (λ e. (eqb c e && leb (c % 17) 4) || K e)
   unfolding stillToClose
   evening-next c u K b o v = record {
     header = v .header;
     lots-long = omega (arith, cascaded-length (members u) c (u .lots) (v .lots-long) b same32);
     value-long = omega (arith, cascaded-length (members u) c (u .value) (v .value-long) b same32);
-    holds = le-or-lt january (c % contractsInYear)
-        (λ l. holds-fewer h _ log K _ (λ e _ q. only (eqb c e) (leb (c % contractsInYear) lastQuarter) (K e) (lt-leb (c % contractsInYear) lastQuarter l) q) (holds-same h (rowsOf u) _ log K (λ x e m _ _. stays x e m l) (v .holds)))
-        (λ l. holds-fewer h _ log (λ e. eqb c e || K e) _ (λ e _ q. either (eqb c e) (leb (c % contractsInYear) lastQuarter) (K e) q)
+    holds = le-or-lt 5 (c % 17)
+        (λ l. holds-fewer h _ log K _ (λ e _ q. only (eqb c e) (leb (c % 17) 4) (K e) (lt-leb (c % 17) 4 l) q) (holds-same h (rowsOf u) _ log K (λ x e m _ _. stays x e m l) (v .holds)))
+        (λ l. holds-fewer h _ log (λ e. eqb c e || K e) _ (λ e _ q. either (eqb c e) (leb (c % 17) 4) (K e) q)
         (holds-cascaded h c (rowsOf u) _ log K l (children-clear k d K c (v .closed) o l) (λ x e m q. moved x e m q l) (v .holds)));
-    closed = λ e q. true-or (K e) (λ w. v .closed e w) (λ w. new e (first (eqb c e && leb (c % contractsInYear) lastQuarter) (K e) w q));
+    closed = λ e q. true-or (K e) (λ w. v .closed e w) (λ w. new e (first (eqb c e && leb (c % 17) 4) (K e) w q));
   }
     where
       size : members u ≡ h .members
       size = v .header .places membersPlace (field (omega arith)) ∙ r .size
 
-      same32 : members u ≤ mostMembers
+      same32 : members u ≤ 32
       same32 = omega (arith, few, size)
 
-      new : (e : ℕ) → eqb c e && leb (c % contractsInYear) lastQuarter ≡ true → (e % contractsInYear < january) × (stillToClose k (suc d) (termOf e) ≡ false)
+      new : (e : ℕ) → eqb c e && leb (c % 17) 4 ≡ true → (e % 17 < 5) × (stillToClose k (suc d) (termOf e) ≡ false)
       new e q =
-          let same = eqb-true c e (and-left (eqb c e) (leb (c % contractsInYear) lastQuarter) q) in
-          rw (← same) (omega (arith, leb-true (c % contractsInYear) lastQuarter (and-right (eqb c e) (leb (c % contractsInYear) lastQuarter) q)), on-closed d (termClosingDay k (termOf c)) o)
+          let same = eqb-true c e (and-left (eqb c e) (leb (c % 17) 4) q) in
+          rw (← same) (omega (arith, leb-true (c % 17) 4 (and-right (eqb c e) (leb (c % 17) 4) q)), on-closed d (termClosingDay k (termOf c)) o)
 
-      stays : (x : Column) (e m : ℕ) → january ≤ c % contractsInYear → row x (rowsCascaded c u) e m ≡ row x u e m
+      stays : (x : Column) (e m : ℕ) → 5 ≤ c % 17 → row x (rowsCascaded c u) e m ≡ row x u e m
       stays lots e m l = ap (λ z. getD z (e * rowWidth + m) (pos 0)) (cascaded-month (members u) c (u .lots) l)
       stays value e m l = ap (λ z. getD z (e * rowWidth + m) (pos 0)) (cascaded-month (members u) c (u .value) l)
 
-      moved : (x : Column) (e m : ℕ) → m < h .members → c % contractsInYear < january → row x (rowsCascaded c u) e m ≡ cond (eqb c e) (pos 0) (row x u e m +ℤ when (childOf c e) (row x u c m))
+      moved : (x : Column) (e m : ℕ) → m < h .members → c % 17 < 5 → row x (rowsCascaded c u) e m ≡ cond (eqb c e) (pos 0) (row x u e m +ℤ when (childOf c e) (row x u c m))
       moved lots e m q l = cascaded-row (members u) c (u .lots) (v .lots-long) b same32 e m l (omega (arith, size))
       moved value e m q l = cascaded-row (members u) c (u .value) (v .value-long) b same32 e m l (omega (arith, size))
 
@@ -250,7 +250,7 @@ day-is x v b =
     let longer = over-other dayPlace (v .head) (replicate (members v) 0) submitsFrom (omega arith) (omega arith) (omega arith) .longer in
     getD-set-other (set l dayPlace x) timePlace dayPlace 0 0 (λ e. omega arith) ∙ getD-set-same l dayPlace x 0 (omega (arith, longer))
 
-day-orders : (x : ℕ) (v : Tables) → headLength ≤ length (v .head) → members v ≤ mostMembers → orders (onDay x v) ≡ orders v
+day-orders : (x : ℕ) (v : Tables) → headLength ≤ length (v .head) → members v ≤ 32 → orders (onDay x v) ≡ orders v
 unfolding onDay withoutSubmits
 day-orders x v b m =
     let l = over submitsFrom (replicate (members v) 0) (v .head) in
@@ -299,10 +299,10 @@ module _ (h : Header) (d : ℕ) (t : Tables) (r : Runs h d t) (s : Sound t) (n :
     unfolding hasCascaded closes
     cascaded-next e b q =
         let z = termClosingDay (calendarOf h) (termOf e) in
-        let parent = and-left (leb (e % contractsInYear) lastQuarter) (isBefore z (x .0)) q in
-        let past = sym (closed-by-next (calendarOf h) d x (termOf e) next) ∙ and-right (leb (e % contractsInYear) lastQuarter) (isBefore z (x .0)) q in
+        let parent = and-left (leb (e % 17) 4) (isBefore z (x .0)) q in
+        let past = sym (closed-by-next (calendarOf h) d x (termOf e) next) ∙ and-right (leb (e % 17) 4) (isBefore z (x .0)) q in
         true-or (isBefore z d) (λ p. closed-keeps (closingContracts t) (hasCascaded (calendarOf h) d) e (rw (parent, p)))
-        (λ p. closed-has (closingContracts t) (hasCascaded (calendarOf h) d) e (closing-listed e b (rw p at past)) (omega (arith, leb-true (e % contractsInYear) lastQuarter parent)))
+        (λ p. closed-has (closingContracts t) (hasCascaded (calendarOf h) d) e (closing-listed e b (rw p at past)) (omega (arith, leb-true (e % 17) 4 parent)))
 
     -- an order that is left is of a contract that is open on the next day
     open-next : (o : Order) → InOpen h d o → isOfAny (closingContracts t) o ≡ false → InOpen h (x .0) o

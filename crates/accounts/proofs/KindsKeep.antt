@@ -33,7 +33,7 @@ use Rattle.accounts.proofs.EachKind.{NoCause}
 use Rattle.accounts.proofs.Places.{close-place}
 use Rattle.accounts.proofs.OrdersAfter.{cancel-remain, limits-remain, proposal-remain, default-remain, close-out-remain, close-remain}
 use Rattle.accounts.proofs.Bounds.{WithinRun}
-use Rattle.accounts.proofs.Lengths.{Fits, submit-lengths, cancel-lengths, limits-lengths, proposal-lengths, default-lengths, close-out-lengths, close-lengths}
+use Rattle.accounts.proofs.SameLengths.{Fits, submit-lengths, cancel-lengths, limits-lengths, proposal-lengths, default-lengths, close-out-lengths, close-lengths}
 use Rattle.accounts.proofs.HeadStays.{submit-head, cancel-head, limits-head, proposal-head, default-head, close-out-head, close-head}
 use Rattle.accounts.proofs.PricesStay.{orders-priced, submit-prices, cancel-prices, limits-prices, proposal-prices, default-prices, close-out-prices, close-prices}
 use Rattle.accounts.proofs.Books.{BookKept, submit-book, cancel-book, limits-book, proposal-book, default-book, close-out-book, close-book}

@@ -35,9 +35,9 @@ pub mod Crossed
 pub mod Marks
 pub mod LotsRun
 pub mod GgfStays
-pub mod Lengths
-pub mod KindsKeep
 pub mod SameLengths
+pub mod KindsKeep
+pub mod LengthsStay
 pub mod EveryList
 pub mod ClosedOut
 pub mod StaysSound

@@ -17,14 +17,14 @@ use Rattle.arith.proofs.EachBlock.{block-at, block-passes}
 use Rattle.arith.proofs.Overs.{over-length, over-outside}
 use Rattle.arith.proofs.Sizes.{abs-plus}
 use Rattle.arith.proofs.Tests.{by-bool, and-right}
-use Rattle.rules.specs.Ledger.{headLength, marksFrom, priceWidth, submitsFrom, membersPlace, dayPlace, timePlace, acceptedSubmitsPlace, lotsRunPlace, orderCountPlace, marked}
-use Rattle.rules.specs.Ranges.{contractCount, mostPrice, mostMembers}
+use Rattle.rules.specs.Ledger.{headLength, marksFrom, priceWidth, submitsFrom}
+use Rattle.rules.specs.Ranges.{contractCount, mostPrice}
 use Rattle.rules.specs.declared.event.CloseOutTerms.{CloseOutTerms}
 use Rattle.rules.specs.declared.event.Leg.{Leg}
 use Rattle.rules.specs.declared.event.Submission.{Submission}
 use Rattle.rules.specs.declared.order.Order.{Order}
 use Rattle.rules.specs.Answers.{Outcome}
-use Rattle.rules.specs.Ledger.{Tables, Line, withHead, withPrices, members, time, lotsRun, ggf, orders, withOrders, withoutSubmits, timed, lineRun, booked}
+use Rattle.rules.specs.Ledger.{membersPlace, dayPlace, timePlace, acceptedSubmitsPlace, lotsRunPlace, orderCountPlace, marked, Tables, Line, withHead, withPrices, members, time, lotsRun, ggf, orders, withOrders, withoutSubmits, timed, lineRun, booked}
 use Rattle.rules.specs.Records.{numberSound, lotsSound, priceSound, legSound}
 use Rattle.rules.specs.Matching.{incoming, matching, matched, submitMatched, submitLines, submitOrders, withDeals, counted, submitBooked}
 use Rattle.rules.specs.Synthetic.{numbered, namedLegs, legLine, proposalLines, usedByLegs, proposalBooked}
@@ -40,7 +40,7 @@ use Rattle.accounts.proofs.Submits.{timed-rows, submit-fits, dealt-all,
 use Rattle.accounts.proofs.Proposals.{mapped-all, proposal-fits}
 use Rattle.accounts.proofs.CloseOutLines.{close-out-fits, close-out-price}
 use Rattle.accounts.proofs.Closes.{closing-today}
-use Rattle.accounts.proofs.Bounds.{Bounded, bounded-same, bounded-posted, row-weighs, weight, lines-weigh, bounded-closed, WithinRun, RowsWithin}
+use Rattle.accounts.proofs.Bounds.{Bounded, bounded-same, bounded-posted, lines-one, weight, lines-weigh, bounded-closed, WithinRun, RowsWithin}
 
 -- ---- a head on its way from l: members and lots run stand
 pub record SameRun (l l′ : List ℕ) : Type 0 where
@@ -59,7 +59,7 @@ run-set {u = u} j v p q a = record {
 }
 
 -- the second's counts become zero
-run-zeros : {l u : List ℕ} (n : ℕ) → n ≤ mostMembers → headLength ≤ length l → SameRun l u → SameRun l (over submitsFrom (replicate n 0) u)
+run-zeros : {l u : List ℕ} (n : ℕ) → n ≤ 32 → headLength ≤ length l → SameRun l u → SameRun l (over submitsFrom (replicate n 0) u)
 run-zeros {u = u} n few long a =
     let zeros : List ℕ = replicate n 0 in
     let fit : submitsFrom + length zeros ≤ length u = omega (arith, a .longer, length-replicate {A = ℕ} n 0) in
@@ -125,7 +125,7 @@ rows-posted t o p a x c m k q =
     let q′ : m < members t = omega (arith, p .size) in
     let w = weight x in
     rw (p .rows x c m q′, p .run)
-    (omega (arith, abs-plus (row x t c m) (rowTotal (amount x) c m (p .lines)), a x c m k q′, row-weighs (amount x) w (p .lines) c m k (lines-weigh x (p .lines) (p .paid)), mul-add w (lotsRun t) (lineRun (p .lines))))
+    (omega (arith, abs-plus (row x t c m) (rowTotal (amount x) c m (p .lines)), a x c m k q′, lines-one (amount x) w (p .lines) c m (lines-weigh x (p .lines) (p .paid)), mul-add w (lotsRun t) (lineRun (p .lines))))
 
 -- ---- prices do not pass 1,000,000
 price-most : (p : ℕ) → priceSound p ≡ true → p ≤ mostPrice

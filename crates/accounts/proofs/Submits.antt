@@ -12,8 +12,8 @@ use Rattle.arith.specs.Lists.{All}
 use Rattle.arith.proofs.Alls.{all-always, all-map, all-append}
 use Rattle.arith.proofs.Tests.{by-bool, and-false}
 use Rattle.arith.proofs.Sums.{sorted, *ℤ-distrib}
-use Rattle.rules.specs.Ledger.{submitsFrom, timePlace, acceptedSubmitsPlace, orderCountPlace}
-use Rattle.rules.specs.Ranges.{contractCount, contractsInYear, lastQuarter}
+use Rattle.rules.specs.Ledger.{submitsFrom}
+use Rattle.rules.specs.Ranges.{contractCount}
 use Rattle.rules.specs.declared.event.Submission.{Submission}
 use Rattle.rules.specs.declared.order.Order.{Order}
 use Rattle.rules.specs.declared.order.Side.{Side}
@@ -22,7 +22,7 @@ use Rattle.rules.specs.Days.{Calendar}
 use Rattle.rules.specs.Contracts.{holdsHour, termOf, termClosingDay, stillToClose, openOn, hasCascaded}
 use Rattle.rules.proofs.CalendarLaws.{before-or-not, open-to-close}
 use Rattle.rules.specs.Header.{Header, calendarOf}
-use Rattle.rules.specs.Ledger.{Tables, Line, members, day, isOpen, time, acceptedSubmits, submitsThisSecond, withHead, orders, withOrders, withoutSubmits, timed}
+use Rattle.rules.specs.Ledger.{timePlace, acceptedSubmitsPlace, orderCountPlace, Tables, Line, members, day, isOpen, time, acceptedSubmits, submitsThisSecond, withHead, orders, withOrders, withoutSubmits, timed}
 use Rattle.rules.specs.Sides.{signed, otherSide}
 use Rattle.rules.specs.Matching.{opposes, withLots, Deal, matching, matched, dealLines, incoming, submitMatched, submitLines, wouldRest, submitOrders, withDeals, counted, submitBooked}
 use Rattle.rules.specs.Accounts.{Column, lots, value, amount}
@@ -72,15 +72,6 @@ module _ (P : Order → Type 0) (keep : (o : Order) (q : ℕ) → P o → P (wit
       (λ o r os m e l ih a.
       (best-all P (opposes o) os (all-map P (λ b. opposes o b ≡ true → P b) os (λ b p _. p) a) r e, ih (used-all P (r .number) _ os a (λ b p _. keep b _ p))))
 
--- ---- what is open is not cascaded
-pub open-here : (h : Header) (d : ℕ) (t : Tables) (c : ℕ) → Runs h d t → isOpen t c ≡ openOn (calendarOf h) d c
-unfolding isOpen
-open-here h d t c r = ap (λ k. openOn k (day t) c) (runs-calendar r) ∙ ap (λ x. openOn (calendarOf h) x c) (r .today)
-
-pub open-not-cascaded : (k : Calendar) (d c : ℕ) → openOn k d c ≡ true → hasCascaded k d c ≡ false
-unfolding hasCascaded stillToClose
-open-not-cascaded k d c e = rw (before-or-not d (termClosingDay k (termOf c)), open-to-close k d c e) (and-false (leb (c % contractsInYear) lastQuarter))
-
 -- ---- what needs the tables alone
 pub timed-rows : (n : ℕ) (t : Tables) → (timed n t .lots ≡ t .lots) × (timed n t .value ≡ t .value) × (timed n t .book ≡ t .book)
 unfolding timed
@@ -98,6 +89,15 @@ submit-fits t s e contract< member< =
     (all-map (λ b. (b .contract < contractCount) × (b .member < members t)) (λ b. b .member < members t) (orders t) (λ b p. p .1) (s .placed)) in
     deals-each (Fits (members t)) o ds (all-map (λ x. x .resting .member < members t) _ ds
     (λ x p. (record { contract< = contract<; member< = member< }, (record { contract< = contract<; member< = p }, tt))) placed)
+
+-- ---- what is open is not cascaded
+pub open-here : (h : Header) (d : ℕ) (t : Tables) (c : ℕ) → Runs h d t → isOpen t c ≡ openOn (calendarOf h) d c
+unfolding isOpen
+open-here h d t c r = ap (λ k. openOn k (day t) c) (runs-calendar r) ∙ ap (λ x. openOn (calendarOf h) x c) (r .today)
+
+pub open-not-cascaded : (k : Calendar) (d c : ℕ) → openOn k d c ≡ true → hasCascaded k d c ≡ false
+unfolding hasCascaded stillToClose
+open-not-cascaded k d c e = rw (before-or-not d (termClosingDay k (termOf c)), open-to-close k d c e) (and-false (leb (c % 17) 4))
 
 -- ---- a submit
 module _ (h : Header) (d : ℕ) (t : Tables) (r : Runs h d t) (s : Sound t) where
