@@ -13,7 +13,8 @@ use Rattle.arith.proofs.Alls.{hold-all, all-every, all-map, all-append}
 use Rattle.arith.proofs.Among.{from-every}
 use Rattle.arith.proofs.Overs.{over-outside}
 use Rattle.arith.proofs.Tests.{by-bool, passed, and-right}
-use Rattle.rules.specs.Ledger.{headLength, marksFrom, orderCountPlace, orderWidth, submitsFrom}
+use Rattle.rules.specs.Ranges.{mostMembers, mostOrders}
+use Rattle.rules.specs.Ledger.{headLength, marksFrom, orderCountPlace, orderWidth, submitsFrom, firstYearPlace, membersPlace, holidayCountPlace, dayPlace, timePlace, lotsRunPlace, holidaysFrom, marked, acceptedSubmitsPlace}
 use Rattle.rules.specs.declared.event.CloseOutTerms.{CloseOutTerms}
 use Rattle.rules.specs.declared.event.Leg.{Leg}
 use Rattle.rules.specs.declared.event.Submission.{Submission}
@@ -48,11 +49,11 @@ pub record SameTerms (t t′ : Tables) : Type 0 where
   pub days : calendar t′ ≡ calendar t
 
 -- so it is after a record whose head kept the header; with f = 3 the day is another one
-pub header-terms : {f : ℕ} (t t′ : Tables) → 3 ≤ f → Sound t → SameHeader f (t .head) (t′ .head) → acceptedSubmits t ≤ acceptedSubmits t′ → SameTerms t t′
+pub header-terms : {f : ℕ} (t t′ : Tables) → dayPlace ≤ f → Sound t → SameHeader f (t .head) (t′ .head) → acceptedSubmits t ≤ acceptedSubmits t′ → SameTerms t t′
 header-terms {f} t t′ q s a b =
-    let year = a .places 0 (field (omega arith)) in
-    let listed = ap (λ n. take n (drop 8 (t′ .head))) (a .places 2 (field (omega arith))) ∙ same-holidays f (t .head) (t′ .head) (holidayCount t) a (s .head-long) (s .few-holidays) in
-    record { more = b; size = a .places 1 (field (omega arith)); days = λ i. record { firstYear = year i; holidays = listed i } }
+    let year = a .places firstYearPlace (field (omega arith)) in
+    let listed = ap (λ n. take n (drop holidaysFrom (t′ .head))) (a .places holidayCountPlace (field (omega arith))) ∙ same-holidays f (t .head) (t′ .head) (holidayCount t) a (s .head-long) (s .few-holidays) in
+    record { more = b; size = a .places membersPlace (field (omega arith)); days = λ i. record { firstYear = year i; holidays = listed i } }
 
 -- a sound order stays sound, with fewer lots too
 order-stays : (t t′ : Tables) → SameTerms t t′ → (o : Order) (q : ℕ) → (0 < o .lots .0 → 0 < q) → q ≤ o .lots .0 → SoundOrder t o → SoundOrder t′ (withLots q o)
@@ -81,7 +82,7 @@ side-at (o ∷ os) l (suc i) h =
     subst (λ z. T (leb z 1)) (sym (ap (λ n. getD (orderPlaces o ++ rest) n 0) next ∙ getD-append-add (orderPlaces o) rest (i * orderWidth + 3) 0)) (side-at os l i (omega arith))
 
 -- what is written in the book is 0 or 1
-pub sides-written : (os : List Order) (t : Tables) → 7 < length (t .head) → sidesSound (withOrders os t) ≡ true
+pub sides-written : (os : List Order) (t : Tables) → orderCountPlace < length (t .head) → sidesSound (withOrders os t) ≡ true
 unfolding sidesSound withOrders over
 sides-written os t h =
     rw (getD-set-same (t .head) orderCountPlace (length os) 0 h)
@@ -96,14 +97,14 @@ sides-same t t′ n b = rw (n, b)
 -- a sound book with at most 256 orders
 pub record BookKept (t : Tables) : Type 0 where
   pub sound : bookSound t ≡ true
-  pub few : orderCount t ≤ 256
+  pub few : orderCount t ≤ mostOrders
 
 pub orders-count : (t : Tables) → length (orders t) ≡ orderCount t
 unfolding orders
 orders-count t = length-map (from 0 (orderCount t)) _ ∙ from-length 0 (orderCount t)
 
 -- a book is sound by its sides, its orders and their numbers
-sound-book : (t : Tables) → sidesSound t ≡ true → All (SoundOrder t) (orders t) → Distinct (orders t) → length (orders t) ≤ 256 → BookKept t
+sound-book : (t : Tables) → sidesSound t ≡ true → All (SoundOrder t) (orders t) → Distinct (orders t) → length (orders t) ≤ mostOrders → BookKept t
 unfolding bookSound
 sound-book t s a d f = record {
   sound = hold-all _ (s, (all-every (orderSound t) (orders t) (all-map (SoundOrder t) (λ o. orderSound t o ≡ true) (orders t) (order-sound t) a), (orders-distinct (orders t) d, tt)));
@@ -132,44 +133,44 @@ remains-kept t t′ s k sides x =
     (remain-distinct x (book-distinct t (k .sound))) (omega (arith, remain-length x, orders-count t, k .few))
 
 -- ---- places of the head
-pub booked-place : (ls : List Line) (t : Tables) (i : ℕ) → (i ≡ 6 → ⊥) → getD (booked ls t .after .head) i 0 ≡ getD (t .head) i 0
+pub booked-place : (ls : List Line) (t : Tables) (i : ℕ) → (i ≡ lotsRunPlace → ⊥) → getD (booked ls t .after .head) i 0 ≡ getD (t .head) i 0
 unfolding booked
-booked-place ls t i z = getD-set-other (t .head) 6 i _ 0 z
+booked-place ls t i z = getD-set-other (t .head) lotsRunPlace i _ 0 z
 
-booked-header : (ls : List Line) (t : Tables) → SameHeader 4 (t .head) (booked ls t .after .head)
+booked-header : (ls : List Line) (t : Tables) → SameHeader timePlace (t .head) (booked ls t .after .head)
 unfolding booked
-booked-header ls t = set-other 4 (t .head) 6 _ (omega arith) (changing (omega arith) (omega arith))
+booked-header ls t = set-other timePlace (t .head) lotsRunPlace _ (omega arith) (changing (omega arith) (omega arith))
 
-pub written-header : (os : List Order) (t : Tables) → SameHeader 4 (t .head) (withOrders os t .head)
+pub written-header : (os : List Order) (t : Tables) → SameHeader timePlace (t .head) (withOrders os t .head)
 unfolding withOrders
-written-header os t = set-other 4 (t .head) 7 _ (omega arith) (changing (omega arith) (omega arith))
+written-header os t = set-other timePlace (t .head) orderCountPlace _ (omega arith) (changing (omega arith) (omega arith))
 
 written-accepted : (os : List Order) (t : Tables) → acceptedSubmits (withOrders os t) ≡ acceptedSubmits t
 unfolding withOrders
-written-accepted os t = getD-set-other (t .head) 7 5 (length os) 0 (λ e. omega arith)
+written-accepted os t = getD-set-other (t .head) orderCountPlace acceptedSubmitsPlace (length os) 0 (λ e. omega arith)
 
 -- the second's counts lie behind the other places
-pub without-place : (t : Tables) (i : ℕ) → headLength ≤ length (t .head) → members t ≤ 32 → i < 192 → getD (withoutSubmits t .head) i 0 ≡ getD (t .head) i 0
+pub without-place : (t : Tables) (i : ℕ) → headLength ≤ length (t .head) → members t ≤ mostMembers → i < submitsFrom → getD (withoutSubmits t .head) i 0 ≡ getD (t .head) i 0
 unfolding withoutSubmits
-without-place t i b m l = over-outside 192 (replicate (members t) 0) (t .head) (omega (arith, length-replicate {A = ℕ} (members t) 0)) i 0 (λ q. absurd (omega arith))
+without-place t i b m l = over-outside submitsFrom (replicate (members t) 0) (t .head) (omega (arith, length-replicate {A = ℕ} (members t) 0)) i 0 (λ q. absurd (omega arith))
 
 -- a later time leaves the count of accepted submits
 timed-accepted : (n : ℕ) (t : Tables) → Sound t → acceptedSubmits (timed n t) ≡ acceptedSubmits t
 unfolding timed
 timed-accepted n t s =
-    by-bool (λ b. acceptedSubmits (cond b (withHead (set (withoutSubmits t .head) 4 n) t) t) ≡ acceptedSubmits t) (ltb (time t) n)
-    (λ _. getD-set-other (withoutSubmits t .head) 4 5 n 0 (λ e. omega arith) ∙ without-place t 5 (s .head-long) (s .few-members) (omega arith)) (λ _. refl)
+    by-bool (λ b. acceptedSubmits (cond b (withHead (set (withoutSubmits t .head) timePlace n) t) t) ≡ acceptedSubmits t) (ltb (time t) n)
+    (λ _. getD-set-other (withoutSubmits t .head) timePlace acceptedSubmitsPlace n 0 (λ e. omega arith) ∙ without-place t acceptedSubmitsPlace (s .head-long) (s .few-members) (omega arith)) (λ _. refl)
 
 -- ---- a record that writes orders os in tables u, which have the header of t
-module _ (ls : List Line) (os : List Order) (t u : Tables) (s : Sound t) (a : SameHeader 4 (t .head) (u .head)) where
+module _ (ls : List Line) (os : List Order) (t u : Tables) (s : Sound t) (a : SameHeader timePlace (t .head) (u .head)) where
   abbrev after : Tables
   after = booked ls (withOrders os u) .after
 
-  long : 7 < length (u .head)
+  long : orderCountPlace < length (u .head)
   long = omega (arith, a .longer, s .head-long)
 
   count-stays : orderCount after ≡ orderCount (withOrders os u)
-  count-stays = booked-place ls (withOrders os u) 7 (λ e. omega arith)
+  count-stays = booked-place ls (withOrders os u) orderCountPlace (λ e. omega arith)
 
   orders-after : orders after ≡ os
   unfolding booked
@@ -180,7 +181,7 @@ module _ (ls : List Line) (os : List Order) (t u : Tables) (s : Sound t) (a : Sa
   sides-after = sides-same (withOrders os u) after count-stays refl ∙ sides-written os u long
 
   accepted-after : acceptedSubmits after ≡ acceptedSubmits u
-  accepted-after = booked-place ls (withOrders os u) 5 (λ e. omega arith) ∙ written-accepted os u
+  accepted-after = booked-place ls (withOrders os u) acceptedSubmitsPlace (λ e. omega arith) ∙ written-accepted os u
 
   terms-after : acceptedSubmits t ≤ acceptedSubmits u → SameTerms t after
   terms-after b = header-terms t after (omega arith) s (then-same a (then-same (written-header os u) (booked-header ls (withOrders os u)))) (omega (arith, accepted-after))
@@ -188,7 +189,7 @@ module _ (ls : List Line) (os : List Order) (t u : Tables) (s : Sound t) (a : Sa
 -- ---- records that take orders out of the book, or use lots of them, or leave it
 module _ (t : Tables) (s : Sound t) (k : BookKept t) where
   -- os: what remains of the orders; u: tables with the header and the accepted submits of t
-  taken-book : (ls : List Line) (os : List Order) (u : Tables) → SameHeader 4 (t .head) (u .head) → acceptedSubmits u ≡ acceptedSubmits t → Remain (orders t) os
+  taken-book : (ls : List Line) (os : List Order) (u : Tables) → SameHeader timePlace (t .head) (u .head) → acceptedSubmits u ≡ acceptedSubmits t → Remain (orders t) os
       → BookKept (booked ls (withOrders os u) .after)
   taken-book ls os u a same x =
       remains-kept t (booked ls (withOrders os u) .after) (terms-after ls os t u s a (omega arith)) k (sides-after ls os t u s a) (rw (orders-after ls os t u s a) x)
@@ -199,22 +200,22 @@ module _ (t : Tables) (s : Sound t) (k : BookKept t) where
   pub default-book : (m : ℕ) → BookKept (defaultBooked t m .after)
   unfolding defaultBooked
   default-book m =
-      taken-book [] (kept (λ o. not (eqb (o .member) m)) (orders t)) (withHead (set (t .head) (marksFrom + m) 1) t) (set-other 4 (t .head) (marksFrom + m) 1 (omega arith) (ofMember (omega arith)))
-      (getD-set-other (t .head) (marksFrom + m) 5 1 0 (λ e. omega arith)) (kept-remain _ (orders t))
+      taken-book [] (kept (λ o. not (eqb (o .member) m)) (orders t)) (withHead (set (t .head) (marksFrom + m) marked) t) (set-other timePlace (t .head) (marksFrom + m) 1 (omega arith) (ofMember (omega arith)))
+      (getD-set-other (t .head) (marksFrom + m) acceptedSubmitsPlace marked 0 (λ e. omega arith)) (kept-remain _ (orders t))
 
   pub proposal-book : (legs : List Leg) → BookKept (proposalBooked t legs .after)
   unfolding proposalBooked
-  proposal-book legs = taken-book (proposalLines t legs) (usedByLegs legs (orders t)) t (same-header 4 (t .head)) refl (legs-remain legs (orders t))
+  proposal-book legs = taken-book (proposalLines t legs) (usedByLegs legs (orders t)) t (same-header timePlace (t .head)) refl (legs-remain legs (orders t))
 
   -- u: tables with the head and the book of t
   left-book : (ls : List Line) (u : Tables) → u .head ≡ t .head → u .book ≡ t .book → BookKept (booked ls u .after)
   unfolding booked
   left-book ls u head book =
       let t′ = booked ls u .after in
-      let at : (i : ℕ) → (i ≡ 6 → ⊥) → getD (t′ .head) i 0 ≡ getD (t .head) i 0 = λ i z. booked-place ls u i z ∙ ap (λ l. getD l i 0) head in
-      let same : SameHeader 4 (t .head) (t′ .head) = subst (λ l. SameHeader 4 l (t′ .head)) head (booked-header ls u) in
-      let count = at 7 (λ e. omega arith) in
-      remains-kept t t′ (header-terms t t′ (omega arith) s same (omega (arith, at 5 (λ e. omega arith)))) k
+      let at : (i : ℕ) → (i ≡ lotsRunPlace → ⊥) → getD (t′ .head) i 0 ≡ getD (t .head) i 0 = λ i z. booked-place ls u i z ∙ ap (λ l. getD l i 0) head in
+      let same : SameHeader timePlace (t .head) (t′ .head) = subst (λ l. SameHeader timePlace l (t′ .head)) head (booked-header ls u) in
+      let count = at orderCountPlace (λ e. omega arith) in
+      remains-kept t t′ (header-terms t t′ (omega arith) s same (omega (arith, at acceptedSubmitsPlace (λ e. omega arith)))) k
       (sides-same t t′ count book ∙ book-sides t (k .sound)) (rw (orders-same t t′ count book) (remain-same (orders t)))
 
   pub limits-book : (l : List ℕ) → BookKept (booked [] (withPrices l t) .after)
@@ -235,7 +236,7 @@ submit-deals t e b =
 -- t′: tables with one more accepted submit
 module _ (t t′ : Tables) (terms : SameTerms t t′) (later : acceptedSubmits t < acceptedSubmits t′) (k : BookKept t) (e : Submission)
     (fine : SoundSubmission (members t) e) (today : inSpan (calendar t) (day t) ≡ true)
-    (room : wouldRest t e && leb 256 (length (submitMatched t e .resting)) ≡ false) where
+    (room : wouldRest t e && leb mostOrders (length (submitMatched t e .resting)) ≡ false) where
   abbrev m : Matched
   m = submitMatched t e
 
@@ -287,14 +288,14 @@ module _ (t t′ : Tables) (terms : SameTerms t t′) (later : acceptedSubmits t
       (λ _. distinct-more (m .resting) new (remain-all (SoundOrder t) (λ o. eqb (o .number) (acceptedSubmits t) ≡ false) number-new resting-remain (book-orders t (k .sound))) d)
       (λ _. d)
 
-  submit-few : length (submitOrders t e) ≤ 256
+  submit-few : length (submitOrders t e) ≤ mostOrders
   unfolding submitOrders
   submit-few =
-      by-bool (λ b. b && leb 256 (length (m .resting)) ≡ false → length (cond b (m .resting ++ (new ∷ [])) (m .resting)) ≤ 256) (wouldRest t e)
-      (λ _ f. simp length-append (omega (arith, leb-false 256 (length (m .resting)) f))) (λ _ _. omega (arith, remain-length resting-remain, orders-count t, k .few)) room
+      by-bool (λ b. b && leb mostOrders (length (m .resting)) ≡ false → length (cond b (m .resting ++ (new ∷ [])) (m .resting)) ≤ mostOrders) (wouldRest t e)
+      (λ _ f. simp length-append (omega (arith, leb-false mostOrders (length (m .resting)) f))) (λ _ _. omega (arith, remain-length resting-remain, orders-count t, k .few)) room
 
 pub submit-book : (t : Tables) → Sound t → BookKept t → (e : Submission) → SoundSubmission (members t) e → inSpan (calendar t) (day t) ≡ true
-    → wouldRest t e && leb 256 (length (submitMatched t e .resting)) ≡ false → BookKept (submitBooked t e .after)
+    → wouldRest t e && leb mostOrders (length (submitMatched t e .resting)) ≡ false → BookKept (submitBooked t e .after)
 unfolding submitBooked withDeals counted
 submit-book t s k e fine today room =
     let u = timed (e .time) t in
@@ -304,9 +305,9 @@ submit-book t s k e fine today room =
     let os = submitOrders t e in
     let ls = submitLines t e in
     let t′ = submitBooked t e .after in
-    let a = then-same (timed-same (e .time) t s) (set-other 4 (u .head) (submitsFrom + e .member) one (omega arith) (ofMember (omega arith))) in
-    let b = then-same a (set-other 4 l 5 (acceptedSubmits u + 1) (omega arith) (changing (omega arith) (omega arith))) in
-    let one-more : acceptedSubmits v ≡ acceptedSubmits t + 1 = getD-set-same l 5 (acceptedSubmits u + 1) 0 (omega (arith, a .longer, s .head-long)) ∙ ap (λ n. n + 1) (timed-accepted (e .time) t s) in
+    let a = then-same (timed-same (e .time) t s) (set-other timePlace (u .head) (submitsFrom + e .member) one (omega arith) (ofMember (omega arith))) in
+    let b = then-same a (set-other timePlace l acceptedSubmitsPlace (acceptedSubmits u + 1) (omega arith) (changing (omega arith) (omega arith))) in
+    let one-more : acceptedSubmits v ≡ acceptedSubmits t + 1 = getD-set-same l acceptedSubmitsPlace (acceptedSubmits u + 1) 0 (omega (arith, a .longer, s .head-long)) ∙ ap (λ n. n + 1) (timed-accepted (e .time) t s) in
     let terms : SameTerms t t′ = terms-after ls os t v s b (omega arith) in
     let later : acceptedSubmits t < acceptedSubmits t′ = omega (arith, accepted-after ls os t v s b) in
     let is = orders-after ls os t v s b in
@@ -316,12 +317,12 @@ submit-book t s k e fine today room =
 -- ---- the close of day
 -- v: the tables u with some contracts closed
 record Closed (u v : Tables) : Type 0 where
-  header : SameHeader 4 (u .head) (v .head)
+  header : SameHeader timePlace (u .head) (v .head)
   numbers : acceptedSubmits v ≡ acceptedSubmits u
   sides : sidesSound v ≡ true
   remain : Remain (orders u) (orders v)
 
-closed-all : (cs : List ℕ) (u : Tables) → 7 < length (u .head) → sidesSound u ≡ true → Closed u (withClosed cs u)
+closed-all : (cs : List ℕ) (u : Tables) → orderCountPlace < length (u .head) → sidesSound u ≡ true → Closed u (withClosed cs u)
 unfolding withClosed
 closed-all cs u long a =
     let os = kept (λ o. not (isOfAny cs o)) (orders u) in
@@ -334,10 +335,10 @@ closed-all cs u long a =
     }
 
 -- the new day changes neither the book nor the count of accepted submits
-pub day-place : (x : ℕ) (t : Tables) (i : ℕ) → headLength ≤ length (t .head) → members t ≤ 32 → 4 < i → i < 192 → getD (onDay x t .head) i 0 ≡ getD (t .head) i 0
+pub day-place : (x : ℕ) (t : Tables) (i : ℕ) → headLength ≤ length (t .head) → members t ≤ mostMembers → timePlace < i → i < submitsFrom → getD (onDay x t .head) i 0 ≡ getD (t .head) i 0
 unfolding onDay
 day-place x t i b m l h =
-    getD-set-other (set (withoutSubmits t .head) 3 x) 4 i 0 0 (λ e. omega arith) ∙ getD-set-other (withoutSubmits t .head) 3 i x 0 (λ e. omega arith)
+    getD-set-other (set (withoutSubmits t .head) dayPlace x) timePlace i 0 0 (λ e. omega arith) ∙ getD-set-other (withoutSubmits t .head) dayPlace i x 0 (λ e. omega arith)
     ∙ without-place t i b m h
 
 pub close-book : (t : Tables) → Sound t → BookKept t → (n : ℕ) → BookKept (closeBooked t n .after)
@@ -348,9 +349,9 @@ close-book t s k n =
     let t′ = onDay (nextDay t) v in
     let a = closed-all (closingContracts t) u (omega (arith, s .head-long)) (sides-same t u refl refl ∙ book-sides t (k .sound)) in
     let long : headLength ≤ length (v .head) = omega (arith, a .header .longer, s .head-long) in
-    let few : members v ≤ 32 = omega (arith, a .header .places 1 (field (omega arith)), s .few-members) in
-    let at : (i : ℕ) → 4 < i → i < 192 → getD (t′ .head) i 0 ≡ getD (v .head) i 0 = λ i. day-place (nextDay t) v i long few in
-    let count = at 7 (omega arith) (omega arith) in
+    let few : members v ≤ mostMembers = omega (arith, a .header .places membersPlace (field (omega arith)), s .few-members) in
+    let at : (i : ℕ) → timePlace < i → i < submitsFrom → getD (t′ .head) i 0 ≡ getD (v .head) i 0 = λ i. day-place (nextDay t) v i long few in
+    let count = at orderCountPlace (omega arith) (omega arith) in
     let same = then-same (but-the-day (a .header)) (day-header (nextDay t) v long) in
-    remains-kept t t′ (header-terms t t′ (omega arith) s same (omega (arith, at 5 (omega arith) (omega arith), a .numbers))) k (sides-same v t′ count refl ∙ a .sides)
+    remains-kept t t′ (header-terms t t′ (omega arith) s same (omega (arith, at acceptedSubmitsPlace (omega arith) (omega arith), a .numbers))) k (sides-same v t′ count refl ∙ a .sides)
     (rw (orders-same v t′ count refl) (rw (orders-same t u refl refl) at (a .remain)))

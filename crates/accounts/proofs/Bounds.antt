@@ -7,23 +7,23 @@ use Prim.Native.Nat.{ℕ, _+_, _*_, _-_, _/_, _%_, _≤_, _<_}
 use native.Mathlib.Omega.{arith}
 use native.Mathlib.Nat.{le-trans, one-mul, mul-add, mul-le-mul-left}
 use lib.Dec.{eqb, leb}
-use lib.ListN.{length, take, getD, length-take}
+use lib.ListN.{length, take, getD, length-take, length-drop}
 use lib.Seq.{getD-take}
 use lib.IntN.{ℤ, pos, natAbs, _+ℤ_}
-use borrow.Author.Tests.{le-leb, eqb-true, eq-eqb, ne-eqb}
-use Rattle.arith.specs.Lists.{All, any, total}
-use Rattle.arith.proofs.Alls.{all-map, every-place}
-use Rattle.arith.proofs.EachBlock.{block, every-block, block-at}
+use borrow.Author.Tests.{le-leb, leb-true, eqb-true, eq-eqb, ne-eqb}
+use Rattle.arith.specs.Lists.{All, any, every, total}
+use Rattle.arith.proofs.Alls.{all-map, every-place, all-place, every-all}
+use Rattle.arith.proofs.EachBlock.{block, every-block, block-at, block-passes}
 use Rattle.arith.specs.Ints.{when}
 use Rattle.arith.proofs.Sizes.{abs-plus, abs-times, abs-when}
-use Rattle.arith.proofs.Tests.{le-or-lt, same-or}
+use Rattle.arith.proofs.Tests.{le-or-lt, same-or, and-left, and-right}
 use Rattle.rules.specs.Ledger.{headLength, rowsLength}
 use Rattle.rules.specs.Ranges.{contractCount, mostPrice}
 use Rattle.rules.specs.Contracts.{childrenOf}
 use Rattle.rules.specs.OtherForms.{yearOf, quarterOf, monthOf}
 use Rattle.rules.proofs.HourLaws.{cascading}
 use Rattle.rules.specs.Header.{Header}
-use Rattle.rules.specs.Ledger.{Tables, Line, members, lotsRun, rowPlace, lineRun, fresh}
+use Rattle.rules.specs.Ledger.{Tables, Line, members, lotsRun, rowWidth, rowPlace, lineRun, fresh}
 use Rattle.rules.specs.CloseOfDay.{cascaded, allCascaded, withClosed}
 use Rattle.rules.specs.Refusals.{everyRow, rowsSound}
 use Rattle.rules.specs.Accounts.{Column, lots, value, row, amount}
@@ -86,6 +86,22 @@ module _ (amount : Line → ℤ) (w : ℕ) where
         abs-when (eqb (l .member) m) (amount l),
         h .0,
         lines-three ls m i (h .1),
+        mul-add w (natAbs (l .lots)) (lineRun ls),
+      )
+
+  -- and to one row
+  pub lines-one : (ls : List Line) (c m : ℕ) → All Weighs ls → natAbs (rowTotal amount c m ls) ≤ w * lineRun ls
+  unfolding rowTotal lineRun total
+  lines-one [] c m h = omega arith
+  lines-one (l ∷ ls) c m h =
+      let v = when (eqb (l .member) m) (amount l) in
+      omega (
+        arith,
+        abs-plus (when (eqb (l .contract) c) v) (rowTotal amount c m ls),
+        abs-when (eqb (l .contract) c) v,
+        abs-when (eqb (l .member) m) (amount l),
+        h .0,
+        lines-one ls c m (h .1),
         mul-add w (natAbs (l .lots)) (lineRun ls),
       )
 
@@ -159,17 +175,44 @@ module _ (n : ℕ) (few : n ≤ 32) where
 abbrev pub WithinRun : Tables → Type 0
 WithinRun t = (x : Column) → Bounded (members t) (weight x * lotsRun t) (row x t)
 
-column-sound : (n b : ℕ) (l : List ℤ) → Bounded n b (rowsIn l) → everyRow (λ z. leb (natAbs z) b) n l ≡ true
+-- the same of each row alone: what the test of damage says
+abbrev pub RowsWithin : Tables → Type 0
+RowsWithin t = (x : Column) (c m : ℕ) → c < contractCount → m < members t → natAbs (row x t c m) ≤ weight x * lotsRun t
+
+pub each-within : (t : Tables) → WithinRun t → RowsWithin t
+each-within t a x = bounded-row (a x)
+
+column-sound : (n b : ℕ) (l : List ℤ) → ((c m : ℕ) → c < contractCount → m < n → natAbs (rowsIn l c m) ≤ b) → everyRow (λ z. leb (natAbs z) b) n l ≡ true
 unfolding everyRow
 column-sound n b l a =
     every-block 32 _ contractCount l
-    (λ c k. every-place (λ z. leb (natAbs z) b) (pos 0) (take n (block 32 c l))
-    (λ m h. let q : (m < n) × (m < 32) = omega (arith, simp length-take at h) in
-    rw (getD-take n (block 32 c l) m (pos 0) (q .0), block-at 32 c m l (pos 0) (q .1)) (le-leb (natAbs (rowsIn l c m)) b (bounded-row a c m k (q .0)))))
+    (λ c k. every-place (λ z. leb (natAbs z) b) (pos 0) (take n (block rowWidth c l))
+    (λ m h. let q : (m < n) × (m < rowWidth) = omega (arith, simp length-take at h) in
+    rw (getD-take n (block rowWidth c l) m (pos 0) (q .0), block-at rowWidth c m l (pos 0) (q .1)) (le-leb (natAbs (rowsIn l c m)) b (a c m k (q .0)))))
 
-pub rows-sound : (t : Tables) → WithinRun t → rowsSound t ≡ true
+column-gives : (n b : ℕ) (l : List ℤ) → n ≤ 32 → rowsLength ≤ length l → everyRow (λ z. leb (natAbs z) b) n l ≡ true → (c m : ℕ) → c < contractCount → m < n → natAbs (rowsIn l c m) ≤ b
+unfolding everyRow
+column-gives n b l few long e c m k q =
+    let p : ℤ → Bool = λ z. leb (natAbs z) b in
+    let rows = take n (block rowWidth c l) in
+    let one = all-place (λ z. p z ≡ true) (pos 0) rows (every-all p rows (block-passes 32 (λ r. every p (take n r)) contractCount l e c k)) m (simp (length-take, length-drop) (omega arith)) in
+    leb-true (natAbs (rowsIn l c m)) b (rw (getD-take n (block rowWidth c l) m (pos 0) q, block-at rowWidth c m l (pos 0) (omega arith)) at one)
+
+pub rows-sound : (t : Tables) → RowsWithin t → rowsSound t ≡ true
 unfolding rowsSound
 rows-sound t a = rw (column-sound (members t) (lotsRun t) (t .lots) (rw (one-mul (lotsRun t)) at (a lots)), column-sound (members t) (mostPrice * lotsRun t) (t .value) (a value))
+
+pub rows-give : (t : Tables) → members t ≤ 32 → rowsLength ≤ length (t .lots) → rowsLength ≤ length (t .value) → rowsSound t ≡ true → RowsWithin t
+unfolding rowsSound
+rows-give t few l v e =
+    let n = members t in
+    let lotsAre = everyRow (λ z. leb (natAbs z) (lotsRun t)) n (t .lots) in
+    let valuesAre = everyRow (λ z. leb (natAbs z) (mostPrice * lotsRun t)) n (t .value) in
+    go (and-left lotsAre valuesAre e) (and-right lotsAre valuesAre e)
+  where
+    go : everyRow (λ z. leb (natAbs z) (lotsRun t)) (members t) (t .lots) ≡ true → everyRow (λ z. leb (natAbs z) (mostPrice * lotsRun t)) (members t) (t .value) ≡ true → RowsWithin t
+    go a b lots c m k q = omega (arith, column-gives (members t) (lotsRun t) (t .lots) few l a c m k q)
+    go a b value c m k q = column-gives (members t) (mostPrice * lotsRun t) (t .value) few v b c m k q
 
 -- ---- the fresh ledger
 pub bounded-fresh : (h : Header) (t : Tables) → SoundHeader h → rowsLength ≤ length (t .lots) → rowsLength ≤ length (t .value) → (x : Column) → Bounded (h .members) 0 (row x (fresh h t))

@@ -10,7 +10,8 @@ use Rattle.rules.specs.declared.answer.Answer.{Answer}
 use Rattle.rules.specs.Answers.{Outcome}
 use Rattle.rules.specs.Contracts.{hasCascaded}
 use Rattle.rules.specs.Header.{Header, calendarOf}
-use Rattle.rules.specs.Ledger.{Tables, Line, members, orders, lineLots, lineValue, booked}
+use Rattle.rules.specs.Ranges.{mostMembers}
+use Rattle.rules.specs.Ledger.{Tables, Line, orders, lineLots, lineValue, booked, timePlace}
 use Rattle.rules.specs.Accounts.{Column, lots, value, row, amount, isAccepted, linesOf}
 use Rattle.accounts.proofs.Lines.{Fits, rowTotal}
 use Rattle.accounts.proofs.Heads.{SameHeader}
@@ -34,18 +35,18 @@ pub refused-does : (h : Header) (d e : ℕ) (t : Tables) (a : Answer) → isAcce
 refused-does h d e t a q r = record { runs = rw q r; holds = λ log p. rw (q, append-nil log) p }
 
 -- ---- a record with lines
-pub booked-row : (n : ℕ) (ls : List Line) (t t′ : Tables) → Sound t → n ≤ 32 → All (Fits n) ls → t′ .lots ≡ t .lots → t′ .value ≡ t .value
-    → (x : Column) (c m : ℕ) → m < 32 → row x (booked ls t′ .after) c m ≡ row x t c m +ℤ rowTotal (amount x) c m ls
+pub booked-row : (n : ℕ) (ls : List Line) (t t′ : Tables) → Sound t → n ≤ mostMembers → All (Fits n) ls → t′ .lots ≡ t .lots → t′ .value ≡ t .value
+    → (x : Column) (c m : ℕ) → m < mostMembers → row x (booked ls t′ .after) c m ≡ row x t c m +ℤ rowTotal (amount x) c m ls
 unfolding booked
 booked-row n ls t t′ s q f e v lots c m b = rw e (posted-row n lineLots ls (t .lots) c m (s .lots-long) f q b)
 booked-row n ls t t′ s q f e v value c m b = rw v (posted-row n lineValue ls (t .value) c m (s .value-long) f q b)
 
 -- t′: the tables t with all but the lines booked
-pub booked-does : (h : Header) (d : ℕ) (ls : List Line) (t t′ : Tables) → Runs h d t → Sound t → SameHeader 4 (t .head) (t′ .head) → All (InOpen h d) (orders t′)
+pub booked-does : (h : Header) (d : ℕ) (ls : List Line) (t t′ : Tables) → Runs h d t → Sound t → SameHeader timePlace (t .head) (t′ .head) → All (InOpen h d) (orders t′)
     → t′ .lots ≡ t .lots → t′ .value ≡ t .value → Fair h (hasCascaded (calendarOf h) d) ls → Does h d d t (booked ls t′)
 unfolding booked
 booked-does h d ls t t′ r s a o e v f =
-    let few : h .members ≤ 32 = rw (r .size) at (s .few-members) in
+    let few : h .members ≤ mostMembers = rw (r .size) at (s .few-members) in
     record {
       runs = booked-runs h d ls t t′ r s a o;
       holds = λ log p. rw (lines-printed ls (t′ .lines))

@@ -28,9 +28,9 @@ use Rattle.rules.specs.OtherForms.{firstMonthOf}
 use Rattle.rules.proofs.CalendarLaws.{next-business, before-or-not, closes-today, closed-by-next, quarter-later-by-number, open-stays, open-in-ledger, open-to-close}
 use Rattle.rules.proofs.HourLaws.{Cascading, year, quarter, cascading}
 use Rattle.rules.specs.Header.{Header, calendarOf}
-use Rattle.rules.specs.Ledger.{Tables, Line, withRows, members, day, calendar, orders, withOrders, withoutSubmits, firstLines}
-use Rattle.rules.specs.CloseOfDay.{cascaded, closingContracts, allCascaded, isOfAny, withClosed, priced, nextDay, onDay, closeBooked}
-use Rattle.rules.specs.Accounts.{Column, lots, value, row}
+use Rattle.rules.specs.Ledger.{membersPlace, dayPlace, timePlace, orderCountPlace, submitsFrom, Tables, Line, withRows, members, day, calendar, orders, withOrders, withoutSubmits, firstLines}
+use Rattle.rules.specs.CloseOfDay.{cascaded, closingContracts, allCascaded, isOfAny, withClosed, priced, hasNextDay, nextDay, onDay, closeBooked}
+use Rattle.rules.specs.Accounts.{Column, lots, value, row, dayReached}
 use Rattle.accounts.proofs.Cascade.{cascade-keeps}
 use Rattle.accounts.proofs.Heads.{SameHeader, field, changing, same-header, then-same, set-other, over-other, but-the-day}
 use Rattle.accounts.proofs.Holds.{Rows, Holds, holds-same}
@@ -143,7 +143,7 @@ module _ (h : Header) (d : ℕ) (t : Tables) (r : Runs h d t) (s : Sound t) (log
 
   -- how far the evening's closing has come
   record Evening (u : Tables) (K : ℕ → Bool) : Type 0 where
-    header : SameHeader 4 (t .head) (u .head)
+    header : SameHeader timePlace (t .head) (u .head)
     lots-long : rowsLength ≤ length (u .lots)
     value-long : rowsLength ≤ length (u .value)
     holds : Holds h (rowsOf u) log K
@@ -167,7 +167,7 @@ module _ (h : Header) (d : ℕ) (t : Tables) (r : Runs h d t) (s : Sound t) (log
   }
     where
       size : members u ≡ h .members
-      size = v .header .places 1 (field (omega arith)) ∙ r .size
+      size = v .header .places membersPlace (field (omega arith)) ∙ r .size
 
       same32 : members u ≤ 32
       same32 = omega (arith, few, size)
@@ -192,7 +192,7 @@ module _ (h : Header) (d : ℕ) (t : Tables) (r : Runs h d t) (s : Sound t) (log
   evening-all (c ∷ cs) u K a v = evening-all cs (rowsCascaded c u) _ (a .1) (evening-next c u K (a .0 .0) (a .0 .1) v)
 
 -- the orders that are left are of none of the contracts
-orders-closed : (P : Order → Type 0) (cs : List ℕ) (u : Tables) → 7 < length (u .head) → All P (orders u) → All (λ o. P o × (isOfAny cs o ≡ false)) (orders (withClosed cs u))
+orders-closed : (P : Order → Type 0) (cs : List ℕ) (u : Tables) → orderCountPlace < length (u .head) → All P (orders u) → All (λ o. P o × (isOfAny cs o ≡ false)) (orders (withClosed cs u))
 unfolding withClosed
 orders-closed P cs u b a =
     let stays : Order → Bool = λ o. not (isOfAny cs o) in
@@ -231,32 +231,32 @@ any-kept p (x ∷ l) c e q =
     (λ s _. rw (s, q, eq-eqb c c refl))
     (λ s f. true-or (p x) (λ t. rw (t, any-kept p l c f q) (or-true (eqb x c))) (λ t. rw t (any-kept p l c f q))) e
 
-closing-header : (cs : List ℕ) (u : Tables) → SameHeader 4 (u .head) (withClosed cs u .head)
+closing-header : (cs : List ℕ) (u : Tables) → SameHeader timePlace (u .head) (withClosed cs u .head)
 unfolding withClosed withOrders
-closing-header cs u = set-other 4 (u .head) 7 _ (omega arith) (changing (omega arith) (omega arith))
+closing-header cs u = set-other timePlace (u .head) orderCountPlace _ (omega arith) (changing (omega arith) (omega arith))
 
 -- ---- the new day
-pub day-header : (x : ℕ) (v : Tables) → headLength ≤ length (v .head) → SameHeader 3 (v .head) (onDay x v .head)
+pub day-header : (x : ℕ) (v : Tables) → headLength ≤ length (v .head) → SameHeader dayPlace (v .head) (onDay x v .head)
 unfolding onDay withoutSubmits
 day-header x v b =
-    let l = over 192 (replicate (members v) 0) (v .head) in
-    then-same (over-other 3 (v .head) (replicate (members v) 0) 192 (omega arith) (omega arith) (omega arith))
-    (then-same (set-other 3 l 3 x (omega arith) (changing (omega arith) (omega arith))) (set-other 3 (set l 3 x) 4 0 (omega arith) (changing (omega arith) (omega arith))))
+    let l = over submitsFrom (replicate (members v) 0) (v .head) in
+    then-same (over-other dayPlace (v .head) (replicate (members v) 0) submitsFrom (omega arith) (omega arith) (omega arith))
+    (then-same (set-other dayPlace l dayPlace x (omega arith) (changing (omega arith) (omega arith))) (set-other dayPlace (set l dayPlace x) timePlace 0 (omega arith) (changing (omega arith) (omega arith))))
 
 pub day-is : (x : ℕ) (v : Tables) → headLength ≤ length (v .head) → day (onDay x v) ≡ x
 unfolding onDay withoutSubmits
 day-is x v b =
-    let l = over 192 (replicate (members v) 0) (v .head) in
-    let longer = over-other 3 (v .head) (replicate (members v) 0) 192 (omega arith) (omega arith) (omega arith) .longer in
-    getD-set-other (set l 3 x) 4 3 0 0 (λ e. omega arith) ∙ getD-set-same l 3 x 0 (omega (arith, longer))
+    let l = over submitsFrom (replicate (members v) 0) (v .head) in
+    let longer = over-other dayPlace (v .head) (replicate (members v) 0) submitsFrom (omega arith) (omega arith) (omega arith) .longer in
+    getD-set-other (set l dayPlace x) timePlace dayPlace 0 0 (λ e. omega arith) ∙ getD-set-same l dayPlace x 0 (omega (arith, longer))
 
 day-orders : (x : ℕ) (v : Tables) → headLength ≤ length (v .head) → members v ≤ 32 → orders (onDay x v) ≡ orders v
 unfolding onDay withoutSubmits
 day-orders x v b m =
-    let l = over 192 (replicate (members v) 0) (v .head) in
+    let l = over submitsFrom (replicate (members v) 0) (v .head) in
     orders-same v (onDay x v)
-    (getD-set-other (set l 3 x) 4 7 0 0 (λ e. omega arith) ∙ getD-set-other l 3 7 x 0 (λ e. omega arith)
-    ∙ over-outside 192 (replicate (members v) 0) (v .head) (omega (arith, length-replicate {A = ℕ} (members v) 0)) 7 0 (λ q. absurd (omega arith))) refl
+    (getD-set-other (set l dayPlace x) timePlace orderCountPlace 0 0 (λ e. omega arith) ∙ getD-set-other l dayPlace orderCountPlace x 0 (λ e. omega arith)
+    ∙ over-outside submitsFrom (replicate (members v) 0) (v .head) (omega (arith, length-replicate {A = ℕ} (members v) 0)) orderCountPlace 0 (λ q. absurd (omega arith))) refl
 
 -- ---- the close of day
 module _ (h : Header) (d : ℕ) (t : Tables) (r : Runs h d t) (s : Sound t) (n : ℕ) where
@@ -278,7 +278,7 @@ module _ (h : Header) (d : ℕ) (t : Tables) (r : Runs h d t) (s : Sound t) (n :
   evening : (log : List Line) → Holds h (rowsOf t) log (hasCascaded (calendarOf h) d) → Evening h d t r s log (priced n t) (hasCascaded (calendarOf h) d)
   unfolding priced
   evening log a = record {
-    header = same-header 4 (t .head);
+    header = same-header timePlace (t .head);
     lots-long = s .lots-long;
     value-long = s .value-long;
     holds = holds-same h (rowsOf t) (rowsOf (priced n t)) log (hasCascaded (calendarOf h) d) (λ x c m _ _. as-before x c m) a;
@@ -329,8 +329,8 @@ module _ (h : Header) (d : ℕ) (t : Tables) (r : Runs h d t) (s : Sound t) (n :
         let a = closing-header cs u in
         let long : headLength ≤ length (v .head) = omega (arith, a .longer, s .head-long) in
         record {
-          runs = runs-with 3 h d (x .0) t (onDay (nextDay t) v) (omega arith) r s (then-same (but-the-day a) (day-header (nextDay t) v long)) (day-is (nextDay t) v long ∙ next-here)
-              (rw (day-orders (nextDay t) v long (omega (arith, a .places 1 (field (omega arith)), s .few-members)))
+          runs = runs-with dayPlace h d (x .0) t (onDay (nextDay t) v) (omega arith) r s (then-same (but-the-day a) (day-header (nextDay t) v long)) (day-is (nextDay t) v long ∙ next-here)
+              (rw (day-orders (nextDay t) v long (omega (arith, a .places membersPlace (field (omega arith)), s .few-members)))
               (all-map (λ o. InOpen h d o × (isOfAny cs o ≡ false)) (InOpen h (x .0)) (orders v) (λ o q. open-next o (q .0) (q .1))
               (orders-closed (InOpen h d) cs u (omega (arith, s .head-long)) (rw (orders-same t u refl refl) (r .resting)))));
           holds = λ log p. rw (append-nil log)
@@ -339,3 +339,15 @@ module _ (h : Header) (d : ℕ) (t : Tables) (r : Runs h d t) (s : Sound t) (n :
               (λ q c m _ _. day-rows (nextDay t) v q c m ∙ closed-rows cs u q c m)
               (evening-all h d t r s log cs u (hasCascaded (calendarOf h) d) closing-all (evening log p) .holds)));
         }
+
+-- the list's day is then the next business day
+no-next : (h : Header) (d : ℕ) (t : Tables) → Runs h d t → nextBusinessDay (calendarOf h) d ≡ NoDay → hasNextDay t ≡ false
+unfolding hasNextDay
+no-next h d t r e = rw (ap (λ k. nextBusinessDay k (day t)) (runs-calendar r) ∙ ap (nextBusinessDay (calendarOf h)) (r .today) ∙ e, hasNextDay)
+
+pub close-shows : (t : Tables) → Sound t → (n : ℕ) → hasNextDay t ≡ true → (h : Header) (d : ℕ) → Runs h d t → Does h d (dayReached d (nextBusinessDay (calendarOf h) d)) t (closeBooked t n)
+close-shows t s n q h d r = go (nextBusinessDay (calendarOf h) d) refl
+  where
+    go : (z : Day) → nextBusinessDay (calendarOf h) d ≡ z → Does h d (dayReached d (nextBusinessDay (calendarOf h) d)) t (closeBooked t n)
+    go (On x) e = rw e (close-does h d t r s n x e)
+    go NoDay e = never (sym q ∙ no-next h d t r e)

@@ -1,7 +1,7 @@
 -- The book is never crossed: what remains of an uncrossed book is uncrossed, and an order rests only where none that opposes it meets its price.
 use Prim.Native.Nat.{ℕ}
 use mathlib.Core.Path.{_≡_, refl, sym}
-use mathlib.Core.Bool.{true, false, not, cond}
+use mathlib.Core.Bool.{true, false, cond}
 use mathlib.Core.List.{List, [], _∷_, _++_}
 use native.Mathlib.Omega.{arith}
 use lib.Dec.{ltb}
@@ -10,20 +10,14 @@ use borrow.Author.Tests.{leb-false, ltb-true, eq-eqb}
 use Rattle.arith.specs.Lists.{All}
 use Rattle.arith.proofs.Alls.{all-map, all-both, all-append}
 use Rattle.arith.proofs.Tests.{by-bool, and-right}
-use Rattle.rules.specs.declared.event.Event.{Event}
-use Rattle.rules.specs.declared.event.Event.the-variants.{Submit, Cancel, DayLimits, Proposal, Default, CloseOut, CloseOfDay}
-use Rattle.rules.specs.declared.event.Leg.{Leg}
 use Rattle.rules.specs.declared.event.Submission.{Submission}
 use Rattle.rules.specs.declared.order.Order.{Order}
-use Rattle.rules.specs.Ledger.{Tables, members, orders}
-use Rattle.rules.specs.Records.{eventSound}
-use Rattle.rules.specs.Matching.{opposes, meets, withLots, matched, incoming, submitMatched, isResting, wouldRest, submitOrders}
-use Rattle.rules.specs.Refusals.{isCancelled, applySpec}
+use Rattle.rules.specs.Ledger.{Tables, orders}
+use Rattle.rules.specs.Matching.{opposes, meets, withLots, matched, incoming, submitMatched, isResting, wouldRest, submitOrders, submitBooked}
 use Rattle.rules.proofs.SoundTables.{Undamaged}
 use Rattle.accounts.specs.EveryList.{Below, Uncrossed}
-use Rattle.accounts.proofs.Remains.{Remain, remain-all, kept-remain, legs-remain, matching-remain}
-use Rattle.accounts.proofs.EachKind.{acceptedAs, NoCause, every-call}
-use Rattle.accounts.proofs.OrdersAfter.{submit-orders, cancel-orders, limits-orders, proposal-orders, default-orders, close-out-orders, close-orders}
+use Rattle.accounts.proofs.Remains.{Remain, remain-all, matching-remain}
+use Rattle.accounts.proofs.OrdersAfter.{submit-orders}
 use Rattle.accounts.proofs.Complete.{submit-ends}
 
 -- ---- fewer orders, or with fewer lots
@@ -54,25 +48,14 @@ uncrossed-more os o a u =
     (λ b f. all-append (Below b) os (o ∷ []) (f .0) (sell-above o b (f .1), tt)) (all-both (λ b. All (Below b) os) (λ b. opposes o b ≡ true → meets o b ≡ false) os a u))
     (all-append (Below o) os (o ∷ []) sells (not-itself o, tt), tt)
 
-submit-uncrossed : (t : Tables) (e : Submission) → Uncrossed (orders t) → Uncrossed (submitOrders t e)
+orders-uncrossed : (t : Tables) (e : Submission) → Uncrossed (orders t) → Uncrossed (submitOrders t e)
 unfolding submitOrders submitMatched matched wouldRest opposes meets
-submit-uncrossed t e a =
+orders-uncrossed t e a =
     let o = incoming t e in
     let m = submitMatched t e in
     let rest = remain-uncrossed (matching-remain (length (orders t)) o (orders t)) a in
     by-bool (λ b. Uncrossed (cond b (m .resting ++ (withLots (m .left) o ∷ [])) (m .resting))) (wouldRest t e)
     (λ w. uncrossed-more (m .resting) (withLots (m .left) o) rest (submit-ends t e .unmet (ltb-true 0 (m .left) (and-right (isResting (e .kind)) (ltb 0 (m .left)) w)))) (λ _. rest)
 
--- ---- every call
-kind-uncrossed : (e : Event) (t : Tables) (legs : List Leg) → Undamaged t → eventSound (members t) e legs ≡ true → NoCause t e legs
-    → Uncrossed (orders t) → Uncrossed (orders (acceptedAs t e legs .after))
-kind-uncrossed (Submit e) t legs u s n a = rw (submit-orders t u e) (submit-uncrossed t e a)
-kind-uncrossed (Cancel e) t legs u s n a = rw (cancel-orders t u (e .time) (λ o. not (isCancelled e o))) (remain-uncrossed (kept-remain _ (orders t)) a)
-kind-uncrossed (DayLimits e) t legs u s n a = rw (limits-orders t u _) a
-kind-uncrossed (Proposal k) t legs u s n a = rw (proposal-orders t u legs) (remain-uncrossed (legs-remain legs (orders t)) a)
-kind-uncrossed (Default m) t legs u s n a = rw (default-orders t u m) (remain-uncrossed (kept-remain _ (orders t)) a)
-kind-uncrossed (CloseOut e) t legs u s n a = rw (close-out-orders t u e) a
-kind-uncrossed (CloseOfDay k) t legs u s n a = rw (close-orders t u k) (remain-uncrossed (kept-remain _ (orders t)) a)
-
-pub apply-uncrossed : (t : Tables) (bytes : List ℕ) → Uncrossed (orders t) → Uncrossed (orders (applySpec t bytes .after))
-apply-uncrossed = every-call (λ t o. Uncrossed (orders t) → Uncrossed (orders (o .after))) (λ t x q a. a) kind-uncrossed
+pub submit-uncrossed : (t : Tables) → Undamaged t → (e : Submission) → Uncrossed (orders t) → Uncrossed (orders (submitBooked t e .after))
+submit-uncrossed t u e a = rw (submit-orders t u e) (orders-uncrossed t e a)

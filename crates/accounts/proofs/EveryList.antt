@@ -18,10 +18,10 @@ use Rattle.accounts.proofs.Fresh.{counts-of}
 use Rattle.accounts.proofs.Runs.{orders-same}
 use Rattle.accounts.proofs.TwoBookkeepers.{made, known}
 use Rattle.accounts.specs.EveryList.{Uncrossed, NoneDefaulted, NeverCrossed, DefaultedNeverRest, RunIsLogged, DayIsTheLists, GgfNeverLost}
-use Rattle.accounts.proofs.Crossed.{apply-uncrossed}
-use Rattle.accounts.proofs.Marks.{apply-marks}
+use Rattle.accounts.proofs.EachKind.{every-call}
+use Rattle.accounts.proofs.KindsKeep.{kind-keeps}
 use Rattle.accounts.proofs.LotsRun.{run-after}
-use Rattle.accounts.proofs.GgfStays.{apply-found}
+use Rattle.accounts.proofs.GgfStays.{Found}
 
 module _ (I : Tables → Type 0) (lent : (l : List ℤ) (t : Tables) → I t → I (withLines l t)) (kept : (t : Tables) (bytes : List ℕ) → I t → I (applySpec t bytes .after)) where
   pub kept-after : (calls : List Call) (t : Tables) → I t → I (after t calls)
@@ -46,12 +46,14 @@ fresh-run header t f l = counts-of (headerOf header) f (t .head) (l .head) .2
 
 pub never-crossed : NeverCrossed
 never-crossed header t calls b long =
-    kept-always (λ u. Uncrossed (orders u)) (λ l u a. rw (orders-same u (withLines l u) refl refl) a) apply-uncrossed header t calls b long
+    kept-always (λ u. Uncrossed (orders u)) (λ l u a. rw (orders-same u (withLines l u) refl refl) a)
+    (every-call (λ u o. Uncrossed (orders u) → Uncrossed (orders (o .after))) (λ u x q a. a) (λ e u legs v q n. kind-keeps e u legs v q n .uncrossed)) header t calls b long
     (λ f l. rw (fresh-empty header t f l) tt)
 
 pub defaulted-never-rest : DefaultedNeverRest
 defaulted-never-rest header t calls b long =
-    kept-always NoneDefaulted (λ l u a. rw (orders-same u (withLines l u) refl refl) a) apply-marks header t calls b long (λ f l. rw (fresh-empty header t f l) tt)
+    kept-always NoneDefaulted (λ l u a. rw (orders-same u (withLines l u) refl refl) a)
+    (every-call (λ u o. NoneDefaulted u → NoneDefaulted (o .after)) (λ u x q a. a) (λ e u legs v q n. kind-keeps e u legs v q n .marks)) header t calls b long (λ f l. rw (fresh-empty header t f l) tt)
 
 pub day-is-the-lists : DayIsTheLists
 day-is-the-lists header t calls b long = known header t b long calls .runs .today
@@ -64,4 +66,6 @@ run-is-logged header t calls b long =
     run-after calls start ∙ ap (λ n. n + lineRun (log start calls)) zero ∙ zero-add (lineRun (log start calls))
 
 pub ggf-never-lost : GgfNeverLost
-ggf-never-lost t calls c h = kept-after (λ u. 0 < ggf u c) (λ l u g. g) (λ u bytes. apply-found u bytes c h) calls t
+ggf-never-lost t calls c h =
+    kept-after (λ u. 0 < ggf u c) (λ l u g. g)
+    (λ u bytes. every-call (λ u o. Found u (o .after)) (λ u x q c h g. g) (λ e u legs v q n. kind-keeps e u legs v q n .found) u bytes c h) calls t

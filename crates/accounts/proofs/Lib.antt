@@ -36,5 +36,8 @@ pub mod Marks
 pub mod LotsRun
 pub mod GgfStays
 pub mod SameLengths
+pub mod KindsKeep
+pub mod LengthsStay
 pub mod EveryList
 pub mod ClosedOut
+pub mod StaysSound

@@ -9,7 +9,8 @@ use lib.ListN.{length, getD, set}
 use lib.Seq.{getD-set-other}
 use Rattle.arith.specs.Lists.{kept}
 use Rattle.arith.proofs.Tests.{by-bool}
-use Rattle.rules.specs.Ledger.{submitsFrom}
+use Rattle.rules.specs.Ranges.{mostMembers}
+use Rattle.rules.specs.Ledger.{submitsFrom, membersPlace, timePlace, acceptedSubmitsPlace, orderCountPlace}
 use Rattle.rules.specs.declared.event.Submission.{Submission}
 use Rattle.rules.specs.declared.order.Order.{Order}
 use Rattle.rules.specs.Ledger.{Tables, members, time, withHead, orders, withOrders, withoutSubmits, timed}
@@ -23,34 +24,34 @@ use Rattle.accounts.proofs.Books.{written-header, without-place, day-pl
 abbrev pub place : Tables → ℕ → ℕ
 place t i = getD (t .head) i 0
 
-pub written-place : (os : List Order) (u : Tables) (i : ℕ) → (i ≡ 7 → ⊥) → place (withOrders os u) i ≡ place u i
+pub written-place : (os : List Order) (u : Tables) (i : ℕ) → (i ≡ orderCountPlace → ⊥) → place (withOrders os u) i ≡ place u i
 unfolding withOrders
-written-place os u i d = getD-set-other (u .head) 7 i (length os) 0 d
+written-place os u i d = getD-set-other (u .head) orderCountPlace i (length os) 0 d
 
 module _ (t : Tables) (u : Undamaged t) where
   -- a record's time is written, and the second's counts
-  pub timed-place : (n i : ℕ) → (i ≡ 4 → ⊥) → i < 192 → place (timed n t) i ≡ place t i
+  pub timed-place : (n i : ℕ) → (i ≡ timePlace → ⊥) → i < submitsFrom → place (timed n t) i ≡ place t i
   unfolding timed
   timed-place n i d h =
-      by-bool (λ b. place (cond b (withHead (set (withoutSubmits t .head) 4 n) t) t) i ≡ place t i) (ltb (time t) n)
-      (λ _. getD-set-other (withoutSubmits t .head) 4 i n 0 d ∙ without-place t i (u .long .head) (u .head .members-range .to) h) (λ _. refl)
+      by-bool (λ b. place (cond b (withHead (set (withoutSubmits t .head) timePlace n) t) t) i ≡ place t i) (ltb (time t) n)
+      (λ _. getD-set-other (withoutSubmits t .head) timePlace i n 0 d ∙ without-place t i (u .long .head) (u .head .members-range .to) h) (λ _. refl)
 
-  pub submit-place : (e : Submission) (i : ℕ) → (i ≡ 4 → ⊥) → (i ≡ 5 → ⊥) → (i ≡ 7 → ⊥) → i < 192 → place (submitUnbooked t e) i ≡ place t i
+  pub submit-place : (e : Submission) (i : ℕ) → (i ≡ timePlace → ⊥) → (i ≡ acceptedSubmitsPlace → ⊥) → (i ≡ orderCountPlace → ⊥) → i < submitsFrom → place (submitUnbooked t e) i ≡ place t i
   unfolding submitUnbooked withDeals counted
   submit-place e i a b c h =
       let l = timed (e .time) t .head in
-      written-place (submitOrders t e) _ i c ∙ getD-set-other (set l (submitsFrom + e .member) _) 5 i _ 0 b ∙ getD-set-other l (submitsFrom + e .member) i _ 0 (λ q. omega arith)
+      written-place (submitOrders t e) _ i c ∙ getD-set-other (set l (submitsFrom + e .member) _) acceptedSubmitsPlace i _ 0 b ∙ getD-set-other l (submitsFrom + e .member) i _ 0 (λ q. omega arith)
       ∙ timed-place (e .time) i a h
 
   -- the new day writes the day, the time and the second's counts
-  pub evening-place : (n i : ℕ) → 4 < i → i < 192 → place (closeBooked t n .after) i ≡ place (withClosed (closingContracts t) (priced n t)) i
+  pub evening-place : (n i : ℕ) → timePlace < i → i < submitsFrom → place (closeBooked t n .after) i ≡ place (withClosed (closingContracts t) (priced n t)) i
   unfolding closeBooked priced withClosed
   evening-place n i l h =
-      let w : SameHeader 4 (t .head) _ = written-header (kept (λ o. not (isOfAny (closingContracts t) o)) (orders (priced n t))) (priced n t) in
-      let few : members (withClosed (closingContracts t) (priced n t)) ≤ 32 = omega (arith, w .places 1 (field (omega arith)), u .head .members-range .to) in
+      let w : SameHeader timePlace (t .head) _ = written-header (kept (λ o. not (isOfAny (closingContracts t) o)) (orders (priced n t))) (priced n t) in
+      let few : members (withClosed (closingContracts t) (priced n t)) ≤ mostMembers = omega (arith, w .places membersPlace (field (omega arith)), u .head .members-range .to) in
       day-place (nextDay t) (withClosed (closingContracts t) (priced n t)) i (omega (arith, w .longer, u .long .head)) few l h
 
   -- and what closes, the count of orders
-  pub close-place : (n i : ℕ) → 4 < i → (i ≡ 7 → ⊥) → i < 192 → place (closeBooked t n .after) i ≡ place t i
+  pub close-place : (n i : ℕ) → timePlace < i → (i ≡ orderCountPlace → ⊥) → i < submitsFrom → place (closeBooked t n .after) i ≡ place t i
   unfolding priced withClosed
   close-place n i l d h = evening-place n i l h ∙ written-place (kept (λ o. not (isOfAny (closingContracts t) o)) (orders (priced n t))) (priced n t) i d

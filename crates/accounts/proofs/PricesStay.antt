@@ -15,7 +15,7 @@ use Rattle.arith.proofs.Alls.{all-hold, hold-all, all-map}
 use Rattle.arith.proofs.EachBlock.{block, block-at, block-passes, every-block, blocks-done}
 use Rattle.arith.proofs.Overs.{over-length, over-inside, over-outside}
 use Rattle.arith.proofs.Tests.{by-bool, same-or, and-left, and-right}
-use Rattle.rules.specs.Ledger.{headLength, priceWidth, pricesLength}
+use Rattle.rules.specs.Ledger.{headLength, priceWidth, pricesLength, timePlace, dayLotsPlace}
 use Rattle.rules.specs.Ranges.{contractCount, lastSecond, mostPrice}
 use Rattle.rules.specs.declared.event.CloseOutTerms.{CloseOutTerms}
 use Rattle.rules.specs.declared.event.Leg.{Leg}
@@ -89,8 +89,8 @@ abbrev pub Prices : ℕ → List ℕ → Type 0
 Prices run l = (c : ℕ) → c < contractCount → FiveAt run l c
 
 module _ (run : ℕ) (l : List ℕ) where
-  read : (c j : ℕ) → j < 5 → getD (block 5 c l) j 0 ≡ at l c j
-  read c j h = block-at 5 c j l 0 h
+  read : (c j : ℕ) → j < priceWidth → getD (block priceWidth c l) j 0 ≡ at l c j
+  read c j h = block-at priceWidth c j l 0 h
 
   pub prices-of : everyBlock 5 (contractPricesSound run) contractCount l ≡ true → Prices run l
   prices-of e c h = rw (read c 0 (omega arith), read c 1 (omega arith), read c 2 (omega arith), read c 3 (omega arith), read c 4 (omega arith))
@@ -111,7 +111,7 @@ one-contract run run′ l l′ c h same f a d q =
     same-or d c (λ e. rw e (f (rw e at q) (rw e at (a d q))))
     (λ e. rw (same d 0 (omega arith) e, same d 1 (omega arith) e, same d 2 (omega arith) e, same d 3 (omega arith) e, same d 4 (omega arith) e) (more-run h (a d q)))
 
-set-elsewhere : (l : List ℕ) (c d j k v : ℕ) → j < 5 → k < 5 → (d ≡ c → ⊥) → at (set l (c * priceWidth + j) v) d k ≡ at l d k
+set-elsewhere : (l : List ℕ) (c d j k v : ℕ) → j < priceWidth → k < priceWidth → (d ≡ c → ⊥) → at (set l (c * priceWidth + j) v) d k ≡ at l d k
 set-elsewhere l c d j k v h q e = getD-set-other l (c * priceWidth + j) (d * priceWidth + k) v 0 (λ s. e (omega arith))
 
 -- two of a contract's numbers, at its places j and k, are written
@@ -129,7 +129,7 @@ module _ (l : List ℕ) (wide : pricesLength ≤ length l) (c : ℕ) (c< : c < c
   two-other i p q = getD-set-other (set l (c * priceWidth + j) x) (c * priceWidth + k) (c * priceWidth + i) y 0 (λ e. q (omega arith))
       ∙ getD-set-other l (c * priceWidth + j) (c * priceWidth + i) x 0 (λ e. p (omega arith))
 
-  two-elsewhere : (d i : ℕ) → i < 5 → (d ≡ c → ⊥) → at two d i ≡ at l d i
+  two-elsewhere : (d i : ℕ) → i < priceWidth → (d ≡ c → ⊥) → at two d i ≡ at l d i
   two-elsewhere d i h e = set-elsewhere (set l (c * priceWidth + j) x) c d k i y k< h e ∙ set-elsewhere l c d j i x (omega arith) h e
 
 -- new day limits
@@ -228,14 +228,14 @@ quoted-most m v former (some b) (some s) a h f g =
     (λ _. rounded-most (6 * v + m * both) (8 * m) (omega (arith, mul-le-mul-left m both≤))) (λ _. rounded-most both 2 (omega arith))
 
 -- a contract whose M and V are set to 0
-without-deals : (run run′ : ℕ) (b : List ℕ) → length b ≡ 5 → contractPricesSound run b ≡ true → (length (over 3 (0 ∷ 0 ∷ []) b) ≡ 5) × (contractPricesSound run′ (over 3 (0 ∷ 0 ∷ []) b) ≡ true)
+without-deals : (run run′ : ℕ) (b : List ℕ) → length b ≡ priceWidth → contractPricesSound run b ≡ true → (length (over (dayLotsPlace 0) (0 ∷ 0 ∷ []) b) ≡ priceWidth) × (contractPricesSound run′ (over (dayLotsPlace 0) (0 ∷ 0 ∷ []) b) ≡ true)
 without-deals run run′ b e s =
     let f = five-of run b s in
-    let fits : 5 ≤ length b = omega arith in
-    let front : (i : ℕ) → i < 3 → getD (over 3 (0 ∷ 0 ∷ []) b) i 0 ≡ getD b i 0 = λ i h. over-outside 3 (0 ∷ 0 ∷ []) b fits i 0 (λ q. absurd (omega arith)) in (
-      over-length 3 (0 ∷ 0 ∷ []) b fits ∙ e,
-      five-sound run′ (over 3 (0 ∷ 0 ∷ []) b)
-          (rw (front 0 (omega arith), front 1 (omega arith), front 2 (omega arith), over-inside 3 (0 ∷ 0 ∷ []) b fits 0 0 (omega arith), over-inside 3 (0 ∷ 0 ∷ []) b fits 1 0 (omega arith))
+    let fits : priceWidth ≤ length b = omega arith in
+    let front : (i : ℕ) → i < 3 → getD (over (dayLotsPlace 0) (0 ∷ 0 ∷ []) b) i 0 ≡ getD b i 0 = λ i h. over-outside (dayLotsPlace 0) (0 ∷ 0 ∷ []) b fits i 0 (λ q. absurd (omega arith)) in (
+      over-length (dayLotsPlace 0) (0 ∷ 0 ∷ []) b fits ∙ e,
+      five-sound run′ (over (dayLotsPlace 0) (0 ∷ 0 ∷ []) b)
+          (rw (front 0 (omega arith), front 1 (omega arith), front 2 (omega arith), over-inside (dayLotsPlace 0) (0 ∷ 0 ∷ []) b fits 0 0 (omega arith), over-inside (dayLotsPlace 0) (0 ∷ 0 ∷ []) b fits 1 0 (omega arith))
           (record { price≤ = f .price≤; low≥ = f .low≥; ordered = f .ordered; high≤ = f .high≤; within = omega arith; least = omega arith; most = omega arith })),
     )
 
@@ -246,17 +246,17 @@ module _ (t : Tables) (head : headSound t ≡ true) (long : headLength ≤ lengt
   now = prices-of (lotsRun t) (t .prices) sound
 
   -- a record with lines: t′ is what they are booked in
-  prices-booked : (ls : List Line) (t′ : Tables) → Stays 4 (members t) (t .head) (t′ .head) → Prices (lotsRun t + lineRun ls) (t′ .prices) → pricesSound (booked ls t′ .after) ≡ true
+  prices-booked : (ls : List Line) (t′ : Tables) → Stays timePlace (members t) (t .head) (t′ .head) → Prices (lotsRun t + lineRun ls) (t′ .prices) → pricesSound (booked ls t′ .after) ≡ true
   unfolding pricesSound booked
   prices-booked ls t′ w p = rw (run-booked t head long ls t′ w) (prices-sound (lotsRun t + lineRun ls) (t′ .prices) p)
 
   -- one that leaves the prices
-  prices-left : (ls : List Line) (t′ : Tables) → Stays 4 (members t) (t .head) (t′ .head) → t′ .prices ≡ t .prices → pricesSound (booked ls t′ .after) ≡ true
+  prices-left : (ls : List Line) (t′ : Tables) → Stays timePlace (members t) (t .head) (t′ .head) → t′ .prices ≡ t .prices → pricesSound (booked ls t′ .after) ≡ true
   prices-left ls t′ w e = prices-booked ls t′ w (rw e (λ c h. more-run (omega arith) (now c h)))
 
   pub timed-prices : (s : ℕ) → timed s t .prices ≡ t .prices
   unfolding timed
-  timed-prices s = by-bool (λ b. cond b (withHead (set (withoutSubmits t .head) 4 s) t) t .prices ≡ t .prices) (ltb (time t) s) (λ _. refl) (λ _. refl)
+  timed-prices s = by-bool (λ b. cond b (withHead (set (withoutSubmits t .head) timePlace s) t) t .prices ≡ t .prices) (ltb (time t) s) (λ _. refl) (λ _. refl)
 
   pub cancel-prices : (n : ℕ) (p : Order → Bool) → n ≤ lastSecond → pricesSound (booked [] (withOrders (kept p (orders t)) (timed n t)) .after) ≡ true
   unfolding withOrders
@@ -272,14 +272,14 @@ module _ (t : Tables) (head : headSound t ≡ true) (long : headLength ≤ lengt
 
   pub close-out-prices : (e : CloseOutTerms) → pricesSound (closeOutBooked t e .after) ≡ true
   unfolding closeOutBooked
-  close-out-prices e = prices-left (closeOutLines t e) t (unchanged t head long 4) refl
+  close-out-prices e = prices-left (closeOutLines t e) t (unchanged t head long timePlace) refl
 
   module _ (wide : pricesLength ≤ length (t .prices)) where
     pub limits-prices : (e : NewDayLimits) → e .contract < contractCount → 1 ≤ e .low .0 → e .low .0 ≤ e .high .0 → e .high .0 ≤ mostPrice
         → pricesSound (booked [] (withPrices (set (set (t .prices) (e .contract * priceWidth + 1) (e .low .0)) (e .contract * priceWidth + 2) (e .high .0)) t) .after) ≡ true
     limits-prices e c< a b h =
         let l = set (set (t .prices) (e .contract * priceWidth + 1) (e .low .0)) (e .contract * priceWidth + 2) (e .high .0) in
-        prices-booked [] (withPrices l t) (unchanged t head long 4)
+        prices-booked [] (withPrices l t) (unchanged t head long timePlace)
         (λ c q. more-run (omega arith) (new-limits (lotsRun t) (t .prices) (e .contract) (e .low .0) (e .high .0) wide c< a b h now c q))
 
     module _ (prices : All Priced (orders t)) where

@@ -1,5 +1,5 @@
 -- A synthetic proposal: its legs' lines balance in every hour, not in every contract.
-use mathlib.Core.Path.{_≡_, refl, sym, ap, _∙_}
+use mathlib.Core.Path.{_≡_, refl, sym, ap, subst, _∙_}
 use mathlib.Core.Bool.{Bool, true, false, cond, _&&_}
 use mathlib.Core.List.{List, [], _∷_, map}
 use mathlib.Core.Option.{Option, none, some}
@@ -23,7 +23,7 @@ use Rattle.rules.specs.declared.order.Side.the-variants.{Buy, Sell}
 use Rattle.rules.specs.Days.{Calendar}
 use Rattle.rules.specs.Contracts.{holdsHour, hasCascaded}
 use Rattle.rules.specs.Header.{Header, calendarOf}
-use Rattle.rules.specs.Ledger.{Tables, members, orders, withOrders}
+use Rattle.rules.specs.Ledger.{Tables, members, orders, withOrders, timePlace, orderCountPlace}
 use Rattle.rules.specs.Sides.{sameSide, signed}
 use Rattle.rules.specs.Matching.{withLots, used}
 use Rattle.rules.specs.Synthetic.{numbered, Named, namedLegs, legLots, legValue, inHour, balancedInHour, balanced, acceptable, legLine, proposalLines, usedByLegs, proposalBooked}
@@ -131,6 +131,14 @@ hour-nothing k x h ns e =
     go value p q = rw q (+ℤ-invr (pos (inHour k legValue Sell h ns)))
 
 -- ---- a proposal
+-- its lines fit the tables
+pub proposal-fits : (t : Tables) → Sound t → (legs : List Leg) → All (Fits (members t)) (proposalLines t legs)
+unfolding proposalLines
+proposal-fits t s legs =
+    let ns = namedLegs (orders t) legs in
+    mapped-all (Fits (members t)) legLine ns (all-map (λ n. (n .order .contract < contractCount) × (n .order .member < members t)) _ ns
+    (λ n p. record { contract< = p .0; member< = p .1 }) (named-all (λ o. (o .contract < contractCount) × (o .member < members t)) (orders t) legs (s .placed)))
+
 module _ (h : Header) (d : ℕ) (t : Tables) (r : Runs h d t) (s : Sound t) (legs : List Leg) (ok : acceptable t legs ≡ true) where
   pub proposal-fair : Fair h (hasCascaded (calendarOf h) d) (proposalLines t legs)
   unfolding proposalLines acceptable
@@ -138,8 +146,7 @@ module _ (h : Header) (d : ℕ) (t : Tables) (r : Runs h d t) (s : Sound t) (leg
       let ns = namedLegs (orders t) legs in
       let fine : balanced (calendarOf h) ns ≡ true = ap (λ k. balanced k ns) (sym (runs-calendar r)) ∙ all-hold _ ok .1 .1 .1 .1 .1 .1 .0 in
       record {
-        fits = mapped-all (Fits (h .members)) legLine ns (all-map (λ n. (n .order .contract < contractCount) × (n .order .member < members t)) _ ns
-            (λ n p. record { contract< = p .0; member< = rw (r .size) at (p .1) }) (named-all (λ o. (o .contract < contractCount) × (o .member < members t)) (orders t) legs (s .placed)));
+        fits = subst (λ n. All (Fits n) (proposalLines t legs)) (r .size) (proposal-fits t s legs);
         balanced = λ x hour b. hour-nothing (calendarOf h) x hour ns (passed _ (balanced-every-hour (calendarOf h) ns (passes (balanced (calendarOf h) ns) fine) hour (b .0) (b .1)));
         clear = mapped-all (λ l. hasCascaded (calendarOf h) d (l .contract) ≡ false) legLine ns (all-map (λ n. InOpen h d (n .order)) _ ns
             (λ n p. open-not-cascaded (calendarOf h) d (n .order .contract) p) (named-all (InOpen h d) (orders t) legs (r .resting)));
@@ -149,5 +156,5 @@ module _ (h : Header) (d : ℕ) (t : Tables) (r : Runs h d t) (s : Sound t) (leg
   unfolding proposalBooked withOrders
   proposal-does =
       let os = usedByLegs legs (orders t) in
-      booked-does h d (proposalLines t legs) t (withOrders os t) r s (set-other 4 (t .head) 7 (length os) (omega arith) (changing (omega arith) (omega arith)))
+      booked-does h d (proposalLines t legs) t (withOrders os t) r s (set-other timePlace (t .head) orderCountPlace (length os) (omega arith) (changing (omega arith) (omega arith)))
       (rw (orders-written os t (omega (arith, s .head-long))) (legs-rest (InOpen h d) legs (orders t) (λ o q p. p) (r .resting))) refl refl proposal-fair

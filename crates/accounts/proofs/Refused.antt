@@ -11,13 +11,13 @@ use Rattle.rules.specs.Ledger.{Tables, withLines, firstLines, ledgerShort, fres
 use Rattle.rules.specs.Refusals.{applySpec, makeSpec}
 use Rattle.rules.specs.Accounts.{Call, callSpec, after, isAccepted, linesOf, log}
 use Rattle.accounts.specs.Refused.{RefusedChangesNothing, RefusedMakesNothing, acceptedCalls, SameLedger, StrikingChangesNothing}
-use Rattle.accounts.proofs.EachKind.{decide-shows, kind-accepted, every-call}
+use Rattle.accounts.proofs.EachKind.{decide-shows, kind-decides, every-call}
 
 abbrev Leaves : Tables → Outcome Tables → Type 0
 Leaves t o = isAccepted (o .answer) ≡ false → o .after ≡ t
 
 pub refused-changes-nothing : RefusedChangesNothing
-refused-changes-nothing = every-call Leaves (λ t a q _. refl) (λ e t legs u s n q. never (sym (kind-accepted t e legs) ∙ q))
+refused-changes-nothing = every-call Leaves (λ t a q _. refl) (λ e t legs u s n q. never (sym (kind-decides t e legs .accepted) ∙ q))
 
 pub refused-makes-nothing : RefusedMakesNothing
 unfolding makeSpec

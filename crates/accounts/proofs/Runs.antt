@@ -10,8 +10,8 @@ use lib.Seq.{getD-set-other}
 use Rattle.arith.specs.Lists.{All}
 use Rattle.arith.proofs.Alls.{all-map}
 use Rattle.arith.proofs.Tests.{by-bool}
-use Rattle.rules.specs.Ledger.{headLength, rowsLength}
-use Rattle.rules.specs.Ranges.{contractCount}
+use Rattle.rules.specs.Ledger.{headLength, rowsLength, firstYearPlace, membersPlace, holidayCountPlace, dayPlace, timePlace, holidaysFrom, submitsFrom, lotsRunPlace, orderCountPlace}
+use Rattle.rules.specs.Ranges.{contractCount, mostMembers, mostHolidays}
 use Rattle.rules.specs.declared.order.Order.{Order}
 use Rattle.rules.specs.Contracts.{openOn}
 use Rattle.rules.specs.Header.{Header, calendarOf}
@@ -45,8 +45,8 @@ pub record Sound (t : Tables) : Type 0 where
   pub head-long : headLength ≤ length (t .head)
   pub lots-long : rowsLength ≤ length (t .lots)
   pub value-long : rowsLength ≤ length (t .value)
-  pub few-holidays : holidayCount t ≤ 120
-  pub few-members : members t ≤ 32
+  pub few-holidays : holidayCount t ≤ mostHolidays
+  pub few-members : members t ≤ mostMembers
   pub placed : All (λ o. (o .contract < contractCount) × (o .member < members t)) (orders t)
 
 pub sound-parts : (t : Tables) → Long t → headSound t ≡ true → bookSound t ≡ true → Sound t
@@ -65,30 +65,30 @@ pub sound-of : {t : Tables} → Undamaged t → Sound t
 sound-of {t} u = sound-parts t (u .long) (u .head-sound) (u .book-sound)
 
 -- an accepted record's time leaves the header
-pub timed-same : (n : ℕ) (t : Tables) → Sound t → SameHeader 4 (t .head) (timed n t .head)
+pub timed-same : (n : ℕ) (t : Tables) → Sound t → SameHeader timePlace (t .head) (timed n t .head)
 unfolding timed withoutSubmits
 timed-same n t s =
-    by-bool (λ b. SameHeader 4 (t .head) ((cond b (withHead (set (withoutSubmits t .head) 4 n) t) t) .head)) (ltb (time t) n)
-    (λ _. then-same (over-other 4 (t .head) (replicate (members t) 0) 192 (omega arith) (omega arith) (omega (arith, s .head-long)))
-    (set-other 4 (withoutSubmits t .head) 4 n (omega arith) (changing (omega arith) (omega arith))))
-    (λ _. same-header 4 (t .head))
+    by-bool (λ b. SameHeader timePlace (t .head) ((cond b (withHead (set (withoutSubmits t .head) timePlace n) t) t) .head)) (ltb (time t) n)
+    (λ _. then-same (over-other timePlace (t .head) (replicate (members t) 0) submitsFrom (omega arith) (omega arith) (omega (arith, s .head-long)))
+    (set-other timePlace (withoutSubmits t .head) timePlace n (omega arith) (changing (omega arith) (omega arith))))
+    (λ _. same-header timePlace (t .head))
 
 -- the tables after a record whose head kept the header, with these orders; with f = 3 the day is another one
-pub runs-with : (f : ℕ) (h : Header) (d d′ : ℕ) (t t′ : Tables) → 3 ≤ f → Runs h d t → Sound t → SameHeader f (t .head) (t′ .head)
+pub runs-with : (f : ℕ) (h : Header) (d d′ : ℕ) (t t′ : Tables) → dayPlace ≤ f → Runs h d t → Sound t → SameHeader f (t .head) (t′ .head)
     → day t′ ≡ d′ → All (InOpen h d′) (orders t′) → Runs h d′ t′
 runs-with f h d d′ t t′ q r s a today o = record {
-  year = a .places 0 (field (omega arith)) ∙ r .year;
-  size = a .places 1 (field (omega arith)) ∙ r .size;
-  days = ap (λ n. take n (drop 8 (t′ .head))) (a .places 2 (field (omega arith))) ∙ same-holidays f (t .head) (t′ .head) (holidayCount t) a (s .head-long) (s .few-holidays) ∙ r .days;
+  year = a .places firstYearPlace (field (omega arith)) ∙ r .year;
+  size = a .places membersPlace (field (omega arith)) ∙ r .size;
+  days = ap (λ n. take n (drop holidaysFrom (t′ .head))) (a .places holidayCountPlace (field (omega arith))) ∙ same-holidays f (t .head) (t′ .head) (holidayCount t) a (s .head-long) (s .few-holidays) ∙ r .days;
   today = today;
   resting = o;
 }
 
 -- a record that prints lines ls: the head before the booking kept the header and the day, and it has these orders
-pub booked-runs : (h : Header) (d : ℕ) (ls : List Line) (t t′ : Tables) → Runs h d t → Sound t → SameHeader 4 (t .head) (t′ .head) → All (InOpen h d) (orders t′)
+pub booked-runs : (h : Header) (d : ℕ) (ls : List Line) (t t′ : Tables) → Runs h d t → Sound t → SameHeader timePlace (t .head) (t′ .head) → All (InOpen h d) (orders t′)
     → Runs h d (booked ls t′ .after)
 unfolding booked
 booked-runs h d ls t t′ r s a o =
-    let b = then-same a (set-other 4 (t′ .head) 6 (lotsRun t′ + lineRun ls) (omega arith) (changing (omega arith) (omega arith))) in
-    runs-with 4 h d d t (booked ls t′ .after) (omega arith) r s b (b .places 3 (field (omega arith)) ∙ r .today)
-    (rw (orders-same t′ (booked ls t′ .after) (getD-set-other (t′ .head) 6 7 (lotsRun t′ + lineRun ls) 0 (λ e. omega arith)) refl) o)
+    let b = then-same a (set-other timePlace (t′ .head) lotsRunPlace (lotsRun t′ + lineRun ls) (omega arith) (changing (omega arith) (omega arith))) in
+    runs-with timePlace h d d t (booked ls t′ .after) (omega arith) r s b (b .places dayPlace (field (omega arith)) ∙ r .today)
+    (rw (orders-same t′ (booked ls t′ .after) (getD-set-other (t′ .head) lotsRunPlace orderCountPlace (lotsRun t′ + lineRun ls) 0 (λ e. omega arith)) refl) o)

@@ -1,7 +1,7 @@
 -- Every list that a record writes fits in its table: orders are 256 at most, lines 200, members 32.
 use Prim.Native.Nat.{ℕ, suc, _*_, _≤_, _<_}
 use mathlib.Core.Path.{_≡_, refl, sym, _∙_}
-use mathlib.Core.Bool.{true, not, cond}
+use mathlib.Core.Bool.{Bool, true, false, not, cond}
 use mathlib.Core.List.{List, [], _∷_, flatMap}
 use mathlib.Core.Option.{Option, none, some}
 use native.Mathlib.Omega.{arith}
@@ -9,36 +9,34 @@ use native.Mathlib.Nat.{zero-mul, suc-mul}
 use lib.Dec.{eqb, ltb}
 use lib.ListN.{length, replicate, length-map, length-append, length-set, length-replicate}
 use lib.IntN.{ℤ, pos}
-use borrow.Author.Tests.{not-false}
 use Rattle.arith.specs.Lists.{All, kept, over}
 use Rattle.arith.proofs.Alls.{all-map}
 use Rattle.arith.proofs.EachBlock.{in-each-length}
 use Rattle.arith.proofs.Overs.{over-length}
-use Rattle.arith.proofs.Tests.{never, by-bool}
+use Rattle.arith.proofs.Tests.{by-bool}
 use Rattle.rules.specs.Ledger.{bookLength, headLength, linesLength, rowsLength}
 use Rattle.rules.specs.Ranges.{contractCount, mostPrice}
-use Rattle.rules.specs.declared.answer.Answer.the-variants.{Accepted, TableUnsound, HeaderUnsound}
-use Rattle.rules.specs.declared.event.Event.{Event}
-use Rattle.rules.specs.declared.event.Event.the-variants.{Submit, Cancel, DayLimits, Proposal, Default, CloseOut, CloseOfDay}
+use Rattle.rules.specs.declared.event.CloseOutTerms.{CloseOutTerms}
 use Rattle.rules.specs.declared.event.Leg.{Leg}
 use Rattle.rules.specs.declared.event.Submission.{Submission}
 use Rattle.rules.specs.declared.order.Order.{Order}
 use Rattle.rules.specs.Answers.{Outcome, told}
 use Rattle.rules.specs.Contracts.{openContracts}
-use Rattle.rules.specs.Header.{Header, headerOf, beginsWithHeader}
-use Rattle.rules.specs.Ledger.{Tables, Line, withHead, withPrices, withDayLimits, members, day, calendar, time, withTime, withMark, orders, withOrders, orderPlaces, linePlaces}
-use Rattle.rules.specs.Ledger.{lineLots, lineValue, booked, withoutSubmits, timed, freshPrices, freshRows, fresh, ledgerShort}
-use Rattle.rules.specs.Records.{eventSound}
+use Rattle.rules.specs.Header.{Header}
+use Rattle.rules.specs.Ledger.{Tables, Line, withHead, withPrices, members, day, calendar, time, withTime, withMark, orders, withOrders, orderPlaces, linePlaces}
+use Rattle.rules.specs.Ledger.{lineLots, lineValue, booked, withoutSubmits, timed, freshPrices, freshRows, fresh}
+use Rattle.rules.specs.Ledger.{membersPlace, submitsFrom, orderWidth, lineWidth}
+use Rattle.rules.specs.Ranges.{mostMembers, mostOrders, leastLines, mostLegs}
 use Rattle.rules.specs.Matching.{Deal, dealLines, incoming, submitMatched, submitLines, submitOrders, withDeals, counted, submitBooked}
 use Rattle.rules.specs.Synthetic.{numbered, namedLegs, legLine, proposalLines, usedByLegs, proposalBooked}
 use Rattle.rules.specs.CloseOfDay.{withGgfs, withoutDeals, priced, cascaded, allCascaded, closingContracts, isOfAny, withClosed, onDay, closeBooked}
 use Rattle.rules.specs.Default.{defaultBooked, closeOutLines, closeOutBooked}
-use Rattle.rules.specs.Refusals.{isCancelled, applySpec, makeSpec}
+use Rattle.rules.specs.Refusals.{submitCauses}
 use Rattle.rules.specs.Accounts.{isAccepted}
-use Rattle.rules.proofs.SoundTables.{Long, long-enough, Undamaged}
-use Rattle.rules.proofs.SoundEvents.{submission, proposal}
-use Rattle.accounts.specs.Lengths.{SameLengths, LengthsStay, MakingKeepsLengths, AtMost200Lines}
-use Rattle.rules.proofs.SoundHeaders.{SoundHeader, header-gives, begun}
+use Rattle.rules.proofs.SoundTables.{Long, Undamaged}
+use Rattle.rules.proofs.SoundEvents.{SoundSubmission}
+use Rattle.accounts.specs.Lengths.{SameLengths}
+use Rattle.rules.proofs.SoundHeaders.{SoundHeader}
 use Rattle.accounts.proofs.Runs.{orders-same}
 use Rattle.rules.proofs.Cascade.{cascaded-length}
 use Rattle.accounts.proofs.Rows.{posted-length}
@@ -48,11 +46,10 @@ use Rattle.accounts.proofs.CloseOutLines.{close-out-few}
 use Rattle.accounts.proofs.Remains.{Remain, remain-length, kept-remain, legs-remain}
 use Rattle.accounts.proofs.Books.{orders-count, submit-deals}
 use Rattle.accounts.proofs.HeadStays.{submit-few}
-use Rattle.accounts.proofs.EachKind.{decide-shows, acceptedAs, NoCause, every-call}
 use Rattle.accounts.proofs.GgfStays.{written-length}
 use Rattle.accounts.proofs.Places.{written-place}
 
-same-lengths : (t : Tables) → SameLengths t t
+pub same-lengths : (t : Tables) → SameLengths t t
 same-lengths t = record { head = refl; prices = refl; lots = refl; value = refl; book = refl; lines = refl }
 
 then-lengths : {t u v : Tables} → SameLengths t u → SameLengths u v → SameLengths t v
@@ -75,7 +72,7 @@ unfolding flatMap
 each-places w places e [] = sym (zero-mul w)
 each-places w places e (b ∷ bs) = simp length-append (omega (arith, e b, each-places w places e bs, suc-mul (length bs) w))
 
-booked-lengths : (ls : List Line) (u : Tables) → length ls ≤ 200 → linesLength ≤ length (u .lines) → SameLengths u (booked ls u .after)
+booked-lengths : (ls : List Line) (u : Tables) → length ls ≤ leastLines → linesLength ≤ length (u .lines) → SameLengths u (booked ls u .after)
 unfolding booked
 booked-lengths ls u few long = record {
   head = simp length-set;
@@ -83,17 +80,17 @@ booked-lengths ls u few long = record {
   lots = posted-length lineLots ls (u .lots);
   value = posted-length lineValue ls (u .value);
   book = refl;
-  lines = over-length 0 (flatMap linePlaces ls) (u .lines) (omega (arith, each-places 4 linePlaces (λ _. refl) ls));
+  lines = over-length 0 (flatMap linePlaces ls) (u .lines) (omega (arith, each-places lineWidth linePlaces (λ _. refl) ls));
 }
 
-written-lengths : (os : List Order) (u : Tables) → length os ≤ 256 → bookLength ≤ length (u .book) → SameLengths u (withOrders os u)
+written-lengths : (os : List Order) (u : Tables) → length os ≤ mostOrders → bookLength ≤ length (u .book) → SameLengths u (withOrders os u)
 unfolding withOrders
 written-lengths os u few long = record {
   head = simp length-set;
   prices = refl;
   lots = refl;
   value = refl;
-  book = over-length 0 (flatMap orderPlaces os) (u .book) (omega (arith, each-places 8 orderPlaces (λ _. refl) os));
+  book = over-length 0 (flatMap orderPlaces os) (u .book) (omega (arith, each-places orderWidth orderPlaces (λ _. refl) os));
   lines = refl;
 }
 
@@ -113,9 +110,9 @@ named-few os (g ∷ gs) = go (numbered (g .order) os) refl (named-few os gs)
 
 -- ---- what records are made of
 module _ (t : Tables) (u : Undamaged t) where
-  without-lengths : (v : Tables) → members v ≤ 32 → headLength ≤ length (v .head) → length (withoutSubmits v .head) ≡ length (v .head)
+  without-lengths : (v : Tables) → members v ≤ mostMembers → headLength ≤ length (v .head) → length (withoutSubmits v .head) ≡ length (v .head)
   unfolding withoutSubmits
-  without-lengths v m l = over-length 192 (replicate (members v) 0) (v .head) (omega (arith, length-replicate {A = ℕ} (members v) 0))
+  without-lengths v m l = over-length submitsFrom (replicate (members v) 0) (v .head) (omega (arith, length-replicate {A = ℕ} (members v) 0))
 
   timed-lengths : (n : ℕ) → SameLengths t (timed n t)
   unfolding timed
@@ -124,30 +121,16 @@ module _ (t : Tables) (u : Undamaged t) where
       (λ _. head-lengths t _ (simp length-set (without-lengths t (u .head .members-range .to) (u .long .head)))) (λ _. same-lengths t)
 
   -- what remains of the orders fits
-  remain-few : (os : List Order) → Remain (orders t) os → length os ≤ 256
+  remain-few : (os : List Order) → Remain (orders t) os → length os ≤ mostOrders
   remain-few os x = omega (arith, remain-length x, orders-count t, u .head .orders≤)
 
   -- orders and lines written in tables v, as long as t
-  both-lengths : (v : Tables) (os : List Order) (ls : List Line) → SameLengths t v → length os ≤ 256 → length ls ≤ 200 → SameLengths t (booked ls (withOrders os v) .after)
+  both-lengths : (v : Tables) (os : List Order) (ls : List Line) → SameLengths t v → length os ≤ mostOrders → length ls ≤ leastLines → SameLengths t (booked ls (withOrders os v) .after)
   both-lengths v os ls a o l =
       let w = then-lengths a (written-lengths os v o (omega (arith, a .book, u .long .book))) in
       then-lengths w (booked-lengths ls (withOrders os v) l (omega (arith, w .lines, u .lines)))
 
-  submit-lengths : (e : Submission) (legs : List Leg) → eventSound (members t) (Submit e) legs ≡ true → NoCause t (Submit e) legs
-      → SameLengths t (submitBooked t e .after) × (length (submitLines t e) ≤ 200)
-  unfolding submitBooked submitLines withDeals counted
-  submit-lengths e legs s n =
-      let f = submission (members t) e legs s in
-      let few : length (submitLines t e) ≤ 200 =
-      omega (arith, deal-lines (incoming t e) (submitMatched t e .deals), submit-deals t e (u .book-sound), f .lots .to) in
-      let a = timed-lengths (e .time) in (
-        both-lengths (withDeals (e .contract) (submitMatched t e .deals) (counted (e .member) (timed (e .time) t))) (submitOrders t e) (submitLines t e)
-            (record { head = simp length-set (a .head); prices = simp length-set (a .prices); lots = a .lots; value = a .value; book = a .book; lines = a .lines })
-            (submit-few t (u .head-sound) (u .long .head) e (f .time≤) (f .member<) n) few,
-        few,
-      )
-
-  -- ---- the close of day
+  -- the close of day
   cascaded-lengths : (m : ℕ) (cs : List ℕ) (l : List ℤ) → m ≤ 32 → All (λ c. c < contractCount) cs → rowsLength ≤ length l → length (allCascaded m cs l) ≡ length l
   unfolding allCascaded
   cascaded-lengths m [] l k h s = refl
@@ -169,9 +152,9 @@ module _ (t : Tables) (u : Undamaged t) where
         lines = refl;
       }
 
-  close-lengths : (n : ℕ) → SameLengths t (closeBooked t n .after)
+  evening-lengths : (n : ℕ) → SameLengths t (closeBooked t n .after)
   unfolding closeBooked withClosed priced onDay
-  close-lengths n =
+  evening-lengths n =
       let p = priced n t in
       let cs = closingContracts t in
       let few = u .head .members-range .to in
@@ -179,7 +162,7 @@ module _ (t : Tables) (u : Undamaged t) where
       let os = kept (λ o. not (isOfAny cs o)) (orders p) in
       let w = then-lengths (priced-lengths n) (written-lengths os p (rw (orders-same t p refl refl) (remain-few _ (kept-remain _ (orders t)))) (u .long .book)) in
       let v = withClosed cs p in
-      let day = without-lengths v (omega (arith, written-place os p 1 (λ q. omega arith), few)) (omega (arith, w .head, u .long .head)) in
+      let day = without-lengths v (omega (arith, written-place os p membersPlace (λ q. omega arith), few)) (omega (arith, w .head, u .long .head)) in
       record {
         head = simp length-set (day ∙ w .head);
         prices = w .prices;
@@ -218,56 +201,58 @@ stays-long a l = record {
   book = omega (arith, a .book, l .book);
 }
 
--- ---- every kind
+-- ---- each kind
 -- lengths stay, and an accepted record's lines fit
 pub record Fits (t : Tables) (o : Outcome Tables) : Type 0 where
   pub lengths : SameLengths t (o .after)
-  pub few : isAccepted (o .answer) ≡ true → told (o .answer) .value ≤ 200
+  pub few : isAccepted (o .answer) ≡ true → told (o .answer) .value ≤ leastLines
 
-booked-fits : (t u : Tables) (ls : List Line) → length ls ≤ 200 → SameLengths t (booked ls u .after) → Fits t (booked ls u)
+booked-fits : (t u : Tables) (ls : List Line) → length ls ≤ leastLines → SameLengths t (booked ls u .after) → Fits t (booked ls u)
 unfolding booked
 booked-fits t u ls few a = record { lengths = a; few = λ _. few }
 
-close-fits : (t : Tables) → Undamaged t → (n : ℕ) → Fits t (closeBooked t n)
-unfolding closeBooked
-close-fits t u n = record { lengths = close-lengths t u n; few = λ _. omega arith }
+module _ (t : Tables) (u : Undamaged t) where
+  -- what remains of the orders is written in tables v, as long as t
+  removed-fits : (v : Tables) (p : Order → Bool) → SameLengths t v → Fits t (booked [] (withOrders (kept p (orders t)) v))
+  removed-fits v p a =
+      let os = kept p (orders t) in
+      booked-fits t (withOrders os v) [] (omega arith) (both-lengths t u v os [] a (remain-few t u os (kept-remain p (orders t))) (omega arith))
 
-pub kind-fits : (e : Event) (t : Tables) (legs : List Leg) → Undamaged t → eventSound (members t) e legs ≡ true → NoCause t e legs → Fits t (acceptedAs t e legs)
-unfolding submitBooked proposalBooked proposalLines defaultBooked closeOutBooked
-kind-fits (Submit e) t legs u s n = let a = submit-lengths t u e legs s n in booked-fits t _ (submitLines t e) (a .1) (a .0)
-kind-fits (Cancel e) t legs u s n =
-    let os = kept (λ o. not (isCancelled e o)) (orders t) in
-    booked-fits t _ [] (omega arith) (both-lengths t u (timed (e .time) t) os [] (timed-lengths t u (e .time)) (remain-few t u os (kept-remain _ (orders t))) (omega arith))
-kind-fits (DayLimits e) t legs u s n =
-    let p = withDayLimits (e .contract) (e .low .0) (e .high .0) (t .prices) in
-    let a : SameLengths t (withPrices p t) = record { head = refl; prices = simp length-set; lots = refl; value = refl; book = refl; lines = refl } in
-    booked-fits t (withPrices p t) [] (omega arith) (then-lengths a (booked-lengths [] (withPrices p t) (omega arith) (u .lines)))
-kind-fits (Proposal k) t legs u s n =
-    let os = usedByLegs legs (orders t) in
-    let few : length (proposalLines t legs) ≤ 200 = omega (arith, length-map (namedLegs (orders t) legs) legLine, named-few (orders t) legs, proposal (members t) k legs s .few) in
-    booked-fits t _ (proposalLines t legs) few (both-lengths t u t os (proposalLines t legs) (same-lengths t) (remain-few t u os (legs-remain legs (orders t))) few)
-kind-fits (Default m) t legs u s n =
-    let os = kept (λ o. not (eqb (o .member) m)) (orders t) in
-    booked-fits t _ [] (omega arith)
-    (both-lengths t u (withHead (withMark m (t .head)) t) os [] (head-lengths t (withMark m (t .head)) (simp length-set)) (remain-few t u os (kept-remain _ (orders t))) (omega arith))
-kind-fits (CloseOut e) t legs u s n =
-    let few : length (closeOutLines t e) ≤ 200 = omega (arith, close-out-few t e, u .head .members-range .to) in
-    booked-fits t t (closeOutLines t e) few (booked-lengths (closeOutLines t e) t few (u .lines))
-kind-fits (CloseOfDay k) t legs u s n = close-fits t u k
+  pub submit-lengths : (e : Submission) → SoundSubmission (members t) e → All (λ c. c .0 ≡ false) (submitCauses t e) → Fits t (submitBooked t e)
+  unfolding submitBooked submitLines withDeals counted
+  submit-lengths e f n =
+      let few : length (submitLines t e) ≤ leastLines = omega (arith, deal-lines (incoming t e) (submitMatched t e .deals), submit-deals t e (u .book-sound), f .lots .to) in
+      let a = timed-lengths t u (e .time) in
+      booked-fits t _ (submitLines t e) few
+      (both-lengths t u (withDeals (e .contract) (submitMatched t e .deals) (counted (e .member) (timed (e .time) t))) (submitOrders t e) (submitLines t e)
+      (record { head = simp length-set (a .head); prices = simp length-set (a .prices); lots = a .lots; value = a .value; book = a .book; lines = a .lines })
+      (submit-few t (u .head-sound) (u .long .head) e (f .time≤) (f .member<) n) few)
 
-pub apply-fits : (t : Tables) (bytes : List ℕ) → Fits t (applySpec t bytes)
-apply-fits = every-call Fits (λ t a q. record { lengths = same-lengths t; few = λ e. never (sym e ∙ q) }) kind-fits
+  pub cancel-lengths : (n : ℕ) (p : Order → Bool) → Fits t (booked [] (withOrders (kept p (orders t)) (timed n t)))
+  cancel-lengths n p = removed-fits (timed n t) p (timed-lengths t u n)
 
-pub lengths-stay : LengthsStay
-lengths-stay t bytes = apply-fits t bytes .lengths
+  pub limits-lengths : (l : List ℕ) → length l ≡ length (t .prices) → Fits t (booked [] (withPrices l t))
+  limits-lengths l e =
+      let a : SameLengths t (withPrices l t) = record { head = refl; prices = e; lots = refl; value = refl; book = refl; lines = refl } in
+      booked-fits t (withPrices l t) [] (omega arith) (then-lengths a (booked-lengths [] (withPrices l t) (omega arith) (u .lines)))
 
-pub at-most-200-lines : AtMost200Lines
-at-most-200-lines t bytes = apply-fits t bytes .few
+  pub proposal-lengths : (legs : List Leg) → length legs ≤ mostLegs → Fits t (proposalBooked t legs)
+  unfolding proposalBooked proposalLines
+  proposal-lengths legs most =
+      let os = usedByLegs legs (orders t) in
+      let few : length (proposalLines t legs) ≤ leastLines = omega (arith, length-map (namedLegs (orders t) legs) legLine, named-few (orders t) legs) in
+      booked-fits t _ (proposalLines t legs) few (both-lengths t u t os (proposalLines t legs) (same-lengths t) (remain-few t u os (legs-remain legs (orders t))) few)
 
-pub making-keeps-lengths : MakingKeepsLengths
-unfolding makeSpec
-making-keeps-lengths t bytes =
-    decide-shows (λ o. SameLengths t (o .after)) t (record { answer = Accepted 0; after = fresh (headerOf bytes) t })
-    ((ledgerShort t, TableUnsound) ∷ (not (beginsWithHeader bytes), HeaderUnsound) ∷ [])
-    (λ a q. same-lengths t) (refl, (refl, tt))
-    (λ none. fresh-lengths (headerOf bytes) t (header-gives (headerOf bytes) (begun bytes (not-false _ (none .1 .0)))) (long-enough t (none .0)))
+  pub default-lengths : (m : ℕ) → Fits t (defaultBooked t m)
+  unfolding defaultBooked
+  default-lengths m = removed-fits (withHead (withMark m (t .head)) t) (λ o. not (eqb (o .member) m)) (head-lengths t (withMark m (t .head)) (simp length-set))
+
+  pub close-out-lengths : (e : CloseOutTerms) → Fits t (closeOutBooked t e)
+  unfolding closeOutBooked
+  close-out-lengths e =
+      let few : length (closeOutLines t e) ≤ leastLines = omega (arith, close-out-few t e, u .head .members-range .to) in
+      booked-fits t t (closeOutLines t e) few (booked-lengths (closeOutLines t e) t few (u .lines))
+
+  pub close-lengths : (n : ℕ) → Fits t (closeBooked t n)
+  unfolding closeBooked
+  close-lengths n = record { lengths = evening-lengths t u n; few = λ _. omega arith }

@@ -1,5 +1,5 @@
 -- A submit: its deals' lines come in pairs, and its orders rest in open contracts.
-use mathlib.Core.Path.{_≡_, refl, sym, ap, _∙_}
+use mathlib.Core.Path.{_≡_, refl, sym, ap, subst, _∙_}
 use mathlib.Core.Bool.{Bool, true, false, cond}
 use mathlib.Core.List.{List, [], _∷_, _++_, flatMap}
 use Prim.Native.Nat.{ℕ, _+_, _%_, _<_}
@@ -22,7 +22,7 @@ use Rattle.rules.specs.Days.{Calendar}
 use Rattle.rules.specs.Contracts.{holdsHour, termOf, termClosingDay, stillToClose, openOn, hasCascaded}
 use Rattle.rules.proofs.CalendarLaws.{before-or-not, open-to-close}
 use Rattle.rules.specs.Header.{Header, calendarOf}
-use Rattle.rules.specs.Ledger.{Tables, Line, members, day, isOpen, time, acceptedSubmits, submitsThisSecond, withHead, orders, withOrders, withoutSubmits, timed}
+use Rattle.rules.specs.Ledger.{timePlace, acceptedSubmitsPlace, orderCountPlace, Tables, Line, members, day, isOpen, time, acceptedSubmits, submitsThisSecond, withHead, orders, withOrders, withoutSubmits, timed}
 use Rattle.rules.specs.Sides.{signed, otherSide}
 use Rattle.rules.specs.Matching.{opposes, withLots, Deal, matching, matched, dealLines, incoming, submitMatched, submitLines, wouldRest, submitOrders, withDeals, counted, submitBooked}
 use Rattle.rules.specs.Accounts.{Column, lots, value, amount}
@@ -72,6 +72,24 @@ module _ (P : Order → Type 0) (keep : (o : Order) (q : ℕ) → P o → P (wit
       (λ o r os m e l ih a.
       (best-all P (opposes o) os (all-map P (λ b. opposes o b ≡ true → P b) os (λ b p _. p) a) r e, ih (used-all P (r .number) _ os a (λ b p _. keep b _ p))))
 
+-- ---- what needs the tables alone
+pub timed-rows : (n : ℕ) (t : Tables) → (timed n t .lots ≡ t .lots) × (timed n t .value ≡ t .value) × (timed n t .book ≡ t .book)
+unfolding timed
+timed-rows n t =
+    by-bool (λ b. let u = cond b (withHead (set (withoutSubmits t .head) timePlace n) t) t in (u .lots ≡ t .lots) × (u .value ≡ t .value) × (u .book ≡ t .book)) (ltb (time t) n)
+    (λ _. (refl, refl, refl)) (λ _. (refl, refl, refl))
+
+-- a submit's lines fit the tables
+pub submit-fits : (t : Tables) → Sound t → (e : Submission) → e .contract < contractCount → e .member < members t → All (Fits (members t)) (submitLines t e)
+unfolding submitLines submitMatched matched
+submit-fits t s e contract< member< =
+    let o = incoming t e in
+    let ds = matching (length (orders t)) o (orders t) .deals in
+    let placed = dealt-all (λ b. b .member < members t) (λ b q p. p) (length (orders t)) o (orders t)
+    (all-map (λ b. (b .contract < contractCount) × (b .member < members t)) (λ b. b .member < members t) (orders t) (λ b p. p .1) (s .placed)) in
+    deals-each (Fits (members t)) o ds (all-map (λ x. x .resting .member < members t) _ ds
+    (λ x p. (record { contract< = contract<; member< = member< }, (record { contract< = contract<; member< = p }, tt))) placed)
+
 -- ---- what is open is not cascaded
 pub open-here : (h : Header) (d : ℕ) (t : Tables) (c : ℕ) → Runs h d t → isOpen t c ≡ openOn (calendarOf h) d c
 unfolding isOpen
@@ -84,14 +102,8 @@ open-not-cascaded k d c e = rw (before-or-not d (termClosingDay k (termOf c)), o
 -- ---- a submit
 module _ (h : Header) (d : ℕ) (t : Tables) (r : Runs h d t) (s : Sound t) where
   -- an accepted record's time
-  pub timed-header : (n : ℕ) → SameHeader 4 (t .head) (timed n t .head)
+  pub timed-header : (n : ℕ) → SameHeader timePlace (t .head) (timed n t .head)
   timed-header n = timed-same n t s
-
-  pub timed-rows : (n : ℕ) → (timed n t .lots ≡ t .lots) × (timed n t .value ≡ t .value) × (timed n t .book ≡ t .book)
-  unfolding timed
-  timed-rows n =
-      by-bool (λ b. let u = cond b (withHead (set (withoutSubmits t .head) 4 n) t) t in (u .lots ≡ t .lots) × (u .value ≡ t .value) × (u .book ≡ t .book)) (ltb (time t) n)
-      (λ _. (refl, refl, refl)) (λ _. (refl, refl, refl))
 
   module _ (e : Submission) (opened : isOpen t (e .contract) ≡ true) (contract< : e .contract < contractCount) (member< : e .member < members t) where
     here : openOn (calendarOf h) d (e .contract) ≡ true
@@ -102,11 +114,8 @@ module _ (h : Header) (d : ℕ) (t : Tables) (r : Runs h d t) (s : Sound t) wher
     submit-fair =
         let o = incoming t e in
         let ds = matching (length (orders t)) o (orders t) .deals in
-        let placed = dealt-all (λ b. b .member < h .members) (λ b q p. p) (length (orders t)) o (orders t)
-        (all-map (λ b. (b .contract < contractCount) × (b .member < members t)) (λ b. b .member < h .members) (orders t) (λ b p. rw (r .size) at (p .1)) (s .placed)) in
         record {
-          fits = deals-each (Fits (h .members)) o ds (all-map (λ x. x .resting .member < h .members) _ ds
-              (λ x p. (record { contract< = contract<; member< = rw (r .size) at member< }, (record { contract< = contract<; member< = p }, tt))) placed);
+          fits = subst (λ n. All (Fits n) (submitLines t e)) (r .size) (submit-fits t s e contract< member<);
           balanced = λ x hour _. deals-balanced (calendarOf h) x hour o ds;
           clear = let c = open-not-cascaded (calendarOf h) d (e .contract) here in deals-each (λ l. hasCascaded (calendarOf h) d (l .contract) ≡ false) o ds (all-always _ ds (λ x. (c, (c, tt))));
         }
@@ -125,9 +134,9 @@ module _ (h : Header) (d : ℕ) (t : Tables) (r : Runs h d t) (s : Sound t) wher
     submit-does =
         let u = timed (e .time) t in
         let v = withDeals (e .contract) (submitMatched t e .deals) (counted (e .member) u) in
-        let a = then-same (timed-header (e .time)) (then-same (set-other 4 (u .head) (submitsFrom + e .member) (submitsThisSecond u (e .member) + 1) (omega arith) (ofMember (omega arith)))
-        (set-other 4 (set (u .head) (submitsFrom + e .member) (submitsThisSecond u (e .member) + 1)) 5 (acceptedSubmits u + 1) (omega arith) (changing (omega arith) (omega arith)))) in
+        let a = then-same (timed-header (e .time)) (then-same (set-other timePlace (u .head) (submitsFrom + e .member) (submitsThisSecond u (e .member) + 1) (omega arith) (ofMember (omega arith)))
+        (set-other timePlace (set (u .head) (submitsFrom + e .member) (submitsThisSecond u (e .member) + 1)) acceptedSubmitsPlace (acceptedSubmits u + 1) (omega arith) (changing (omega arith) (omega arith)))) in
         booked-does h d (submitLines t e) t (withOrders (submitOrders t e) v) r s
-        (then-same a (set-other 4 (v .head) 7 (length (submitOrders t e)) (omega arith) (changing (omega arith) (omega arith))))
+        (then-same a (set-other timePlace (v .head) orderCountPlace (length (submitOrders t e)) (omega arith) (changing (omega arith) (omega arith))))
         (rw (orders-written (submitOrders t e) v (omega (arith, a .longer, s .head-long))) submit-rests)
-        (timed-rows (e .time) .0) (timed-rows (e .time) .1) submit-fair
+        (timed-rows (e .time) t .0) (timed-rows (e .time) t .1) submit-fair

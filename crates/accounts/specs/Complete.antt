@@ -8,7 +8,7 @@ use Rattle.arith.specs.Lists.{All}
 use Rattle.rules.specs.declared.event.Event.the-variants.{Submit}
 use Rattle.rules.specs.declared.event.Reading.the-variants.{Sound}
 use Rattle.rules.specs.declared.event.Submission.{Submission}
-use Rattle.rules.specs.Ledger.{Tables, members, orders}
+use Rattle.rules.specs.Ledger.{Tables, members, resting}
 use Rattle.rules.specs.Matching.{precedes, opposes, meets, incoming, submitMatched}
 use Rattle.rules.specs.Records.{readOf}
 use Rattle.rules.specs.Refusals.{applySpec}
@@ -23,11 +23,11 @@ abbrev pub MatchingIsComplete : Type 0
 MatchingIsComplete =
     (t : Tables) (bytes : List ℕ) (e : Submission)
     → AcceptedSubmit t bytes e
-    → (submitMatched t e .left ≡ 0) ⊎ All (λ r. opposes (incoming t e) r && meets (incoming t e) r ≡ false) (orders (applySpec t bytes .after))
+    → (submitMatched t e .left ≡ 0) ⊎ All (λ r. opposes (incoming t e) r && meets (incoming t e) r ≡ false) (resting (applySpec t bytes .after))
 
 -- A deal leaves no better order unmet: of the orders that still rest and oppose, none precedes one that was dealt with.
 abbrev pub NobodyIsPassedOver : Type 0
 NobodyIsPassedOver =
     (t : Tables) (bytes : List ℕ) (e : Submission)
     → AcceptedSubmit t bytes e
-    → All (λ deal. All (λ r. opposes (incoming t e) r && precedes r (deal .resting) ≡ false) (orders (applySpec t bytes .after))) (submitMatched t e .deals)
+    → All (λ deal. All (λ r. opposes (incoming t e) r && precedes r (deal .resting) ≡ false) (resting (applySpec t bytes .after))) (submitMatched t e .deals)

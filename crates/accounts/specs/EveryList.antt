@@ -11,7 +11,7 @@ use Rattle.rules.specs.declared.order.Side.the-variants.{Buy, Sell}
 use Rattle.rules.specs.Answers.{told}
 use Rattle.rules.specs.Contracts.{openOn}
 use Rattle.rules.specs.Header.{Header, calendarOf, headerOf, beginsWithHeader}
-use Rattle.rules.specs.Ledger.{Tables, Line, withLines, day, lotsRun, defaulted, ggf, orders, lineRun, ledgerShort, linesShort}
+use Rattle.rules.specs.Ledger.{Tables, Line, withLines, day, lotsRun, defaulted, ggf, orders, resting, lineRun, ledgerShort, linesShort}
 use Rattle.rules.specs.Refusals.{damaged, makeSpec}
 use Rattle.rules.specs.Accounts.{Call, callSpec, after, log, listsDay}
 
@@ -47,7 +47,7 @@ abbrev pub Uncrossed : List Order → Type 0
 Uncrossed os = All (λ buy. All (Below buy) os) os
 
 abbrev pub NeverCrossed : Type 0
-NeverCrossed = AfterEveryList (λ h t ls d. Uncrossed (orders t))
+NeverCrossed = AfterEveryList (λ h t ls d. Uncrossed (resting t))
 
 -- No order of a defaulted member rests.
 abbrev pub NoneDefaulted : Tables → Type 0

@@ -4,3 +4,4 @@ pub mod Lengths
 pub mod Complete
 pub mod EveryList
 pub mod ClosedOut
+pub mod StaysSound

@@ -12,7 +12,7 @@ use Rattle.rules.specs.Journal.{dealText, refusalText, answerText}
 use Rattle.rules.specs.Ledger.{Tables, firstLines}
 use Rattle.rules.specs.Ranges.{leastLines}
 use Rattle.rules.specs.Refusals.{applySpec}
-use Rattle.accounts.proofs.SameLengths.{at-most-200-lines}
+use Rattle.accounts.proofs.LengthsStay.{at-most-200-lines}
 use Rattle.text.specs.Wrote.{Wrote}
 use Rattle.printing.specs.Room.{lineRoom}
 use Rattle.records.specs.Stages.{RanOne}

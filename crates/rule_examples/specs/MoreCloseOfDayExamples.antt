@@ -11,7 +11,7 @@ use Rattle.rules.specs.Ledger.{Tables, calendar, withAcceptedSubmits, withLotsR
 use Rattle.rules.specs.Refusals.{applySpec}
 use Rattle.rules.specs.Computed.{tablesAfter, computed}
 use Rattle.rules.specs.ExampleRecords.{buy, sell, close, made, monday, inHead, held, order, bought, accepted, refused, Each, Prints}
-use Rattle.rules.specs.CloseOfDayExamples.{Prices, resting, placed, closed}
+use Rattle.rules.specs.CloseOfDayExamples.{Prices, ordersFrom, placed, closed}
 
 -- ---- the GGF
 -- V/M from 10, 20, 50 lots on, whatever is quoted; halves round up, less rounds down. One lot less, and no quote: the former GGF.
@@ -28,7 +28,7 @@ ggf-of-deals : Prices
     ∷ (0, 25000, 10, 260000, [], 25000)
     ∷ (85, 25000, 10, 260000, [], 25000)
     ∷ [])
-unfolding computed closed placed resting
+unfolding computed closed placed ordersFrom
 ggf-of-deals = refl
 
 -- Below the threshold, with quotes: (6V + M(b+s))/(8M) if there are deals, (b+s)/2 if not, of the best buy and the best sell.
@@ -40,7 +40,7 @@ ggf-of-quotes : Prices
     ∷ (7, 25000, 0, 0, (Buy, 27500, 50, 366, 0) ∷ [], 25000)
     ∷ (8, 25000, 0, 0, (Sell, 27500, 50, 366, 0) ∷ [], 25000)
     ∷ [])
-unfolding computed closed placed resting
+unfolding computed closed placed ordersFrom
 ggf-of-quotes = refl
 
 -- An order quotes from 10, 20, 50 lots on, if it entered on an earlier day, whenever, or at 35700 s at the latest.
@@ -54,7 +54,7 @@ which-orders-quote : Prices
     ∷ (24, 0, 0, 0, (Buy, 27500, 50, 368, 86399) ∷ (Sell, 27600, 50, 369, 35701) ∷ [], 0)
     ∷ (25, 0, 0, 0, (Buy, 27500, 50, 368, 86399) ∷ (Sell, 27600, 50, 370, 0) ∷ [], 0)
     ∷ [])
-unfolding computed closed placed resting
+unfolding computed closed placed ordersFrom
 which-orders-quote = refl
 
 -- Orders enter with the ledger's day and their own time: at 36000 s of Monday, 300 s and 299 s before the close, and the day before.
@@ -72,7 +72,7 @@ deals = sell 0 17 26000 5 ∷ sell 0 17 27000 5 ∷ buy 1 17 27000 10 ∷ []
 
 -- M and V become 0 in a contract that is not open too.
 closed-figures : (let t = closed ((0, 0, 10, 260000, [], 0) ∷ []) in dayLots t 0 ∷ dayValue t 0 ∷ []) ≡ 0 ∷ 0 ∷ []
-unfolding computed closed placed resting
+unfolding computed closed placed ordersFrom
 closed-figures = refl
 
 -- Tuesday, 370, is a holiday.

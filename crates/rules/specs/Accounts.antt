@@ -7,7 +7,6 @@ use lib.Dec.{T, eqb}
 use lib.IntN.{ℤ, pos, _+ℤ_}
 use Rattle.arith.specs.Ints.{when, sum}
 use Rattle.rules.specs.declared.answer.Answer.{Answer}
-use Rattle.rules.specs.declared.event.Event.the-variants.{Submit, Cancel, DayLimits, Proposal, Default, CloseOut, CloseOfDay}
 use Rattle.rules.specs.declared.event.Reading.{Reading}
 use Rattle.rules.specs.declared.event.Reading.the-variants.{Sound, Unsound}
 use Rattle.rules.specs.declared.units.Day.{Day}
@@ -18,7 +17,7 @@ use Rattle.rules.specs.Days.{Calendar, spanStart, dayAfterSpan, nextBusi
 use Rattle.rules.specs.Contracts.{holdsHour, hasCascaded}
 use Rattle.rules.specs.Header.{Header, calendarOf, headerOf, beginsWithHeader}
 use Rattle.rules.specs.Ledger.{Tables, Line, withLines, lotsAt, valueAt, lineLots, lineValue, firstLines, ledgerShort}
-use Rattle.rules.specs.Records.{readOf}
+use Rattle.rules.specs.Records.{isCloseOfDay, readOf}
 use Rattle.rules.specs.Refusals.{applySpec, makeSpec}
 
 -- ---- the list of calls
@@ -72,13 +71,7 @@ dayReached d (On x) = x .0
 dayReached d NoDay = d
 
 abbrev pub dayAfterEvent : Calendar → ℕ → Reading → ℕ
-dayAfterEvent k d (Sound (Submit e)) = d
-dayAfterEvent k d (Sound (Cancel e)) = d
-dayAfterEvent k d (Sound (DayLimits e)) = d
-dayAfterEvent k d (Sound (Proposal n)) = d
-dayAfterEvent k d (Sound (Default m)) = d
-dayAfterEvent k d (Sound (CloseOut e)) = d
-dayAfterEvent k d (Sound (CloseOfDay s)) = dayReached d (nextBusinessDay k d)
+dayAfterEvent k d (Sound e) = cond (isCloseOfDay e) (dayReached d (nextBusinessDay k d)) d
 dayAfterEvent k d Unsound = d
 
 unfoldable pub listsDay : Header → ℕ → Tables → List Call → ℕ

@@ -1,7 +1,8 @@
 -- Document 01, "Why a record is turned back": the numbers. What an outcome is, and how causes decide.
-use Prim.Native.Nat.{ℕ}
-use mathlib.Core.Bool.{Bool, true, false}
+use Prim.Native.Nat.{ℕ, suc}
+use mathlib.Core.Bool.{Bool, true, false, cond}
 use mathlib.Core.List.{List, [], _∷_}
+use lib.Dec.{eqb}
 use Rattle.rules.specs.declared.answer.Answer.{Answer}
 use Rattle.rules.specs.declared.answer.Answer.the-variants.{Accepted, TableUnsound, HeaderUnsound, RecordUnsound, TimeBelowLedger, MemberDefaulted, ContractNotOpen}
 use Rattle.rules.specs.declared.answer.Answer.the-variants.{PriceOutsideLimits, SixthSubmit, AboveLimit, CannotMatchInFull, BookFull, NoSuchOrder, NotAcceptable}
@@ -46,9 +47,31 @@ pub record Outcome (S : Type 0) : Type 0 where
   pub answer : Answer
   pub after : S
 
--- Lower number wins: a record's causes stand in rising number, and the first that holds refuses and leaves all as it was.
+-- ---- which cause is answered
+-- The numbers in the order of their ranks. Of two causes that hold, the one whose number stands first is answered: document 01's
+-- lower number wins. A further number is put in its place here, and no other rank is written anew.
+unfoldable pub ranking : List ℕ
+ranking = 1 ∷ 2 ∷ 3 ∷ 4 ∷ 5 ∷ 6 ∷ 7 ∷ 8 ∷ 9 ∷ 10 ∷ 11 ∷ 12 ∷ 13 ∷ 14 ∷ 15 ∷ 16 ∷ 17 ∷ 18 ∷ []
+
+-- Where n stands in a list whose first place is i; 0 where it does not.
+unfoldable pub placeFrom : ℕ → List ℕ → ℕ → ℕ
+placeFrom i [] n = 0
+placeFrom i (m ∷ ms) n = cond (eqb n m) i (placeFrom (suc i) ms n)
+
+-- The rank of a number, 1 for the first. That of 0, an accepted record, is 0, and so is that of a number which was left out.
+unfoldable pub rankOf : ℕ → ℕ
+rankOf n = placeFrom 1 ranking n
+
+abbrev pub rank : Answer → ℕ
+rank a = rankOf (told a .number)
+
+-- A cause: whether it holds, and its answer.
+abbrev pub Cause : Type 0
+Cause = Bool × Answer
+
+-- A record's causes stand in the order of their ranks, and the first that holds refuses and leaves all as it was.
 -- (A writer's stand in the order in which it tests.)
-abbrev pub decide : {S : Type 0} → List (Bool × Answer) → S → Outcome S → Outcome S
+abbrev pub decide : {S : Type 0} → List Cause → S → Outcome S → Outcome S
 decide [] s booked = booked
 decide ((true, a) ∷ causes) s booked = record { answer = a; after = s }
 decide ((false, a) ∷ causes) s booked = decide causes s booked

@@ -18,7 +18,7 @@ use Rattle.rules.specs.Ranges.{contractCount, secondsToQuote}
 use Rattle.rules.specs.Days.{nextBusinessDay}
 use Rattle.rules.specs.Contracts.{thresholdOf, kindOf, contractsOf, isParent, childrenOf, closesOn, openContracts}
 use Rattle.rules.specs.Ledger.{Tables, withHead, withPrices, withRows, members, day, calendar, withDay, withTime, priceWidth, dayLotsPlace, ggf, dayLots, dayValue, withGgf}
-use Rattle.rules.specs.Ledger.{rowsFrom, orders, withOrders, withoutSubmits}
+use Rattle.rules.specs.Ledger.{rowsFrom, orders, resting, withOrders, withoutSubmits}
 use Rattle.rules.specs.Sides.{sameSide}
 use Rattle.rules.specs.Matching.{best}
 
@@ -37,7 +37,7 @@ quotes t s c side o =
     eqb (o .contract) c && (sameSide (o .side) side && (enteredBefore (day t) s o && leb (thresholdOf (kindOf c)) (o .lots .0)))
 
 unfoldable pub bestQuote : Tables → ℕ → ℕ → Side → Option Order
-bestQuote t s c side = best (quotes t s c side) (orders t)
+bestQuote t s c side = best (quotes t s c side) (resting t)
 
 -- M < T, with the best buy b and the best sell s that quote: (6V + M(b+s))/(8M) if M > 0, (b+s)/2 if M = 0;
 -- without one of them the former GGF (house).
@@ -99,7 +99,7 @@ allCascaded n (c ∷ cs) l = allCascaded n cs (cascaded n c l)
 unfoldable pub isOfAny : List ℕ → Order → Bool
 isOfAny cs o = any (λ c. eqb c (o .contract)) cs
 
--- The closing contracts: their resting orders go, all together; their rows cascade.
+-- The closing contracts: their orders go from the table, all together; their rows cascade.
 unfoldable pub withClosed : List ℕ → Tables → Tables
 withClosed cs t =
     withRows (allCascaded (members t) cs (t .lots)) (allCascaded (members t) cs (t .value)) (withOrders (kept (λ o. not (isOfAny cs o)) (orders t)) t)

@@ -21,9 +21,9 @@ abbrev pub Priced : Type 0
 Priced = ℕ × ℕ × ℕ × ℕ × List Quote × ℕ
 
 -- Their orders, all of member 0, numbered from n on.
-unfoldable pub resting : ℕ → List (ℕ × Quote) → List Order
-resting n [] = []
-resting n ((c, q) ∷ qs) = order n 0 c (q .0) (q .1) (q .2) (q .3) (q .4) ∷ resting (suc n) qs
+unfoldable pub ordersFrom : ℕ → List (ℕ × Quote) → List Order
+ordersFrom n [] = []
+ordersFrom n ((c, q) ∷ qs) = order n 0 c (q .0) (q .1) (q .2) (q .3) (q .4) ∷ ordersFrom (suc n) qs
 
 unfoldable pub placed : List Priced → Tables → Tables
 placed [] t = t
@@ -33,7 +33,7 @@ placed ((c, former, m, v, quotes, price) ∷ xs) t = inPrices (withGgf c former)
 unfoldable pub closed : List Priced → Tables
 closed xs =
     applySpec
-    (withOrders (resting 0 (flatMap (λ x. map (λ q. (x .0, q)) (x .4)) xs)) (inHead (withAcceptedSubmits 100) (inHead (withLotsRun 1000) (placed xs monday))))
+    (withOrders (ordersFrom 0 (flatMap (λ x. map (λ q. (x .0, q)) (x .4)) xs)) (inHead (withAcceptedSubmits 100) (inHead (withLotsRun 1000) (placed xs monday))))
     (close 36000)
     .after
 
@@ -47,7 +47,7 @@ ggf-of-years : Prices
     ∷ (34, 26000, 9, 252000, [], 26000)
     ∷ (51, 25000, 0, 0, (Buy, 27500, 10, 368, 86399) ∷ (Sell, 27701, 10, 369, 35700) ∷ [], 27601)
     ∷ [])
-unfolding computed closed placed resting
+unfolding computed closed placed ordersFrom
 ggf-of-years = refl
 
 -- ---- cascades

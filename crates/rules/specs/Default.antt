@@ -13,7 +13,7 @@ use Rattle.rules.specs.Contracts.{daysOf, openContracts}
 use Rattle.rules.specs.Ledger.{Tables, Line, withHead, withMark, members, day, calendar, defaulted, ggf, lotsAt, orders, withOrders, booked}
 
 -- ---- default
--- A default record marks the member and removes its orders.
+-- A default record marks the member and removes its orders from the table.
 unfoldable pub defaultBooked : Tables → ℕ → Outcome Tables
 defaultBooked t m = booked [] (withOrders (kept (λ o. not (eqb (o .member) m)) (orders t)) (withHead (withMark m (t .head)) t))
 

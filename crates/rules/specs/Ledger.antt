@@ -260,9 +260,13 @@ orderPlaces o =
     ∷ o .time
     ∷ []
 
--- The resting orders.
+-- The orders of the table.
 unfoldable pub orders : Tables → List Order
 orders t = map (orderAt (t .book)) (from 0 (orderCount t))
+
+-- Those that rest, for every rule that says so; all orders of the table do. What is tested, kept or written is the table.
+abbrev pub resting : Tables → List Order
+resting t = orders t
 
 -- The book holds these orders and no other; places past them stay as they were.
 unfoldable pub withOrders : List Order → Tables → Tables

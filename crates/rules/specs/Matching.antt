@@ -17,7 +17,7 @@ use Rattle.rules.specs.declared.order.Side.the-variants.{Buy, Sell}
 use Rattle.rules.specs.Sides.{sameSide, otherSide, signed}
 use Rattle.rules.specs.Answers.{Outcome}
 use Rattle.rules.specs.Ledger.{Tables, Line, withHead, withPrices, withDealt, withAcceptedSubmits, withSubmitsThisSecond, day, time, acceptedSubmits, limit}
-use Rattle.rules.specs.Ledger.{submitsThisSecond, dayLots, dayValue, lotsAt, orders, withOrders, booked, timed}
+use Rattle.rules.specs.Ledger.{submitsThisSecond, dayLots, dayValue, lotsAt, resting, withOrders, booked, timed}
 
 -- ---- priority
 -- For who deals with a side: of buys the higher price is better, of sells the lower.
@@ -129,7 +129,7 @@ incoming t e =
     }
 
 unfoldable pub submitMatched : Tables → Submission → Matched
-submitMatched t e = matched (incoming t e) (orders t)
+submitMatched t e = matched (incoming t e) (resting t)
 
 unfoldable pub submitLines : Tables → Submission → List Line
 submitLines t e = flatMap (dealLines (incoming t e)) (submitMatched t e .deals)
@@ -154,7 +154,7 @@ submitsAt t s m = cond (ltb (time t) s) 0 (submitsThisSecond t m)
 
 -- The member's resting lots of that contract and side.
 unfoldable pub restingLots : Tables → ℕ → ℕ → Side → ℕ
-restingLots t m c s = total (λ o. o .lots .0) (kept (λ o. eqb (o .member) m && (eqb (o .contract) c && sameSide (o .side) s)) (orders t))
+restingLots t m c s = total (λ o. o .lots .0) (kept (λ o. eqb (o .member) m && (eqb (o .contract) c && sameSide (o .side) s)) (resting t))
 
 -- A sell's net lots are those of the mirrored position.
 abbrev pub mirrored : Side → ℤ → ℤ
@@ -164,10 +164,10 @@ mirrored Sell z = negℤ z
 -- In that contract, net lots + own resting buys + new buy above the member's limit; mirrored for a sell.
 unfoldable pub aboveLimit : Tables → Submission → Bool
 aboveLimit t e =
-    let resting = restingLots t (e .member) (e .contract) (e .side) in
-    ltZ (pos (limit t (e .member))) (mirrored (e .side) (lotsAt t (e .contract) (e .member)) +ℤ (pos resting +ℤ pos (e .lots .0)))
+    let own = restingLots t (e .member) (e .contract) (e .side) in
+    ltZ (pos (limit t (e .member))) (mirrored (e .side) (lotsAt t (e .contract) (e .member)) +ℤ (pos own +ℤ pos (e .lots .0)))
 
--- The orders once it is booked: what rests after its deals, and itself if it rests.
+-- The orders of the table once it is booked: what rests after its deals, which is the whole table, and itself if it rests.
 unfoldable pub submitOrders : Tables → Submission → List Order
 submitOrders t e =
     let m = submitMatched t e in

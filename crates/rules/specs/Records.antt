@@ -227,6 +227,9 @@ kindNumber (Default m) = defaultKind
 kindNumber (CloseOut e) = closeOutKind
 kindNumber (CloseOfDay s) = closeOfDayKind
 
+abbrev pub isCloseOfDay : Event → Bool
+isCloseOfDay e = eqb (kindNumber e) closeOfDayKind
+
 unfoldable pub fieldBytes : Event → List Leg → List ℕ
 fieldBytes (Submit e) legs =
     u32Bytes (e .time)

@@ -1,4 +1,4 @@
--- Document 01, "Why a record is turned back": damage, the causes of each kind of record in rising number, and one call.
+-- Document 01, "Why a record is turned back": damage, the causes of each kind of record in the order of their ranks, and one call.
 use Prim.Native.Nat.{ℕ, _+_, _*_}
 use mathlib.Core.Bool.{Bool, true, not, _&&_, _||_}
 use mathlib.Core.List.{List, [], _∷_, map}
@@ -6,7 +6,6 @@ use lib.Dec.{eqb, leb, ltb}
 use lib.ListN.{length, take, getD}
 use lib.IntN.{ℤ, natAbs}
 use Rattle.arith.specs.Lists.{every, any, kept, from, everyBlock, allOf}
-use Rattle.rules.specs.declared.answer.Answer.{Answer}
 use Rattle.rules.specs.declared.answer.Answer.the-variants.{Accepted, TableUnsound, HeaderUnsound, RecordUnsound, TimeBelowLedger, MemberDefaulted, ContractNotOpen}
 use Rattle.rules.specs.declared.answer.Answer.the-variants.{PriceOutsideLimits, SixthSubmit, AboveLimit, CannotMatchInFull, BookFull, NoSuchOrder, NotAcceptable}
 use Rattle.rules.specs.declared.answer.Answer.the-variants.{NoReferencePrice, NoDefaultedLots, NoTaker, TotalPassed, NoLaterDay}
@@ -20,13 +19,13 @@ use Rattle.rules.specs.declared.event.Reading.{Reading}
 use Rattle.rules.specs.declared.event.Reading.the-variants.{Sound, Unsound}
 use Rattle.rules.specs.declared.event.Submission.{Submission}
 use Rattle.rules.specs.declared.order.Order.{Order}
-use Rattle.rules.specs.Answers.{Outcome, decide}
+use Rattle.rules.specs.Answers.{Outcome, Cause, decide}
 use Rattle.rules.specs.Ranges.{contractCount, mostHolidays, mostPrice, mostOrders, mostSubmitsInSecond, mostLotsRun, mostAcceptedSubmits}
 use Rattle.rules.specs.Days.{inSpan}
 use Rattle.rules.specs.Header.{calendarSound, membersSound, limitSound, daySound, headerOf, beginsWithHeader}
 use Rattle.rules.specs.Ledger.{Tables, Line, withPrices, members, holidayCount, day, time, acceptedSubmits, lotsRun, orderCount, limit, marked, mark, submitsThisSecond, calendar}
 use Rattle.rules.specs.Ledger.{defaulted, isOpen, priceWidth, ggfPlace, lowPlace, highPlace, dayLotsPlace, dayValuePlace, ggf, low, high, withDayLimits, rowWidth, sideAt}
-use Rattle.rules.specs.Ledger.{orders, withOrders, lineRun, booked, timed, ledgerShort, linesShort, fresh}
+use Rattle.rules.specs.Ledger.{orders, resting, withOrders, lineRun, booked, timed, ledgerShort, linesShort, fresh}
 use Rattle.rules.specs.Records.{timeSound, sideSound, contractSound, priceSound, lotsSound, dayLimitsSound, legsOf, readOf}
 use Rattle.rules.specs.Matching.{submitMatched, submitLines, isTeye, wouldRest, submitsAt, aboveLimit, submitBooked}
 use Rattle.rules.specs.Synthetic.{acceptable, proposalLines, proposalBooked}
@@ -110,12 +109,12 @@ damaged t = not (allOf (headSound t ∷ pricesSound t ∷ rowsSound t ∷ bookSo
 unfoldable pub unsound : Tables → Bool
 unsound t = ledgerShort t || linesShort t || damaged t
 
--- ---- the causes of each kind, in rising number
+-- ---- the causes of each kind, in the order of their ranks
 -- The lots run would pass 5,000,000.
 abbrev pub runWouldPass : Tables → List Line → Bool
 runWouldPass t ls = ltb mostLotsRun (lotsRun t + lineRun ls)
 
-abbrev pub submitCauses : Tables → Submission → List (Bool × Answer)
+abbrev pub submitCauses : Tables → Submission → List Cause
 submitCauses t e =
     (ltb (e .time) (time t), TimeBelowLedger)
     ∷ (defaulted t (e .member), MemberDefaulted (e .member))
@@ -132,19 +131,19 @@ submitCauses t e =
 abbrev pub isCancelled : Cancellation → Order → Bool
 isCancelled e o = eqb (o .number) (e .order) && eqb (o .member) (e .member)
 
-abbrev pub cancelCauses : Tables → Cancellation → List (Bool × Answer)
-cancelCauses t e = (ltb (e .time) (time t), TimeBelowLedger) ∷ (not (any (isCancelled e) (orders t)), NoSuchOrder) ∷ []
+abbrev pub cancelCauses : Tables → Cancellation → List Cause
+cancelCauses t e = (ltb (e .time) (time t), TimeBelowLedger) ∷ (not (any (isCancelled e) (resting t)), NoSuchOrder) ∷ []
 
-abbrev pub dayLimitsCauses : Tables → NewDayLimits → List (Bool × Answer)
+abbrev pub dayLimitsCauses : Tables → NewDayLimits → List Cause
 dayLimitsCauses t e = (not (isOpen t (e .contract)), ContractNotOpen (e .contract)) ∷ []
 
-abbrev pub proposalCauses : Tables → List Leg → List (Bool × Answer)
+abbrev pub proposalCauses : Tables → List Leg → List Cause
 proposalCauses t legs = (not (acceptable t legs), NotAcceptable) ∷ (runWouldPass t (proposalLines t legs), TotalPassed) ∷ []
 
-abbrev pub defaultCauses : Tables → ℕ → List (Bool × Answer)
+abbrev pub defaultCauses : Tables → ℕ → List Cause
 defaultCauses t m = (defaulted t m, MemberDefaulted m) ∷ []
 
-abbrev pub closeOutCauses : Tables → CloseOutTerms → List (Bool × Answer)
+abbrev pub closeOutCauses : Tables → CloseOutTerms → List Cause
 closeOutCauses t e =
     let c = e .contract in
     (not (isOpen t c), ContractNotOpen c)
@@ -154,21 +153,49 @@ closeOutCauses t e =
     ∷ (runWouldPass t (closeOutLines t e), TotalPassed)
     ∷ []
 
-abbrev pub closeCauses : Tables → ℕ → List (Bool × Answer)
+abbrev pub closeCauses : Tables → ℕ → List Cause
 closeCauses t s = (ltb s (time t), TimeBelowLedger) ∷ (not (hasNextDay t), NoLaterDay) ∷ []
 
--- ---- each kind of record
+abbrev pub kindCauses : Tables → Event → List Leg → List Cause
+kindCauses t (Submit e) legs = submitCauses t e
+kindCauses t (Cancel e) legs = cancelCauses t e
+kindCauses t (DayLimits e) legs = dayLimitsCauses t e
+kindCauses t (Proposal n) legs = proposalCauses t legs
+kindCauses t (Default m) legs = defaultCauses t m
+kindCauses t (CloseOut e) legs = closeOutCauses t e
+kindCauses t (CloseOfDay s) legs = closeCauses t s
+
+-- ---- what each kind books where no cause holds
+-- That order goes from the table.
+abbrev pub cancelBooked : Tables → Cancellation → Outcome Tables
+cancelBooked t e = booked [] (withOrders (kept (λ o. not (isCancelled e o)) (orders t)) (timed (e .time) t))
+
+-- Low and high stand until a record changes them; orders already resting stay.
+abbrev pub dayLimitsBooked : Tables → NewDayLimits → Outcome Tables
+dayLimitsBooked t e = booked [] (withPrices (withDayLimits (e .contract) (e .low .0) (e .high .0) (t .prices)) t)
+
+abbrev pub kindBooked : Tables → Event → List Leg → Outcome Tables
+kindBooked t (Submit e) legs = submitBooked t e
+kindBooked t (Cancel e) legs = cancelBooked t e
+kindBooked t (DayLimits e) legs = dayLimitsBooked t e
+kindBooked t (Proposal n) legs = proposalBooked t legs
+kindBooked t (Default m) legs = defaultBooked t m
+kindBooked t (CloseOut e) legs = closeOutBooked t e
+kindBooked t (CloseOfDay s) legs = closeBooked t s
+
+-- ---- a record of any kind
+unfoldable pub eventSpec : Tables → Event → List Leg → Outcome Tables
+eventSpec t e legs = decide (kindCauses t e legs) t (kindBooked t e legs)
+
+-- The same of one kind, as the code of that kind promises it.
 unfoldable pub submitSpec : Tables → Submission → Outcome Tables
 submitSpec t e = decide (submitCauses t e) t (submitBooked t e)
 
 unfoldable pub cancelSpec : Tables → Cancellation → Outcome Tables
-cancelSpec t e = decide (cancelCauses t e) t (booked [] (withOrders (kept (λ o. not (isCancelled e o)) (orders t)) (timed (e .time) t)))
+cancelSpec t e = decide (cancelCauses t e) t (cancelBooked t e)
 
--- Low and high stand until a record changes them; orders already resting stay.
 unfoldable pub dayLimitsSpec : Tables → NewDayLimits → Outcome Tables
-dayLimitsSpec t e =
-    decide (dayLimitsCauses t e) t
-    (booked [] (withPrices (withDayLimits (e .contract) (e .low .0) (e .high .0) (t .prices)) t))
+dayLimitsSpec t e = decide (dayLimitsCauses t e) t (dayLimitsBooked t e)
 
 unfoldable pub proposalSpec : Tables → List Leg → Outcome Tables
 proposalSpec t legs = decide (proposalCauses t legs) t (proposalBooked t legs)
@@ -183,15 +210,6 @@ unfoldable pub closeSpec : Tables → ℕ → Outcome Tables
 closeSpec t s = decide (closeCauses t s) t (closeBooked t s)
 
 -- ---- a call
-unfoldable pub eventSpec : Tables → Event → List Leg → Outcome Tables
-eventSpec t (Submit e) legs = submitSpec t e
-eventSpec t (Cancel e) legs = cancelSpec t e
-eventSpec t (DayLimits e) legs = dayLimitsSpec t e
-eventSpec t (Proposal n) legs = proposalSpec t legs
-eventSpec t (Default m) legs = defaultSpec t m
-eventSpec t (CloseOut e) legs = closeOutSpec t e
-eventSpec t (CloseOfDay s) legs = closeSpec t s
-
 unfoldable pub readingSpec : Tables → Reading → List Leg → Outcome Tables
 readingSpec t (Sound e) legs = eventSpec t e legs
 readingSpec t Unsound legs = record { answer = RecordUnsound; after = t }

@@ -15,7 +15,7 @@ use Rattle.rules.specs.Ranges.{monthsInSpan}
 use Rattle.rules.specs.Days.{Calendar, firstMonth, monthStart}
 use Rattle.rules.specs.Contracts.{holdsHour}
 use Rattle.rules.specs.Header.{rising}
-use Rattle.rules.specs.Ledger.{Tables, Line, calendar, low, high, orders, withOrders, booked}
+use Rattle.rules.specs.Ledger.{Tables, Line, calendar, low, high, orders, resting, withOrders, booked}
 use Rattle.rules.specs.Sides.{sameSide, signed}
 use Rattle.rules.specs.Matching.{precedes, used}
 
@@ -82,7 +82,7 @@ priorityKept os ns n =
 -- A proposal is accepted exactly if all of this holds.
 unfoldable pub acceptable : Tables → List Leg → Bool
 acceptable t legs =
-    let os = orders t in
+    let os = resting t in
     let ns = namedLegs os legs in
     allOf
     -- numbers strictly rise
@@ -110,11 +110,12 @@ legLine n =
     }
 
 unfoldable pub proposalLines : Tables → List Leg → List Line
-proposalLines t legs = map legLine (namedLegs (orders t) legs)
+proposalLines t legs = map legLine (namedLegs (resting t) legs)
 
 unfoldable pub usedByLegs : List Leg → List Order → List Order
 usedByLegs [] os = os
 usedByLegs (g ∷ gs) os = usedByLegs gs (used (g .order) (g .lots .0) os)
 
+-- The legs' lots are taken from the table; its other orders stay.
 unfoldable pub proposalBooked : Tables → List Leg → Outcome Tables
 proposalBooked t legs = booked (proposalLines t legs) (withOrders (usedByLegs legs (orders t)) t)

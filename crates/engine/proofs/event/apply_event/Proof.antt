@@ -1,7 +1,7 @@
 use mathlib.Core.Path.{ap, _∙_}
 use Rattle.rules.specs.declared.event.Reading.the-variants.{Sound}
 use Rattle.rules.specs.Ledger.{lent}
-use Rattle.rules.specs.Refusals.{eventSpec}
+use Rattle.rules.specs.Refusals.{eventSpec, submitSpec, cancelSpec, dayLimitsSpec, proposalSpec, defaultSpec, closeOutSpec, closeSpec}
 use Rattle.engine.proofs.Events.{submission-fits, limits-contract, member-below, close-out-contract-below, close-out-ratio, most-run-left}
 use borrow.Author.Needs.{needs}
 use Rattle.engine.proofs.event.apply_event.Statement.{statement}
@@ -60,7 +60,7 @@ apply-requires-6 c κs = let f = c .before .before .before .before .before .befo
     ((f .head-fit, f .prices-fit, f .book-fit), (f .lots-fit, f .value-fit))
 
 returns : tie.Need-returns
-unfolding eventSpec
+unfolding eventSpec submitSpec
 returns c =
     let earlier = c .before .before .before .before .before .before .before .before .before .before in
     let a = earlier .before .before .before .before .before .before .before .before .before .before .before .before .before .args in
@@ -69,7 +69,7 @@ returns c =
     rw (event .given .1) (apply .ensures (lent (a .head .now) (a .prices .now) (a .lots .now) (a .value .now) (a .book .now) (a .lines .now)))
 
 returns-2 : tie.Need-returns-2
-unfolding eventSpec
+unfolding eventSpec cancelSpec
 returns-2 c =
     let a = c .before .before .before .before .before .before .before .before .before .before .before .before .before .before .args in
     let event2 = c .before .before .before .before .before .before .before .before .event2 in
@@ -77,7 +77,7 @@ returns-2 c =
     rw (event2 .given .1) (apply2 .ensures (lent (a .head .now) (a .prices .now) (a .lots .now) (a .value .now) (a .book .now) (a .lines .now)))
 
 returns-3 : tie.Need-returns-3
-unfolding eventSpec
+unfolding eventSpec dayLimitsSpec
 returns-3 c =
     let a = c .before .before .before .before .before .before .before .before .before .before .before .before .args in
     let event3 = c .before .before .before .before .before .before .event3 in
@@ -85,14 +85,14 @@ returns-3 c =
     rw (event3 .given .1) (apply3 .ensures (lent (a .head .now) (a .prices .now) (a .lots .now) (a .value .now) (a .book .now) (a .lines .now)))
 
 returns-4 : tie.Need-returns-4
-unfolding eventSpec
+unfolding eventSpec proposalSpec
 returns-4 c =
     let event4 = c .before .before .before .before .before .before .before .before .before .before .before .before .before .before .before .event4 in
     let apply-legs = c .before .before .before .before .before .before .before .apply-legs in
     rw (event4 .given .1) (apply-legs .ensures)
 
 returns-5 : tie.Need-returns-5
-unfolding eventSpec
+unfolding eventSpec defaultSpec
 returns-5 c =
     let a = c .before .before .before .before .before .before .before .before .before .before .before .before .before .before .args in
     let event5 = c .before .before .before .before .before .before .before .before .event5 in
@@ -100,7 +100,7 @@ returns-5 c =
     rw (event5 .given .1) (apply4 .ensures (lent (a .head .now) (a .prices .now) (a .lots .now) (a .value .now) (a .book .now) (a .lines .now)))
 
 returns-6 : tie.Need-returns-6
-unfolding eventSpec
+unfolding eventSpec closeOutSpec
 returns-6 c =
     let a = c .before .before .before .before .before .before .before .before .before .before .before .before .before .before .before .before .before .before .args in
     let event6 = c .before .before .before .before .before .before .before .before .before .before .before .before .event6 in
@@ -108,7 +108,7 @@ returns-6 c =
     rw (event6 .given .1) (apply5 .ensures (lent (a .head .now) (a .prices .now) (a .lots .now) (a .value .now) (a .book .now) (a .lines .now)))
 
 returns-7 : tie.Need-returns-7
-unfolding eventSpec
+unfolding eventSpec closeSpec
 returns-7 c =
     let a = c .before .before .before .before .before .before .before .before .before .before .before .before .before .before .before .before .before .before .before .before .before .args in
     let event7 = c .before .before .before .before .before .before .before .before .before .before .before .before .before .before .before .event7 in

@@ -1,0 +1,18 @@
+-- Document 01's order of causes is its numbers.
+use mathlib.Core.Path.{_≡_, refl}
+use mathlib.Core.Bool.{true}
+use mathlib.Core.List.{map}
+use Rattle.arith.specs.Lists.{from, every, any}
+use Rattle.rules.specs.Answers.{ranking, placeFrom, rankOf}
+use Rattle.rules.specs.Header.{rising}
+use Rattle.rules.specs.Refusals.{distinct}
+
+-- From 0 to 18 the rank rises with the number: each has one, and no two change places.
+pub ranks-rise : rising (map rankOf (from 0 19)) ≡ true
+unfolding ranking placeFrom rankOf from rising every
+ranks-rise = refl
+
+-- No number stands twice.
+pub ranked-once : distinct ranking ≡ true
+unfolding ranking distinct any
+ranked-once = refl
