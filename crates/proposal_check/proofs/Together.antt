@@ -39,11 +39,11 @@ unfolding total kept
 total-kept f p [] = refl
 total-kept f p (x ∷ l) = true-or (p x) (λ e. rw (e, total-kept f p l)) (λ e. rw (e, total-kept f p l) (sym (zero-add _)))
 
-pub hour-month : (k : Calendar) (f : Named → ℕ) (s : Side) (i : ℕ) (ns : List Named)
+pub hour-month : (k : Calendar) (f : Named → ℕ) (s : Side) (i : ℕ) (ns : List Named) → i < monthsInSpan
     → inHour k f s (24 * monthStart (firstMonth k + i)) ns ≡ total (λ n. cond (sameSide (n .order .side) s && holdsMonth (n .order .contract) i) (f n) 0) ns
 unfolding inHour
-hour-month k f s i ns =
-    simp (holds-hour k i (24 * monthStart (firstMonth k + i)) (first-hour k i))
+hour-month k f s i ns l =
+    simp (holds-hour k i (24 * monthStart (firstMonth k + i)) (first-hour k i l))
     (total-kept f (λ n. sameSide (n .order .side) s && holdsMonth (n .order .contract) i) ns)
 
 -- ---- priority, order by order
