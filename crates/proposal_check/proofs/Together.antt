@@ -2,7 +2,7 @@
 use mathlib.Core.Path.{_≡_, refl, sym, _∙_}
 use mathlib.Core.Bool.{Bool, true, false, not, cond, _&&_, _||_}
 use mathlib.Core.List.{List, [], _∷_}
-use Prim.Native.Nat.{ℕ, _+_, _*_}
+use Prim.Native.Nat.{ℕ, _+_, _*_, _<_}
 use native.Mathlib.Nat.{zero-add}
 use lib.Dec.{eqb}
 use borrow.Author.Tests.{eq-eqb, eqb-true, not-false}
@@ -11,6 +11,7 @@ use Rattle.arith.proofs.Tests.{true-or, or-left, or-right}
 use Rattle.arith.proofs.Scans.{every-both}
 use Rattle.rules.specs.declared.order.Order.{Order}
 use Rattle.rules.specs.declared.order.Side.{Side}
+use Rattle.rules.specs.Ranges.{monthsInSpan}
 use Rattle.rules.specs.Days.{Calendar, firstMonth, monthStart}
 use Rattle.rules.specs.OtherForms.{holdsMonth}
 use Rattle.rules.proofs.HourLaws.{holds-hour, first-hour}
