@@ -26,7 +26,7 @@ use rules::layout::SUBMITS;
 use rules::layout::TERMS;
 use rules::layout::TIME;
 
-// The phase of each contract that has a term on the ledger's day.
+// The phase, on the ledger's day, of each contract that has a term.
 fn write_phases(head: &[u64], column: &mut [u64])
     requires { ⌜ HeadFit (now head) × (length (now column) ≡ termCount) ⌝ }
     ensures { λ _. ⌜ now (column .exit) ≡ phases (calendarIn (now (head .entry))) (getD (now (head .entry)) dayPlace 0) ⌝ }

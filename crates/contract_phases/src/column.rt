@@ -1,4 +1,4 @@
-// The phase of every contract that has a term at the close of a day: the table of months is read once.
+// The phase, at the close of a day, of every contract that has a term: the table of months is read once.
 ghost use mathlib.Core.Path.{_≡_};
 ghost use Prim.Native.Nat.{ℕ, _+_, _≤_};
 ghost use lib.ListN.{length};
