@@ -1,5 +1,5 @@
 -- The rows never pass the lots run. A cascade adds rows to rows, so more is kept: for each member and month, the absolute rows of the
--- three contracts that hold the month do not pass it together.
+-- three contracts that hold the month do not pass it together. A contract without a term holds no month and is bounded by itself.
 use mathlib.Core.Path.{_≡_, refl, sym, ap, subst}
 use mathlib.Core.Bool.{Bool, true, false, cond}
 use mathlib.Core.List.{List, [], _∷_}
@@ -18,7 +18,7 @@ use Rattle.arith.specs.Ints.{when}
 use Rattle.arith.proofs.Sizes.{abs-plus, abs-times, abs-when}
 use Rattle.arith.proofs.Tests.{le-or-lt, same-or, and-left, and-right}
 use Rattle.rules.specs.Ledger.{headLength, rowsLength}
-use Rattle.rules.specs.Ranges.{contractCount, mostPrice}
+use Rattle.rules.specs.Ranges.{contractCount, termCount, mostPrice}
 use Rattle.rules.specs.Contracts.{childrenOf}
 use Rattle.rules.specs.OtherForms.{yearOf, quarterOf, monthOf}
 use Rattle.rules.proofs.HourLaws.{cascading}
@@ -30,7 +30,7 @@ use Rattle.rules.specs.Accounts.{Column, lots, value, row, amount}
 use Rattle.rules.proofs.SoundHeaders.{SoundHeader}
 use Rattle.accounts.proofs.Lines.{rowTotal}
 use Rattle.rules.proofs.Cascade.{cascaded-month, cascaded-length, cascaded-row}
-use Rattle.accounts.proofs.Cascade.{year-no-child, quarter-child, month-child}
+use Rattle.accounts.proofs.Cascade.{year-no-child, quarter-child, month-child, no-term-child}
 use Rattle.accounts.proofs.Fresh.{fresh-zero, fresh-runs}
 
 -- ---- the bound
@@ -40,22 +40,25 @@ threeRows r i = natAbs (r (yearOf i)) + (natAbs (r (quarterOf i)) + natAbs (r (m
 
 pub record Bounded (n bound : ℕ) (R : ℕ → ℕ → ℤ) : Type 0 where
   pub within : (m i : ℕ) → m < n → i < 72 → threeRows (λ c. R c m) i ≤ bound
+  pub apart : (c m : ℕ) → m < n → termCount ≤ c → c < contractCount → natAbs (R c m) ≤ bound
 
--- Every contract is the year, the quarter or the month of some month, so no row passes the bound.
+-- Every contract that has a term is the year, the quarter or the month of some month, so no row passes the bound.
 pub bounded-row : {n b : ℕ} {R : ℕ → ℕ → ℤ} → Bounded n b R → (c m : ℕ) → c < contractCount → m < n → natAbs (R c m) ≤ b
 bounded-row {R = R} a c m l q =
     let size : ℕ → ℕ = λ d. natAbs (R d m) in
     let first = 12 * (c / 17) in
-    same-or (c % 17) 0
+    le-or-lt termCount c (λ w. a .apart c m q w l)
+    (λ w. same-or (c % 17) 0
     (λ z. let e : yearOf first ≡ c = omega arith in omega (arith, a .within m first q (omega arith), ap size e))
     (λ z. le-or-lt (c % 17) 4
     (λ k. let i = first + 3 * (c % 17 - 1) in let e : quarterOf i ≡ c = omega arith in omega (arith, a .within m i q (omega arith), ap size e))
-    (λ k. let i = first + (c % 17 - 5) in let e : monthOf i ≡ c = omega arith in omega (arith, a .within m i q (omega arith), ap size e)))
+    (λ k. let i = first + (c % 17 - 5) in let e : monthOf i ≡ c = omega arith in omega (arith, a .within m i q (omega arith), ap size e))))
 
 -- the rows may be told by other words
 pub bounded-same : {n b : ℕ} {R R′ : ℕ → ℕ → ℤ} → ((c m : ℕ) → c < contractCount → m < n → R′ c m ≡ R c m) → Bounded n b R → Bounded n b R′
 bounded-same {R = R} {R′ = R′} e a = record {
   within = λ m i q k. omega (arith, a .within m i q k, ap natAbs (e (yearOf i) m (omega arith) q), ap natAbs (e (quarterOf i) m (omega arith) q), ap natAbs (e (monthOf i) m (omega arith) q));
+  apart = λ c m q w l. omega (arith, a .apart c m q w l, ap natAbs (e c m l q));
 }
 
 -- ---- posting
@@ -109,6 +112,7 @@ module _ (amount : Line → ℤ) (w : ℕ) where
       → Bounded n (w * (run + lineRun ls)) (λ c m. R c m +ℤ rowTotal amount c m ls)
   bounded-posted {R = R} run ls h a = record {
     within = λ m i q k. omega (arith, three-plus (λ c. R c m) (λ c. rowTotal amount c m ls) i, lines-three ls m i h, a .within m i q k, mul-add w run (lineRun ls));
+    apart = λ c m q k l. omega (arith, abs-plus (R c m) (rowTotal amount c m ls), lines-one ls c m h, a .apart c m q k l, mul-add w run (lineRun ls));
   }
 
 -- what a row may reach for each lot run: its lots one, its value the highest price
@@ -130,27 +134,28 @@ to-next false true x y z w e f g = rw (f refl) (omega (arith, abs-plus x (pos 0)
 to-next false false x y z w e f g = omega (arith, abs-plus x (pos 0), abs-plus y (pos 0), abs-plus z (pos 0))
 
 -- R′ are the rows after a cascade of the year or quarter c, R those before it.
-pub bounded-cascaded : {n b : ℕ} (c : ℕ) (R R′ : ℕ → ℕ → ℤ) → c % 17 < 5
+pub bounded-cascaded : {n b : ℕ} (c : ℕ) (R R′ : ℕ → ℕ → ℤ) → c < termCount → c % 17 < 5
     → ((d m : ℕ) → m < n → R′ d m ≡ cond (eqb c d) (pos 0) (R d m +ℤ when (any (λ x. eqb x d) (childrenOf c)) (R c m)))
     → Bounded n b R → Bounded n b R′
-bounded-cascaded c R R′ h after a = record {
+bounded-cascaded c R R′ t h after a = record {
   within = λ m i q k.
-      let o = cascading c h in
+      let o = cascading c t h in
       le-trans
       (rw (after (yearOf i) m q, after (quarterOf i) m q, after (monthOf i) m q, year-no-child c i o, quarter-child c i o, month-child c i o, ne-eqb c (monthOf i) (omega arith))
       (to-next (eqb c (yearOf i)) (eqb c (quarterOf i)) (R (yearOf i) m) (R (quarterOf i) m) (R (monthOf i) m) (R c m)
       (λ t. ap (λ d. R d m) (eqb-true c (yearOf i) t)) (λ t. ap (λ d. R d m) (eqb-true c (quarterOf i) t)) (λ t. ne-eqb c (quarterOf i) (omega (arith, eqb-true c (yearOf i) t)))))
       (a .within m i q k);
+  apart = λ d m q k l. rw (after d m q, ne-eqb c d (omega arith), no-term-child c d (cascading c t h) t k) (omega (arith, abs-plus (R d m) (pos 0), a .apart d m q k l));
 }
 
 -- in a column of rows
 abbrev rowsIn : List ℤ → ℕ → ℕ → ℤ
 rowsIn l c m = getD l (rowPlace c m) (pos 0)
 
-column-cascaded : {b : ℕ} (n c : ℕ) (l : List ℤ) → c < contractCount → n ≤ 32 → rowsLength ≤ length l → Bounded n b (rowsIn l) → Bounded n b (rowsIn (cascaded n c l))
+column-cascaded : {b : ℕ} (n c : ℕ) (l : List ℤ) → c < termCount → n ≤ 32 → rowsLength ≤ length l → Bounded n b (rowsIn l) → Bounded n b (rowsIn (cascaded n c l))
 column-cascaded n c l k q s a =
     le-or-lt 5 (c % 17) (λ h. rw (cascaded-month n c l h) a)
-    (λ h. bounded-cascaded c (rowsIn l) (rowsIn (cascaded n c l)) h (λ d m p. cascaded-row n c l s k q d m h p) a)
+    (λ h. bounded-cascaded c (rowsIn l) (rowsIn (cascaded n c l)) k h (λ d m p. cascaded-row n c l s k q d m h p) a)
 
 -- tables with rows for their n members
 pub record Roomy (n : ℕ) (t : Tables) : Type 0 where
@@ -159,13 +164,13 @@ pub record Roomy (n : ℕ) (t : Tables) : Type 0 where
   pub value-long : rowsLength ≤ length (t .value)
 
 module _ (n : ℕ) (few : n ≤ 32) where
-  columns-cascaded : {b : ℕ} (cs : List ℕ) (l : List ℤ) → All (λ c. c < contractCount) cs → rowsLength ≤ length l → Bounded n b (rowsIn l) → Bounded n b (rowsIn (allCascaded n cs l))
+  columns-cascaded : {b : ℕ} (cs : List ℕ) (l : List ℤ) → All (λ c. c < termCount) cs → rowsLength ≤ length l → Bounded n b (rowsIn l) → Bounded n b (rowsIn (allCascaded n cs l))
   unfolding allCascaded
   columns-cascaded [] l h r a = a
   columns-cascaded (c ∷ cs) l h r a =
       columns-cascaded cs (cascaded n c l) (h .1) (omega (arith, cascaded-length n c l r (h .0) few)) (column-cascaded n c l (h .0) few r a)
 
-  pub bounded-closed : {b : ℕ} (x : Column) (cs : List ℕ) (t : Tables) → All (λ c. c < contractCount) cs → Roomy n t → Bounded n b (row x t) → Bounded n b (row x (withClosed cs t))
+  pub bounded-closed : {b : ℕ} (x : Column) (cs : List ℕ) (t : Tables) → All (λ c. c < termCount) cs → Roomy n t → Bounded n b (row x t) → Bounded n b (row x (withClosed cs t))
   unfolding withClosed
   bounded-closed {b} lots cs t h r a = subst (λ s. Bounded n b (rowsIn (allCascaded s cs (t .lots)))) (sym (r .size)) (columns-cascaded cs (t .lots) h (r .lots-long) a)
   bounded-closed {b} value cs t h r a = subst (λ s. Bounded n b (rowsIn (allCascaded s cs (t .value)))) (sym (r .size)) (columns-cascaded cs (t .value) h (r .value-long) a)
@@ -217,9 +222,12 @@ rows-give t few l v e =
 -- ---- the fresh ledger
 pub bounded-fresh : (h : Header) (t : Tables) → SoundHeader h → rowsLength ≤ length (t .lots) → rowsLength ≤ length (t .value) → (x : Column) → Bounded (h .members) 0 (row x (fresh h t))
 bounded-fresh h t f s v x =
-    bounded-same (λ c m k q. fresh-zero h t f s v x c m k q) (record { within = λ m i q k. omega arith })
+    bounded-same (λ c m k q. fresh-zero h t f s v x c m k q) (record { within = λ m i q k. omega arith; apart = λ c m q k l. omega arith })
 
 pub within-fresh : (h : Header) (t : Tables) → SoundHeader h → headLength ≤ length (t .head) → rowsLength ≤ length (t .lots) → rowsLength ≤ length (t .value) → WithinRun (fresh h t)
 within-fresh h t f k s v x =
     subst (λ n. Bounded n (weight x * lotsRun (fresh h t)) (row x (fresh h t))) (sym (fresh-runs h t f k .size))
-    (record { within = λ m i q l. omega (arith, bounded-fresh h t f s v x .within m i q l) })
+    (record {
+      within = λ m i q l. omega (arith, bounded-fresh h t f s v x .within m i q l);
+      apart = λ c m q l u. omega (arith, bounded-fresh h t f s v x .apart c m q l u);
+    })

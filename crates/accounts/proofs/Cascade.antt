@@ -1,7 +1,7 @@
 -- A cascade leaves every engine account as it was: in each hour it moves the rows of one of the three contracts that hold the hour to another.
 use mathlib.Core.Path.{_≡_, refl, sym, ap, _∙_}
 use mathlib.Core.Bool.{Bool, true, false, cond}
-use Prim.Native.Nat.{ℕ, _+_, _/_, _%_, _<_}
+use Prim.Native.Nat.{ℕ, _+_, _/_, _%_, _≤_, _<_}
 use native.Mathlib.Omega.{arith}
 use lib.Dec.{eqb}
 use lib.IntN.{ℤ, pos, _+ℤ_}
@@ -12,7 +12,7 @@ use Rattle.arith.proofs.Tests.{le-or-lt}
 use Rattle.arith.proofs.Among.{not-among, among-if}
 use Rattle.arith.proofs.Sums.{sorted, sum-ext}
 use Rattle.arith.proofs.Terms.{sum-three}
-use Rattle.rules.specs.Ranges.{contractCount}
+use Rattle.rules.specs.Ranges.{contractCount, termCount}
 use Rattle.rules.specs.Days.{Calendar}
 use Rattle.rules.specs.Contracts.{childrenOf}
 use Rattle.rules.specs.Accounts.{engineAccount, DeliveryHour}
@@ -44,30 +44,36 @@ module _ (c i : ℕ) where
   month-child (quarter z y e) =
       rw e (among-if (firstMonthOf c) 3 (monthOf i) c (quarterOf i) (λ h k. let same : c / 17 ≡ i / 12 = omega arith in omega arith) (omega arith))
 
+  -- A contract without a term is no child.
+  pub no-term-child : Cascading c → c < termCount → termCount ≤ i → isChild c i ≡ false
+  no-term-child (year z e) l u = rw e (not-among (c + 1) 4 i (omega arith))
+  no-term-child (quarter z y e) l u = rw e (not-among (firstMonthOf c) 3 i (omega arith))
+
   -- So c's row goes from one of them to the next, and their sum stays.
-  moved : c % 17 < 5 → (r : ℕ → ℤ) → let r′ : ℕ → ℤ = λ d. cond (eqb c d) (pos 0) (r d +ℤ when (isChild c d) (r c)) in
+  moved : c < termCount → c % 17 < 5 → (r : ℕ → ℤ) → let r′ : ℕ → ℤ = λ d. cond (eqb c d) (pos 0) (r d +ℤ when (isChild c d) (r c)) in
       r′ (yearOf i) +ℤ (r′ (quarterOf i) +ℤ r′ (monthOf i)) ≡ r (yearOf i) +ℤ (r (quarterOf i) +ℤ r (monthOf i))
-  moved h r =
-      let k = cascading c h in
+  moved w h r =
+      let k = cascading c w h in
       rw (year-no-child k, quarter-child k, month-child k, ne-eqb c (monthOf i) (omega arith))
       (one-to-next (eqb c (yearOf i)) (eqb c (quarterOf i)) (r (yearOf i)) (r (quarterOf i)) (r (monthOf i)) (r c)
       (λ t. ap r (eqb-true c (yearOf i) t)) (λ t. ap r (eqb-true c (quarterOf i) t)) (λ t. ne-eqb c (quarterOf i) (omega (arith, eqb-true c (yearOf i) t))))
 
 -- An account is the sum of three rows.
-account-three : (k : Calendar) (R : ℕ → ℕ → ℤ) (m h i : ℕ) → i < 72 → InMonth k i h → engineAccount k R m h ≡ R (yearOf i) m +ℤ (R (quarterOf i) m +ℤ R (monthOf i) m)
+account-three : (k : Calendar) (R : ℕ → ℕ → ℤ) (m h i : ℕ) → InMonth k i h → engineAccount k R m h ≡ R (yearOf i) m +ℤ (R (quarterOf i) m +ℤ R (monthOf i) m)
 unfolding engineAccount holdsMonth
-account-three k R m h i l lies =
+account-three k R m h i lies =
+    let l = lies .month< in
     sum-ext contractCount _ _ (λ c _. ap (λ b. when b (R c m)) (holds-hour k i h lies c))
     ∙ sum-three contractCount (λ c. R c m) (yearOf i) (quarterOf i) (monthOf i) (omega arith) (omega arith) (omega arith)
 
 -- R′ are the rows after a cascade of the year or quarter c, R those before it.
-pub cascade-keeps : (k : Calendar) (R R′ : ℕ → ℕ → ℤ) (c m h : ℕ) → c % 17 < 5
+pub cascade-keeps : (k : Calendar) (R R′ : ℕ → ℕ → ℤ) (c m h : ℕ) → c < termCount → c % 17 < 5
     → ((d : ℕ) → d < contractCount → R′ d m ≡ cond (eqb c d) (pos 0) (R d m +ℤ when (any (λ x. eqb x d) (childrenOf c)) (R c m)))
     → DeliveryHour k h → engineAccount k R′ m h ≡ engineAccount k R m h
-cascade-keeps k R R′ c m h q after hour =
+cascade-keeps k R R′ c m h w q after hour =
     let o = month-of-hour k h (hour .0) (hour .1) in
     let i = o .month in
-    let l = o .month< in
-    account-three k R′ m h i l (o .lies)
-    ∙ rw (after (yearOf i) (omega arith), after (quarterOf i) (omega arith), after (monthOf i) (omega arith)) (moved c i q (λ d. R d m))
-    ∙ sym (account-three k R m h i l (o .lies))
+    let l = o .lies .month< in
+    account-three k R′ m h i (o .lies)
+    ∙ rw (after (yearOf i) (omega arith), after (quarterOf i) (omega arith), after (monthOf i) (omega arith)) (moved c i w q (λ d. R d m))
+    ∙ sym (account-three k R m h i (o .lies))

@@ -4,11 +4,11 @@ use mathlib.Core.Bool.{Bool, true, false, not, cond, _&&_, _||_, or-true}
 use mathlib.Core.List.{List, [], _∷_, _++_, append-nil}
 use Prim.Native.Nat.{ℕ, zero, suc, _+_, _*_, _/_, _%_, _≤_, _<_}
 use native.Mathlib.Omega.{arith}
-use lib.Dec.{T, eqb, leb, ltb}
+use lib.Dec.{T, eqb, leb}
 use lib.ListN.{length, getD, set, replicate, length-replicate}
 use lib.Seq.{getD-set-other, getD-set-same}
 use lib.IntN.{pos, _+ℤ_}
-use borrow.Author.Tests.{leb-true, ltb-true, le-leb, lt-leb, eqb-true, eq-eqb, not-false}
+use borrow.Author.Tests.{leb-true, ltb-true, lt-ltb, le-leb, lt-leb, eqb-true, eq-eqb, not-false}
 use Rattle.arith.specs.Lists.{All, every, any, kept, over, from}
 use Rattle.arith.proofs.Alls.{every-all, all-map, all-kept}
 use Rattle.arith.proofs.Among.{by-among, every-from}
@@ -16,14 +16,14 @@ use Rattle.arith.specs.Ints.{when}
 use Rattle.arith.proofs.Overs.{over-outside}
 use Rattle.arith.proofs.Tests.{never, by-eqb, le-or-lt, true-or, and-left, and-right, passed}
 use Rattle.rules.specs.Ledger.{headLength, rowWidth, rowsLength}
-use Rattle.rules.specs.Ranges.{contractCount}
+use Rattle.rules.specs.Ranges.{contractCount, termCount}
 use Rattle.rules.specs.declared.contract.ContractKind.the-variants.{Year, Quarter, Month}
 use Rattle.rules.specs.declared.order.Order.{Order}
 use Rattle.rules.specs.declared.units.Day.{Day}
 use Rattle.rules.specs.declared.units.Day.the-variants.{On, NoDay}
 use Rattle.rules.specs.declared.units.DayNo.{DayNo}
 use Rattle.rules.specs.Days.{Calendar, nextBusinessDay}
-use Rattle.rules.specs.Contracts.{termOf, contractsOf, childrenOf, termClosingDay, notBefore, isOn, isBefore, stillToClose, hasCascaded}
+use Rattle.rules.specs.Contracts.{hasTerm, isParent, termOf, contractsOf, childrenOf, termClosingDay, closesOn, closesBefore, notBefore, isOn, isBefore, stillToClose, hasCascaded}
 use Rattle.rules.specs.OtherForms.{firstMonthOf}
 use Rattle.rules.proofs.CalendarLaws.{next-business, before-or-not, closes-today, closed-by-next, quarter-later-by-number, open-stays, open-in-ledger, open-to-close}
 use Rattle.rules.proofs.HourLaws.{Cascading, year, quarter, cascading}
@@ -44,11 +44,11 @@ childOf c e = any (λ x. eqb x e) (childrenOf c)
 
 -- ---- one cascade
 -- the accounts stay, and the parent's rows are empty; none of its children had been emptied
-holds-cascaded : (h : Header) (c : ℕ) (R R′ : Rows) (log : List Line) (K : ℕ → Bool) → c % 17 < 5 → ((e : ℕ) → childOf c e ≡ true → K e ≡ false)
+holds-cascaded : (h : Header) (c : ℕ) (R R′ : Rows) (log : List Line) (K : ℕ → Bool) → c < termCount → c % 17 < 5 → ((e : ℕ) → childOf c e ≡ true → K e ≡ false)
     → ((x : Column) (e m : ℕ) → m < h .members → R′ x e m ≡ cond (eqb c e) (pos 0) (R x e m +ℤ when (childOf c e) (R x c m)))
     → Holds h R log K → Holds h R′ log (λ e. eqb c e || K e)
-holds-cascaded h c R R′ log K b clear moved a = record {
-  same = λ x m hour l d. cascade-keeps (calendarOf h) (R x) (R′ x) c m hour b (λ e _. moved x e m l) d ∙ a .same x m hour l d;
+holds-cascaded h c R R′ log K w b clear moved a = record {
+  same = λ x m hour l d. cascade-keeps (calendarOf h) (R x) (R′ x) c m hour w b (λ e _. moved x e m l) d ∙ a .same x m hour l d;
   zero = a .zero;
   empty = λ x e m k l t. moved x e m l ∙ by-eqb (λ q. q || K e ≡ true → cond q (pos 0) (R x e m +ℤ when (childOf c e) (R x c m)) ≡ pos 0) c e (λ _ _. refl)
       (λ _ u. true-or (childOf c e) (λ v. never (sym u ∙ clear e v)) (λ v. rw (v, a .empty x e m k l u))) t;
@@ -72,16 +72,24 @@ module _ (k : Calendar) (d : ℕ) where
   abbrev Closed : (ℕ → Bool) → Type 0
   Closed K = (e : ℕ) → K e ≡ true → (e % 17 < 5) × (stillToClose k (suc d) (termOf e) ≡ false)
 
+  -- what 'has cascaded' says of a contract
+  cascaded-parent : (e : ℕ) → hasCascaded k d e ≡ true → (e < termCount) × (leb (e % 17) 4 ≡ true)
+  unfolding hasCascaded
+  cascaded-parent e t =
+      let parent = and-left (isParent e) (closesBefore k e d) t in
+      (ltb-true e termCount (and-left (hasTerm e) (leb (e % 17) 4) parent), and-right (hasTerm e) (leb (e % 17) 4) parent)
+
+  cascaded-closed : (e : ℕ) → hasCascaded k d e ≡ true → isBefore (termClosingDay k (termOf e)) d ≡ true
+  unfolding hasCascaded
+  cascaded-closed e t = and-right (hasTerm e) (isBefore (termClosingDay k (termOf e)) d) (and-right (isParent e) (closesBefore k e d) t)
+
   closed-before : Closed (hasCascaded k d)
-  unfolding hasCascaded stillToClose
-  closed-before e t = (
-    omega (arith, leb-true (e % 17) 4 (and-left (leb (e % 17) 4) (isBefore (termClosingDay k (termOf e)) d) t)),
-    before-closed d (termClosingDay k (termOf e)) (and-right (leb (e % 17) 4) (isBefore (termClosingDay k (termOf e)) d) t),
-  )
+  unfolding stillToClose
+  closed-before e t = (omega (arith, leb-true (e % 17) 4 (cascaded-parent e t .1)), before-closed d (termClosingDay k (termOf e)) (cascaded-closed e t))
 
   -- so no child of a contract that closes this evening is
-  children-clear : (K : ℕ → Bool) (c : ℕ) → Closed K → isOn (termClosingDay k (termOf c)) d ≡ true → c % 17 < 5 → (e : ℕ) → childOf c e ≡ true → K e ≡ false
-  children-clear K c z o b e v = true-or (K e) (λ t. never (absurd (go (cascading c b) (z e t)))) (λ t. t)
+  children-clear : (K : ℕ → Bool) (c : ℕ) → c < termCount → Closed K → isOn (termClosingDay k (termOf c)) d ≡ true → c % 17 < 5 → (e : ℕ) → childOf c e ≡ true → K e ≡ false
+  children-clear K c w z o b e v = true-or (K e) (λ t. never (absurd (go (cascading c w b) (z e t)))) (λ t. t)
     where
       go : Cascading c → (e % 17 < 5) × (stillToClose k (suc d) (termOf e) ≡ false) → ⊥
       go (year y is) f =
@@ -152,7 +160,7 @@ module _ (h : Header) (d : ℕ) (t : Tables) (r : Runs h d t) (s : Sound t) (log
   few : h .members ≤ 32
   few = rw (r .size) at (s .few-members)
 
-  evening-next : (c : ℕ) (u : Tables) (K : ℕ → Bool) → c < contractCount → isOn (termClosingDay k (termOf c)) d ≡ true → Evening u K
+  evening-next : (c : ℕ) (u : Tables) (K : ℕ → Bool) → c < termCount → isOn (termClosingDay k (termOf c)) d ≡ true → Evening u K
       → Evening (rowsCascaded c u) (λ e. (eqb c e && leb (c % 17) 4) || K e)
   unfolding stillToClose
   evening-next c u K b o v = record {
@@ -162,7 +170,7 @@ module _ (h : Header) (d : ℕ) (t : Tables) (r : Runs h d t) (s : Sound t) (log
     holds = le-or-lt 5 (c % 17)
         (λ l. holds-fewer h _ log K _ (λ e _ q. only (eqb c e) (leb (c % 17) 4) (K e) (lt-leb (c % 17) 4 l) q) (holds-same h (rowsOf u) _ log K (λ x e m _ _. stays x e m l) (v .holds)))
         (λ l. holds-fewer h _ log (λ e. eqb c e || K e) _ (λ e _ q. either (eqb c e) (leb (c % 17) 4) (K e) q)
-        (holds-cascaded h c (rowsOf u) _ log K l (children-clear k d K c (v .closed) o l) (λ x e m q. moved x e m q l) (v .holds)));
+        (holds-cascaded h c (rowsOf u) _ log K b l (children-clear k d K c b (v .closed) o l) (λ x e m q. moved x e m q l) (v .holds)));
     closed = λ e q. true-or (K e) (λ w. v .closed e w) (λ w. new e (first (eqb c e && leb (c % 17) 4) (K e) w q));
   }
     where
@@ -185,7 +193,7 @@ module _ (h : Header) (d : ℕ) (t : Tables) (r : Runs h d t) (s : Sound t) (log
       moved lots e m q l = cascaded-row (members u) c (u .lots) (v .lots-long) b same32 e m l (omega (arith, size))
       moved value e m q l = cascaded-row (members u) c (u .value) (v .value-long) b same32 e m l (omega (arith, size))
 
-  evening-all : (cs : List ℕ) (u : Tables) (K : ℕ → Bool) → All (λ c. (c < contractCount) × (isOn (termClosingDay k (termOf c)) d ≡ true)) cs → Evening u K
+  evening-all : (cs : List ℕ) (u : Tables) (K : ℕ → Bool) → All (λ c. (c < termCount) × (isOn (termClosingDay k (termOf c)) d ≡ true)) cs → Evening u K
       → Evening (allRowsCascaded cs u) (closedBy cs K)
   unfolding allRowsCascaded closedBy
   evening-all [] u K a v = v
@@ -207,19 +215,20 @@ orders-closed P cs u b a =
 abbrev all-contracts : List ℕ
 all-contracts = contractsOf Year ++ (contractsOf Quarter ++ contractsOf Month)
 
-contracts-below : every (λ c. ltb c contractCount) all-contracts ≡ true
+contracts-below : every hasTerm all-contracts ≡ true
 unfolding contractsOf kept from every termOf
 contracts-below = refl
 
--- each is one of the 102 and closes today
-pub closing-today : (t : Tables) → All (λ c. (c < contractCount) × (isOn (termClosingDay (calendar t) (termOf c)) (day t) ≡ true)) (closingContracts t)
+-- each has a term and closes today
+pub closing-today : (t : Tables) → All (λ c. (c < termCount) × (isOn (termClosingDay (calendar t) (termOf c)) (day t) ≡ true)) (closingContracts t)
 unfolding closingContracts
 closing-today t =
-    let p : ℕ → Bool = λ c. isOn (termClosingDay (calendar t) (termOf c)) (day t) in
-    all-map (λ c. (ltb c contractCount ≡ true) × (p c ≡ true)) (λ c. (c < contractCount) × (p c ≡ true)) (kept p all-contracts) (λ c q. (ltb-true c contractCount (q .0), q .1))
-    (all-kept (λ c. ltb c contractCount ≡ true) p all-contracts (every-all (λ c. ltb c contractCount) all-contracts contracts-below))
+    let p : ℕ → Bool = λ c. closesOn (calendar t) c (day t) in
+    let today : ℕ → Bool = λ c. isOn (termClosingDay (calendar t) (termOf c)) (day t) in
+    all-map (λ c. (hasTerm c ≡ true) × (p c ≡ true)) (λ c. (c < termCount) × (today c ≡ true)) (kept p all-contracts) (λ c q. (ltb-true c termCount (q .0), and-right (hasTerm c) (today c) (q .1)))
+    (all-kept (λ c. hasTerm c ≡ true) p all-contracts (every-all hasTerm all-contracts contracts-below))
 
-contracts-listed : T (every (λ c. any (λ x. eqb x c) all-contracts) (from 0 contractCount))
+contracts-listed : T (every (λ c. any (λ x. eqb x c) all-contracts) (from 0 termCount))
 unfolding contractsOf kept from every any termOf
 contracts-listed = tt
 
@@ -267,13 +276,13 @@ module _ (h : Header) (d : ℕ) (t : Tables) (r : Runs h d t) (s : Sound t) (n :
   unfolding closes
   closes-here c = ap (λ k. isOn (termClosingDay k (termOf c)) (day t)) (runs-calendar r) ∙ ap (λ x. isOn (termClosingDay (calendarOf h) (termOf c)) x) (r .today)
 
-  closing-all : All (λ c. (c < contractCount) × (closes c ≡ true)) (closingContracts t)
-  closing-all = all-map _ (λ c. (c < contractCount) × (closes c ≡ true)) (closingContracts t) (λ c q. (q .0, sym (closes-here c) ∙ q .1)) (closing-today t)
+  closing-all : All (λ c. (c < termCount) × (closes c ≡ true)) (closingContracts t)
+  closing-all = all-map _ (λ c. (c < termCount) × (closes c ≡ true)) (closingContracts t) (λ c q. (q .0, sym (closes-here c) ∙ q .1)) (closing-today t)
 
-  closing-listed : (c : ℕ) → c < contractCount → closes c ≡ true → any (λ x. eqb x c) (closingContracts t) ≡ true
+  closing-listed : (c : ℕ) → c < termCount → closes c ≡ true → any (λ x. eqb x c) (closingContracts t) ≡ true
   unfolding closingContracts
-  closing-listed c b e = any-kept (λ c. isOn (termClosingDay (calendar t) (termOf c)) (day t)) all-contracts c
-      (passed _ (every-from (λ c. any (λ x. eqb x c) all-contracts) 0 contractCount contracts-listed c (omega arith) (omega arith))) (closes-here c ∙ e)
+  closing-listed c b e = any-kept (λ c. closesOn (calendar t) c (day t)) all-contracts c
+      (passed _ (every-from (λ c. any (λ x. eqb x c) all-contracts) 0 termCount contracts-listed c (omega arith) (omega arith))) (rw (lt-ltb c termCount b) (closes-here c ∙ e))
 
   evening : (log : List Line) → Holds h (rowsOf t) log (hasCascaded (calendarOf h) d) → Evening h d t r s log (priced n t) (hasCascaded (calendarOf h) d)
   unfolding priced
@@ -299,10 +308,10 @@ module _ (h : Header) (d : ℕ) (t : Tables) (r : Runs h d t) (s : Sound t) (n :
     unfolding hasCascaded closes
     cascaded-next e b q =
         let z = termClosingDay (calendarOf h) (termOf e) in
-        let parent = and-left (leb (e % 17) 4) (isBefore z (x .0)) q in
-        let past = sym (closed-by-next (calendarOf h) d x (termOf e) next) ∙ and-right (leb (e % 17) 4) (isBefore z (x .0)) q in
-        true-or (isBefore z d) (λ p. closed-keeps (closingContracts t) (hasCascaded (calendarOf h) d) e (rw (parent, p)))
-        (λ p. closed-has (closingContracts t) (hasCascaded (calendarOf h) d) e (closing-listed e b (rw p at past)) (omega (arith, leb-true (e % 17) 4 parent)))
+        let parent = cascaded-parent (calendarOf h) (x .0) e q in
+        let past = sym (closed-by-next (calendarOf h) d x (termOf e) next) ∙ cascaded-closed (calendarOf h) (x .0) e q in
+        true-or (isBefore z d) (λ p. closed-keeps (closingContracts t) (hasCascaded (calendarOf h) d) e (rw (lt-ltb e termCount (parent .0), parent .1, p)))
+        (λ p. closed-has (closingContracts t) (hasCascaded (calendarOf h) d) e (closing-listed e (parent .0) (rw p at past)) (omega (arith, leb-true (e % 17) 4 (parent .1))))
 
     -- an order that is left is of a contract that is open on the next day
     open-next : (o : Order) → InOpen h d o → isOfAny (closingContracts t) o ≡ false → InOpen h (x .0) o

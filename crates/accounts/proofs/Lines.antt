@@ -9,7 +9,7 @@ use Rattle.rules.specs.Days.{Calendar}
 use Rattle.rules.specs.Contracts.{holdsHour}
 use Rattle.rules.specs.Ledger.{Line}
 
--- a line names a contract of the 102 and a member of the n
+-- a line names a contract that has rows and a member of the n
 pub record Fits (n : ℕ) (l : Line) : Type 0 where
   pub contract< : l .contract < contractCount
   pub member< : l .member < n

@@ -18,7 +18,7 @@ use Rattle.arith.proofs.Overs.{over-length, over-outside}
 use Rattle.arith.proofs.Sizes.{abs-plus}
 use Rattle.arith.proofs.Tests.{by-bool, and-right}
 use Rattle.rules.specs.Ledger.{headLength, marksFrom, priceWidth, submitsFrom}
-use Rattle.rules.specs.Ranges.{contractCount, mostPrice}
+use Rattle.rules.specs.Ranges.{contractCount, termCount, mostPrice}
 use Rattle.rules.specs.declared.event.CloseOutTerms.{CloseOutTerms}
 use Rattle.rules.specs.declared.event.Leg.{Leg}
 use Rattle.rules.specs.declared.event.Submission.{Submission}
@@ -204,7 +204,7 @@ module _ (t : Tables) (s : Sound t) where
       let v = withClosed cs u in
       let same = run-closed cs u (run-start (t .head)) in
       let closed : WithinRun v = λ x. subst₂ (λ k run. Bounded k (weight x * run) (row x v)) (sym (same .size)) (sym (same .run))
-      (bounded-closed (members t) (s .few-members) x cs u (all-map _ (λ c. c < contractCount) cs (λ c q. q .0) (closing-today t))
+      (bounded-closed (members t) (s .few-members) x cs u (all-map _ (λ c. c < termCount) cs (λ c q. q .0) (closing-today t))
       (record { size = refl; lots-long = s .lots-long; value-long = s .value-long })
       (within-kept t u (run-start (t .head)) refl refl a x)) in
       within-kept v (onDay (nextDay t) v)

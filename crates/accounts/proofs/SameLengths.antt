@@ -15,7 +15,7 @@ use Rattle.arith.proofs.EachBlock.{in-each-length}
 use Rattle.arith.proofs.Overs.{over-length}
 use Rattle.arith.proofs.Tests.{by-bool}
 use Rattle.rules.specs.Ledger.{bookLength, headLength, linesLength, rowsLength}
-use Rattle.rules.specs.Ranges.{contractCount, mostPrice}
+use Rattle.rules.specs.Ranges.{contractCount, termCount, mostPrice}
 use Rattle.rules.specs.declared.event.CloseOutTerms.{CloseOutTerms}
 use Rattle.rules.specs.declared.event.Leg.{Leg}
 use Rattle.rules.specs.declared.event.Submission.{Submission}
@@ -131,7 +131,7 @@ module _ (t : Tables) (u : Undamaged t) where
       then-lengths w (booked-lengths ls (withOrders os v) l (omega (arith, w .lines, u .lines)))
 
   -- the close of day
-  cascaded-lengths : (m : ℕ) (cs : List ℕ) (l : List ℤ) → m ≤ 32 → All (λ c. c < contractCount) cs → rowsLength ≤ length l → length (allCascaded m cs l) ≡ length l
+  cascaded-lengths : (m : ℕ) (cs : List ℕ) (l : List ℤ) → m ≤ 32 → All (λ c. c < termCount) cs → rowsLength ≤ length l → length (allCascaded m cs l) ≡ length l
   unfolding allCascaded
   cascaded-lengths m [] l k h s = refl
   cascaded-lengths m (c ∷ cs) l k h s =
@@ -158,7 +158,7 @@ module _ (t : Tables) (u : Undamaged t) where
       let p = priced n t in
       let cs = closingContracts t in
       let few = u .head .members-range .to in
-      let listed = all-map _ (λ c. c < contractCount) cs (λ c q. q .0) (closing-today t) in
+      let listed = all-map _ (λ c. c < termCount) cs (λ c q. q .0) (closing-today t) in
       let os = kept (λ o. not (isOfAny cs o)) (orders p) in
       let w = then-lengths (priced-lengths n) (written-lengths os p (rw (orders-same t p refl refl) (remain-few _ (kept-remain _ (orders t)))) (u .long .book)) in
       let v = withClosed cs p in

@@ -2,9 +2,9 @@
 use mathlib.Core.Path.{_≡_, refl, sym, ap, subst, _∙_}
 use mathlib.Core.Bool.{Bool, true, false, cond}
 use mathlib.Core.List.{List, [], _∷_, _++_, flatMap}
-use Prim.Native.Nat.{ℕ, _+_, _%_, _<_}
+use Prim.Native.Nat.{ℕ, _+_, _<_}
 use native.Mathlib.Omega.{arith}
-use lib.Dec.{leb, ltb}
+use lib.Dec.{ltb}
 use lib.ListN.{length, set}
 use lib.IntN.{ℤ, pos, _+ℤ_, _*ℤ_, +ℤ-invr, +ℤ-invl, zero-*ℤ}
 use Rattle.arith.specs.Ints.{when}
@@ -19,7 +19,7 @@ use Rattle.rules.specs.declared.order.Order.{Order}
 use Rattle.rules.specs.declared.order.Side.{Side}
 use Rattle.rules.specs.declared.order.Side.the-variants.{Buy, Sell}
 use Rattle.rules.specs.Days.{Calendar}
-use Rattle.rules.specs.Contracts.{holdsHour, termOf, termClosingDay, stillToClose, openOn, hasCascaded}
+use Rattle.rules.specs.Contracts.{hasTerm, isParent, holdsHour, termOf, termClosingDay, stillToClose, openOn, hasCascaded}
 use Rattle.rules.proofs.CalendarLaws.{before-or-not, open-to-close}
 use Rattle.rules.specs.Header.{Header, calendarOf}
 use Rattle.rules.specs.Ledger.{timePlace, acceptedSubmitsPlace, orderCountPlace, Tables, Line, members, day, isOpen, time, acceptedSubmits, submitsThisSecond, withHead, orders, withOrders, withoutSubmits, timed}
@@ -97,7 +97,7 @@ open-here h d t c r = ap (λ k. openOn k (day t) c) (runs-calendar r) ∙ ap (λ
 
 pub open-not-cascaded : (k : Calendar) (d c : ℕ) → openOn k d c ≡ true → hasCascaded k d c ≡ false
 unfolding hasCascaded stillToClose
-open-not-cascaded k d c e = rw (before-or-not d (termClosingDay k (termOf c)), open-to-close k d c e) (and-false (leb (c % 17) 4))
+open-not-cascaded k d c e = rw (before-or-not d (termClosingDay k (termOf c)), open-to-close k d c e, and-false (hasTerm c)) (and-false (isParent c))
 
 -- ---- a submit
 module _ (h : Header) (d : ℕ) (t : Tables) (r : Runs h d t) (s : Sound t) where

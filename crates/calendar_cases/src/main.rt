@@ -2,11 +2,10 @@
 ghost use mathlib.Core.Path.{_≡_};
 ghost use Prim.Native.Nat.{_<_};
 ghost use Rattle.rules.specs.Answers.{toldNextDay};
-ghost use Rattle.rules.specs.Ranges.{contractCount};
 use libc::STDOUT_FILENO;
 use rules::Day;
 use rules::DayNo;
-use rules::layout::CONTRACTS;
+use rules::layout::TERMS;
 
 // 25, 29 and 30 December 2020: a Friday, a Tuesday, a Wednesday.
 const HOLIDAYS: [u64; 3] = [359, 363, 364];
@@ -62,9 +61,7 @@ fn print_next(holidays: &[u64], day: DayNo) {
 }
 
 // The last day up to 500 on which a contract of a ledger that begins in 2020 is open: its closing day.
-fn print_closing(holidays: &[u64], contract: u64)
-    requires { ⌜ contract < contractCount ⌝ }
-{
+fn print_closing(holidays: &[u64], contract: u64) {
     let mut last = Day::NoDay;
     let mut day: u64 = 0;
     while day <= 500 {
@@ -78,10 +75,10 @@ fn print_closing(holidays: &[u64], contract: u64)
 
 // The contracts that are open on a day, each with the number of its delivery days.
 fn print_open(holidays: &[u64], day: DayNo) {
-    let mut days = [0u64; CONTRACTS];
+    let mut days = [0u64; TERMS];
     open_days::find_open_days(2020, holidays, day, &mut days);
     let mut c: usize = 0;
-    while c < CONTRACTS {
+    while c < TERMS {
         if 0 < days[c] {
             io::print_decimal(STDOUT_FILENO, c as u64);
             io::write_all(STDOUT_FILENO, b" ");

@@ -20,7 +20,9 @@ use Rattle.arith.proofs.Scans.{from-next, from-end}
 use Rattle.arith.proofs.Appends.{kept-append}
 use Rattle.rules.specs.declared.contract.ContractKind.{ContractKind}
 use Rattle.rules.specs.declared.contract.ContractKind.the-variants.{Year, Quarter, Month}
+use Rattle.rules.specs.Ranges.{contractCount, termCount}
 use Rattle.rules.specs.Contracts.{childrenOf, contractsOf}
+use Rattle.rules.specs.Ledger.{rowsLength}
 use Rattle.rules.specs.OtherForms.{numberOf, sizeOf, firstMonthOf}
 use Rattle.rules.proofs.CalendarLaws.{contracts-of}
 use Rattle.rules.proofs.HourLaws.{Cascading, year, quarter, cascading}
@@ -56,10 +58,10 @@ front-rest n s d z h =
 
 -- ---- a parent's rows added to one child after the other
 -- A parent's rows stay where a later contract's are written.
-parent-stays : (n p c : ℕ) (xs l : List ℤ) → 3264 ≤ length l → p < c → c < 102 → n ≤ 32 → length xs ≡ n → contractRows n p (over (c * 32) xs l) ≡ contractRows n p l
+parent-stays : (n p c : ℕ) (xs l : List ℤ) → rowsLength ≤ length l → p < c → c < contractCount → n ≤ 32 → length xs ≡ n → contractRows n p (over (c * 32) xs l) ≡ contractRows n p l
 parent-stays n p c xs l s h b q e =
     let put = over (c * 32) xs l in
-    let long : 3264 ≤ length put = omega (arith, put-length n c l s b q xs e) in
+    let long : rowsLength ≤ length put = omega (arith, put-length n c l s b q xs e) in
     let many = rows-length n p put long (omega arith) q in
     ext-getD (pos 0) (contractRows n p put) (contractRows n p l) (many ∙ sym (rows-length n p l s (omega arith) q))
     (λ m k. let k′ : m < n = omega (arith, many) in
@@ -71,17 +73,17 @@ pub record Adding (n p end size : ℕ) (all parent : List ℤ) (child : ℕ) (ro
   pub same : length rows ≡ size
   pub lent : take n parent ≡ contractRows n p rows
   pub parent-fit : (m : ℕ) → m < n → natAbs (getD parent m (pos 0)) ≤ 2 ^ 61
-  pub rest-fit : (c m : ℕ) → child ≤ c → c < 102 → m < n → natAbs (rowOf rows c m) ≤ 2 ^ 61
+  pub rest-fit : (c m : ℕ) → child ≤ c → c < contractCount → m < n → natAbs (rowOf rows c m) ≤ 2 ^ 61
   pub known : addedTo n p (from child (end - child)) rows ≡ all
 
-module _ (n p end size : ℕ) (all parent : List ℤ) (few : n ≤ 32) (last : end ≤ 102) (long : 3264 ≤ size) where
+module _ (n p end size : ℕ) (all parent : List ℤ) (few : n ≤ 32) (last : end ≤ contractCount) (long : rowsLength ≤ size) where
   pub adding-next : (child : ℕ) (rows : List ℤ) → child < end → Adding n p end size all parent child rows
       → Adding n p end size all parent (child + 1) (over (child * 32) (zipWith _+ℤ_ (contractRows n child rows) parent) rows)
   unfolding addedTo
   adding-next child rows h a =
-      let s : 3264 ≤ length rows = omega (arith, a .same) in
-      let hp : p < 102 = omega (arith, a .after) in
-      let b : child < 102 = omega arith in
+      let s : rowsLength ≤ length rows = omega (arith, a .same) in
+      let hp : p < contractCount = omega (arith, a .after) in
+      let b : child < contractCount = omega arith in
       let mine = contractRows n child rows in
       let xs = sums n p hp few child rows s b (a .after) in
       let many = sums-length n p hp few child rows s b (a .after) in
@@ -98,13 +100,13 @@ module _ (n p end size : ℕ) (all parent : List ℤ) (few : n ≤ 32) (last : e
 
 -- ---- contracts of a kind, one after the other
 -- No contract of a kind is a child of another.
-not-child : (s : ContractKind) (i j : ℕ) → sizeOf s ≤ 24 → numberOf s i < 102 → any (λ x. eqb x (numberOf s j)) (childrenOf (numberOf s i)) ≡ false
-not-child Year i j f b = go (cascading (17 * i) (omega arith))
+not-child : (s : ContractKind) (i j : ℕ) → sizeOf s ≤ 24 → numberOf s i < termCount → any (λ x. eqb x (numberOf s j)) (childrenOf (numberOf s i)) ≡ false
+not-child Year i j f b = go (cascading (17 * i) b (omega arith))
   where
     go : Cascading (17 * i) → any (λ x. eqb x (17 * j)) (childrenOf (17 * i)) ≡ false
     go (year z e) = rw e (not-among (17 * i + 1) 4 (17 * j) (λ l u. le-or-lt j i (λ q. omega arith) (λ q. omega arith)))
     go (quarter z y e) = absurd (omega arith)
-not-child Quarter i j f b = go (cascading (numberOf Quarter i) (omega arith))
+not-child Quarter i j f b = go (cascading (numberOf Quarter i) b (omega arith))
   where
     go : Cascading (numberOf Quarter i) → any (λ x. eqb x (numberOf Quarter j)) (childrenOf (numberOf Quarter i)) ≡ false
     go (year z e) = absurd (omega arith)
@@ -120,7 +122,7 @@ number-parent Quarter i h = omega arith
 number-parent Month i h = absurd (omega arith)
 
 -- a cascade adds a parent's row to another at most once
-module _ (n c x b : ℕ) (l : List ℤ) (few : n ≤ 32) (below : c < 102) (parent : c % 17 ≤ 4) (fit : RowsFit n x l) where
+module _ (n c x b : ℕ) (l : List ℤ) (few : n ≤ 32) (below : c < termCount) (parent : c % 17 ≤ 4) (fit : RowsFit n x l) where
   pub cascade-fit : ((m : ℕ) → m < n → natAbs (rowOf l c m) ≤ b) → RowsFit n (x + b) (cascaded n c l)
   cascade-fit h =
       record {
@@ -184,7 +186,7 @@ module _ (n size b : ℕ) (s : ContractKind) (column : List ℕ) (all : List ℤ
         most = omega arith;
         same = same;
         fit = rw one fit;
-        kind-fit = λ j m u k. fit .within (numberOf s j) m (number-below s j u) k;
+        kind-fit = λ j m u k. fit .within (numberOf s j) m (omega (arith, number-below s j u)) k;
         known = rw (contracts-of s, ← sub-zero (sizeOf s)) at known;
       }
 

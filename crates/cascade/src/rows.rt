@@ -7,7 +7,7 @@ ghost use lib.Dec.{eqb};
 ghost use lib.ListN.{length, getD, take, drop};
 ghost use lib.IntN.{pos, natAbs, _+ℤ_};
 ghost use Rattle.arith.specs.Lists.{from, over, kept};
-ghost use Rattle.rules.specs.Ranges.{contractCount, contractsInYear, quartersInSpan, lastQuarter, mostMembers};
+ghost use Rattle.rules.specs.Ranges.{contractCount, termCount, contractsInYear, quartersInSpan, lastQuarter, mostMembers};
 ghost use Rattle.rules.specs.OtherForms.{sizeOf};
 ghost use Rattle.rules.specs.Contracts.{contractsOf};
 ghost use Rattle.rules.specs.Ledger.{rowsLength, rowsFrom, rowPlace};
@@ -95,7 +95,7 @@ fn move_rows(rows: &mut [i64], members: usize, contract: usize, first: usize, en
 // A year's or a quarter's rows go to its children.
 fn cascade(rows: &mut [i64], members: usize, contract: usize)
     requires { ⌜ RowsFit members (2 ^ 61) (now rows) × (members ≤ mostMembers) ⌝ }
-    requires { ⌜ (contract < contractCount) × (contract % contractsInYear ≤ lastQuarter) ⌝ }
+    requires { ⌜ (contract < termCount) × (contract % contractsInYear ≤ lastQuarter) ⌝ }
     ensures { λ _. ⌜ now (rows .exit) ≡ cascaded members contract (now (rows .entry)) ⌝ }
 {
     let k = contract % CONTRACTS_IN_YEAR;
@@ -111,7 +111,7 @@ fn cascade(rows: &mut [i64], members: usize, contract: usize)
 
 fn cascade_closing(rows: &mut [i64], members: usize, contract: usize, phase: u64)
     requires { ⌜ RowsFit members (2 ^ 61) (now rows) × (members ≤ mostMembers) ⌝ }
-    requires { ⌜ (contract < contractCount) × (contract % contractsInYear ≤ lastQuarter) ⌝ }
+    requires { ⌜ (contract < termCount) × (contract % contractsInYear ≤ lastQuarter) ⌝ }
     ensures { λ _. ⌜ now (rows .exit) ≡ cond (eqb phase closingPhase) (cascaded members contract (now (rows .entry))) (now (rows .entry)) ⌝ }
 {
     if phase == CLOSING {
@@ -122,7 +122,7 @@ fn cascade_closing(rows: &mut [i64], members: usize, contract: usize, phase: u64
 // Of a kind that has children. A row grows by one parent's at a time, so none comes near the end of its place.
 fn cascade_kind(rows: &mut [i64], column: &[u64], members: usize, kind: ContractKind)
     requires { ⌜ RowsFit members (7 * mostRow) (now rows) × (members ≤ mostMembers) ⌝ }
-    requires { ⌜ (sizeOf kind ≤ quartersInSpan) × (length (now column) ≡ contractCount) ⌝ }
+    requires { ⌜ (sizeOf kind ≤ quartersInSpan) × (length (now column) ≡ termCount) ⌝ }
     ensures { λ _. ⌜ now (rows .exit) ≡ allCascaded members (kept (closes (now (column .entry))) (contractsOf kind)) (now (rows .entry)) ⌝ }
 {
     let count = contracts_in(kind);
@@ -136,7 +136,7 @@ fn cascade_kind(rows: &mut [i64], column: &[u64], members: usize, kind: Contract
 
 // Years before quarters; a month's rows stay.
 pub fn cascade_all(rows: &mut [i64], column: &[u64], members: usize)
-    requires { ⌜ RowsFit members mostRow (now rows) × (members ≤ mostMembers) × (length (now column) ≡ contractCount) ⌝ }
+    requires { ⌜ RowsFit members mostRow (now rows) × (members ≤ mostMembers) × (length (now column) ≡ termCount) ⌝ }
     ensures { λ _. ⌜ now (rows .exit) ≡ allCascaded members (closing (now (column .entry))) (now (rows .entry)) ⌝ }
 {
     cascade_kind(&mut *rows, column, members, ContractKind::Year);

@@ -10,7 +10,7 @@ use lib.IntN.{ℤ}
 use Rattle.arith.specs.Lists.{All, kept}
 use Rattle.arith.proofs.Alls.{all-map, all-append, all-kept}
 use Rattle.rules.specs.Ledger.{pricesLength}
-use Rattle.rules.specs.Ranges.{contractCount}
+use Rattle.rules.specs.Ranges.{contractCount, termCount}
 use Rattle.rules.specs.declared.contract.ContractKind.{ContractKind}
 use Rattle.rules.specs.declared.contract.ContractKind.the-variants.{Year, Quarter, Month}
 use Rattle.rules.specs.declared.order.Side.the-variants.{Buy, Sell}
@@ -27,7 +27,7 @@ use Rattle.order_book.proofs.Left.{all-orders}
 use Rattle.contract_phases.specs.Phases.{phases, waits, closes, closing, openIn, allOpenIn}
 use Rattle.reference_price.specs.Columns.{BookReads, DealsFit, bestPrice, ggfsFrom}
 use Rattle.reference_price.proofs.Ggfs.{ggf-is, ggfs-are}
-use Rattle.contract_phases.proofs.Phases.{listed, kept-same, closing-order, closing-is, open-is}
+use Rattle.contract_phases.proofs.Phases.{phases-length, listed, kept-same, closing-order, closing-is, open-is}
 use Rattle.close_of_day.specs.Closed.{closed}
 
 -- ---- undamaged tables
@@ -68,7 +68,7 @@ open-below column =
     of s =
         all-take (λ c. c < contractCount) (openCount s) (kept (waits column) (contractsOf s))
         (all-map (λ c. (c < contractCount) × (waits column c ≡ true)) (λ c. c < contractCount) (kept (waits column) (contractsOf s)) (λ c h. h .0)
-        (all-kept (λ c. c < contractCount) (waits column) (contractsOf s) (listed (λ c. c < contractCount) (λ c h. h) s)))
+        (all-kept (λ c. c < contractCount) (waits column) (contractsOf s) (listed (λ c. c < contractCount) (λ c h. omega arith) s)))
 
 pub priced-is : (t : Tables) (s : ℕ) (buys sells : List ℕ) → pricesLength ≤ length (t .prices) → All (λ o. 1 ≤ o .price .0) (orders t)
     → ((c : ℕ) → c < contractCount → getD buys c 0 ≡ bestPrice (day t) s Buy (orders t) c) → ((c : ℕ) → c < contractCount → getD sells c 0 ≡ bestPrice (day t) s Sell (orders t) c)
@@ -80,20 +80,20 @@ priced-is t s buys sells long priced-orders e f =
     ∙ rw (open-is (calendar t) (day t))
 
 -- ---- orders
-pub orders-closed : (column book : List ℕ) (n : ℕ) → BookReads n book
+pub orders-closed : (column book : List ℕ) (n : ℕ) → length column ≡ termCount
     → kept (λ o. not (isOfAny (closing column) o)) (ordersIn n book) ≡ kept (λ o. not (closes column (o .contract))) (ordersIn n book)
 unfolding isOfAny
-orders-closed column book n r =
+orders-closed column book n e =
     kept-same (λ o. not (isOfAny (closing column) o)) (λ o. not (closes column (o .contract))) (ordersIn n book)
-    (all-orders (λ o. not (isOfAny (closing column) o) ≡ not (closes column (o .contract))) book n (λ i h. ap not (closing-order column (orderAt book i .contract) (r .contract-below i h))))
+    (all-orders (λ o. not (isOfAny (closing column) o) ≡ not (closes column (o .contract))) book n (λ i h. ap not (closing-order column e (orderAt book i .contract))))
 
 -- ---- the parts put together
-pub closed-is : (u : Tables) (s d : ℕ) (prices : List ℕ) (lots value : List ℤ) → BookReads (orderCount u) (u .book) → prices ≡ priced s u .prices
+pub closed-is : (u : Tables) (s d : ℕ) (prices : List ℕ) (lots value : List ℤ) → prices ≡ priced s u .prices
     → lots ≡ allCascaded (members u) (closing (phases (calendar u) (day u))) (u .lots) → value ≡ allCascaded (members u) (closing (phases (calendar u) (day u))) (u .value)
     → onDay d (withOrders (kept (λ o. not (closes (phases (calendar u) (day u)) (o .contract))) (orders u)) (withPrices prices (withRows lots value u))) ≡ closed s d u
 unfolding closed withClosed priced closingContracts orders withOrders
-closed-is u s d prices lots value r ep el ev =
-    rw (ep, el, ev, ← orders-closed (phases (calendar u) (day u)) (u .book) (orderCount u) r, closing-is (calendar u) (day u))
+closed-is u s d prices lots value ep el ev =
+    rw (ep, el, ev, ← orders-closed (phases (calendar u) (day u)) (u .book) (orderCount u) (phases-length (calendar u) (day u)), closing-is (calendar u) (day u))
 
 -- ---- the causes
 module _ (t : Tables) where

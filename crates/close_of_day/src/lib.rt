@@ -4,7 +4,7 @@ mod orders;
 ghost use mathlib.Core.Path.{_≡_};
 ghost use Prim.Native.Nat.{_*_, _≤_};
 ghost use lib.ListN.{length, getD};
-ghost use Rattle.rules.specs.Ranges.{contractCount, mostMembers, mostPrice};
+ghost use Rattle.rules.specs.Ranges.{termCount, mostMembers, mostPrice};
 ghost use Rattle.rules.specs.Ledger.{Tables, withHead, withPrices, withRows, withBook, headLength, dayPlace};
 ghost use Rattle.rules.specs.CloseOfDay.{priced, onDay};
 ghost use Rattle.rules.specs.Refusals.{closeSpec};
@@ -23,11 +23,12 @@ use rules::layout::HOLIDAYS;
 use rules::layout::MEMBERS;
 use rules::layout::ORDER_COUNT;
 use rules::layout::SUBMITS;
+use rules::layout::TERMS;
 use rules::layout::TIME;
 
-// The phase of each contract on the ledger's day.
+// The phase, on the ledger's day, of each contract that has a term.
 fn write_phases(head: &[u64], column: &mut [u64])
-    requires { ⌜ HeadFit (now head) × (length (now column) ≡ contractCount) ⌝ }
+    requires { ⌜ HeadFit (now head) × (length (now column) ≡ termCount) ⌝ }
     ensures { λ _. ⌜ now (column .exit) ≡ phases (calendarIn (now (head .entry))) (getD (now (head .entry)) dayPlace 0) ⌝ }
 {
     let end = HOLIDAYS + head[HOLIDAY_COUNT] as usize;
@@ -82,7 +83,7 @@ fn close(
         ≡ closed time (next .0) (withHead (now (head .entry)) (withPrices (now (prices .entry)) (withRows (now (lots .entry)) (now (value .entry)) (withBook (now (book .entry)) t))))) ⌝ }
 {
     let members = head[MEMBERS] as usize;
-    let mut column = [0u64; CONTRACTS];
+    let mut column = [0u64; TERMS];
     write_phases(&*head, &mut column[..]);
     write_prices(&*head, &mut *prices, &*book, &column[..], time);
     cascade::cascade_all(&mut *lots, &column[..], members);

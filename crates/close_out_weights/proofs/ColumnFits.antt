@@ -16,7 +16,7 @@ use Rattle.arith.proofs.Totals.{total-most}
 use Rattle.rules.specs.declared.event.CloseOutTerms.{CloseOutTerms}
 use Rattle.rules.specs.Default.{sumOf, othersLots, lotsLeft, weights, openWeight}
 use Rattle.rules.specs.Ledger.{Tables, members, defaulted, lotsAt, calendar, day, rowPlace}
-use Rattle.rules.specs.Ranges.{contractCount, mostMembers, mostLotsRun}
+use Rattle.rules.specs.Ranges.{contractCount, termCount, mostMembers, mostLotsRun}
 use Rattle.rules.proofs.Netting.{sum-most}
 use Rattle.tables.specs.Fit.{RowsFit}
 use Rattle.dealing.specs.Levels.{mostDays, mostWeight, Column}
@@ -79,7 +79,7 @@ module _ (t : Tables) (few : members t ≤ mostMembers) (fit : RowsFit (members 
 
   day-weight-most : (m : ℕ) → m < members t → openWeight t m ≤ mostWeight
   day-weight-most m k =
-      rw (← open-weight t m) (weight-most (openDays (calendar t) (day t)) (t .lots) (members t) contractCount (open-days-most (calendar t) (day t)) fit (omega arith) m k)
+      rw (← open-weight t m) (omega (arith, weight-most (openDays (calendar t) (day t)) (t .lots) (members t) termCount (open-days-most (calendar t) (day t)) fit (omega arith) m k))
 
   or-none : (b : Bool) (x most : ℕ) → x ≤ most → cond b 0 x ≤ most
   or-none true x most h = omega arith

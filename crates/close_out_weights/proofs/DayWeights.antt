@@ -20,20 +20,20 @@ use Rattle.rules.specs.Contracts.{daysOf, openOn}
 use Rattle.rules.specs.Days.{Calendar}
 use Rattle.rules.specs.Default.{openWeight}
 use Rattle.rules.specs.Ledger.{Tables, calendar, day, members, defaulted, lotsAt, rowPlace}
-use Rattle.rules.specs.Ranges.{contractCount}
+use Rattle.rules.specs.Ranges.{termCount}
 use Rattle.dealing.specs.Levels.{mostDays}
 use Rattle.open_days.specs.OpenDays.{openDays}
 use Rattle.close_out_weights.specs.Columns.{weightBy, daysWeights}
 
-pub open-days-length : (k : Calendar) (d : ℕ) → length (openDays k d) ≡ contractCount
+pub open-days-length : (k : Calendar) (d : ℕ) → length (openDays k d) ≡ termCount
 unfolding openDays
-open-days-length k d = mapped-length (λ c. cond (openOn k d c) (daysOf k c) 0) 0 contractCount
+open-days-length k d = mapped-length (λ c. cond (openOn k d c) (daysOf k c) 0) 0 termCount
 
-open-days-at : (k : Calendar) (d c : ℕ) → c < contractCount → getD (openDays k d) c 0 ≡ cond (openOn k d c) (daysOf k c) 0
+open-days-at : (k : Calendar) (d c : ℕ) → c < termCount → getD (openDays k d) c 0 ≡ cond (openOn k d c) (daysOf k c) 0
 unfolding openDays
-open-days-at k d c h = mapped-at (λ x. cond (openOn k d x) (daysOf k x) 0) 0 0 contractCount c h ∙ rw (zero-add c)
+open-days-at k d c h = mapped-at (λ x. cond (openOn k d x) (daysOf k x) 0) 0 0 termCount c h ∙ rw (zero-add c)
 
-past : (k : Calendar) (d c : ℕ) → contractCount ≤ c → getD (openDays k d) c 0 ≡ 0
+past : (k : Calendar) (d c : ℕ) → termCount ≤ c → getD (openDays k d) c 0 ≡ 0
 past k d c h = let long : length (openDays k d) ≤ c = omega (arith, open-days-length k d) in List·getD-eq-default (openDays k d) 0 long
 
 none-more : (b : Bool) (x most : ℕ) → x ≤ most → cond b x 0 ≤ most
@@ -42,20 +42,20 @@ none-more false x most h = omega arith
 
 pub open-days-most : (k : Calendar) (d c : ℕ) → getD (openDays k d) c 0 ≤ mostDays
 open-days-most k d c =
-    le-or-lt contractCount c (λ h. rw (past k d c h) (omega arith))
+    le-or-lt termCount c (λ h. rw (past k d c h) (omega arith))
     (λ h. rw (open-days-at k d c h) (none-more (openOn k d c) (daysOf k c) mostDays (days-most k c)))
 
 cond-times : (b : Bool) (x y : ℕ) → cond b x 0 * y ≡ cond b (x * y) 0
 cond-times true x y = refl
 cond-times false x y = zero-mul y
 
-pub open-weight : (t : Tables) (m : ℕ) → weightBy contractCount (openDays (calendar t) (day t)) (t .lots) m ≡ openWeight t m
+pub open-weight : (t : Tables) (m : ℕ) → weightBy termCount (openDays (calendar t) (day t)) (t .lots) m ≡ openWeight t m
 unfolding weightBy openWeight
 open-weight t m =
     let k = calendar t in
     let d = day t in
     let size : ℕ → ℕ = λ c. natAbs (lotsAt t c m) in
-    total-same (λ c. getD (openDays k d) c 0 * size c) (λ c. cond (openOn k d c) (daysOf k c * size c) 0) 0 contractCount
+    total-same (λ c. getD (openDays k d) c 0 * size c) (λ c. cond (openOn k d c) (daysOf k c * size c) 0) 0 termCount
     (λ c h g. ap (λ x. x * size c) (open-days-at k d c g) ∙ cond-times (openOn k d c) (daysOf k c) (size c))
     ∙ sym (open-total k d (λ c. daysOf k c * size c))
 
@@ -96,15 +96,15 @@ module _ (days : List ℕ) (lots : List ℤ) (n : ℕ) where
       (λ m l u. rw (e, read-mapped (weightBy c days lots) n m (omega arith)) (sym (weight-more c m)))
 
   -- The sums, of those that pass a test nothing.
-  pub sums-read : (marked : ℕ → Bool) (sums : List ℕ) → sums ≡ map (weightBy contractCount days lots) (from 0 n)
-      → map (λ m. cond (marked m) 0 (getD sums m 0)) (from 0 n) ≡ map (λ m. cond (marked m) 0 (weightBy contractCount days lots m)) (from 0 n)
+  pub sums-read : (marked : ℕ → Bool) (sums : List ℕ) → sums ≡ map (weightBy termCount days lots) (from 0 n)
+      → map (λ m. cond (marked m) 0 (getD sums m 0)) (from 0 n) ≡ map (λ m. cond (marked m) 0 (weightBy termCount days lots m)) (from 0 n)
   sums-read marked sums e =
-      mapped-same (λ m. cond (marked m) 0 (getD sums m 0)) (λ m. cond (marked m) 0 (weightBy contractCount days lots m)) 0 n
-      (λ m l u. rw (e, read-mapped (weightBy contractCount days lots) n m (omega arith)))
+      mapped-same (λ m. cond (marked m) 0 (getD sums m 0)) (λ m. cond (marked m) 0 (weightBy termCount days lots m)) 0 n
+      (λ m l u. rw (e, read-mapped (weightBy termCount days lots) n m (omega arith)))
 
 pub weights-by-days : (t : Tables) (days : List ℕ) → days ≡ openDays (calendar t) (day t)
-    → map (λ m. cond (defaulted t m) 0 (weightBy contractCount days (t .lots) m)) (from 0 (members t)) ≡ daysWeights t
+    → map (λ m. cond (defaulted t m) 0 (weightBy termCount days (t .lots) m)) (from 0 (members t)) ≡ daysWeights t
 unfolding daysWeights
 weights-by-days t days e =
-    map-same (λ m. cond (defaulted t m) 0 (weightBy contractCount days (t .lots) m)) (λ m. cond (defaulted t m) 0 (openWeight t m)) (from 0 (members t))
+    map-same (λ m. cond (defaulted t m) 0 (weightBy termCount days (t .lots) m)) (λ m. cond (defaulted t m) 0 (openWeight t m)) (from 0 (members t))
     (λ m. ap (λ w. cond (defaulted t m) 0 w) (rw e (open-weight t m)))

@@ -1,5 +1,5 @@
 -- What the writer of records needs: lengths, fields that fit a byte, and the outcome by the tests that lead to it. Assumes nothing.
-use Prim.Native.Nat.{ℕ, _*_, _≤_, _<_}
+use Prim.Native.Nat.{ℕ, _*_, _-_, _≤_, _<_}
 use mathlib.Core.Bool.{true, false, _&&_}
 use mathlib.Core.List.{List, [], _∷_, flatMap}
 use mathlib.Core.Path.{_≡_, refl, sym}
@@ -15,7 +15,7 @@ use Rattle.rules.specs.declared.answer.Answer.the-variants.{Accepted, TableUnso
 use Rattle.rules.specs.declared.event.Event.the-variants.{Submit, Cancel, DayLimits, Proposal, Default, CloseOut, CloseOfDay}
 use Rattle.rules.specs.declared.event.Event.{Event}
 use Rattle.rules.specs.declared.event.Leg.{Leg}
-use Rattle.rules.specs.Ranges.{mostMembers, lastSecond, leastLegs, mostLegs}
+use Rattle.rules.specs.Ranges.{contractCount, mostMembers, lastSecond, leastLegs, mostLegs}
 use Rattle.rules.specs.Header.{u16Bytes, u32Bytes, membersSound}
 use Rattle.rules.specs.Records.{recordLength, eventSound, legBytes, kindNumber, fieldBytes, bytesOf, writeSpec}
 use Rattle.record_kinds.specs.LegCount.{legCount}
@@ -47,20 +47,20 @@ module _ (n : ℕ) (m : membersSound n ≡ true) where
       let few : n ≤ mostMembers = leb-true n mostMembers (and-right (leb 1 n) (leb n mostMembers) m) in
       le-or-lt n x (λ h. never (f h)) (λ h. omega arith)
 
-  contract-fits : (x : ℕ) → (101 < x → true ≡ false) → x < 256
-  contract-fits x f = omega (arith, bound x 101 f)
+  contract-fits : (x : ℕ) → (contractCount - 1 < x → true ≡ false) → x < 256
+  contract-fits x f = omega (arith, bound x (contractCount - 1) f)
 
   pub one-byte : (e : Event) (legs : List Leg) → eventSound n e legs ≡ true → OneByteFields e
   unfolding eventSound
   one-byte (Submit e) legs t = (
     member-fits (e .member) (λ h. sym (rw (le-ltb (e .member) n h, and-false (leb (e .time) lastSecond)) at t)),
-    contract-fits (e .contract) (λ h. sym (rw (lt-leb (e .contract) 101 h, and-false (leb (e .time) lastSecond && ltb (e .member) n)) at t)),
+    contract-fits (e .contract) (λ h. sym (rw (lt-leb (e .contract) (contractCount - 1) h, and-false (leb (e .time) lastSecond && ltb (e .member) n)) at t)),
   )
   one-byte (Cancel e) legs t = member-fits (e .member) (λ h. sym (rw (le-ltb (e .member) n h, and-false (leb (e .time) lastSecond)) at t))
-  one-byte (DayLimits e) legs t = contract-fits (e .contract) (λ h. sym (rw (lt-leb (e .contract) 101 h) at t))
+  one-byte (DayLimits e) legs t = contract-fits (e .contract) (λ h. sym (rw (lt-leb (e .contract) (contractCount - 1) h) at t))
   one-byte (Proposal k) legs t = bound k mostLegs (λ h. sym (rw (lt-leb k mostLegs h, and-false (leb leastLegs k)) at t))
   one-byte (Default x) legs t = member-fits x (λ h. sym (rw (le-ltb x n h) at t))
-  one-byte (CloseOut e) legs t = contract-fits (e .contract) (λ h. sym (rw (lt-leb (e .contract) 101 h) at t))
+  one-byte (CloseOut e) legs t = contract-fits (e .contract) (λ h. sym (rw (lt-leb (e .contract) (contractCount - 1) h) at t))
   one-byte (CloseOfDay s) legs t = tt
 
 pub few-legs-beside : (e : Event) → OneByteFields e → legCount e ≤ mostLegs

@@ -6,20 +6,21 @@ use Prim.Native.Nat.{ℕ, zero, suc, _+_, _*_, _≤_, _<_}
 use native.Mathlib.Omega.{arith}
 use native.Mathlib.Nat.{zero-add}
 use lib.Dec.{eqb, ltb}
-use lib.ListN.{length, getD, length-map}
+use lib.ListN.{length, getD, length-map, List·getD-eq-default}
 use borrow.Author.Tests.{lt-ltb, le-ltb, le-leb, lt-leb, eq-eqb, ne-eqb}
 use Rattle.arith.specs.Lists.{All, any, from, kept}
 use Rattle.arith.proofs.Alls.{all-map, all-append, all-kept}
 use Rattle.arith.proofs.Among.{by-among}
-use Rattle.arith.proofs.Tests.{true-or, le-or-lt, same-or, and-true, and-false, any-append}
+use Rattle.arith.proofs.Tests.{true-or, le-or-lt, same-or, and-true, and-false, or-false, any-append}
 use Rattle.arith.proofs.Appends.{map-at, from-at, from-length}
 use Rattle.rules.specs.declared.contract.ContractKind.{ContractKind}
 use Rattle.rules.specs.declared.contract.ContractKind.the-variants.{Year, Quarter, Month}
 use Rattle.rules.specs.declared.contract.Term.{Term}
 use Rattle.rules.specs.declared.units.Day.{Day}
 use Rattle.rules.specs.declared.units.Day.the-variants.{On, NoDay}
+use Rattle.rules.specs.Ranges.{termCount}
 use Rattle.rules.specs.Days.{Calendar, businessDayBefore}
-use Rattle.rules.specs.Contracts.{kindOf, termOf, sameKind, contractsOf, monthsIn, closingDistance, termFirstDay, termClosingDay}
+use Rattle.rules.specs.Contracts.{hasTerm, kindOf, termOf, sameKind, contractsOf, monthsIn, closingDistance, termFirstDay, termClosingDay}
 use Rattle.rules.specs.Contracts.{closingDay, closesOn, isOn, notBefore, stillToClose, openOfKind, openContracts}
 use Rattle.rules.specs.OtherForms.{numberOf, sizeOf}
 use Rattle.months.specs.Spans.{startsOf}
@@ -45,7 +46,7 @@ phase-by-first k d t w least later g h =
     rw (first-read k t w, ← (g (termFirstDay k t) (in-span k t w)), ← (h (termFirstDay k t) (in-span k t w)))
     (by-days (businessDayBefore k (closingDistance (t .kind)) (termFirstDay k t)) d)
 
-pub number-below : (s : ContractKind) (i : ℕ) → i < sizeOf s → numberOf s i < 102
+pub number-below : (s : ContractKind) (i : ℕ) → i < sizeOf s → numberOf s i < termCount
 number-below Year i h = omega arith
 number-below Quarter i h = omega arith
 number-below Month i h = omega arith
@@ -63,20 +64,20 @@ phase-waits (On x) d =
 phase-waits NoDay d = refl
 
 module _ (k : Calendar) (d : ℕ) where
-  pub phases-length : length (phases k d) ≡ 102
+  pub phases-length : length (phases k d) ≡ termCount
   unfolding phases
-  phases-length = length-map (from 0 102) (λ c. phaseOf (closingDay k c) d) ∙ from-length 0 102
+  phases-length = length-map (from 0 termCount) (λ c. phaseOf (closingDay k c) d) ∙ from-length 0 termCount
 
-  pub phases-at : (c : ℕ) → c < 102 → getD (phases k d) c 0 ≡ phaseOf (closingDay k c) d
+  pub phases-at : (c : ℕ) → c < termCount → getD (phases k d) c 0 ≡ phaseOf (closingDay k c) d
   unfolding phases
   phases-at c h =
-      map-at (λ c. phaseOf (closingDay k c) d) (from 0 102) c 0 0 (omega (arith, from-length 0 102))
-      ∙ ap (λ c. phaseOf (closingDay k c) d) (from-at 0 102 c 0 h ∙ zero-add c)
+      map-at (λ c. phaseOf (closingDay k c) d) (from 0 termCount) c 0 0 (omega (arith, from-length 0 termCount))
+      ∙ ap (λ c. phaseOf (closingDay k c) d) (from-at 0 termCount c 0 h ∙ zero-add c)
 
-  pub closes-is : (c : ℕ) → c < 102 → closes (phases k d) c ≡ closesOn k c d
-  closes-is c h = ap (λ x. eqb x 1) (phases-at c h) ∙ phase-closes (closingDay k c) d
+  pub closes-is : (c : ℕ) → c < termCount → closes (phases k d) c ≡ closesOn k c d
+  closes-is c h = rw (lt-ltb c termCount h) (ap (λ x. eqb x 1) (phases-at c h) ∙ phase-closes (closingDay k c) d)
 
-  waits-is : (c : ℕ) → c < 102 → waits (phases k d) c ≡ stillToClose k d (termOf c)
+  waits-is : (c : ℕ) → c < termCount → waits (phases k d) c ≡ stillToClose k d (termOf c)
   unfolding stillToClose
   waits-is c h = ap (λ x. ltb 0 x) (phases-at c h) ∙ phase-waits (closingDay k c) d
 
@@ -86,11 +87,11 @@ unfolding from
 all-from P a zero f = tt
 all-from P a (suc n) f = (f a (omega arith) (omega arith), all-from P (suc a) n (λ i l u. f i (omega arith) (omega arith)))
 
-pub listed : (P : ℕ → Type 0) → ((c : ℕ) → c < 102 → P c) → (s : ContractKind) → All P (contractsOf s)
+pub listed : (P : ℕ → Type 0) → ((c : ℕ) → c < termCount → P c) → (s : ContractKind) → All P (contractsOf s)
 unfolding contractsOf
 listed P f s =
     let test : ℕ → Bool = λ c. sameKind (kindOf c) s in
-    all-map (λ c. P c × (test c ≡ true)) P (kept test (from 0 102)) (λ c h. h .0) (all-kept P test (from 0 102) (all-from P 0 102 (λ i l u. f i (omega arith))))
+    all-map (λ c. P c × (test c ≡ true)) P (kept test (from 0 termCount)) (λ c h. h .0) (all-kept P test (from 0 termCount) (all-from P 0 termCount (λ i l u. f i (omega arith))))
 
 pub kept-same : {A : Type 0} (p q : A → Bool) (l : List A) → All (λ c. p c ≡ q c) l → kept p l ≡ kept q l
 unfolding kept
@@ -122,27 +123,34 @@ any-kept p x (c ∷ l) =
     (λ e. rw (e, eq-eqb x x refl) (true-or (p x) (λ t. rw (t, eq-eqb x x refl)) (λ t. rw t (any-kept p x l ∙ rw t))))
     (λ e. rw (ne-eqb c x e) (true-or (p c) (λ t. rw (t, ne-eqb c x e) (any-kept p x l)) (λ t. rw t (any-kept p x l))))
 
-any-of-kind : (s : ContractKind) (x : ℕ) → x < 102 → any (λ c. eqb c x) (contractsOf s) ≡ sameKind (kindOf x) s
+any-term : (x : ℕ) → any (λ c. eqb c x) (from 0 termCount) ≡ hasTerm x
+any-term x = by-among (λ t. t ≡ hasTerm x) 0 termCount x (λ l u. sym (lt-ltb x termCount (omega arith)))
+    (λ out. le-or-lt termCount x (λ h. sym (le-ltb x termCount h)) (λ h. absurd (out (omega arith) (omega arith))))
+
+any-of-kind : (s : ContractKind) (x : ℕ) → any (λ c. eqb c x) (contractsOf s) ≡ sameKind (kindOf x) s && hasTerm x
 unfolding contractsOf
-any-of-kind s x h =
-    any-kept (λ c. sameKind (kindOf c) s) x (from 0 102)
-    ∙ ap (λ t. sameKind (kindOf x) s && t) (by-among (λ t. t ≡ true) 0 102 x (λ l u. refl) (λ out. absurd (out (omega arith) (omega arith)))) ∙ and-true (sameKind (kindOf x) s)
+any-of-kind s x = any-kept (λ c. sameKind (kindOf c) s) x (from 0 termCount) ∙ ap (λ t. sameKind (kindOf x) s && t) (any-term x)
 
-some-kind : (k : ContractKind) → sameKind k Year || (sameKind k Quarter || sameKind k Month) ≡ true
-some-kind Year = refl
-some-kind Quarter = refl
-some-kind Month = refl
+some-kind : (k : ContractKind) (b : Bool) → sameKind k Year && b || (sameKind k Quarter && b || sameKind k Month && b) ≡ b
+some-kind Year b = or-false b
+some-kind Quarter b = or-false b
+some-kind Month b = refl
 
-pub closing-order : (column : List ℕ) (x : ℕ) → x < 102 → any (λ c. eqb c x) (closing column) ≡ closes column x
+-- A column has no place for a contract without a term.
+closes-term : (column : List ℕ) → length column ≡ termCount → (x : ℕ) → closes column x && hasTerm x ≡ closes column x
+closes-term column e x =
+    le-or-lt termCount x (λ h. let long : length column ≤ x = omega arith in rw (le-ltb x termCount h, List·getD-eq-default column 0 long)) (λ h. rw (lt-ltb x termCount h) (and-true (closes column x)))
+
+pub closing-order : (column : List ℕ) → length column ≡ termCount → (x : ℕ) → any (λ c. eqb c x) (closing column) ≡ closes column x
 unfolding closing
-closing-order column x h =
+closing-order column e x =
     any-kept (closes column) x (contractsOf Year ++ (contractsOf Quarter ++ contractsOf Month))
     ∙ rw (
       any-append (λ c. eqb c x) (contractsOf Year) (contractsOf Quarter ++ contractsOf Month),
       any-append (λ c. eqb c x) (contractsOf Quarter) (contractsOf Month),
-      any-of-kind Year x h,
-      any-of-kind Quarter x h,
-      any-of-kind Month x h,
-      some-kind (kindOf x),
+      any-of-kind Year x,
+      any-of-kind Quarter x,
+      any-of-kind Month x,
+      some-kind (kindOf x) (hasTerm x),
     )
-    (and-true (closes column x))
+    (closes-term column e x)

@@ -1,4 +1,4 @@
--- The phase of each contract at the close of a day, one number a contract.
+-- The phase, at the close of a day, of each contract that has a term, one number a contract.
 use Prim.Native.Nat.{ℕ}
 use mathlib.Core.Bool.{Bool, cond}
 use mathlib.Core.List.{List, _++_, map}
@@ -10,7 +10,7 @@ use Rattle.rules.specs.declared.contract.ContractKind.the-variants.{Year, Quart
 use Rattle.rules.specs.declared.contract.Term.{Term}
 use Rattle.rules.specs.declared.units.Day.{Day}
 use Rattle.rules.specs.declared.units.Day.the-variants.{On, NoDay}
-use Rattle.rules.specs.Ranges.{contractCount}
+use Rattle.rules.specs.Ranges.{termCount}
 use Rattle.rules.specs.Days.{Calendar}
 use Rattle.rules.specs.Contracts.{termOf, termClosingDay, contractsOf, openCount}
 
@@ -36,7 +36,7 @@ abbrev pub termPhase : Calendar → ℕ → Term → ℕ
 termPhase k d t = phaseOf (termClosingDay k t) d
 
 unfoldable pub phases : Calendar → ℕ → List ℕ
-phases k d = map (λ c. termPhase k d (termOf c)) (from 0 contractCount)
+phases k d = map (λ c. termPhase k d (termOf c)) (from 0 termCount)
 
 -- What a column of phases says of a contract.
 abbrev pub closes : List ℕ → ℕ → Bool

@@ -1,8 +1,8 @@
-// The phase of every contract at the close of a day: the table of months is read once.
+// The phase, at the close of a day, of every contract that has a term: the table of months is read once.
 ghost use mathlib.Core.Path.{_≡_};
 ghost use Prim.Native.Nat.{ℕ, _+_, _≤_};
 ghost use lib.ListN.{length};
-ghost use Rattle.rules.specs.Ranges.{contractCount, monthsInSpan};
+ghost use Rattle.rules.specs.Ranges.{termCount, monthsInSpan};
 ghost use Rattle.rules.specs.Days.{Calendar};
 ghost use Rattle.rules.specs.declared.contract.ContractKind.{ContractKind};
 ghost use Rattle.rules.specs.Contracts.{closingDistance};
@@ -52,7 +52,7 @@ fn phase_of(starts: &[u64], least: LeastDays, later: LeastDays, t: Term) -> u64
 }
 
 fn write_from(starts: &[u64], least: LeastDays, later: LeastDays, column: &mut [u64])
-    requires { ⌜ (length (now starts) ≡ monthsInSpan + 1) × (length (now column) ≡ contractCount) ⌝ }
+    requires { ⌜ (length (now starts) ≡ monthsInSpan + 1) × (length (now column) ≡ termCount) ⌝ }
     ensures { λ _. ⌜ ((k : Calendar) (d : ℕ) → now (starts .entry) ≡ startsOf k
         → ((s : ContractKind) → IsLeast k d (closingDistance s) (leastOf least s)) → ((s : ContractKind) → IsLeast k (d + 1) (closingDistance s) (leastOf later s))
         → now (column .exit) ≡ phases k d) ⌝ }
@@ -66,7 +66,7 @@ fn write_from(starts: &[u64], least: LeastDays, later: LeastDays, column: &mut [
 
 // The phase of each contract on a day of the table.
 pub fn write_phases(first_year: u64, holidays: &[u64], day: DayNo, column: &mut [u64])
-    requires { ⌜ FirstYear «first_year» × (day .0 ≤ lastMonthStart) × (length (now column) ≡ contractCount) ⌝ }
+    requires { ⌜ FirstYear «first_year» × (day .0 ≤ lastMonthStart) × (length (now column) ≡ termCount) ⌝ }
     ensures { λ _. ⌜ now (column .exit) ≡ phases (record { firstYear = «first_year»; holidays = now (holidays .entry) }) (day .0) ⌝ }
 {
     let mut starts = [0u64; SPAN_STARTS];

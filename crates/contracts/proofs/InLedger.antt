@@ -4,14 +4,14 @@ use native.Mathlib.Omega.{arith}
 use native.Mathlib.Nat.{mul-le-mul-left}
 use Rattle.arith.proofs.Tests.{le-or-lt, same-or}
 use Rattle.rules.specs.declared.contract.Term.{Term}
-use Rattle.rules.specs.Ranges.{contractCount}
+use Rattle.rules.specs.Ranges.{termCount}
 use Rattle.rules.specs.Contracts.{monthsIn, termOf}
 use Rattle.rules.specs.OtherForms.{nth}
 use Rattle.rules.proofs.CalendarLaws.{term-year, term-quarter, term-month}
 use Rattle.contracts.specs.InLedger.{InLedger}
 
--- Every contract that has a number,
-pub numbered : (c : ℕ) → c < contractCount → InLedger (termOf c)
+-- Every contract that has a term,
+pub numbered : (c : ℕ) → c < termCount → InLedger (termOf c)
 numbered c h =
     same-or (c % 17) 0 (λ z. rw (term-year c z) (omega arith))
     (λ z. le-or-lt (c % 17) 4 (λ l. rw (term-quarter c (omega arith) l) (omega arith)) (λ l. rw (term-month c l) (omega arith)))

@@ -1,5 +1,4 @@
-// Contracts as the ledger's code asks for them: each promise is the definition of `rules`. `is_open` asks for a contract of
-// 0 to 101, which the reader of a record tests.
+// Contracts as the ledger's code asks for them: each promise is the definition of `rules`, for every number.
 mod opening;
 mod terms;
 

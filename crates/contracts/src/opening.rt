@@ -1,8 +1,7 @@
 // Closing days, and which contracts are open.
 ghost use mathlib.Core.Path.{_≡_};
 ghost use mathlib.Core.List.{List};
-ghost use Prim.Native.Nat.{ℕ, _<_};
-ghost use Rattle.rules.specs.Ranges.{contractCount};
+ghost use Prim.Native.Nat.{ℕ};
 ghost use Rattle.rules.specs.Contracts.{termFirstDay, termClosingDay, stillToClose, openOn};
 ghost use Rattle.rules.specs.OtherForms.{openByCount};
 ghost use Rattle.months.specs.Bounds.{FirstYear};
@@ -15,6 +14,7 @@ use months::month_start;
 use rules::Day;
 use rules::DayNo;
 use rules::Term;
+use rules::ranges::TERM_COUNT;
 
 // The first delivery day, whatever the holidays.
 fn term_first_day(first_year: u64, t: Term) -> DayNo
@@ -66,9 +66,13 @@ fn is_open_term(first_year: u64, holidays: &[u64], day: DayNo, t: Term) -> bool
     !still_to_close(first_year, holidays, day, earlier)
 }
 
+// A contract without a term is never open.
 pub fn is_open(first_year: u64, holidays: &[u64], day: DayNo, contract: u64) -> bool
-    requires { ⌜ FirstYear «first_year» × (contract < contractCount) ⌝ }
+    requires { ⌜ FirstYear «first_year» ⌝ }
     ensures { λ r. ⌜ r ≡ openOn (record { firstYear = «first_year»; holidays = now (holidays .entry) }) (day .0) contract ⌝ }
 {
+    if TERM_COUNT <= contract {
+        return false;
+    }
     is_open_term(first_year, holidays, day, term_of(contract))
 }

@@ -17,6 +17,7 @@ use Rattle.arith.specs.Bits.{inWindow}
 use Rattle.arith.proofs.Bits.{window-within}
 use Rattle.arith.proofs.Rows.{rows-weaker, whole-rows, no-column, next-column}
 use Rattle.rules.specs.Ranges.{contractCount}
+use Rattle.rules.specs.Ledger.{rowsLength}
 use Rattle.rules.specs.Refusals.{everyRow}
 use Rattle.damage.specs.Windows.{everyColumn}
 
@@ -38,7 +39,7 @@ row-two-more k n l =
     let two : n + 2 ≡ n + 1 + 1 = omega arith in
     rw (two, row-more k (n + 1) l, row-more k n l) (and-assoc (everyRow p n l) (everyColumn p n l) (everyColumn p (n + 1) l))
 
-pub row-whole : (p : ℤ → Bool) (l : List ℤ) → every p (take 3264 l) ≡ everyRow p 32 l
+pub row-whole : (p : ℤ → Bool) (l : List ℤ) → every p (take rowsLength l) ≡ everyRow p 32 l
 unfolding everyRow
 row-whole p l = whole-rows p 32 contractCount l
 

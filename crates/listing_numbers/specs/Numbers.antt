@@ -1,10 +1,11 @@
 -- Numbers in words: times, prices and names of contracts. A letter and a digit are their ASCII numbers.
 use Prim.Native.Nat.{ℕ, _+_, _/_, _%_}
+use mathlib.Core.Bool.{cond}
 use mathlib.Core.List.{List, [], _∷_, _++_}
 use Rattle.rules.specs.declared.contract.ContractKind.{ContractKind}
 use Rattle.rules.specs.declared.contract.ContractKind.the-variants.{Year, Quarter, Month}
 use Rattle.rules.specs.Ranges.{quartersInYear, monthsInYear}
-use Rattle.rules.specs.Contracts.{termOf}
+use Rattle.rules.specs.Contracts.{hasTerm, termOf}
 use Rattle.rules.specs.Text.{space, digit, decimal}
 
 -- The last two digits.
@@ -35,6 +36,6 @@ termName first Month n = decimal (first + n / monthsInYear) ++ monthText n
 abbrev pub contractName : ℕ → ℕ → List ℕ
 contractName first c = termName first (termOf c .kind) (termOf c .index)
 
--- " 18 (2022 Q1)"
+-- " 18 (2022 Q1)"; a contract without a term has its number alone.
 unfoldable pub contractText : ℕ → ℕ → List ℕ
-contractText first c = (space ∷ decimal c) ++ (space ∷ 40 ∷ contractName first c ++ (41 ∷ []))
+contractText first c = (space ∷ decimal c) ++ cond (hasTerm c) (space ∷ 40 ∷ contractName first c ++ (41 ∷ [])) []

@@ -9,6 +9,7 @@ use contracts::term_of;
 use rules::ContractKind;
 use rules::ranges::MONTHS_IN_YEAR;
 use rules::ranges::QUARTERS_IN_YEAR;
+use rules::ranges::TERM_COUNT;
 use text::put_byte;
 use text::put_bytes;
 use text::put_decimal;
@@ -82,14 +83,17 @@ fn put_term(out: &mut [u8], place: usize, first_year: u64, kind: ContractKind, i
     }
 }
 
-// A contract's number and, in brackets, its name.
+// A contract's number and, if it has a term, its name in brackets.
 pub fn put_contract(out: &mut [u8], place: usize, first_year: u64, contract: u64) -> usize
     requires { ⌜ (place + 47 ≤ length (now out)) × («first_year» ≤ 2 ^ 32) × (contract < 2 ^ 32) ⌝ }
     ensures { λ r. ⌜ Short 47 place (contractText «first_year» contract) (now (out .entry)) (now (out .exit)) r ⌝ }
 {
+    let i = put_field(&mut *out, place, contract);
+    if TERM_COUNT <= contract {
+        return i;
+    }
     let term = term_of(contract);
     let kind = term.kind;
-    let i = put_field(&mut *out, place, contract);
     let i = put_bytes(&mut *out, i, b" (");
     let i = put_term(&mut *out, i, first_year, kind, term.index);
     put_byte(out, i, b')')

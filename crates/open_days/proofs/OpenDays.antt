@@ -8,7 +8,7 @@ use lib.ListN.{getD}
 use borrow.Author.Tests.{le-leb, lt-leb, le-ltb, lt-ltb}
 use Rattle.arith.proofs.Tests.{le-or-lt}
 use Rattle.rules.specs.declared.contract.Term.{Term}
-use Rattle.rules.specs.Ranges.{contractCount}
+use Rattle.rules.specs.Ranges.{termCount}
 use Rattle.rules.specs.Days.{Calendar}
 use Rattle.rules.specs.Contracts.{openCount, closingDistance, monthsIn, termOf, termFirstDay, termDayAfter, daysOf, stillToClose, openOn}
 use Rattle.rules.specs.OtherForms.{nth, openByCount}
@@ -36,7 +36,7 @@ open-from k t w d least g c l =
     not-leb first least ∙ ap not (sym (to-close-from k (nth (t .kind) i) (earlier t i (omega arith) w) d least g)) ∙ sym (open-rank k d t c l)
 
 -- The same by contract numbers, with the days.
-pub days-by-number : (k : Calendar) (d c : ℕ) → c < contractCount
+pub days-by-number : (k : Calendar) (d c : ℕ) → c < termCount
     → cond (openByCount k d (termOf c)) (termDayAfter k (termOf c) - termFirstDay k (termOf c)) 0 ≡ cond (openOn k d c) (daysOf k c) 0
 unfolding daysOf
-days-by-number k d c h = rw (open-by-count k d c h)
+days-by-number k d c h = rw (open-by-count k d c h, lt-ltb c termCount h)

@@ -4,13 +4,13 @@ use mathlib.Core.Bool.{cond}
 use mathlib.Core.List.{List, map}
 use lib.ListN.{getD}
 use Rattle.arith.specs.Lists.{from}
-use Rattle.rules.specs.Ranges.{contractCount, monthsInSpan}
+use Rattle.rules.specs.Ranges.{termCount, monthsInSpan}
 use Rattle.rules.specs.Days.{Calendar}
 use Rattle.rules.specs.Contracts.{daysOf, openOn}
 
 -- The delivery days of each contract that is open on a day, 0 for the others.
 unfoldable pub openDays : Calendar → ℕ → List ℕ
-openDays k d = map (λ c. cond (openOn k d c) (daysOf k c) 0) (from 0 contractCount)
+openDays k d = map (λ c. cond (openOn k d c) (daysOf k c) 0) (from 0 termCount)
 
 -- No month starts earlier than one before it.
 abbrev pub NoneEarlier : List ℕ → Type 0

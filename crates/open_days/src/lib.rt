@@ -4,7 +4,7 @@ ghost use mathlib.Core.Path.{_≡_};
 ghost use mathlib.Core.Bool.{cond};
 ghost use Prim.Native.Nat.{ℕ, _+_, _-_};
 ghost use lib.ListN.{length};
-ghost use Rattle.rules.specs.Ranges.{contractCount, monthsInSpan};
+ghost use Rattle.rules.specs.Ranges.{termCount, monthsInSpan};
 ghost use Rattle.rules.specs.Days.{Calendar};
 ghost use Rattle.rules.specs.declared.contract.ContractKind.{ContractKind};
 ghost use Rattle.rules.specs.Contracts.{closingDistance, termFirstDay, termDayAfter};
@@ -60,7 +60,7 @@ fn days_if_open(starts: &[u64], least: DayNo, t: Term) -> u64
 }
 
 fn write_open_days(starts: &[u64], least: LeastDays, days: &mut [u64])
-    requires { ⌜ (length (now starts) ≡ monthsInSpan + 1) × NoneEarlier (now starts) × (length (now days) ≡ contractCount) ⌝ }
+    requires { ⌜ (length (now starts) ≡ monthsInSpan + 1) × NoneEarlier (now starts) × (length (now days) ≡ termCount) ⌝ }
     ensures { λ _. ⌜ ((k : Calendar) (d : ℕ) → now (starts .entry) ≡ startsOf k → ((s : ContractKind) → IsLeast k d (closingDistance s) (leastOf least s)) → now (days .exit) ≡ openDays k d) ⌝ }
 {
     let mut contract: usize = 0;
@@ -74,7 +74,7 @@ fn write_open_days(starts: &[u64], least: LeastDays, days: &mut [u64])
 
 // Of every contract that is open on a day its delivery days, of the others 0.
 pub fn find_open_days(first_year: u64, holidays: &[u64], day: DayNo, days: &mut [u64])
-    requires { ⌜ FirstYear «first_year» × (length (now days) ≡ contractCount) ⌝ }
+    requires { ⌜ FirstYear «first_year» × (length (now days) ≡ termCount) ⌝ }
     ensures { λ _. ⌜ now (days .exit) ≡ openDays (record { firstYear = «first_year»; holidays = now (holidays .entry) }) (day .0) ⌝ }
 {
     let mut starts = [0u64; SPAN_STARTS];

@@ -13,6 +13,11 @@ use rules::OrderKind;
 use rules::Side;
 use rules::Submission;
 use rules::kinds::PROPOSAL;
+use rules::layout::BOOK_LENGTH;
+use rules::layout::HEAD_LENGTH;
+use rules::layout::LINES_LENGTH;
+use rules::layout::PRICES_LENGTH;
+use rules::layout::ROWS_LENGTH;
 
 const MEMBERS: u64 = 2;
 
@@ -221,12 +226,12 @@ fn show_record(
 fn case(orders: [Submission; 12], order_count: usize, legs: [Leg; 12], count: usize)
     requires { ⌜ («order_count» ≤ 12) × (count ≤ 13) ⌝ }
 {
-    let mut head = [0u64; 224];
-    let mut prices = [0u64; 510];
-    let mut lots = [0i64; 3264];
-    let mut value = [0i64; 3264];
-    let mut book = [0u64; 2048];
-    let mut lines = [0i64; 800];
+    let mut head = [0u64; HEAD_LENGTH];
+    let mut prices = [0u64; PRICES_LENGTH];
+    let mut lots = [0i64; ROWS_LENGTH];
+    let mut value = [0i64; ROWS_LENGTH];
+    let mut book = [0u64; BOOK_LENGTH];
+    let mut lines = [0i64; LINES_LENGTH];
     make_ledger(
         &mut head,
         &mut prices,

@@ -25,7 +25,7 @@ use Rattle.rules.specs.Synthetic.{Named, namedLegs, hasLots, priceAllowed, twoO
 use Rattle.tables.specs.Fit.{HeadFit, BookFit, orderCountIn, ordersIn}
 use Rattle.proposal_check.specs.Columns.{LegsFit, PlacesFit, ContractsFit, columnLeg, columnLegs, placeOf, placesOf}
 use Rattle.proposal_check.specs.Columns.{namedAt, namedTo, countsAt, inMonth, balancedMonths, isBefore, isAhead, isFullLeg}
-use Rattle.proposal_check.proofs.Lists.{map-places, any-map, total-map}
+use Rattle.proposal_check.proofs.Lists.{map-places, any-map, total-map, every-same-from}
 use Rattle.proposal_check.proofs.Named.{columns-orders, named-columns, not-named, found-fit, places-wider, contracts-fit}
 use Rattle.proposal_check.proofs.Together.{two-first, hour-month, before, priority-orders}
 
@@ -54,10 +54,10 @@ module _ (book places numbers lots prices : List ℕ) (fit : LegsFit (length num
 
   -- ---- balance
   module _ (k : Calendar) (f : Named → ℕ) (amounts : List ℕ) (same : (i : ℕ) → i < length numbers → getD amounts i 0 ≡ f (named i)) where
-    month-columns : (s : Side) (m : ℕ) → inHour k f s (24 * monthStart (firstMonth k + m)) ns ≡ inMonth book places amounts s m
+    month-columns : (s : Side) (m : ℕ) → m < monthsInSpan → inHour k f s (24 * monthStart (firstMonth k + m)) ns ≡ inMonth book places amounts s m
     unfolding inMonth
-    month-columns s m =
-        hour-month k f s m ns
+    month-columns s m l =
+        hour-month k f s m ns l
         ∙ total-map (λ n. cond (sameSide (n .order .side) s && holdsMonth (n .order .contract) m) (f n) 0) named (from 0 (length numbers))
         ∙ total-same _ (λ i. cond (countsAt book s m (getD places i 0)) (getD amounts i 0) 0) 0 (length numbers)
         (λ i l u. ap (λ x. cond (countsAt book s m (getD places i 0)) x 0) (sym (same i (omega arith))))
@@ -67,8 +67,8 @@ module _ (book places numbers lots prices : List ℕ) (fit : LegsFit (length num
         ≡ balancedMonths book places amounts
     unfolding balancedMonths
     months-balanced =
-        every-same (λ m. eqb (inHour k f Buy (24 * monthStart (firstMonth k + m)) ns) (inHour k f Sell (24 * monthStart (firstMonth k + m)) ns))
-        (λ m. eqb (inMonth book places amounts Buy m) (inMonth book places amounts Sell m)) (λ m. rw (month-columns Buy m, month-columns Sell m)) (from 0 monthsInSpan)
+        every-same-from (λ m. eqb (inHour k f Buy (24 * monthStart (firstMonth k + m)) ns) (inHour k f Sell (24 * monthStart (firstMonth k + m)) ns))
+        (λ m. eqb (inMonth book places amounts Buy m) (inMonth book places amounts Sell m)) 0 monthsInSpan (λ m l. rw (month-columns Buy m l, month-columns Sell m l))
 
   pub balanced-columns : (k : Calendar) → balancedMonths book places lots && balancedMonths book places (zipWith (λ q p. q * p) lots prices) ≡ balanced k ns
   unfolding balanced balancedInHour

@@ -20,6 +20,12 @@ unfolding from
 map-from f g a zero e = refl
 map-from f g a (suc n) e = rw (e a (omega arith) (omega arith), map-from f g (suc a) n (λ i l u. e i (omega arith) (omega arith)))
 
+-- and two tests of them the same
+pub every-same-from : (p q : ℕ → Bool) (a n : ℕ) → ((i : ℕ) → i < a + n → p i ≡ q i) → every p (from a n) ≡ every q (from a n)
+unfolding every from
+every-same-from p q a zero e = refl
+every-same-from p q a (suc n) e = rw (e a (omega arith), every-same-from p q (suc a) n (λ i u. e i (omega arith)))
+
 -- a list is what stands at its places
 pub map-places : (l : List ℕ) → map (λ i. getD l i 0) (from 0 (length l)) ≡ l
 map-places l =

@@ -2,7 +2,7 @@
 use mathlib.Core.Path.{_≡_, refl, sym, _∙_}
 use mathlib.Core.Bool.{Bool, true, false, not, cond, _&&_, _||_}
 use mathlib.Core.List.{List, [], _∷_}
-use Prim.Native.Nat.{ℕ, _+_, _*_}
+use Prim.Native.Nat.{ℕ, _+_, _*_, _<_}
 use native.Mathlib.Nat.{zero-add}
 use lib.Dec.{eqb}
 use borrow.Author.Tests.{eq-eqb, eqb-true, not-false}
@@ -11,6 +11,7 @@ use Rattle.arith.proofs.Tests.{true-or, or-left, or-right}
 use Rattle.arith.proofs.Scans.{every-both}
 use Rattle.rules.specs.declared.order.Order.{Order}
 use Rattle.rules.specs.declared.order.Side.{Side}
+use Rattle.rules.specs.Ranges.{monthsInSpan}
 use Rattle.rules.specs.Days.{Calendar, firstMonth, monthStart}
 use Rattle.rules.specs.OtherForms.{holdsMonth}
 use Rattle.rules.proofs.HourLaws.{holds-hour, first-hour}
@@ -39,11 +40,11 @@ unfolding total kept
 total-kept f p [] = refl
 total-kept f p (x ∷ l) = true-or (p x) (λ e. rw (e, total-kept f p l)) (λ e. rw (e, total-kept f p l) (sym (zero-add _)))
 
-pub hour-month : (k : Calendar) (f : Named → ℕ) (s : Side) (i : ℕ) (ns : List Named)
+pub hour-month : (k : Calendar) (f : Named → ℕ) (s : Side) (i : ℕ) (ns : List Named) → i < monthsInSpan
     → inHour k f s (24 * monthStart (firstMonth k + i)) ns ≡ total (λ n. cond (sameSide (n .order .side) s && holdsMonth (n .order .contract) i) (f n) 0) ns
 unfolding inHour
-hour-month k f s i ns =
-    simp (holds-hour k i (24 * monthStart (firstMonth k + i)) (first-hour k i))
+hour-month k f s i ns l =
+    simp (holds-hour k i (24 * monthStart (firstMonth k + i)) (first-hour k i l))
     (total-kept f (λ n. sameSide (n .order .side) s && holdsMonth (n .order .contract) i) ns)
 
 -- ---- priority, order by order

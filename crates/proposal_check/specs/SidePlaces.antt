@@ -2,13 +2,14 @@
 use Prim.Native.Nat.{ℕ, _+_, _*_}
 use Rattle.rules.specs.declared.order.Order.{Order}
 use Rattle.rules.specs.declared.order.Side.{Side}
+use Rattle.rules.specs.Ranges.{contractCount}
 use Rattle.rules.specs.Sides.{sideNumber}
 
 abbrev pub sidePlace : ℕ → Side → ℕ
 sidePlace c s = c * 2 + sideNumber s
 
 abbrev pub sidePlaces : ℕ
-sidePlaces = 204
+sidePlaces = contractCount * 2
 
 -- The place of the order's contract and side.
 abbrev pub sidePlaceOf : Order → ℕ

@@ -4,7 +4,7 @@ ghost use mathlib.Core.Bool.{cond, _&&_};
 ghost use Prim.Native.Nat.{_-_, _*_, _≤_, _<_};
 ghost use lib.Dec.{ltb};
 ghost use lib.ListN.{length, set};
-ghost use Rattle.rules.specs.Ranges.{contractCount, mostPrice, mostLotsRun};
+ghost use Rattle.rules.specs.Ranges.{contractCount, termCount, mostPrice, mostLotsRun};
 ghost use Rattle.rules.specs.Ledger.{pricesLength, ggfPlace};
 ghost use Rattle.rules.specs.CloseOfDay.{roundedHalfUp, withoutDeals};
 ghost use Rattle.contract_phases.specs.Phases.{closedPhase, openIn, allOpenIn};
@@ -103,7 +103,7 @@ fn write_kind_ggfs(
     sells: &[u64],
     kind: ContractKind,
 )
-    requires { ⌜ DealsFit (now prices) × ColumnFit (now buys) × ColumnFit (now sells) × (length (now column) ≡ contractCount) ⌝ }
+    requires { ⌜ DealsFit (now prices) × ColumnFit (now buys) × ColumnFit (now sells) × (length (now column) ≡ termCount) ⌝ }
     ensures { λ _. ⌜ now (prices .exit) ≡ ggfsFrom (now (buys .entry)) (now (sells .entry)) (openIn (now (column .entry)) kind) (now (prices .entry)) ⌝ }
 {
     let count = contracts_in(kind);
@@ -117,7 +117,7 @@ fn write_kind_ggfs(
 }
 
 pub fn write_ggfs(prices: &mut [u64], column: &[u64], buys: &[u64], sells: &[u64])
-    requires { ⌜ DealsFit (now prices) × ColumnFit (now buys) × ColumnFit (now sells) × (length (now column) ≡ contractCount) ⌝ }
+    requires { ⌜ DealsFit (now prices) × ColumnFit (now buys) × ColumnFit (now sells) × (length (now column) ≡ termCount) ⌝ }
     ensures { λ _. ⌜ now (prices .exit) ≡ ggfsFrom (now (buys .entry)) (now (sells .entry)) (allOpenIn (now (column .entry))) (now (prices .entry)) ⌝ }
 {
     write_kind_ggfs(&mut *prices, column, buys, sells, ContractKind::Year);

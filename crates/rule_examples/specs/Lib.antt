@@ -5,3 +5,4 @@ pub mod MoreProposalExamples
 pub mod MoreCloseOfDayExamples
 pub mod MoreMatchingExamples
 pub mod MoreCloseOutExamples
+pub mod WithoutTerm

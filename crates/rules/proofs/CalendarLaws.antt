@@ -17,8 +17,9 @@ use Rattle.rules.specs.declared.contract.Term.{Term}
 use Rattle.rules.specs.declared.units.Day.{Day}
 use Rattle.rules.specs.declared.units.Day.the-variants.{On, NoDay}
 use Rattle.rules.specs.declared.units.DayNo.{DayNo}
+use Rattle.rules.specs.Ranges.{termCount}
 use Rattle.rules.specs.Days.{Calendar, leapYear, monthDays, yearStart, monthLength, monthStart, businessDay, dayAfterSpan, firstBusinessDay, nextBusinessDay, businessDayBefore}
-use Rattle.rules.specs.Contracts.{openCount, closingDistance, monthsIn, sameKind, termOf, kindOf, contractsOf, childrenOf, termFirstDay, termDayAfter, holdsDay, holdsHour}
+use Rattle.rules.specs.Contracts.{openCount, closingDistance, monthsIn, sameKind, hasTerm, termOf, kindOf, contractsOf, childrenOf, termFirstDay, termDayAfter, holdsDay, holdsHour}
 use Rattle.rules.specs.Contracts.{termClosingDay, notBefore, isOn, isBefore, stillToClose, openOfKind, openContracts, openOn}
 use Rattle.rules.specs.OtherForms.{nth, firstMonthOf, numberOf, sizeOf, ahead, openByCount}
 
@@ -150,7 +151,7 @@ term-number Month i =
     let r : c % 17 ≡ 5 + i % 12 = omega arith in
     term-month c (omega arith) ∙ ap (nth Month) (omega arith)
 
-pub number-term : (c : ℕ) → (numberOf (termOf c .kind) (termOf c .index) ≡ c) × (termOf c .index < sizeOf (termOf c .kind) → c < 102) × (c < 102 → termOf c .index < sizeOf (termOf c .kind))
+pub number-term : (c : ℕ) → (numberOf (termOf c .kind) (termOf c .index) ≡ c) × (termOf c .index < sizeOf (termOf c .kind) → c < termCount) × (c < termCount → termOf c .index < sizeOf (termOf c .kind))
 number-term c =
     same-or (c % 17) 0 (λ z. rw (term-year c z) (omega arith))
     (λ z. le-or-lt (c % 17) 4 (λ l. rw (term-quarter c (omega arith) l) (omega arith)) (λ l. rw (term-month c l) (omega arith)))
@@ -336,21 +337,25 @@ module _ (k : Calendar) where
       rw (contracts-of s) (picked (numberOf s) (λ x. stillToClose k d (termOf x)) c (termOf c .index) only (sizeOf s) (openCount s) ∙ simp term-number)
 
   -- and which of all numbers.
-  open-counted : (d c : ℕ) → openOn k d c ≡ ltb c 102 && openByCount k d (termOf c)
+  open-counted : (d c : ℕ) → openOn k d c ≡ hasTerm c && openByCount k d (termOf c)
   unfolding openOn
   open-counted d c =
       let n = number-term c in
-      any-open d (kindOf c) c ∙ rw (eq-eqb _ _ (n .0), and-true, same-ltb _ _ c 102 (n .1) (n .2))
+      any-open d (kindOf c) c ∙ rw (eq-eqb _ _ (n .0), and-true, same-ltb _ _ c termCount (n .1) (n .2))
 
-  pub open-by-count : (d c : ℕ) → c < 102 → openOn k d c ≡ openByCount k d (termOf c)
-  open-by-count d c h = open-counted d c ∙ rw (lt-ltb c 102 h)
+  pub open-by-count : (d c : ℕ) → c < termCount → openOn k d c ≡ openByCount k d (termOf c)
+  open-by-count d c h = open-counted d c ∙ rw (lt-ltb c termCount h)
 
-  pub open-in-ledger : (d c : ℕ) → openOn k d c ≡ true → c < 102
-  open-in-ledger d c h = ltb-true c 102 (and-left (ltb c 102) (openByCount k d (termOf c)) (sym (open-counted d c) ∙ h))
+  -- A contract without a term is never open.
+  pub without-term : (d c : ℕ) → termCount ≤ c → openOn k d c ≡ false
+  without-term d c h = open-counted d c ∙ rw (le-ltb c termCount h)
+
+  pub open-in-ledger : (d c : ℕ) → openOn k d c ≡ true → c < termCount
+  open-in-ledger d c h = ltb-true c termCount (and-left (hasTerm c) (openByCount k d (termOf c)) (sym (open-counted d c) ∙ h))
 
   pub open-to-close : (d c : ℕ) → openOn k d c ≡ true → stillToClose k d (termOf c) ≡ true
   unfolding openByCount
-  open-to-close d c h = and-left _ (ltb (ahead k d (kindOf c) (termOf c .index)) (openCount (kindOf c))) (and-right (ltb c 102) _ (sym (open-counted d c) ∙ h))
+  open-to-close d c h = and-left _ (ltb (ahead k d (kindOf c) (termOf c .index)) (openCount (kindOf c))) (and-right (hasTerm c) _ (sym (open-counted d c) ∙ h))
 
   -- What has closed is never open again.
   pub closed-for-good : (d e c : ℕ) → d ≤ e → stillToClose k d (termOf c) ≡ false → openOn k e c ≡ false
@@ -423,30 +428,36 @@ module _ (k : Calendar) where
   quarter-ends i = ap monthStart (omega arith)
 
   -- Of n contracts of a kind that follow each other, one holds a day of their common period, and none any other day.
-  one-holds : (s : ContractKind) (d n a j : ℕ) → ((i : ℕ) → i < n → termOf (a + i) ≡ nth s (j + i))
+  one-holds : (s : ContractKind) (d n a j : ℕ) → a + n ≤ termCount → ((i : ℕ) → i < n → termOf (a + i) ≡ nth s (j + i))
       → howMany (λ e. holdsDay k e d) (from a n) ≡ cond (leb (termFirstDay k (nth s j)) d && ltb d (termFirstDay k (nth s (j + n)))) 1 0
   unfolding howMany from holdsDay
-  one-holds s d zero a j f = rw (add-zero j) (sym (no-span (termFirstDay k (nth s j)) d))
-  one-holds s d (suc n) a j f =
+  one-holds s d zero a j u f = rw (add-zero j) (sym (no-span (termFirstDay k (nth s j)) d))
+  one-holds s d (suc n) a j u f =
       let here : termOf a ≡ nth s j = rw (add-zero a, add-zero j) at (f 0 (omega arith)) in
-      let rest = one-holds s d n (suc a) (suc j) (λ i l. rw (suc-add, suc-add, ← add-suc, ← add-suc) (f (suc i) (omega arith))) in
-      rw (rest, here, ends-next s j, suc-add j n, add-suc j n) (one-span _ _ _ d (first-le s j (suc j) (omega arith)) (first-le s (suc j) (suc (j + n)) (omega arith)))
+      let rest = one-holds s d n (suc a) (suc j) (omega arith) (λ i l. rw (suc-add, suc-add, ← add-suc, ← add-suc) (f (suc i) (omega arith))) in
+      rw (rest, lt-ltb a termCount (omega arith), here, ends-next s j, suc-add j n, add-suc j n) (one-span _ _ _ d (first-le s j (suc j) (omega arith)) (first-le s (suc j) (suc (j + n)) (omega arith)))
 
-  children-hold : (s : ContractKind) (t : Term) (d c a j n : ℕ) → termOf c ≡ t → ((i : ℕ) → i < suc n → termOf (a + i) ≡ nth s (j + i))
+  children-hold : (s : ContractKind) (t : Term) (d c a j n : ℕ) → c < termCount → a + suc n ≤ termCount → termOf c ≡ t → ((i : ℕ) → i < suc n → termOf (a + i) ≡ nth s (j + i))
       → termFirstDay k (nth s j) ≡ termFirstDay k t → termDayAfter k (nth s (j + n)) ≡ termDayAfter k t → howMany (λ e. holdsDay k e d) (from a (suc n)) ≡ cond (holdsDay k c d) 1 0
   unfolding holdsDay
-  children-hold s t d c a j n e f b z = rw (e, ← b, ← z, ends-next s (j + n), ← add-suc j n) (one-holds s d (suc n) a j f)
+  children-hold s t d c a j n w u e f b z = rw (lt-ltb c termCount w, e, ← b, ← z, ends-next s (j + n), ← add-suc j n) (one-holds s d (suc n) a j u f)
 
   -- A day of a year is a day of exactly one of its quarters, one of a quarter of exactly one of its months, and no other day is.
-  pub children-partition : (c d : ℕ) → c % 17 ≤ 4 → howMany (λ e. holdsDay k e d) (childrenOf c) ≡ cond (holdsDay k c d) 1 0
+  children-of-term : (c d : ℕ) → c < termCount → c % 17 ≤ 4 → howMany (λ e. holdsDay k e d) (childrenOf c) ≡ cond (holdsDay k c d) 1 0
   unfolding childrenOf
-  children-partition c d h =
+  children-of-term c d w h =
       let y = c / 17 in
       let i = 4 * (c / 17) + (c % 17 - 1) in
       same-or (c % 17) 0
-      (λ z. rw (eq-eqb (c % 17) 0 z) (children-hold Quarter (nth Year y) d c (c + 1) (4 * y) 3 (term-year c z) (λ q l. quarter-of c q z l) (year-begins y) (year-ends y)))
-      (λ z. rw (ne-eqb (c % 17) 0 z, le-leb (c % 17) 4 h)
-      (children-hold Month (nth Quarter i) d c (firstMonthOf c) (3 * i) 2 (term-quarter c (omega arith) h) (λ m l. month-of c m (omega arith) h l) (quarter-begins i) (quarter-ends i)))
+      (λ z. rw (lt-ltb c termCount w, le-leb (c % 17) 4 h, eq-eqb (c % 17) 0 z)
+      (children-hold Quarter (nth Year y) d c (c + 1) (4 * y) 3 w (omega arith) (term-year c z) (λ q l. quarter-of c q z l) (year-begins y) (year-ends y)))
+      (λ z. rw (lt-ltb c termCount w, le-leb (c % 17) 4 h, ne-eqb (c % 17) 0 z)
+      (children-hold Month (nth Quarter i) d c (firstMonthOf c) (3 * i) 2 w (omega arith) (term-quarter c (omega arith) h) (λ m l. month-of c m (omega arith) h l) (quarter-begins i) (quarter-ends i)))
+
+  -- A contract without a term has neither days nor children.
+  pub children-partition : (c d : ℕ) → c % 17 ≤ 4 → howMany (λ e. holdsDay k e d) (childrenOf c) ≡ cond (holdsDay k c d) 1 0
+  unfolding childrenOf howMany holdsDay
+  children-partition c d h = le-or-lt termCount c (λ w. rw (le-ltb c termCount w)) (λ w. children-of-term c d w h)
 
   -- The same by delivery hours.
   pub children-hours : (c h : ℕ) → c % 17 ≤ 4 → howMany (λ e. holdsHour k e h) (childrenOf c) ≡ cond (holdsHour k c h) 1 0

@@ -6,12 +6,13 @@ use mathlib.Core.List.{List}
 use native.Mathlib.Omega.{arith}
 use native.Mathlib.Nat.{add-zero}
 use lib.Dec.{T, leb, ltb}
-use borrow.Author.Tests.{le-leb, eq-eqb, ne-eqb}
+use borrow.Author.Tests.{le-leb, lt-ltb, le-ltb, eq-eqb, ne-eqb}
 use Rattle.arith.specs.Lists.{from}
 use Rattle.arith.proofs.Tests.{le-or-lt, same-or}
 use Rattle.arith.proofs.Among.{by-span, every-from, from-every}
+use Rattle.rules.specs.Ranges.{termCount, monthsInSpan}
 use Rattle.rules.specs.Days.{Calendar, monthStart, firstMonth, spanStart, dayAfterSpan}
-use Rattle.rules.specs.Contracts.{childrenOf, termFirstDay, termDayAfter, holdsDay, holdsHour}
+use Rattle.rules.specs.Contracts.{childrenOf, termFirstDay, termDayAfter, firstDay, dayAfter, holdsDay, holdsHour}
 use Rattle.rules.specs.OtherForms.{firstMonthOf, yearOf, quarterOf, monthOf, holdsMonth}
 use Rattle.rules.proofs.CalendarLaws.{month-le, month-lt, term-year, term-quarter, term-month}
 use Rattle.rules.specs.Synthetic.{Named, inHour, balancedInHour, balanced}
@@ -19,13 +20,13 @@ use Rattle.rules.specs.Synthetic.{Named, inHour, balancedInHour, balance
 -- ---- the months of the span, counted from its first
 -- The hour lies in month i.
 pub record InMonth (k : Calendar) (i h : ℕ) : Type 0 where
+  pub month< : i < monthsInSpan
   pub begun : monthStart (firstMonth k + i) ≤ h / 24
   pub unfinished : h / 24 < monthStart (firstMonth k + suc i)
 
 -- Every delivery hour lies in one of the 72 months.
 pub record MonthOfHour (k : Calendar) (h : ℕ) : Type 0 where
   pub month : ℕ
-  pub month< : month < 72
   pub lies : InMonth k month h
 
 pub month-of-hour : (k : Calendar) (h : ℕ) → 24 * spanStart k ≤ h → h < 24 * dayAfterSpan k → MonthOfHour k h
@@ -35,12 +36,12 @@ month-of-hour k h from-start to-end = below 72 (omega arith) (omega arith)
     below : (n : ℕ) → n ≤ 72 → h / 24 < monthStart (firstMonth k + n) → MonthOfHour k h
     below zero l u = let e = add-zero (firstMonth k) in absurd (omega (arith, rw e at u))
     below (suc n) l u =
-        le-or-lt (monthStart (firstMonth k + n)) (h / 24) (λ b. record { month = n; month< = omega arith; lies = record { begun = b; unfinished = u } })
+        le-or-lt (monthStart (firstMonth k + n)) (h / 24) (λ b. record { month = n; lies = record { month< = omega arith; begun = b; unfinished = u } })
         (λ b. below n (omega arith) b)
 
 -- A month's first hour lies in it.
-pub first-hour : (k : Calendar) (i : ℕ) → InMonth k i (24 * monthStart (firstMonth k + i))
-first-hour k i = record { begun = omega arith; unfinished = omega (arith, month-lt (firstMonth k + i) (firstMonth k + suc i) (omega arith)) }
+pub first-hour : (k : Calendar) (i : ℕ) → i < monthsInSpan → InMonth k i (24 * monthStart (firstMonth k + i))
+first-hour k i l = record { month< = l; begun = omega arith; unfinished = omega (arith, month-lt (firstMonth k + i) (firstMonth k + suc i) (omega arith)) }
 
 module _ (c i : ℕ) where
   holds-year : yearOf i ≡ c → holdsMonth c i ≡ true
@@ -76,10 +77,9 @@ module _ (k : Calendar) (i h : ℕ) (lies : InMonth k i h) where
       (λ x y. sym (f (begun-le a x) (le-or-lt (a + w) i (λ l. absurd (omega (arith, le-begun (a + w) l))) (λ l. l))))
       (λ out. sym (g (λ x y. out (le-begun a x) (le-or-lt end (h / 24) (λ l. absurd (omega (arith, begun-le (a + w) l))) (λ l. l)))))
 
-  -- Exactly three contracts hold the hour.
-  pub holds-hour : (c : ℕ) → holdsHour k c h ≡ holdsMonth c i
-  unfolding holdsHour holdsDay termFirstDay termDayAfter
-  holds-hour c =
+  holds-period : (c : ℕ) → leb (firstDay k c) (h / 24) && ltb (h / 24) (dayAfter k c) ≡ holdsMonth c i
+  unfolding termFirstDay termDayAfter
+  holds-period c =
       same-or (c % 17) 0
       (λ z. rw (term-year c z) (in-months (12 * (c / 17)) 12 (holdsMonth c i) (λ x y. holds-year c i (omega arith))
       (λ out. holds-not c i (λ e. out (omega arith) (omega arith)) (omega arith) (omega arith))))
@@ -88,6 +88,14 @@ module _ (k : Calendar) (i h : ℕ) (lies : InMonth k i h) where
       (λ out. holds-not c i (omega arith) (λ e. out (omega arith) (omega arith)) (omega arith))))
       (λ l. rw (term-month c l) (in-months (1 * (12 * (c / 17) + (c % 17 - 5))) 1 (holdsMonth c i) (λ x y. holds-itself c i (omega arith))
       (λ out. holds-not c i (omega arith) (omega arith) (λ e. out (omega arith) (omega arith))))))
+
+  -- Exactly three contracts hold the hour.
+  pub holds-hour : (c : ℕ) → holdsHour k c h ≡ holdsMonth c i
+  unfolding holdsHour holdsDay
+  holds-hour c =
+      let l = lies .month< in
+      le-or-lt termCount c (λ w. rw (le-ltb c termCount w) (sym (holds-not c i (omega arith) (omega arith) (omega arith))))
+      (λ w. rw (lt-ltb c termCount w) (holds-period c))
 
 -- Two hours of a month lie in the same contracts.
 pub same-month : (k : Calendar) (i h h′ : ℕ) → InMonth k i h → InMonth k i h′ → (c : ℕ) → holdsHour k c h ≡ holdsHour k c h′
@@ -99,8 +107,8 @@ unfolding balanced balancedInHour inHour
 balanced-every-hour k ns b h l u =
     let m = month-of-hour k h l u in
     let i = m .month in
-    simp (same-month k i h (24 * monthStart (firstMonth k + i)) (m .lies) (first-hour k i))
-    (every-from (λ i. balancedInHour k ns (24 * monthStart (firstMonth k + i))) 0 72 b i (omega arith) (omega (arith, m .month<)))
+    simp (same-month k i h (24 * monthStart (firstMonth k + i)) (m .lies) (first-hour k i (m .lies .month<)))
+    (every-from (λ i. balancedInHour k ns (24 * monthStart (firstMonth k + i))) 0 72 b i (omega arith) (omega (arith, m .lies .month<)))
 
 -- and one that is balanced in every hour of the six years is balanced
 pub every-hour-balanced : (k : Calendar) (ns : List Named) → ((h : ℕ) → 24 * spanStart k ≤ h → h < 24 * dayAfterSpan k → T (balancedInHour k ns h)) → T (balanced k ns)
@@ -116,8 +124,8 @@ pub data Cascading (c : ℕ) : Type 0 where
   year : c % 17 ≡ 0 → childrenOf c ≡ from (c + 1) 4 → Cascading c
   quarter : 0 < c % 17 → c % 17 < 5 → childrenOf c ≡ from (firstMonthOf c) 3 → Cascading c
 
-pub cascading : (c : ℕ) → c % 17 < 5 → Cascading c
+pub cascading : (c : ℕ) → c < termCount → c % 17 < 5 → Cascading c
 unfolding childrenOf
-cascading c h =
-    same-or (c % 17) 0 (λ z. year z (rw (eq-eqb (c % 17) 0 z)))
-    (λ z. quarter (omega arith) h (rw (ne-eqb (c % 17) 0 z, le-leb (c % 17) 4 (omega arith))))
+cascading c w h =
+    same-or (c % 17) 0 (λ z. year z (rw (lt-ltb c termCount w, le-leb (c % 17) 4 (omega arith), eq-eqb (c % 17) 0 z)))
+    (λ z. quarter (omega arith) h (rw (lt-ltb c termCount w, le-leb (c % 17) 4 (omega arith), ne-eqb (c % 17) 0 z)))

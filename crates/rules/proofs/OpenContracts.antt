@@ -13,9 +13,9 @@ use Rattle.arith.proofs.Tests.{true-or, never, any-append}
 use Rattle.arith.proofs.Totals.{Rising, rising-from, rising-kept, rising-take, listed, total-append, total-plus, total-same, total-listed}
 use Rattle.rules.specs.declared.contract.ContractKind.{ContractKind}
 use Rattle.rules.specs.declared.contract.ContractKind.the-variants.{Year, Quarter, Month}
-use Rattle.rules.specs.Ranges.{contractCount}
+use Rattle.rules.specs.Ranges.{termCount}
 use Rattle.rules.specs.Days.{Calendar, monthStart, monthLength, monthDays, leapYear, firstMonth}
-use Rattle.rules.specs.Contracts.{openCount, sameKind, kindOf, termOf, contractsOf, monthsIn, termFirstDay, termDayAfter, daysOf, stillToClose, openOfKind, openContracts, openOn}
+use Rattle.rules.specs.Contracts.{openCount, sameKind, hasTerm, kindOf, termOf, contractsOf, monthsIn, termFirstDay, termDayAfter, firstDay, dayAfter, daysOf, stillToClose, openOfKind, openContracts, openOn}
 use Rattle.rules.proofs.CalendarLaws.{month-next, open-listed}
 
 -- ---- listed numbers
@@ -64,19 +64,19 @@ module _ (k : Calendar) (d : ℕ) where
   open-kind s c h =
       let all = contractsOf s in
       let left = kept (λ x. stillToClose k d (termOf x)) all in
-      listed-kept (λ x. sameKind (kindOf x) s) (from 0 contractCount) c (listed-before (λ x. stillToClose k d (termOf x)) all c (listed-take (openCount s) left c h))
+      listed-kept (λ x. sameKind (kindOf x) s) (from 0 termCount) c (listed-before (λ x. stillToClose k d (termOf x)) all c (listed-take (openCount s) left c h))
 
   exclusive : (s t : ContractKind) (c : ℕ) → sameKind s t ≡ false → listed (openOfKind k d s) c ≡ true → listed (openOfKind k d t) c ≡ false
   exclusive s t c n h =
       true-or (listed (openOfKind k d t) c) (λ g. never (sym (same-twice (kindOf c) s t (open-kind s c h) (open-kind t c g)) ∙ n)) (λ g. g)
 
-  open-rising : (s : ContractKind) → Rising contractCount 0 (openOfKind k d s)
+  open-rising : (s : ContractKind) → Rising termCount 0 (openOfKind k d s)
   unfolding openOfKind contractsOf
   open-rising s =
-      rising-take (openCount s) (rising-kept (λ x. stillToClose k d (termOf x)) (rising-kept (λ x. sameKind (kindOf x) s) (rising-from 0 contractCount contractCount (omega arith))))
+      rising-take (openCount s) (rising-kept (λ x. stillToClose k d (termOf x)) (rising-kept (λ x. sameKind (kindOf x) s) (rising-from 0 termCount termCount (omega arith))))
 
-  kind-total : (f : ℕ → ℕ) (s : ContractKind) → total f (openOfKind k d s) ≡ total (λ c. cond (listed (openOfKind k d s) c) (f c) 0) (from 0 contractCount)
-  kind-total f s = total-listed f contractCount 0 contractCount (openOfKind k d s) (omega arith) (open-rising s)
+  kind-total : (f : ℕ → ℕ) (s : ContractKind) → total f (openOfKind k d s) ≡ total (λ c. cond (listed (openOfKind k d s) c) (f c) 0) (from 0 termCount)
+  kind-total f s = total-listed f termCount 0 termCount (openOfKind k d s) (omega arith) (open-rising s)
 
   open-one : (c x : ℕ) → cond (listed (openOfKind k d Year) c) x 0 + (cond (listed (openOfKind k d Quarter) c) x 0 + cond (listed (openOfKind k d Month) c) x 0) ≡ cond (openOn k d c) x 0
   unfolding openContracts
@@ -84,16 +84,16 @@ module _ (k : Calendar) (d : ℕ) where
       let either = rw (any-append, any-append) at (open-listed k d c) in
       rw (← either) (one-of _ _ _ x (exclusive Year Quarter c refl) (exclusive Year Month c refl) (exclusive Quarter Month c refl))
 
-  -- A total over the open contracts is one over all contracts, of which those open count.
-  pub open-total : (f : ℕ → ℕ) → total f (openContracts k d) ≡ total (λ c. cond (openOn k d c) (f c) 0) (from 0 contractCount)
+  -- A total over the open contracts is one over all that have a term, of which those open count.
+  pub open-total : (f : ℕ → ℕ) → total f (openContracts k d) ≡ total (λ c. cond (openOn k d c) (f c) 0) (from 0 termCount)
   unfolding openContracts
   open-total f =
       let count : ContractKind → ℕ → ℕ = λ s c. cond (listed (openOfKind k d s) c) (f c) 0 in
-      let all = from 0 contractCount in
+      let all = from 0 termCount in
       rw (total-append, total-append, kind-total f Year, kind-total f Quarter, kind-total f Month)
       (sym (ap (λ n. total (count Year) all + n) (total-plus (count Quarter) (count Month) all))
       ∙ sym (total-plus (count Year) (λ c. count Quarter c + count Month c) all)
-      ∙ total-same (λ c. count Year c + (count Quarter c + count Month c)) (λ c. cond (openOn k d c) (f c) 0) 0 contractCount (λ c h g. open-one c (f c)))
+      ∙ total-same (λ c. count Year c + (count Quarter c + count Month c)) (λ c. cond (openOn k d c) (f c) 0) 0 termCount (λ c h g. open-one c (f c)))
 
 -- ---- days
 most-days : (a b c : Bool) → cond a (cond b 29 28) (cond c 30 31) ≤ 31
@@ -115,11 +115,15 @@ months-in Year = omega arith
 months-in Quarter = omega arith
 months-in Month = omega arith
 
--- A contract has at most twelve months of 31 days.
-pub days-most : (k : Calendar) (c : ℕ) → daysOf k c ≤ 372
-unfolding daysOf termFirstDay termDayAfter
-days-most k c =
+period-most : (k : Calendar) (c : ℕ) → dayAfter k c - firstDay k c ≤ 372
+unfolding termFirstDay termDayAfter
+period-most k c =
     let n = monthsIn (kindOf c) in
     let i = firstMonth k + n * termOf c .index in
     let e : firstMonth k + (n * termOf c .index + n) ≡ i + n = omega arith in
     rw e (omega (arith, months-most i n, months-in (kindOf c)))
+
+-- A contract has at most twelve months of 31 days.
+pub days-most : (k : Calendar) (c : ℕ) → daysOf k c ≤ 372
+unfolding daysOf
+days-most k c = true-or (hasTerm c) (λ t. rw t (period-most k c)) (λ t. rw t (omega arith))

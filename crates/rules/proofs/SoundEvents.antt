@@ -1,5 +1,5 @@
 -- What a sound event gives, kind by kind. Assumes nothing.
-use Prim.Native.Nat.{ℕ, _≤_, _<_}
+use Prim.Native.Nat.{ℕ, _-_, _≤_, _<_}
 use mathlib.Core.Path.{_≡_}
 use mathlib.Core.Bool.{true, _&&_}
 use mathlib.Core.List.{List}
@@ -34,7 +34,7 @@ pub lots-in-range : (q : ℕ) → lotsSound q ≡ true → InRange 1 q mostLots
 lots-in-range q e = in-range 1 q mostLots e
 
 pub contract-below : (c : ℕ) → contractSound c ≡ true → c < contractCount
-contract-below c e = omega (arith, leb-true c 101 e)
+contract-below c e = omega (arith, leb-true c (contractCount - 1) e)
 
 -- ---- each kind, in a ledger of n members
 pub record SoundSubmission (n : ℕ) (e : Submission) : Type 0 where

@@ -1,5 +1,5 @@
 -- What tables give that are neither short nor damaged. Assumes nothing.
-use Prim.Native.Nat.{ℕ, _≤_, _<_}
+use Prim.Native.Nat.{ℕ, _-_, _≤_, _<_}
 use mathlib.Core.Path.{_≡_}
 use mathlib.Core.Bool.{true, false, _||_}
 use mathlib.Core.List.{map}
@@ -131,7 +131,7 @@ order-sound t o s =
       (
         lt-ltb (o .member) (members t) (s .member<),
         (
-          le-leb (o .contract) 101 (omega (arith, s .contract<)),
+          le-leb (o .contract) (contractCount - 1) (omega (arith, s .contract<)),
           (
             rw (le-leb 1 p (s .price .from)) (le-leb p mostPrice (s .price .to)),
             (rw (le-leb 1 q (s .lots .from)) (le-leb q mostLots (s .lots .to)), (s .day-in-span, (le-leb (o .time) lastSecond (s .time≤), tt))),

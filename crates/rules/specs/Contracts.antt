@@ -10,7 +10,7 @@ use Rattle.rules.specs.declared.contract.ContractKind.the-variants.{Year
 use Rattle.rules.specs.declared.contract.Term.{Term}
 use Rattle.rules.specs.declared.units.Day.{Day}
 use Rattle.rules.specs.declared.units.Day.the-variants.{On, NoDay}
-use Rattle.rules.specs.Ranges.{contractCount, contractsInYear, quartersInYear, monthsInYear, monthsInQuarter, firstQuarter, lastQuarter, january}
+use Rattle.rules.specs.Ranges.{termCount, contractsInYear, quartersInYear, monthsInYear, monthsInQuarter, firstQuarter, lastQuarter, january}
 use Rattle.rules.specs.Days.{Calendar, monthStart, firstMonth, businessDayBefore}
 
 -- ---- kinds
@@ -49,6 +49,11 @@ sameKind Month Quarter = false
 sameKind Month Month = true
 
 -- ---- numbers
+-- It has a term, that is a period by its number. A contract that has rows but no term is never open, never closes, never
+-- cascades and holds no hour.
+abbrev pub hasTerm : ℕ → Bool
+hasTerm c = ltb c termCount
+
 -- Contract number = 17 times year index (0 to 5) + k: k = 0 year, 1 to 4 quarters, 5 to 16 months.
 unfoldable pub termOf : ℕ → Term
 termOf c =
@@ -61,16 +66,19 @@ kindOf c = termOf c .kind
 
 -- All contracts of a kind, by delivery: within a kind the numbers rise with delivery.
 unfoldable pub contractsOf : ContractKind → List ℕ
-contractsOf s = kept (λ c. sameKind (kindOf c) s) (from 0 contractCount)
+contractsOf s = kept (λ c. sameKind (kindOf c) s) (from 0 termCount)
 
 -- A year or a quarter: a contract that cascades.
 abbrev pub isParent : ℕ → Bool
-isParent c = leb (c % contractsInYear) lastQuarter
+isParent c = hasTerm c && leb (c % contractsInYear) lastQuarter
 
 -- A year's four quarters, a quarter's three months.
 unfoldable pub childrenOf : ℕ → List ℕ
-childrenOf c = cond (eqb (c % contractsInYear) 0) (from (c + firstQuarter) quartersInYear)
-    (cond (isParent c) (from (contractsInYear * (c / contractsInYear) + january + monthsInQuarter * (c % contractsInYear - firstQuarter)) monthsInQuarter) [])
+childrenOf c =
+    cond (isParent c)
+    (cond (eqb (c % contractsInYear) 0) (from (c + firstQuarter) quartersInYear)
+    (from (contractsInYear * (c / contractsInYear) + january + monthsInQuarter * (c % contractsInYear - firstQuarter)) monthsInQuarter))
+    []
 
 -- ---- periods
 -- The first delivery day of a term, and the first day after its last.
@@ -80,7 +88,7 @@ termFirstDay k t = monthStart (firstMonth k + monthsIn (t .kind) * t .index)
 unfoldable pub termDayAfter : Calendar → Term → ℕ
 termDayAfter k t = monthStart (firstMonth k + (monthsIn (t .kind) * t .index + monthsIn (t .kind)))
 
--- The same of a contract by its number.
+-- The same of a contract by its number, if it has a term.
 abbrev pub firstDay : Calendar → ℕ → ℕ
 firstDay k c = termFirstDay k (termOf c)
 
@@ -89,10 +97,10 @@ dayAfter k c = termDayAfter k (termOf c)
 
 -- How many days it delivers.
 unfoldable pub daysOf : Calendar → ℕ → ℕ
-daysOf k c = dayAfter k c - firstDay k c
+daysOf k c = cond (hasTerm c) (dayAfter k c - firstDay k c) 0
 
 unfoldable pub holdsDay : Calendar → ℕ → ℕ → Bool
-holdsDay k c d = leb (firstDay k c) d && ltb d (dayAfter k c)
+holdsDay k c d = hasTerm c && (leb (firstDay k c) d && ltb d (dayAfter k c))
 
 -- Every day has 24 delivery hours: hour h, counted from the first hour of day 0, is one of day h / 24.
 unfoldable pub holdsHour : Calendar → ℕ → ℕ → Bool
@@ -117,15 +125,15 @@ abbrev pub isBefore : Day → ℕ → Bool
 isBefore (On x) d = ltb (x .0) d
 isBefore NoDay d = true
 
--- The closing day of a contract by its number, and whether it is on a day or before it.
+-- The closing day of a contract by its number, if it has a term, and whether it is on a day or before it.
 abbrev pub closingDay : Calendar → ℕ → Day
 closingDay k c = termClosingDay k (termOf c)
 
 abbrev pub closesOn : Calendar → ℕ → ℕ → Bool
-closesOn k c d = isOn (closingDay k c) d
+closesOn k c d = hasTerm c && isOn (closingDay k c) d
 
 abbrev pub closesBefore : Calendar → ℕ → ℕ → Bool
-closesBefore k c d = isBefore (closingDay k c) d
+closesBefore k c d = hasTerm c && isBefore (closingDay k c) d
 
 -- The term's closing day is day d or later.
 unfoldable pub stillToClose : Calendar → ℕ → Term → Bool

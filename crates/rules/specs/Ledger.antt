@@ -162,7 +162,7 @@ withMark m head = set head (marksFrom + m) marked
 abbrev pub withSubmitsThisSecond : ℕ → ℕ → List ℕ → List ℕ
 withSubmitsThisSecond m n head = set head (submitsFrom + m) n
 
--- ---- prices: five places for each of the 102 contracts
+-- ---- prices: five places for each contract
 abbrev pub priceWidth : ℕ
 priceWidth = 5
 

@@ -1,15 +1,20 @@
 -- Numbers of document 01 that stand in several places, each under one name.
-use Prim.Native.Nat.{ℕ}
+use Prim.Native.Nat.{ℕ, _*_}
 
--- "Days and contracts": 17 contracts for each of six years, a year, four quarters and twelve months.
+-- "Records": how many contracts have rows, prices and orders; "contracts above 101" are out of range.
 abbrev pub contractCount : ℕ
 contractCount = 102
 
+-- "Days and contracts": a year, four quarters and twelve months make 17 contracts, in each of six years.
 abbrev pub contractsInYear : ℕ
 contractsInYear = 17
 
 abbrev pub yearsInSpan : ℕ
 yearsInSpan = 6
+
+-- How many contracts have a term, that is a period by their number: 17 for each of six years.
+abbrev pub termCount : ℕ
+termCount = yearsInSpan * contractsInYear
 
 abbrev pub quartersInSpan : ℕ
 quartersInSpan = 24

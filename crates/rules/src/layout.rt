@@ -7,6 +7,7 @@ use crate::ranges::MOST_HOLIDAYS;
 use crate::ranges::MOST_LEGS;
 use crate::ranges::MOST_MEMBERS;
 use crate::ranges::MOST_ORDERS;
+use crate::ranges::TERM_COUNT;
 
 // ---- one place for each member, each holiday, each leg of a proposal
 pub const MEMBER_PLACES: usize = MOST_MEMBERS as usize;
@@ -14,6 +15,9 @@ pub const MEMBER_PLACES: usize = MOST_MEMBERS as usize;
 pub const HOLIDAY_PLACES: usize = MOST_HOLIDAYS as usize;
 
 pub const LEG_PLACES: usize = MOST_LEGS as usize;
+
+// ---- one place for each contract that has a term
+pub const TERMS: usize = TERM_COUNT as usize;
 
 // ---- the contracts of a year, as places
 pub const CONTRACTS_IN_YEAR: usize = ranges::CONTRACTS_IN_YEAR as usize;

@@ -21,9 +21,13 @@ pub const LAST_QUARTER: u64 = 4;
 
 pub const JANUARY: u64 = 5;
 
+// How many contracts have rows, prices and orders.
 pub const CONTRACT_COUNT: u64 = 102;
 
 pub const LAST_CONTRACT: u64 = CONTRACT_COUNT - 1;
+
+// How many contracts have a term, that is a period by their number: 17 for each of six years.
+pub const TERM_COUNT: u64 = YEARS_IN_SPAN * CONTRACTS_IN_YEAR;
 
 // Day 0 is 1 January of this year.
 pub const YEAR_OF_DAY_ZERO: u64 = 2020;

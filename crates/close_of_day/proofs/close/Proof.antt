@@ -46,8 +46,7 @@ remove-closing-requires c κs =
     let earlier-still = earlier .before .before .before .before .before .before .before .before .before .before in
     let pre = earlier-still .before .before .before .before .before .before .pre in
     let a = earlier-still .before .before .before .before .before .before .args in
-    let write-phases = earlier .before .before .before .before .before .before .before .before .before .write-phases in
-    (pre .0 .0 .long, book-reads (a .head .now) (a .book .now) (pre .0 .0) (pre .0 .2), ap length (write-phases .ensures) ∙ phases-length _ _)
+    (pre .0 .0 .long, book-reads (a .head .now) (a .book .now) (pre .0 .0) (pre .0 .2))
 
 begin-day-requires : tie.Need-begin-day-requires
 unfolding withOrders
@@ -87,7 +86,7 @@ returns c =
     begin-day .ensures (withPrices prices (withRows lots value (withBook book t)))
     ∙ ap (onDay (a .next .0)) (remove-closing .ensures (withPrices prices (withRows lots value t))
     ∙ ap (λ k. withOrders (kept (λ o. not (closes k (o .contract))) (ordersIn (getD (a .head .now) orderCountPlace 0) (a .book .now))) (withPrices prices (withRows lots value u))) column)
-    ∙ closed-is u (a .time) (a .next .0) prices lots value (book-reads (a .head .now) (a .book .now) (pre .0 .0) (pre .0 .2))
+    ∙ closed-is u (a .time) (a .next .0) prices lots value
     (ap (λ x. x .prices) (write-prices .ensures (withRows (a .lots .now) (a .value .now) t)))
     (cascade-all .ensures ∙ ap (λ k. allCascaded n (closing k) (a .lots .now)) column)
     (cascade-all2 .ensures ∙ ap (λ k. allCascaded n (closing k) (a .value .now)) column)

@@ -1,8 +1,8 @@
 use Prim.Native.Nat.{_+_, _-_, _%_}
 use mathlib.Core.Path.{_≡_}
 use native.Mathlib.Omega.{arith}
-use borrow.Author.Tests.{le-leb, eq-eqb, ne-eqb}
-use Rattle.rules.specs.Ranges.{contractsInYear, quartersInYear, monthsInQuarter, firstQuarter, lastQuarter}
+use borrow.Author.Tests.{lt-ltb, le-leb, eq-eqb, ne-eqb}
+use Rattle.rules.specs.Ranges.{termCount, contractsInYear, quartersInYear, monthsInQuarter, firstQuarter, lastQuarter}
 use Rattle.rules.specs.Contracts.{childrenOf}
 use Rattle.rules.specs.OtherForms.{firstMonthOf}
 use Rattle.rules.specs.CloseOfDay.{cascaded}
@@ -16,7 +16,7 @@ returns c =
     let x = c .before .before .before .before .args .contract in
     let first = x + firstQuarter in
     let four : first + quartersInYear - first ≡ quartersInYear = omega arith in
-    rw (c .before .move-rows .ensures, four, le-leb (x % contractsInYear) lastQuarter (omega arith), eq-eqb (x % contractsInYear) 0 (c .before .before .before .if1 .taken))
+    rw (c .before .move-rows .ensures, four, lt-ltb x termCount (omega arith), le-leb (x % contractsInYear) lastQuarter (omega arith), eq-eqb (x % contractsInYear) 0 (c .before .before .before .if1 .taken))
 
 returns-2 : tie.Need-returns-2
 unfolding cascaded childrenOf
@@ -24,7 +24,7 @@ returns-2 c =
     let x = c .before .before .before .before .args .contract in
     let first = firstMonthOf x in
     let three : first + monthsInQuarter - first ≡ monthsInQuarter = omega arith in
-    rw (c .before .move-rows2 .ensures, three, le-leb (x % contractsInYear) lastQuarter (omega arith), ne-eqb (x % contractsInYear) 0 (c .before .before .before .if1 .left))
+    rw (c .before .move-rows2 .ensures, three, lt-ltb x termCount (omega arith), le-leb (x % contractsInYear) lastQuarter (omega arith), ne-eqb (x % contractsInYear) 0 (c .before .before .before .if1 .left))
 
 pub cascade-spec : {M : Type 1} → statement M
 cascade-spec =

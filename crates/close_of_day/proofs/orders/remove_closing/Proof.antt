@@ -20,7 +20,7 @@ write-left-requires : tie.Need-write-left-requires
 write-left-requires c κs =
     let pre = c .before .before .before .before .before .before .pre in
     let a = c .before .before .before .before .before .before .args in
-    (rw (length-take-le {A = ℕ} (getD (a .head .now) orderCountPlace 0) (replicate 256 0) (pre .1 .most-orders)) (pre .1), pre .2)
+    rw (length-take-le {A = ℕ} (getD (a .head .now) orderCountPlace 0) (replicate 256 0) (pre .1 .most-orders)) (pre .1)
 
 array-share-prefix-left : tie.Need-array-share-prefix-left
 array-share-prefix-left c =

@@ -24,16 +24,7 @@ loop-holds : tie.Need-loop-holds Inv-loop μ-loop
 loop-holds c = (refl, omega arith, refl)
 
 order-at-requires : tie.Need-order-at-requires Inv-loop μ-loop
-order-at-requires c κs = (omega (arith, c .before .before .before .before .before .pre .0 .most-orders), c .before .before .before .before .before .pre .0 .long)
-
-mul-left-of : tie.Need-mul-left-of Inv-loop μ-loop
-mul-left-of c = omega (arith, ap (λ o. o .contract) (c .order-at .ensures), c .before .before .before .before .before .before .pre .0 .contract-below (c .before .before .loop .i) (omega arith))
-
-shared-slice-read-left-of : tie.Need-shared-slice-read-left-of Inv-loop μ-loop
-shared-slice-read-left-of c =
-    let pre = c .before .before .before .before .before .before .before .pre in
-    let loop = c .before .before .before .loop in
-    omega (arith, ap (λ o. o .contract) (c .before .order-at .ensures), pre .0 .contract-below (loop .i) (omega arith))
+order-at-requires c κs = (omega (arith, c .before .before .before .before .before .pre .most-orders), c .before .before .before .before .before .pre .long)
 
 loop-again : tie.Need-loop-again Inv-loop μ-loop
 loop-again c =
@@ -43,7 +34,7 @@ loop-again c =
     let p : Order → Bool = λ o. closes (a .column .now) (o .contract) in
     let all = staying p (ordersIn n (a .book .now)) in
     let here : c .left-of .result ≡ getD all (l .i) 0
-    = c .left-of .ensures ∙ ap (λ o. cond (p o) 0 (o .lots .0)) (c .before .before .order-at .ensures) ∙ sym (staying-at p n (a .book .now) (l .i) (omega arith)) in (
+    = rw (c .before .phase-at .ensures) at (c .left-of .ensures) ∙ ap (λ o. cond (p o) 0 (o .lots .0)) (c .before .before .order-at .ensures) ∙ sym (staying-at p n (a .book .now) (l .i) (omega arith)) in (
       length-set (l .left) (l .i) (c .left-of .result) ∙ l .inv .0,
       omega arith,
       rw (here, l .inv .2) (front-next (l .i) all (a .left .now) 0 (omega (arith, staying-length p n (a .book .now))) (omega arith)),
@@ -60,6 +51,6 @@ returns c =
 pub write-left-spec : {M : Type 1} → statement M
 write-left-spec =
     tie.close
-    (tie.spec Inv-loop μ-loop loop-holds order-at-requires mul-left-of shared-slice-read-left-of
-    (λ c κs. search needs) (λ c. search needs) (λ c. search needs) (λ c. search needs) (λ c. search needs) loop-again
-    (λ c. search needs) returns)
+    (tie.spec Inv-loop μ-loop loop-holds order-at-requires (λ c κs. search needs) (λ c κs. search needs)
+    (λ c. search needs) (λ c. search needs) (λ c. search needs) (λ c. search needs) loop-again (λ c. search needs)
+    returns)

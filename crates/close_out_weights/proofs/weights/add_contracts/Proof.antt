@@ -6,7 +6,7 @@ use lib.ListN.{length}
 use borrow.Author.Needs.{needs}
 use Rattle.arith.proofs.Columns.{mapped-length}
 use Rattle.arith.specs.Lists.{from}
-use Rattle.rules.specs.Ranges.{contractCount}
+use Rattle.rules.specs.Ranges.{termCount}
 use Rattle.close_out_weights.specs.Columns.{weightBy}
 use Rattle.close_out_weights.proofs.DayWeights.{sums-start, sums-next}
 use Rattle.close_out_weights.proofs.ColumnFits.{sums-most}
@@ -14,10 +14,10 @@ use Rattle.close_out_weights.proofs.weights.add_contracts.Statement.{st
 use Rattle.close_out_weights.proofs.weights.add_contracts.Tie as tie
 
 abbrev Inv-loop : tie.InvT-loop
-Inv-loop lots days sums₀ contract₀ sums contract = (contract ≤ contractCount) × (length sums ≡ length sums₀) × (sums ≡ map (weightBy contract days lots) (from 0 (length sums₀)))
+Inv-loop lots days sums₀ contract₀ sums contract = (contract ≤ termCount) × (length sums ≡ length sums₀) × (sums ≡ map (weightBy contract days lots) (from 0 (length sums₀)))
 
 abbrev μ-loop : tie.MeasureT-loop
-μ-loop lots days sums₀ contract₀ sums contract = contractCount - contract
+μ-loop lots days sums₀ contract₀ sums contract = termCount - contract
 
 loop-holds : tie.Need-loop-holds Inv-loop μ-loop
 loop-holds c =
@@ -45,7 +45,7 @@ loop-again c =
 returns : tie.Need-returns Inv-loop μ-loop
 returns c =
     let a = c .before .before .before .before .args in
-    let e : c .before .loop .contract ≡ contractCount = omega arith in
+    let e : c .before .loop .contract ≡ termCount = omega arith in
     rw e at (c .before .loop .inv .2)
 
 pub add-contracts-spec : {M : Type 1} → statement M

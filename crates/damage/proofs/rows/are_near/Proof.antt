@@ -3,13 +3,14 @@ use mathlib.Core.Path.{sym, ap, _∙_}
 use Prim.Native.Nat.{_/_, _^_}
 use lib.Seq.{length-take-le}
 use Rattle.arith.specs.Bits.{inWindow}
+use Rattle.rules.specs.Ledger.{rowsLength}
 use Rattle.damage.proofs.Columns.{row-whole}
 use borrow.Author.Needs.{needs}
 use Rattle.damage.proofs.rows.are_near.Statement.{statement}
 use Rattle.damage.proofs.rows.are_near.Tie as tie
 
 slice-aggregate-or-of : tie.Need-slice-aggregate-or-of
-slice-aggregate-or-of c = sym (length-take-le 3264 (c .before .before .args .rows .now) (omega arith))
+slice-aggregate-or-of c = sym (length-take-le rowsLength (c .before .before .args .rows .now) (omega arith))
 
 returns : tie.Need-returns
 returns c =
