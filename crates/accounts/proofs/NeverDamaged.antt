@@ -8,7 +8,7 @@ use lib.ListN.{length}
 use lib.IntN.{ℤ}
 use borrow.Author.Tests.{not-false}
 use Rattle.arith.proofs.Alls.{all-every, hold-all}
-use Rattle.arith.proofs.Tests.{and-left, passed, failed, or-false}
+use Rattle.arith.proofs.Tests.{and-left, passed, failed}
 use Rattle.rules.specs.Ledger.{headLength, pricesLength}
 use Rattle.rules.specs.declared.event.Event.{Event}
 use Rattle.rules.specs.declared.event.Event.the-variants.{Submit, Cancel, DayLimits, Proposal, Default, CloseOut, CloseOfDay}
@@ -16,9 +16,9 @@ use Rattle.rules.specs.declared.event.Leg.{Leg}
 use Rattle.rules.specs.declared.order.Order.{Order}
 use Rattle.rules.specs.Days.{inSpan, businessDay}
 use Rattle.rules.specs.Header.{Header, daySound, headerOf, beginsWithHeader}
-use Rattle.rules.specs.Ledger.{Tables, withLines, members, day, calendar, orders, ledgerShort, linesShort, fresh}
+use Rattle.rules.specs.Ledger.{Tables, withLines, members, day, calendar, orders, ledgerShort, fresh}
 use Rattle.rules.specs.Records.{legSound, eventSound}
-use Rattle.rules.specs.Refusals.{headSound, memberSound, pricesSound, orderSound, sidesSound, bookSound, damaged, unsound, isCancelled, applySpec, makeSpec}
+use Rattle.rules.specs.Refusals.{headSound, memberSound, pricesSound, orderSound, sidesSound, bookSound, damaged, ledgerUnsound, unsound, isCancelled, applySpec, makeSpec}
 use Rattle.rules.specs.Accounts.{Call, callSpec, after}
 use Rattle.rules.proofs.SoundEvents.{submission, cancel-time, new-day-limits, proposal, default-member, close-out-contract}
 use Rattle.rules.proofs.SoundTables.{Long, long-enough, not-short, Undamaged}
@@ -179,8 +179,8 @@ pub never-damaged : NeverDamaged
 never-damaged header t calls b long = not-damaged _ (in-order header t calls b long)
 
 pub one-for-lines-alone : OneForLinesAlone
-unfolding unsound
+unfolding unsound ledgerUnsound
 one-for-lines-alone header t calls b long call e =
     let v = withLines (call .lines) (after (makeSpec t header .after) calls) in
     let whole = not-damaged v (lines-in-order (call .lines) _ (in-order header t calls b long)) in
-    rw (whole .0, whole .1, or-false (linesShort v)) at (one-is-unsound v (call .bytes) e)
+    rw (whole .0, whole .1) at (one-is-unsound v (call .bytes) e)

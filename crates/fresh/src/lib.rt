@@ -6,8 +6,7 @@ ghost use lib.ListN.{length, replicate};
 ghost use lib.IntN.{ℤ, pos};
 ghost use Rattle.arith.specs.Lists.{over};
 ghost use Rattle.rules.specs.Ranges.{mostHolidays, mostMembers};
-ghost use Rattle.rules.specs.Ledger.{headLength, pricesLength, rowsLength, fresh, freshHead, freshPrices, freshRows};
-ghost use Rattle.rules.specs.Ledger.{lent};
+ghost use Rattle.rules.specs.Ledger.{Tables, withHead, withPrices, withRows, headLength, pricesLength, rowsLength, fresh, freshHead, freshPrices, freshRows};
 ghost use Rattle.fresh.specs.Headers.{header};
 use rules::DayNo;
 use rules::layout::ACCEPTED_SUBMITS;
@@ -154,8 +153,9 @@ pub fn write_fresh(
 )
     requires { ⌜ (headLength ≤ length (now head)) × (pricesLength ≤ length (now prices)) × (rowsLength ≤ length (now lots)) × (rowsLength ≤ length (now value)) ⌝ }
     requires { ⌜ (length (now holidays) ≤ mostHolidays) × (length (now limits) ≤ mostMembers) ⌝ }
-    ensures { λ _. ⌜ ((b : List ℕ) (n : List ℤ) → lent (now (head .exit)) (now (prices .exit)) (now (lots .exit)) (now (value .exit)) b n
-        ≡ fresh (header «first_year» (start .0) (now (holidays .entry)) (now (limits .entry))) (lent (now (head .entry)) (now (prices .entry)) (now (lots .entry)) (now (value .entry)) b n)) ⌝ }
+    ensures { λ _. ⌜ ((t : Tables) → withHead (now (head .exit)) (withPrices (now (prices .exit)) (withRows (now (lots .exit)) (now (value .exit)) t))
+        ≡ fresh (header «first_year» (start .0) (now (holidays .entry)) (now (limits .entry)))
+        (withHead (now (head .entry)) (withPrices (now (prices .entry)) (withRows (now (lots .entry)) (now (value .entry)) t)))) ⌝ }
 {
     let members = limits.len();
     write_head(&mut *head, first_year, start, holidays, limits);
