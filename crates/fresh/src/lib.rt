@@ -1,9 +1,8 @@
 // A fresh ledger, written from the fields of its header. Surplus places stay as they were.
 ghost use mathlib.Core.Path.{_≡_};
-ghost use mathlib.Core.List.{List, [], _∷_};
-ghost use Prim.Native.Nat.{ℕ, _+_, _*_, _≤_, _<_};
-ghost use lib.ListN.{length, replicate};
-ghost use lib.IntN.{ℤ, pos};
+ghost use mathlib.Core.List.{[], _∷_};
+ghost use Prim.Native.Nat.{_+_, _*_, _≤_, _<_};
+ghost use lib.ListN.{length};
 ghost use Rattle.arith.specs.Lists.{over};
 ghost use Rattle.rules.specs.Ranges.{mostHolidays, mostMembers};
 ghost use Rattle.rules.specs.Ledger.{Tables, withHead, withPrices, withRows, headLength, pricesLength, rowsLength, fresh, freshHead, freshPrices, freshRows};
@@ -30,27 +29,8 @@ use rules::layout::ROW_WIDTH;
 use rules::layout::SUBMITS;
 use rules::layout::TIME;
 use rules::ranges::MOST_PRICE;
-
-// Rows set to zero.
-pub fn clear_rows(rows: &mut [i64])
-    ensures { λ _. ⌜ now (rows .exit) ≡ replicate (length (now (rows .entry))) (pos 0) ⌝ }
-{
-    let mut i: usize = 0;
-    while i < rows.len() {
-        rows[i] = 0;
-        i += 1;
-    }
-}
-
-fn clear(places: &mut [u64])
-    ensures { λ _. ⌜ now (places .exit) ≡ replicate (length (now (places .entry))) 0 ⌝ }
-{
-    let mut i: usize = 0;
-    while i < places.len() {
-        places[i] = 0;
-        i += 1;
-    }
-}
+use tables::clear_at;
+use tables::clear_rows;
 
 fn copy(places: &mut [u64], list: &[u64])
     requires { ⌜ length (now places) ≡ length (now list) ⌝ }
@@ -100,15 +80,6 @@ fn write_at(head: &mut [u64], at: usize, list: &[u64])
 {
     let end = at + list.len();
     copy(&mut head[at..end], list);
-}
-
-// So many places set to zero, from one on.
-pub fn clear_at(head: &mut [u64], at: usize, count: usize)
-    requires { ⌜ at + count ≤ length (now head) ⌝ }
-    ensures { λ _. ⌜ now (head .exit) ≡ over at (replicate count 0) (now (head .entry)) ⌝ }
-{
-    let end = at + count;
-    clear(&mut head[at..end]);
 }
 
 // The head's first eight places; time and counts are 0.
