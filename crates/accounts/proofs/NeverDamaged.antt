@@ -6,13 +6,13 @@ use Prim.Native.Nat.{ℕ}
 use lib.Dec.{T}
 use lib.IntN.{ℤ}
 use Rattle.arith.proofs.Alls.{hold-all}
-use Rattle.arith.proofs.Tests.{passed, failed, or-false}
+use Rattle.arith.proofs.Tests.{passed, failed}
 use Rattle.rules.specs.declared.event.Event.{Event}
 use Rattle.rules.specs.declared.event.Leg.{Leg}
 use Rattle.rules.specs.Header.{headerOf, beginsWithHeader}
-use Rattle.rules.specs.Ledger.{Tables, withLines, members, orders, ledgerShort, linesShort, fresh}
+use Rattle.rules.specs.Ledger.{Tables, withLines, members, orders, ledgerShort, fresh}
 use Rattle.rules.specs.Records.{isCloseOfDay, eventSound}
-use Rattle.rules.specs.Refusals.{headSound, memberSound, pricesSound, orderSound, sidesSound, bookSound, damaged, unsound, kindBooked, applySpec, makeSpec}
+use Rattle.rules.specs.Refusals.{headSound, memberSound, pricesSound, orderSound, sidesSound, bookSound, damaged, ledgerUnsound, unsound, kindBooked, applySpec, makeSpec}
 use Rattle.rules.specs.Accounts.{Call, callSpec, after}
 use Rattle.rules.proofs.SoundTables.{Long, long-enough, not-short, Undamaged}
 use Rattle.rules.proofs.SoundHeaders.{header-gives, begun}
@@ -91,8 +91,8 @@ pub never-damaged : NeverDamaged
 never-damaged header t calls b long = not-damaged _ (in-order header t calls b long)
 
 pub one-for-lines-alone : OneForLinesAlone
-unfolding unsound
+unfolding unsound ledgerUnsound
 one-for-lines-alone header t calls b long call e =
     let v = withLines (call .lines) (after (makeSpec t header .after) calls) in
     let whole = not-damaged v (lines-in-order (call .lines) _ (in-order header t calls b long)) in
-    rw (whole .0, whole .1, or-false (linesShort v)) at (one-is-unsound v (call .bytes) e)
+    rw (whole .0, whole .1) at (one-is-unsound v (call .bytes) e)

@@ -89,7 +89,7 @@ fn move_rows(rows: &mut [i64], members: usize, contract: usize, first: usize, en
     let at = contract * ROW_WIDTH;
     let after = at + members;
     add_to_children(&mut *rows, members, contract, first, end);
-    fresh::clear_rows(&mut rows[at..after]);
+    tables::clear_rows(&mut rows[at..after]);
 }
 
 // A year's or a quarter's rows go to its children.

@@ -63,7 +63,7 @@ fn begin_day(head: &mut [u64], day: DayNo)
     ensures { λ _. ⌜ ((t : Tables) → withHead (now (head .exit)) t ≡ onDay (day .0) (withHead (now (head .entry)) t)) ⌝ }
 {
     let members = head[MEMBERS] as usize;
-    fresh::clear_at(&mut *head, SUBMITS, members);
+    tables::clear_at(&mut *head, SUBMITS, members);
     head[DAY] = day.0;
     head[TIME] = 0;
 }

@@ -15,7 +15,7 @@ use Rattle.rules.specs.Ledger.{Tables, calendar, members, acceptedSubmits, orde
 use Rattle.rules.specs.Refusals.{distinct, orderSound, sidesSound, bookSound}
 use Rattle.months.specs.declared.months.Span.{Span}
 use Rattle.months.specs.Spans.{IsSpan}
-use Rattle.damage.specs.Orders.{numberAt, restSound, placeSound, placesSound}
+use Rattle.damage.specs.Orders.{numberAt, fieldsInRange, placeSound, placesSound}
 use Rattle.damage.proofs.InTurn.{up-to}
 
 pub span-rises : (s : Span) (k : Calendar) → IsSpan s k → s .start .0 ≤ s .end .0
@@ -24,7 +24,7 @@ span-rises s k h = rw (h .starts, h .ends) (month-le _ _ (omega arith))
 
 module _ (t : Tables) (s : Span) (span : IsSpan s (calendar t)) where
   place-is : (i : ℕ) → placeSound (acceptedSubmits t) (members t) (s .start .0) (s .end .0) (t .book) i ≡ leb (sideAt (t .book) i) 1 && orderSound t (orderAt (t .book) i)
-  unfolding restSound orderSound inSpan allOf
+  unfolding fieldsInRange orderSound inSpan allOf
   place-is i =
       let o = orderAt (t .book) i in
       rw (up-to (o .price .0) mostPrice, up-to (o .lots .0) 100, up-to (sideAt (t .book) i) 1, span .starts, span .ends) (and-comm _ (leb (sideAt (t .book) i) 1))

@@ -1,4 +1,4 @@
--- The orders of a book by their places: the number, the side, and the rest.
+-- The orders of a book by their places: the number, the side, and the other fields.
 use Prim.Native.Nat.{ℕ, _+_, _*_}
 use mathlib.Core.Bool.{Bool, _&&_}
 use mathlib.Core.List.{List, [], _∷_}
@@ -17,8 +17,8 @@ abbrev pub numberAt : List ℕ → ℕ → ℕ
 numberAt book i = getD book (i * orderWidth) 0
 
 -- Member, contract, price, lots, day and time of order i, with the span's first day and the first day after it.
-unfoldable pub restSound : ℕ → ℕ → ℕ → List ℕ → ℕ → Bool
-restSound members start end book i =
+unfoldable pub fieldsInRange : ℕ → ℕ → ℕ → List ℕ → ℕ → Bool
+fieldsInRange members start end book i =
     let o = orderAt book i in
     allOf
     (ltb (o .member) members
@@ -30,7 +30,7 @@ restSound members start end book i =
     ∷ [])
 
 abbrev pub placeSound : ℕ → ℕ → ℕ → ℕ → List ℕ → ℕ → Bool
-placeSound accepted members start end book i = ltb (numberAt book i) accepted && restSound members start end book i && ltb (sideAt book i) 2
+placeSound accepted members start end book i = ltb (numberAt book i) accepted && fieldsInRange members start end book i && ltb (sideAt book i) 2
 
 -- Every order of the first n.
 unfoldable pub placesSound : ℕ → ℕ → ℕ → ℕ → List ℕ → ℕ → Bool

@@ -1,16 +1,15 @@
 // The book: eight places for each resting order.
 ghost use mathlib.Core.Path.{_≡_};
 ghost use mathlib.Core.Bool.{_&&_};
-ghost use mathlib.Core.List.{List, map};
-ghost use Prim.Native.Nat.{ℕ, suc, _+_, _-_, _*_, _≤_, _<_};
+ghost use mathlib.Core.List.{map};
+ghost use Prim.Native.Nat.{suc, _+_, _-_, _*_, _≤_, _<_};
 ghost use lib.Dec.{eqb};
 ghost use lib.ListN.{length, getD};
-ghost use lib.IntN.{ℤ};
 ghost use Rattle.arith.specs.Lists.{any, from};
 ghost use Rattle.rules.specs.Ranges.{mostOrders, mostAcceptedSubmits};
-ghost use Rattle.rules.specs.Ledger.{lent, headLength, bookLength, firstYearPlace, acceptedSubmitsPlace, orderCountPlace};
+ghost use Rattle.rules.specs.Ledger.{Tables, withHead, withBook, headLength, bookLength, firstYearPlace, acceptedSubmitsPlace, orderCountPlace};
 ghost use Rattle.rules.specs.Refusals.{distinct, bookSound};
-ghost use Rattle.damage.specs.Orders.{numberAt, restSound, placesSound};
+ghost use Rattle.damage.specs.Orders.{numberAt, fieldsInRange, placesSound};
 ghost use Rattle.months.specs.Spans.{IsSpanOf};
 use crate::between::is_between;
 use months::Span;
@@ -20,11 +19,11 @@ use rules::ranges;
 // The bit that a number has which fell below 0 and wrapped.
 const TOP_BIT: u64 = 0x8000_0000_0000_0000;
 
-// An order's places but its number and side. Each is read only where those before it are sound, so the compiler keeps the
-// branches, which take less time here than flags.
-fn is_rest_sound(book: &[u64], i: usize, members: u64, span: Span) -> bool
+// An order's fields but its number and side. Each is read only where those before it are in range, so the compiler keeps
+// the branches, which take less time here than flags.
+fn are_fields_in_range(book: &[u64], i: usize, members: u64, span: Span) -> bool
     requires { ⌜ (i < mostOrders) × (bookLength ≤ length (now book)) × (span .start .0 ≤ span .end .0) ⌝ }
-    ensures { λ r. ⌜ r ≡ restSound members (span .start .0) (span .end .0) (now (book .entry)) i ⌝ }
+    ensures { λ r. ⌜ r ≡ fieldsInRange members (span .start .0) (span .end .0) (now (book .entry)) i ⌝ }
 {
     let at = i * layout::ORDER_WIDTH;
     if members <= book[at + layout::ORDER_MEMBER] {
@@ -90,7 +89,7 @@ fn are_orders_sound(book: &[u64], count: usize, accepted: u64, members: u64, spa
         if accepted <= number {
             return false;
         }
-        if !is_rest_sound(book, i, members, span) {
+        if !are_fields_in_range(book, i, members, span) {
             return false;
         }
         sides = sides | book[at + layout::ORDER_SIDE];
@@ -110,7 +109,7 @@ fn are_orders_sound(book: &[u64], count: usize, accepted: u64, members: u64, spa
 pub fn is_book_sound(head: &[u64], book: &[u64], span: Span) -> bool
     requires { ⌜ (headLength ≤ length (now head)) × IsSpanOf span (getD (now head) firstYearPlace 0) × (bookLength ≤ length (now book)) ⌝ }
     requires { ⌜ (getD (now head) acceptedSubmitsPlace 0 ≤ mostAcceptedSubmits) × (getD (now head) orderCountPlace 0 ≤ mostOrders) ⌝ }
-    ensures { λ r. ⌜ ((p : List ℕ) (l v : List ℤ) (n : List ℤ) → r ≡ bookSound (lent (now (head .entry)) p l v (now (book .entry)) n)) ⌝ }
+    ensures { λ r. ⌜ ((t : Tables) → r ≡ bookSound (withHead (now (head .entry)) (withBook (now (book .entry)) t))) ⌝ }
 {
     let count = head[layout::ORDER_COUNT] as usize;
     are_orders_sound(

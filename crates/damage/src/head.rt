@@ -1,12 +1,10 @@
 // The head: the header's fields, day, time, counts and what is kept for each member.
 ghost use mathlib.Core.Path.{_≡_};
-ghost use mathlib.Core.List.{List};
-ghost use Prim.Native.Nat.{ℕ, _+_, _≤_};
+ghost use Prim.Native.Nat.{_+_, _≤_};
 ghost use lib.ListN.{length, getD};
-ghost use lib.IntN.{ℤ};
 ghost use Rattle.arith.specs.Lists.{every, from};
 ghost use Rattle.rules.specs.Ranges.{mostMembers};
-ghost use Rattle.rules.specs.Ledger.{lent, headLength, firstYearPlace};
+ghost use Rattle.rules.specs.Ledger.{Tables, withHead, headLength, firstYearPlace};
 ghost use Rattle.rules.specs.Refusals.{memberSound, headSound};
 ghost use Rattle.months.specs.Bounds.{FirstYear};
 ghost use Rattle.months.specs.Spans.{IsSpanOf};
@@ -20,7 +18,7 @@ use rules::ranges;
 // Each member's limit, mark and count in the present second.
 fn are_members_sound(head: &[u64], members: u64) -> bool
     requires { ⌜ (headLength ≤ length (now head)) × (members ≤ mostMembers) ⌝ }
-    ensures { λ r. ⌜ ((p : List ℕ) (l v : List ℤ) (b : List ℕ) (n : List ℤ) → r ≡ every (memberSound (lent (now (head .entry)) p l v b n)) (from 0 members)) ⌝ }
+    ensures { λ r. ⌜ ((t : Tables) → r ≡ every (memberSound (withHead (now (head .entry)) t)) (from 0 members)) ⌝ }
 {
     let count = members as usize;
     let mut ok = true;
@@ -38,7 +36,7 @@ fn are_members_sound(head: &[u64], members: u64) -> bool
 // Of a sound first year and its span. Every count is tested before it is used.
 pub fn is_head_sound(head: &[u64], span: Span) -> bool
     requires { ⌜ (headLength ≤ length (now head)) × FirstYear (getD (now head) firstYearPlace 0) × IsSpanOf span (getD (now head) firstYearPlace 0) ⌝ }
-    ensures { λ r. ⌜ ((p : List ℕ) (l v : List ℤ) (b : List ℕ) (n : List ℤ) → r ≡ headSound (lent (now (head .entry)) p l v b n)) ⌝ }
+    ensures { λ r. ⌜ ((t : Tables) → r ≡ headSound (withHead (now (head .entry)) t)) ⌝ }
 {
     let members = head[layout::MEMBERS];
     let count = head[layout::HOLIDAY_COUNT];

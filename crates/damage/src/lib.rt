@@ -6,4 +6,5 @@ mod prices;
 mod rows;
 mod unsound;
 
+pub use unsound::is_ledger_unsound;
 pub use unsound::is_unsound;

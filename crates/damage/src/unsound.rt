@@ -1,7 +1,7 @@
 // Whether what is lent is too short or damaged.
 ghost use mathlib.Core.Path.{_≡_};
-ghost use Rattle.rules.specs.Ledger.{lent};
-ghost use Rattle.rules.specs.Refusals.{unsound};
+ghost use Rattle.rules.specs.Ledger.{Tables, lent, withHead, withPrices, withRows, withBook};
+ghost use Rattle.rules.specs.Refusals.{ledgerUnsound, unsound};
 use crate::book::is_book_sound;
 use crate::head::is_head_sound;
 use crate::prices::are_prices_sound;
@@ -13,21 +13,18 @@ use rules::ranges;
 use tables::is_ledger_short;
 use tables::is_lines_short;
 
-// Whatever the tables hold: each is read only where its length and the head's counts allow it.
-pub fn is_unsound(
+// The line table apart. Whatever the tables hold: each is read only where its length and the head's counts allow it.
+pub fn is_ledger_unsound(
     head: &[u64],
     prices: &[u64],
     lots: &[i64],
     value: &[i64],
     book: &[u64],
-    lines: &[i64],
 ) -> bool
-    ensures { λ r. ⌜ r ≡ unsound (lent (now (head .entry)) (now (prices .entry)) (now (lots .entry)) (now (value .entry)) (now (book .entry)) (now (lines .entry))) ⌝ }
+    ensures { λ r. ⌜ ((t : Tables) → r ≡ ledgerUnsound (withHead (now (head .entry)) (withPrices (now (prices .entry)) (withRows (now (lots .entry)) (now (value .entry))
+        (withBook (now (book .entry)) t))))) ⌝ }
 {
     if is_ledger_short(head, prices, lots, value, book) {
-        return true;
-    }
-    if is_lines_short(lines) {
         return true;
     }
     let first_year = head[layout::FIRST_YEAR];
@@ -50,4 +47,21 @@ pub fn is_unsound(
         return true;
     }
     !is_book_sound(head, book, span)
+}
+
+// A record is lent a line table too, of which only the length is tested.
+pub fn is_unsound(
+    head: &[u64],
+    prices: &[u64],
+    lots: &[i64],
+    value: &[i64],
+    book: &[u64],
+    lines: &[i64],
+) -> bool
+    ensures { λ r. ⌜ r ≡ unsound (lent (now (head .entry)) (now (prices .entry)) (now (lots .entry)) (now (value .entry)) (now (book .entry)) (now (lines .entry))) ⌝ }
+{
+    if is_lines_short(lines) {
+        return true;
+    }
+    is_ledger_unsound(head, prices, lots, value, book)
 }

@@ -1,13 +1,11 @@
 // A fresh ledger, written from the fields of its header. Surplus places stay as they were.
 ghost use mathlib.Core.Path.{_≡_};
-ghost use mathlib.Core.List.{List, [], _∷_};
-ghost use Prim.Native.Nat.{ℕ, _+_, _*_, _≤_, _<_};
-ghost use lib.ListN.{length, replicate};
-ghost use lib.IntN.{ℤ, pos};
+ghost use mathlib.Core.List.{[], _∷_};
+ghost use Prim.Native.Nat.{_+_, _*_, _≤_, _<_};
+ghost use lib.ListN.{length};
 ghost use Rattle.arith.specs.Lists.{over};
 ghost use Rattle.rules.specs.Ranges.{mostHolidays, mostMembers};
-ghost use Rattle.rules.specs.Ledger.{headLength, pricesLength, rowsLength, fresh, freshHead, freshPrices, freshRows};
-ghost use Rattle.rules.specs.Ledger.{lent};
+ghost use Rattle.rules.specs.Ledger.{Tables, withHead, withPrices, withRows, headLength, pricesLength, rowsLength, fresh, freshHead, freshPrices, freshRows};
 ghost use Rattle.fresh.specs.Headers.{header};
 use rules::DayNo;
 use rules::layout::ACCEPTED_SUBMITS;
@@ -31,27 +29,8 @@ use rules::layout::ROW_WIDTH;
 use rules::layout::SUBMITS;
 use rules::layout::TIME;
 use rules::ranges::MOST_PRICE;
-
-// Rows set to zero.
-pub fn clear_rows(rows: &mut [i64])
-    ensures { λ _. ⌜ now (rows .exit) ≡ replicate (length (now (rows .entry))) (pos 0) ⌝ }
-{
-    let mut i: usize = 0;
-    while i < rows.len() {
-        rows[i] = 0;
-        i += 1;
-    }
-}
-
-fn clear(places: &mut [u64])
-    ensures { λ _. ⌜ now (places .exit) ≡ replicate (length (now (places .entry))) 0 ⌝ }
-{
-    let mut i: usize = 0;
-    while i < places.len() {
-        places[i] = 0;
-        i += 1;
-    }
-}
+use tables::clear_at;
+use tables::clear_rows;
 
 fn copy(places: &mut [u64], list: &[u64])
     requires { ⌜ length (now places) ≡ length (now list) ⌝ }
@@ -103,15 +82,6 @@ fn write_at(head: &mut [u64], at: usize, list: &[u64])
     copy(&mut head[at..end], list);
 }
 
-// So many places set to zero, from one on.
-pub fn clear_at(head: &mut [u64], at: usize, count: usize)
-    requires { ⌜ at + count ≤ length (now head) ⌝ }
-    ensures { λ _. ⌜ now (head .exit) ≡ over at (replicate count 0) (now (head .entry)) ⌝ }
-{
-    let end = at + count;
-    clear(&mut head[at..end]);
-}
-
 // The head's first eight places; time and counts are 0.
 fn write_numbers(head: &mut [u64], first_year: u64, members: u64, holidays: u64, start: DayNo)
     requires { ⌜ headLength ≤ length (now head) ⌝ }
@@ -154,8 +124,9 @@ pub fn write_fresh(
 )
     requires { ⌜ (headLength ≤ length (now head)) × (pricesLength ≤ length (now prices)) × (rowsLength ≤ length (now lots)) × (rowsLength ≤ length (now value)) ⌝ }
     requires { ⌜ (length (now holidays) ≤ mostHolidays) × (length (now limits) ≤ mostMembers) ⌝ }
-    ensures { λ _. ⌜ ((b : List ℕ) (n : List ℤ) → lent (now (head .exit)) (now (prices .exit)) (now (lots .exit)) (now (value .exit)) b n
-        ≡ fresh (header «first_year» (start .0) (now (holidays .entry)) (now (limits .entry))) (lent (now (head .entry)) (now (prices .entry)) (now (lots .entry)) (now (value .entry)) b n)) ⌝ }
+    ensures { λ _. ⌜ ((t : Tables) → withHead (now (head .exit)) (withPrices (now (prices .exit)) (withRows (now (lots .exit)) (now (value .exit)) t))
+        ≡ fresh (header «first_year» (start .0) (now (holidays .entry)) (now (limits .entry)))
+        (withHead (now (head .entry)) (withPrices (now (prices .entry)) (withRows (now (lots .entry)) (now (value .entry)) t)))) ⌝ }
 {
     let members = limits.len();
     write_head(&mut *head, first_year, start, holidays, limits);

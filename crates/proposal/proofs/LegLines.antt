@@ -1,6 +1,6 @@
 -- The lines of the legs booked one after the other. Assumes nothing.
 use mathlib.Core.Path.{_≡_, refl, sym, ap, subst, _∙_}
-use mathlib.Core.List.{List, []}
+use mathlib.Core.List.{List}
 use Prim.Native.Nat.{ℕ, _+_, _-_, _<_}
 use native.Mathlib.Omega.{arith}
 use native.Mathlib.Nat.{sub-zero}
@@ -9,7 +9,7 @@ use lib.ListN.{length, getD}
 use Rattle.arith.specs.Lists.{total, from}
 use Rattle.arith.proofs.Scans.{from-next}
 use Rattle.rules.specs.declared.order.Order.{Order}
-use Rattle.rules.specs.Ledger.{Tables, withHead, withRows, withLines, lent, lotsRunPlace, orderAt, booked}
+use Rattle.rules.specs.Ledger.{Tables, withHead, withRows, withLines, zeroTables, lotsRunPlace, orderAt, booked}
 use Rattle.rules.specs.Ranges.{leastLines}
 use Rattle.rules.specs.Sides.{signed}
 use Rattle.deal_lines.specs.declared.lines.DealLine.{DealLine}
@@ -75,7 +75,7 @@ module _ (book places lots prices : List ℕ) where
           → LegsBooked head₀ rows₀ value₀ lines₀ (i + 1) head′ rows′ value′ lines′
       legs-next head′ rows′ value′ lines′ says =
           let l = lineAt book places lots prices i in
-          let u = lent head [] rows value [] lines in
+          let u = withHead head (withRows rows value (withLines lines zeroTables)) in
           let says-line : (t : Tables) → withHead head′ (withRows rows′ value′ (withLines lines′ t)) ≡ withLine i l (withHead head (withRows rows value (withLines lines t)))
           = λ t. says t ∙ ap (λ x. withLine i x (withHead head (withRows rows value (withLines lines t)))) same-line in
           record {

@@ -66,7 +66,8 @@ pub fn book_legs(
     }
 }
 
-fn less(left: u64, lots: u64) -> u64
+// What is left of an order's lots after a leg: none where the leg takes them all.
+fn left_after(left: u64, lots: u64) -> u64
     ensures { λ r. ⌜ r ≡ left - lots ⌝ }
 {
     if left <= lots {
@@ -96,7 +97,7 @@ fn take_lots(left: &mut [u64], places: &[usize], lots: &[u64])
     let mut i: usize = 0;
     while i < places.len() {
         let place = places[i];
-        left[place] = less(left[place], lots[i]);
+        left[place] = left_after(left[place], lots[i]);
         i += 1;
     }
 }

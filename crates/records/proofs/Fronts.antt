@@ -90,7 +90,7 @@ module _ (s : List ℕ) (n : ℕ) (e : frontOf s ≡ Whole n) where
       let in-it : frontLength s ≤ length s = leb-true (frontLength s) (length s) (whole .1) in
       (omega arith, omega arith)
 
-  -- and stays the record at the front.
+  -- With more bytes behind it, it stays the record at the front.
   front-more : (t : List ℕ) → frontOf (s ++ t) ≡ Whole n
   unfolding tested
   front-more t =

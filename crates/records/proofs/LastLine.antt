@@ -43,13 +43,13 @@ module _ (stage : Stage) (t : Tables) (bytes : List ℕ) (last : Bool) (filled :
   pub all-printed : rank stage ≡ 3 → r ≡ record { used = 0; end = filled; stage = stage; wants = Nothing } → Advanced stage t bytes last filled entry entry t r
   all-printed h e = rw e (none-run stage t bytes last filled entry Nothing fits (λ room f g. absurd (omega arith)) (λ most c. counts-more stage most (length bytes) c))
 
--- E is printed,
+-- E is printed.
 pub end-printed : {stage : Stage} {n k filled end : ℕ} {head entry exit : List ℕ} {r : Progress}
     → ((t : Tables) → Wrote filled (endText n k (withHead head t)) entry exit end) → end ≤ filled + lineRoom
     → r ≡ record { used = 0; end = end; stage = stage; wants = Nothing } → EndPrinted stage n k head filled entry exit r
 end-printed w short e = rw e (record { wrote = w; room = short; stands = refl })
 
--- and nothing is left.
+-- After E nothing is left to print.
 module _ (t : Tables) (bytes : List ℕ) (last : Bool) (filled : ℕ) (entry exit : List ℕ) (n k : ℕ) (room : filled + lineRoom ≤ length entry) {r : Progress} where
   pub read-line : {stage : Stage} → stage ≡ Read n k → EndPrinted ReadToEnd n k (t .head) filled entry exit r → Advanced stage t bytes last filled entry exit t r
   unfolding remaining

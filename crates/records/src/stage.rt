@@ -17,11 +17,11 @@ pub enum Stage {
     Read { counted: u64, accepted: u64 },
     // A record was number 3, and E is left.
     Stopped { counted: u64, accepted: u64 },
-    // All is printed: of a journal that was read to its end,
+    // All is printed of a journal that was read to its end.
     ReadToEnd,
-    // of one with a record that was number 3,
+    // All is printed of a journal with a record that was number 3.
     RecordUnsound,
-    // of one with a header that was number 2.
+    // All is printed of a journal with a header that was number 2.
     HeaderUnsound,
 }
 

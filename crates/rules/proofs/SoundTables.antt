@@ -17,7 +17,7 @@ use Rattle.rules.specs.Days.{inSpan}
 use Rattle.rules.specs.Header.{calendarSound, daySound}
 use Rattle.rules.specs.Ledger.{Tables, members, holidayCount, day, time, acceptedSubmits, lotsRun, orderCount, limit, mark, submitsThisSecond, calendar, headLength}
 use Rattle.rules.specs.Ledger.{pricesLength, rowsLength, bookLength, linesLength, orders, ledgerShort, linesShort}
-use Rattle.rules.specs.Refusals.{memberSound, headSound, pricesSound, rowsSound, orderSound, sidesSound, distinct, bookSound, damaged, unsound}
+use Rattle.rules.specs.Refusals.{memberSound, headSound, pricesSound, rowsSound, orderSound, sidesSound, distinct, bookSound, damaged, ledgerUnsound, unsound}
 use Rattle.rules.proofs.SoundEvents.{InRange, in-range, price-in-range, lots-in-range, contract-below}
 
 -- ---- lengths
@@ -163,13 +163,13 @@ pub record Undamaged (t : Tables) : Type 0 where
   pub book : SoundBook t
 
 pub undamaged : (t : Tables) → unsound t ≡ false → Undamaged t
-unfolding unsound damaged linesShort
+unfolding unsound ledgerUnsound damaged linesShort
 undamaged t e =
-    let short = or-left (ledgerShort t || linesShort t) (damaged t) e in
-    let a = all-hold _ (not-false _ (or-right (ledgerShort t || linesShort t) (damaged t) e)) in
+    let ledger = or-left (ledgerUnsound t) (linesShort t) e in
+    let a = all-hold _ (not-false _ (or-right (ledgerShort t) (damaged t) ledger)) in
     record {
-      long = long-enough t (or-left (ledgerShort t) (linesShort t) short);
-      lines = ltb-false (length (t .lines)) linesLength (or-right (ledgerShort t) (linesShort t) short);
+      long = long-enough t (or-left (ledgerShort t) (damaged t) ledger);
+      lines = ltb-false (length (t .lines)) linesLength (or-right (ledgerUnsound t) (linesShort t) e);
       head-sound = a .0;
       prices-sound = a .1 .0;
       rows-sound = a .1 .1 .0;

@@ -19,7 +19,7 @@ use Rattle.rules.specs.CloseOfDay.{isOfAny, withClosed, hasNextDay, next
 use Rattle.rules.specs.Default.{defaultBooked, sumOf, defaultedLongs, defaultedShorts, givenUp, changeLines, smallerTotal, nettedLongs, nettedShorts, nettingChanges}
 use Rattle.rules.specs.Default.{longsLeft, shortsLeft, lotsLeft, othersLots, openWeight, weights, minimum, minimums, comesFirst, placed, inOrder, turn, round, rounds}
 use Rattle.rules.specs.Default.{dealtOut, taken, defaultedChanges, takerChanges, closeOutLines, closeOutBooked}
-use Rattle.rules.specs.Refusals.{everyRow, rowsSound, contractPricesSound, pricesSound, memberSound, headSound, orderSound, distinct, sidesSound, bookSound, damaged, unsound}
+use Rattle.rules.specs.Refusals.{everyRow, rowsSound, contractPricesSound, pricesSound, memberSound, headSound, orderSound, distinct, sidesSound, bookSound, damaged, ledgerUnsound, unsound}
 use Rattle.rules.specs.Refusals.{submitSpec, cancelSpec, dayLimitsSpec, proposalSpec, defaultSpec, closeOutSpec, closeSpec, eventSpec, readingSpec, applySpec, makeSpec}
 use Rattle.rules.specs.Accounts.{linesOf}
 
@@ -56,7 +56,7 @@ unfolding up dn every any kept howMany total over everyBlock inEachBlock allOf f
     defaultedShorts givenUp changeLines smallerTotal nettedLongs nettedShorts nettingChanges longsLeft shortsLeft
     lotsLeft othersLots openWeight weights minimum minimums comesFirst placed inOrder turn round rounds dealtOut taken
     defaultedChanges takerChanges closeOutLines closeOutBooked everyRow rowsSound contractPricesSound pricesSound
-    memberSound headSound orderSound distinct sidesSound bookSound damaged unsound submitSpec cancelSpec dayLimitsSpec
+    memberSound headSound orderSound distinct sidesSound bookSound damaged ledgerUnsound unsound submitSpec cancelSpec dayLimitsSpec
     proposalSpec defaultSpec closeOutSpec closeSpec eventSpec readingSpec applySpec makeSpec printed allPrinted
     tablesAfter
 computed a = a

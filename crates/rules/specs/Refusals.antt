@@ -105,9 +105,13 @@ bookSound t = allOf (sidesSound t ∷ every (orderSound t) (orders t) ∷ distin
 unfoldable pub damaged : Tables → Bool
 damaged t = not (allOf (headSound t ∷ pricesSound t ∷ rowsSound t ∷ bookSound t ∷ []))
 
--- A lent table is too short or damaged, or there are under 200 places for lines.
+-- A lent table is too short or damaged, the line table apart.
+unfoldable pub ledgerUnsound : Tables → Bool
+ledgerUnsound t = ledgerShort t || damaged t
+
+-- The same, or there are under 200 places for lines: what turns back every record.
 unfoldable pub unsound : Tables → Bool
-unsound t = ledgerShort t || linesShort t || damaged t
+unsound t = ledgerUnsound t || linesShort t
 
 -- ---- the causes of each kind, in the order of their ranks
 -- The lots run would pass 5,000,000.

@@ -8,7 +8,7 @@ use lib.ListN.{length, length-append}
 use Rattle.arith.specs.Lists.{from, total}
 use Rattle.rules.specs.declared.order.Order.{Order}
 use Rattle.rules.specs.Ranges.{contractCount, mostLots, mostPrice, leastLines}
-use Rattle.rules.specs.Ledger.{Tables, lent, withHead, withRows, withLines, lotsRunPlace, booked}
+use Rattle.rules.specs.Ledger.{Tables, withHead, withRows, withLines, zeroTables, lotsRunPlace, booked}
 use Rattle.rules.specs.Sides.{otherSide}
 use Rattle.rules.proofs.LinesRun.{booked-none}
 use Rattle.rules.proofs.Sides.{abs-signed}
@@ -75,7 +75,7 @@ module _ (o : Order) (deals : List ℕ) (count : ℕ) (head₀ : List ℕ) (lots
         ≡ withLine (k * 2 + 1) (lineOut o d) (withLine (k * 2) (lineIn o d) (withHead head (withRows lots value (withLines lines t)))))
         → Booking (k + 1) head′ lots′ value′ lines′
     booking-next head′ lots′ value′ lines′ long few incoming resting after =
-        let u = lent head [] lots value [] lines in
+        let u = withHead head (withRows lots value (withLines lines zeroTables)) in
         let ls = flatMap (linesWith o) (dealsIn k deals) in
         let many = lines-length deals o k in
         record {

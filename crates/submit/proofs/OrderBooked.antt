@@ -14,7 +14,7 @@ use Rattle.rules.specs.declared.answer.Answer.the-variants.{Accepted}
 use Rattle.rules.specs.declared.event.OrderKind.{OrderKind}
 use Rattle.rules.specs.declared.order.Order.{Order}
 use Rattle.rules.specs.Ranges.{mostOrders}
-use Rattle.rules.specs.Ledger.{Tables, Line, lineRun, lent, membersPlace, lotsRunPlace, orderCountPlace, orderWidth, withHead, withBook}
+use Rattle.rules.specs.Ledger.{Tables, Line, lineRun, membersPlace, lotsRunPlace, orderCountPlace, orderWidth, withHead, withBook}
 use Rattle.rules.specs.Ledger.{withPrices, withRows, withLines, withOrderCount, orderPlaces, orders, withOrders, booked}
 use Rattle.rules.specs.Matching.{isResting, withLots, matched, dealLines, withDeals}
 use Rattle.tables.specs.Fit.{membersIn, lotsRunIn, orderCountIn, ordersIn}
@@ -35,8 +35,9 @@ unfolding booked
 whole ls u = refl
 
 module _ (head prices : List ℕ) (lots value : List ℤ) (book : List ℕ) (lines : List ℤ) (kind : OrderKind) (o : Order) (p : Placeable head prices lots value book lines kind o) where
-  abbrev t : Tables
-  t = lent head prices lots value book lines
+  -- Tables with the lists of a call put into them.
+  abbrev of : Tables → Tables
+  of t = withHead head (withPrices prices (withRows lots value (withBook book (withLines lines t))))
 
   abbrev os : List Order
   os = ordersIn (orderCountIn head) book
@@ -98,35 +99,36 @@ module _ (head prices : List ℕ) (lots value : List ℤ) (book : List ℕ) (lin
             most-run = omega (arith, b .most-run, run-is, rest-run);
           }
 
-      tables-is : withHead head₃ (withBook book₃ (withPrices prices₂ t)) ≡ withOrders
+      tables-is : (t : Tables) → withHead head₃ (withBook book₃ (withPrices prices₂ (of t))) ≡ withOrders
           (cond (isResting kind && ltb 0 (matched o os .left)) (matched o os .resting ++ (withLots (matched o os .left) o ∷ [])) (matched o os .resting))
-          (withDeals (o .contract) (matched o os .deals) t)
+          (withDeals (o .contract) (matched o os .deals) (of t))
       unfolding withDeals
-      tables-is =
+      tables-is t =
           let rs = matched o os .resting in
-          let u = withPrices prices₂ t in
+          let u = withPrices prices₂ (of t) in
           let b = isResting kind && ltb 0 (m .left) in
           ap (λ l. withHead l (withBook book₃ u)) rests
           ∙ ap (λ l. withHead (cond b (withOrderCount (orderCountIn head₂ + 1) head₂) head₂) (withBook l u)) put
           ∙ rest-written b rs (withLots (m .left) o) u head₂ book₂ (omega (arith, p .tradable .head-long)) (x .head-after) (x .book-after)
           ∙ ap (λ n. withOrders (cond b (rs ++ (withLots n o ∷ [])) rs) u) (sym (x .lots-left))
           ∙ ap (λ c. withOrders (cond c (rs ++ (withLots (matched o os .left) o ∷ [])) rs) u) (sym rests-is)
-          ∙ ap (λ l. withOrders (cond (isResting kind && ltb 0 (matched o os .left)) (rs ++ (withLots (matched o os .left) o ∷ [])) rs) (withPrices l t)) (x .prices-after)
+          ∙ ap (λ l. withOrders (cond (isResting kind && ltb 0 (matched o os .left)) (rs ++ (withLots (matched o os .left) o ∷ [])) rs) (withPrices l (of t))) (x .prices-after)
 
       pub booked-is : (head₄ : List ℕ) (lots₄ value₄ lines₄ : List ℤ)
           → ((u : Tables) → withHead head₄ (withRows lots₄ value₄ (withLines lines₄ u)) ≡ booked (flatMap (linesWith o) (dealsIn (m .deals) deals))
           (withHead head₃ (withRows lots value (withLines lines u))) .after)
-          → record { answer = Accepted (m .deals * 2); after = lent head₄ prices₂ lots₄ value₄ book₃ lines₄ } ≡ orderBooked kind o t
+          → (t : Tables)
+          → record { answer = Accepted (m .deals * 2); after = withHead head₄ (withPrices prices₂ (withRows lots₄ value₄ (withBook book₃ (withLines lines₄ t)))) } ≡ orderBooked kind o (of t)
       unfolding orderBooked orders
-      booked-is head₄ lots₄ value₄ lines₄ b =
+      booked-is head₄ lots₄ value₄ lines₄ b t =
           let ls = flatMap (linesWith o) (dealsIn (m .deals) deals) in
-          ap (λ n. record { answer = Accepted n; after = lent head₄ prices₂ lots₄ value₄ book₃ lines₄ }) (sym (lines-length deals o (m .deals)))
-          ∙ ap (λ u. record { answer = Accepted (length ls); after = u }) (b (withPrices prices₂ (withBook book₃ t)))
-          ∙ whole ls (withHead head₃ (withBook book₃ (withPrices prices₂ t)))
-          ∙ ap (booked ls) tables-is
+          ap (λ n. record { answer = Accepted n; after = withHead head₄ (withPrices prices₂ (withRows lots₄ value₄ (withBook book₃ (withLines lines₄ t)))) }) (sym (lines-length deals o (m .deals)))
+          ∙ ap (λ u. record { answer = Accepted (length ls); after = u }) (b (withPrices prices₂ (withBook book₃ (of t))))
+          ∙ whole ls (withHead head₃ (withBook book₃ (withPrices prices₂ (of t))))
+          ∙ ap (booked ls) (tables-is t)
           ∙ ap (λ l. booked l (withOrders
           (cond (isResting kind && ltb 0 (matched o os .left)) (matched o os .resting ++ (withLots (matched o os .left) o ∷ [])) (matched o os .resting))
-          (withDeals (o .contract) (matched o os .deals) t))) (sym lines-is)
+          (withDeals (o .contract) (matched o os .deals) (of t)))) (sym lines-is)
 
   -- ---- no lots cross
   module _ (none : crossingIn o os ≡ 0) where
@@ -135,7 +137,7 @@ module _ (head prices : List ℕ) (lots value : List ℤ) (book : List ℕ) (lin
 
     pub rested : (head₃ book₃ : List ℕ) → head₃ ≡ cond (isResting kind && ltb 0 (o .lots .0)) (withOrderCount (orderCountIn head + 1) head) head
         → book₃ ≡ cond (isResting kind && ltb 0 (o .lots .0)) (over (orderCountIn head * orderWidth) (orderPlaces (withLots (o .lots .0) o)) book) book
-        → record { answer = Accepted 0; after = lent head₃ prices lots value book₃ lines } ≡ orderBooked kind o t
+        → (t : Tables) → record { answer = Accepted 0; after = withHead head₃ (withPrices prices (withRows lots value (withBook book₃ (withLines lines t)))) } ≡ orderBooked kind o (of t)
     unfolding dealsIn from flatMap
     rested head₃ book₃ e f =
         booked-is (record { deals = 0; left = o .lots .0 }) head prices book [] (untraded head prices book o (p .tradable) none []) head₃ book₃ e f head₃ lots value lines

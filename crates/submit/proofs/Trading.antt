@@ -10,7 +10,7 @@ use Rattle.arith.specs.Lists.{from, total, All}
 use Rattle.rules.specs.Ledger.{orderCountPlace}
 use Rattle.rules.specs.declared.order.Order.{Order}
 use Rattle.rules.specs.Ranges.{mostLots}
-use Rattle.rules.specs.Ledger.{Tables, lent, withHead, withBook, withOrders, withDealt, dayLotsPlace, dayValuePlace}
+use Rattle.rules.specs.Ledger.{Tables, zeroTables, withHead, withBook, withOrders, withDealt, dayLotsPlace, dayValuePlace}
 use Rattle.rules.specs.Matching.{matched, Deal}
 use Rattle.tables.specs.Fit.{orderCountIn, ordersIn}
 use Rattle.order_book.specs.Left.{leftOver}
@@ -78,7 +78,7 @@ module _ (head prices book : List ℕ) (o : Order) (x : Tradable head prices boo
         let ds = matched o os .deals in
         let lots : o .lots .0 - m .left ≡ total (λ d. d .lots) ds = omega (arith, dealt-and-left o os, ended .lots) in
         let value : worth ≡ total (λ d. d .lots * d .resting .price .0) ds = w ∙ ap (total worthOf) (sym (ended .deals)) ∙ sym (worth-kept ds) in
-        let kept = k (lent [] [] [] [] [] []) in
+        let kept = k zeroTables in
         record {
           head-after = rw (ended .resting) (ap (λ t. t .head) kept);
           prices-after = p ∙ ap (λ q. withDealt (o .contract) (getD prices (dayLotsPlace (o .contract)) 0 + q) (getD prices (dayValuePlace (o .contract)) 0 + worth) prices) lots

@@ -3,7 +3,7 @@ ghost use mathlib.Core.Path.{_≡_};
 ghost use Prim.Native.Nat.{_+_, _*_, _≤_, _<_};
 ghost use lib.ListN.{length, getD};
 ghost use Rattle.rules.specs.Ranges.{mostMembers, mostPrice, mostSubmitsInSecond, mostAcceptedSubmits};
-ghost use Rattle.rules.specs.Ledger.{Tables, lent, withHead, withAcceptedSubmits, withSubmitsThisSecond, submitsFrom, headLength, linesLength};
+ghost use Rattle.rules.specs.Ledger.{Tables, withHead, withPrices, withRows, withBook, withLines, withAcceptedSubmits, withSubmitsThisSecond, submitsFrom, headLength, linesLength};
 ghost use Rattle.rules.specs.Matching.{incoming, submitBooked};
 ghost use Rattle.tables.specs.Fit.{HeadFit, PricesFit, RowsFit, BookFit, membersIn, acceptedIn, lotsRunIn};
 ghost use Rattle.submit_causes.specs.Fit.{SubmissionFit, Acceptable};
@@ -61,9 +61,14 @@ pub fn book_submit(
 ) -> Answer
     requires { ⌜ HeadFit (now head) × PricesFit (lotsRunIn (now head)) (now prices) × BookFit (now head) (now book) × SubmissionFit (now head) e × (linesLength ≤ length (now lines)) ⌝ }
     requires { ⌜ RowsFit (membersIn (now head)) (lotsRunIn (now head)) (now lots) × RowsFit (membersIn (now head)) (mostPrice * lotsRunIn (now head)) (now value) ⌝ }
-    requires { ⌜ Acceptable (lent (now head) (now prices) (now lots) (now value) (now book) (now lines)) e crossing ⌝ }
-    ensures { λ r. ⌜ record { answer = r; after = lent (now (head .exit)) (now (prices .exit)) (now (lots .exit)) (now (value .exit)) (now (book .exit)) (now (lines .exit)) }
-        ≡ submitBooked (lent (now (head .entry)) (now (prices .entry)) (now (lots .entry)) (now (value .entry)) (now (book .entry)) (now (lines .entry))) e ⌝ }
+    requires { ⌜ ((t : Tables) → Acceptable (withHead (now head) (withPrices (now prices) (withRows (now lots) (now value) (withBook (now book) (withLines (now lines) t))))) e crossing) ⌝ }
+    ensures { λ r. ⌜ ((t : Tables) → record {
+      answer = r;
+      after = withHead (now (head .exit)) (withPrices (now (prices .exit)) (withRows (now (lots .exit)) (now (value .exit))
+          (withBook (now (book .exit)) (withLines (now (lines .exit)) t))));
+    }
+        ≡ submitBooked (withHead (now (head .entry)) (withPrices (now (prices .entry)) (withRows (now (lots .entry)) (now (value .entry))
+        (withBook (now (book .entry)) (withLines (now (lines .entry)) t))))) e) ⌝ }
 {
     let kind = e.kind;
     let o = order_of(&*head, e);

@@ -6,7 +6,7 @@ ghost use lib.Dec.{ltb};
 ghost use lib.ListN.{length};
 ghost use Rattle.arith.specs.Lists.{over};
 ghost use Rattle.rules.specs.Ranges.{mostOrders};
-ghost use Rattle.rules.specs.Ledger.{lent, withOrderCount, headLength, bookLength, orderWidth, orderPlaces};
+ghost use Rattle.rules.specs.Ledger.{Tables, withHead, withPrices, withRows, withBook, withLines, withOrderCount, headLength, bookLength, orderWidth, orderPlaces};
 ghost use Rattle.rules.specs.Matching.{isResting, withLots};
 ghost use Rattle.tables.specs.Fit.{orderCountIn, ordersIn};
 ghost use Rattle.matching.specs.Crossing.{crossingIn};
@@ -51,8 +51,13 @@ fn trade(
     o: Order,
 ) -> Answer
     requires { ⌜ Placeable (now head) (now prices) (now lots) (now value) (now book) (now lines) kind o ⌝ }
-    ensures { λ r. ⌜ record { answer = r; after = lent (now (head .exit)) (now (prices .exit)) (now (lots .exit)) (now (value .exit)) (now (book .exit)) (now (lines .exit)) }
-        ≡ orderBooked kind o (lent (now (head .entry)) (now (prices .entry)) (now (lots .entry)) (now (value .entry)) (now (book .entry)) (now (lines .entry))) ⌝ }
+    ensures { λ r. ⌜ ((t : Tables) → record {
+      answer = r;
+      after = withHead (now (head .exit)) (withPrices (now (prices .exit)) (withRows (now (lots .exit)) (now (value .exit))
+          (withBook (now (book .exit)) (withLines (now (lines .exit)) t))));
+    }
+        ≡ orderBooked kind o (withHead (now (head .entry)) (withPrices (now (prices .entry)) (withRows (now (lots .entry)) (now (value .entry))
+        (withBook (now (book .entry)) (withLines (now (lines .entry)) t)))))) ⌝ }
 {
     let orders = head[ORDER_COUNT] as usize;
     let mut left = [0u64; ORDERS];
@@ -92,8 +97,13 @@ pub fn place_order(
     crossing: u64,
 ) -> Answer
     requires { ⌜ Placeable (now head) (now prices) (now lots) (now value) (now book) (now lines) kind o × (crossing ≡ crossingIn o (ordersIn (orderCountIn (now head)) (now book))) ⌝ }
-    ensures { λ r. ⌜ record { answer = r; after = lent (now (head .exit)) (now (prices .exit)) (now (lots .exit)) (now (value .exit)) (now (book .exit)) (now (lines .exit)) }
-        ≡ orderBooked kind o (lent (now (head .entry)) (now (prices .entry)) (now (lots .entry)) (now (value .entry)) (now (book .entry)) (now (lines .entry))) ⌝ }
+    ensures { λ r. ⌜ ((t : Tables) → record {
+      answer = r;
+      after = withHead (now (head .exit)) (withPrices (now (prices .exit)) (withRows (now (lots .exit)) (now (value .exit))
+          (withBook (now (book .exit)) (withLines (now (lines .exit)) t))));
+    }
+        ≡ orderBooked kind o (withHead (now (head .entry)) (withPrices (now (prices .entry)) (withRows (now (lots .entry)) (now (value .entry))
+        (withBook (now (book .entry)) (withLines (now (lines .entry)) t)))))) ⌝ }
 {
     if crossing == 0 {
         rest_order(&mut *head, &mut *book, kind, o, o.lots.0);

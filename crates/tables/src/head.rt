@@ -5,7 +5,7 @@ ghost use lib.ListN.{length};
 ghost use Rattle.rules.specs.Ranges.{contractCount, mostMembers};
 ghost use Rattle.rules.specs.Ledger.{Tables, withHead, headLength, isOpen, timed};
 ghost use Rattle.tables.specs.Fit.{HeadFit, membersIn};
-use fresh::clear_at;
+use crate::clearing::clear_at;
 use rules::DayNo;
 use rules::layout::DAY;
 use rules::layout::FIRST_YEAR;

@@ -1,9 +1,6 @@
 // Whether a lent table is shorter than its layout.
 ghost use mathlib.Core.Path.{_≡_};
-ghost use mathlib.Core.List.{List};
-ghost use Prim.Native.Nat.{ℕ};
-ghost use lib.IntN.{ℤ};
-ghost use Rattle.rules.specs.Ledger.{lent, ledgerShort, linesShort};
+ghost use Rattle.rules.specs.Ledger.{Tables, withHead, withPrices, withRows, withBook, withLines, ledgerShort, linesShort};
 use rules::layout;
 
 pub fn is_ledger_short(
@@ -13,7 +10,8 @@ pub fn is_ledger_short(
     value: &[i64],
     book: &[u64],
 ) -> bool
-    ensures { λ r. ⌜ ((n : List ℤ) → r ≡ ledgerShort (lent (now (head .entry)) (now (prices .entry)) (now (lots .entry)) (now (value .entry)) (now (book .entry)) n)) ⌝ }
+    ensures { λ r. ⌜ ((t : Tables) → r ≡ ledgerShort (withHead (now (head .entry)) (withPrices (now (prices .entry)) (withRows (now (lots .entry)) (now (value .entry))
+        (withBook (now (book .entry)) t))))) ⌝ }
 {
     if head.len() < layout::HEAD_LENGTH {
         return true;
@@ -31,7 +29,7 @@ pub fn is_ledger_short(
 }
 
 pub fn is_lines_short(lines: &[i64]) -> bool
-    ensures { λ r. ⌜ ((h p : List ℕ) (l v : List ℤ) (b : List ℕ) → r ≡ linesShort (lent h p l v b (now (lines .entry)))) ⌝ }
+    ensures { λ r. ⌜ ((t : Tables) → r ≡ linesShort (withLines (now (lines .entry)) t)) ⌝ }
 {
     lines.len() < layout::LINES_LENGTH
 }

@@ -1,12 +1,10 @@
-use mathlib.Core.List.{[]}
 use Rattle.rules.specs.Ledger.{orderCountPlace, timePlace}
-use Rattle.rules.specs.Ledger.{lent}
 use Rattle.tables.specs.Fit.{OrdersFit}
 use mathlib.Core.Path.{sym, ap, subst, _∙_}
 use native.Mathlib.Omega.{arith}
 use lib.ListN.{getD}
 use borrow.Author.Tests.{lt-ltb, le-ltb, not-true, not-false}
-use Rattle.rules.specs.Ledger.{orders, withHead, withBook}
+use Rattle.rules.specs.Ledger.{orders, withHead, withBook, zeroTables}
 use Rattle.rules.specs.Refusals.{cancelSpec}
 use Rattle.rules.proofs.LinesRun.{booked-none}
 use Rattle.tables.proofs.Heads.{orders-fit, timed-place}
@@ -38,7 +36,7 @@ remove-orders-requires c κs =
     let pre = c .before .before .before .before .before .before .before .before .before .before .before .before .before .before .pre in
     let a = c .before .before .before .before .before .before .before .before .before .before .before .before .before .before .args in
     let set-time = c .before .before .before .before .set-time in
-    let u = lent (a .head .now) [] [] [] (a .book .now) [] in
+    let u = withHead (a .head .now) (withBook (a .book .now) zeroTables) in
     let count = ap (λ t. getD (t .head) orderCountPlace 0) (set-time .ensures u) ∙ timed-place (a .e .time) u (pre .0 .long) (pre .0 .most-members) 7 (omega arith) (λ e. omega arith) in
     (omega (arith, set-time .kept .0, pre .0 .long), subst (λ n. OrdersFit n (a .book .now)) (sym count) (orders-fit (a .head .now) (a .book .now) (pre .0) (pre .1)))
 

@@ -1,12 +1,11 @@
 use mathlib.Core.Bool.{not}
-use mathlib.Core.List.{[]}
 use mathlib.Core.Path.{ap, _∙_}
 use native.Mathlib.Omega.{arith}
 use lib.ListN.{getD, length}
 use lib.Seq.{getD-set-other}
 use Rattle.arith.specs.Lists.{kept}
 use Rattle.rules.specs.Ledger.{membersPlace, orderCountPlace}
-use Rattle.rules.specs.Ledger.{lent, withHead, withPrices, withRows, withBook, withOrders, orders}
+use Rattle.rules.specs.Ledger.{zeroTables, withHead, withPrices, withRows, withBook, withOrders, orders}
 use Rattle.rules.specs.CloseOfDay.{allCascaded, onDay}
 use Rattle.tables.specs.Fit.{ordersIn}
 use Rattle.contract_phases.specs.Phases.{closes, closing}
@@ -57,7 +56,7 @@ begin-day-requires c κs =
     let pre = long-before .before .before .pre in
     let a = long-before .before .before .args in
     let remove-closing = c .before .before .before .before .before .remove-closing in
-    let u = lent (a .head .now) [] [] [] (a .book .now) [] in
+    let u = withHead (a .head .now) (withBook (a .book .now) zeroTables) in
     let same = ap (λ t. getD (t .head) membersPlace 0) (remove-closing .ensures u) ∙ getD-set-other (a .head .now) 7 1 _ 0 (λ e. omega arith) in
     (omega (arith, remove-closing .kept .0, pre .0 .0 .long), omega (arith, same, pre .0 .0 .most-members))
 

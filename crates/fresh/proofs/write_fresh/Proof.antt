@@ -9,7 +9,7 @@ returns c =
     let write-head = c .before .before .before .before .before .before .before .before .before .before .before .before .write-head in
     let write-prices = c .before .before .before .before .before .before .before .before .write-prices in
     let write-rows = c .before .before .before .before .write-rows in
-    λ b n. rw (write-head .ensures, write-prices .ensures, write-rows .ensures, c .before .write-rows2 .ensures)
+    λ t. rw (write-head .ensures, write-prices .ensures, write-rows .ensures, c .before .write-rows2 .ensures)
 
 pub write-fresh-spec : {M : Type 1} → statement M
 write-fresh-spec =

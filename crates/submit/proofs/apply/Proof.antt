@@ -1,14 +1,15 @@
 use mathlib.Core.Path.{_≡_, _∙_}
 use native.Mathlib.Omega.{arith}
-use Rattle.rules.specs.Ledger.{Tables, lent}
+use Rattle.rules.specs.Ledger.{Tables, withHead, withPrices, withRows, withBook, withLines}
 use Rattle.submit_causes.specs.declared.causes.Verdict.the-variants.{Sound}
 use Rattle.submit.proofs.Applied.{Judged, refused-first, judged-both, refused-second, accepted}
 use borrow.Author.Needs.{needs}
 use Rattle.submit.proofs.apply.Statement.{statement}
 use Rattle.submit.proofs.apply.Tie as tie
 
-abbrev tables : tie.Start → Tables
-tables s = let a = s .args in lent (a .head .now) (a .prices .now) (a .lots .now) (a .value .now) (a .book .now) (a .lines .now)
+-- Tables with the lists of a call put into them.
+abbrev tables : tie.Start → Tables → Tables
+tables s t = let a = s .args in withHead (a .head .now) (withPrices (a .prices .now) (withRows (a .lots .now) (a .value .now) (withBook (a .book .now) (withLines (a .lines .now) t))))
 
 -- What each part of the function knows, from the part after it.
 abbrev start : tie.After-first-cause → tie.Start
@@ -21,16 +22,16 @@ abbrev measured : tie.After-measured-cause → tie.After-measure
 measured c = c .before .before .before
 
 -- Both verdicts, in one.
-judged-at : (c : tie.After-measured-cause) →
+judged-at : (c : tie.After-measured-cause) (t : Tables) →
     let m = measured c in
     let s = start (first m) in
-    Judged (tables s) (s .args .e) (first m .first-cause .result) (c .measured-cause .result) (m .measure .result .lots)
-judged-at c =
+    Judged (tables s t) (s .args .e) (first m .first-cause .result) (c .measured-cause .result) (m .measure .result .lots)
+judged-at c t =
     let m = measured c in
     let s = start (first m) in
     let f = s .pre .0 in
-    judged-both (tables s) (s .args .e) (f .0) (f .2) (f .3) _ (m .before .order-of .ensures (tables s)) _ _ (m .measure .ensures .0) (m .measure .ensures .1 .1)
-    _ _ (first m .first-cause .ensures (tables s)) (c .measured-cause .ensures (tables s))
+    judged-both (tables s t) (s .args .e) (f .0) (f .2) (f .3) _ (m .before .order-of .ensures (tables s t)) _ _ (m .measure .ensures .0) (m .measure .ensures .1 .1)
+    _ _ (first m .first-cause .ensures (tables s t)) (c .measured-cause .ensures (tables s t))
 
 sound : (c : tie.After-measured-cause) → first (measured c) .first-cause .result ≡ Sound
 sound c = measured c .before .before .before .before .before .enum-told .given .1
@@ -40,7 +41,7 @@ returns c =
     let k = c .before .before .before in
     let s = start k in
     let f = s .pre .0 in
-    λ t. refused-first (tables s) (s .args .e) (f .0) (f .2) (f .3) _ (k .first-cause .ensures (tables s)) _ (c .before .first .given .1)
+    λ t. refused-first (tables s t) (s .args .e) (f .0) (f .2) (f .3) _ (k .first-cause .ensures (tables s t)) _ (c .before .first .given .1)
 
 measure-requires : tie.Need-measure-requires
 measure-requires c κs =
@@ -57,20 +58,20 @@ measured-cause-requires c κs =
 returns-2 : tie.Need-returns-2
 returns-2 c =
     let k = c .before .before .before in
-    λ t. refused-second (judged-at k) (sound k) _ (c .before .second .given .1)
+    λ t. refused-second (judged-at k t) (sound k) _ (c .before .second .given .1)
 
 book-submit-requires : tie.Need-book-submit-requires
 book-submit-requires c κs =
     let k = c .before .before .before .before .before .before .before .before in
     let s = start (first (measured k)) in
-    (s .pre .0, (s .pre .1, judged-at k .accepts (sound k) (c .before .before .before .before .before .before .enum-told2 .given .1)))
+    (s .pre .0, (s .pre .1, λ t. judged-at k t .accepts (sound k) (c .before .before .before .before .before .before .enum-told2 .given .1)))
 
 returns-3 : tie.Need-returns-3
 returns-3 c =
     let b = c .before .before .before .before .before .before .before .before .before in
     let r = b .before .before .before .before .before .before .before in
     let k = r .before .before in
-    λ t. b .book-submit .ensures ∙ accepted (judged-at k) (sound k) (r .enum-told2 .given .1)
+    λ t. b .book-submit .ensures t ∙ accepted (judged-at k t) (sound k) (r .enum-told2 .given .1)
 
 pub apply-spec : {M : Type 1} → statement M
 apply-spec =

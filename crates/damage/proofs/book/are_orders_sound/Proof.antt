@@ -44,7 +44,7 @@ returns-2 c =
     let if1 = c .before .before .if1 in
     let sound = placeSound (a .accepted) (a .members) (a .span .start .0) (a .span .end .0) (a .book .now) in
     rw (each-stop sound (a .count) (l .i) (ltb (l .sides) 2) _ (l .inv .2) (loop-test .taken)
-    (rw (lt-ltb _ _ (if1 .left), asked-false (c .before .is-rest-sound .ensures) (c .if2 .taken))))
+    (rw (lt-ltb _ _ (if1 .left), asked-false (c .before .are-fields-in-range .ensures) (c .if2 .taken))))
 
 loop-again : tie.Need-loop-again Inv-loop μ-loop
 loop-again c =
@@ -52,12 +52,12 @@ loop-again c =
     let l = c .before .before .before .before .before .before .before .loop in
     let loop-test = c .before .before .before .before .before .before .loop-test in
     let if1 = c .before .before .before .before .if1 in
-    let is-rest-sound = c .before .before .before .is-rest-sound in
+    let are-fields-in-range = c .before .before .before .are-fields-in-range in
     let if2 = c .before .before .if2 in
     let f = numberAt (a .book .now) in
     let sound = placeSound (a .accepted) (a .members) (a .span .start .0) (a .span .end .0) (a .book .now) in
     let side = sideAt (a .book .now) (l .i) in
-    let here : sound (l .i) ≡ ltb side 2 = rw (lt-ltb _ _ (if1 .left), asked-true (is-rest-sound .ensures) (if2 .left)) in
+    let here : sound (l .i) ≡ ltb side 2 = rw (lt-ltb _ _ (if1 .left), asked-true (are-fields-in-range .ensures) (if2 .left)) in
     let s = c .wrapping-sub-u64 .result in
     let rises = falls (f (l .i)) (l .least) s (omega arith) (omega arith) (c .wrapping-sub-u64 .ensures) (omega (arith, c .wrapping-sub-u64 .ok)) in (
       omega arith,

@@ -1,6 +1,6 @@
 use mathlib.Core.Path.{_∙_}
 use mathlib.Core.List.{[]}
-use Rattle.rules.specs.Ledger.{lent}
+use Rattle.rules.specs.Ledger.{withHead, withBook}
 use Rattle.damage.proofs.BookPlaces.{span-rises, book-is}
 use borrow.Author.Needs.{needs}
 use Rattle.damage.proofs.book.is_book_sound.Statement.{statement}
@@ -15,7 +15,7 @@ are-orders-sound-requires c κs =
 returns : tie.Need-returns
 returns c =
     let a = c .before .before .before .before .before .before .args in
-    λ p l v n. c .are-orders-sound .ensures ∙ book-is (lent (a .head .now) p l v (a .book .now) n) (a .span) (c .before .before .before .before .before .before .pre .0 .1 _)
+    λ t. c .are-orders-sound .ensures ∙ book-is (withHead (a .head .now) (withBook (a .book .now) t)) (a .span) (c .before .before .before .before .before .before .pre .0 .1 _)
 
 pub is-book-sound-spec : {M : Type 1} → statement M
 is-book-sound-spec =

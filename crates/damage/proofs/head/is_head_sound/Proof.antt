@@ -10,7 +10,7 @@ use Rattle.rules.specs.Ranges.{lastSecond, mostAcceptedSubmits, mostLotsRun}
 use Rattle.rules.specs.Days.{Calendar}
 use Rattle.rules.specs.Header.{calendarSound, membersSound, daySound}
 use Rattle.rules.specs.Refusals.{headSound, memberSound}
-use Rattle.rules.specs.Ledger.{lent}
+use Rattle.rules.specs.Ledger.{withHead}
 use Rattle.damage.proofs.Tests.{all-nine}
 use borrow.Author.Needs.{needs}
 use Rattle.arith.proofs.Tests.{asked-true, asked-false}
@@ -20,7 +20,7 @@ use Rattle.damage.proofs.head.is_head_sound.Tie as tie
 
 returns : tie.Need-returns
 unfolding headSound allOf
-returns c = λ p l v b n. rw (lt-leb _ _ (c .if1 .taken))
+returns c = λ t. rw (lt-leb _ _ (c .if1 .taken))
 
 is-calendar-sound-requires : tie.Need-is-calendar-sound-requires
 is-calendar-sound-requires c κs = (c .before .before .before .before .before .before .pre .1, c .before .before .before .before .before .before .pre .2 _)
@@ -30,7 +30,7 @@ unfolding headSound allOf
 returns-2 c =
     let h = c .before .before .before .before .before .before .before .before .args .head .now in
     let cut : 8 + getD h 2 0 - 8 ≡ getD h 2 0 = omega arith in
-    λ p l v b n. rw (le-leb _ _ (c .before .before .before .before .if1 .left), asked-false (rw cut at (c .before .is-calendar-sound .ensures)) (c .if2 .taken))
+    λ t. rw (le-leb _ _ (c .before .before .before .before .if1 .left), asked-false (rw cut at (c .before .is-calendar-sound .ensures)) (c .if2 .taken))
 
 returns-3 : tie.Need-returns-3
 unfolding headSound allOf
@@ -40,7 +40,7 @@ returns-3 c =
     let is-calendar-sound = c .before .before .is-calendar-sound in
     let h = args .head .now in
     let cut : 8 + getD h 2 0 - 8 ≡ getD h 2 0 = omega arith in
-    λ p l v b n. rw (le-leb _ _ (if1 .left), asked-true (rw cut at (is-calendar-sound .ensures)) (c .before .if2 .left), lt-leb 1 (getD h 1 0) (c .if3 .taken))
+    λ t. rw (le-leb _ _ (if1 .left), asked-true (rw cut at (is-calendar-sound .ensures)) (c .before .if2 .left), lt-leb 1 (getD h 1 0) (c .if3 .taken))
 
 returns-4 : tie.Need-returns-4
 unfolding headSound allOf
@@ -51,7 +51,7 @@ returns-4 c =
     let if2 = c .before .before .if2 in
     let h = args .head .now in
     let cut : 8 + getD h 2 0 - 8 ≡ getD h 2 0 = omega arith in
-    λ p l v b n. rw (
+    λ t. rw (
       le-leb _ _ (if1 .left),
       asked-true (rw cut at (is-calendar-sound .ensures)) (if2 .left),
       le-leb 1 (getD h 1 0) (c .before .if3 .left),
@@ -75,9 +75,9 @@ returns-5 c =
     let calendar = asked-true (rw cut at (is-calendar-sound .ensures)) (if2 .left) in
     let some : membersSound (getD h 1 0) ≡ true = rw (le-leb 1 (getD h 1 0) (if3 .left), le-leb (getD h 1 0) 32 (if4 .left)) in
     let day = day-in-span k _ _ _ (pre .2 _) (rw cut at (is-day-sound .ensures (getD h 0 0))) in
-    λ p l v b n. rw (day, c .are-members-sound .ensures p l v b n)
+    λ t. rw (day, c .are-members-sound .ensures t)
     (all-nine (leb (getD h 2 0) 120) (calendarSound k) (membersSound (getD h 1 0)) (daySound k (getD h 3 0)) (leb (getD h 4 0) lastSecond) (leb (getD h 5 0) mostAcceptedSubmits)
-    (leb (getD h 6 0) mostLotsRun) (leb (getD h 7 0) 256) (every (memberSound (lent h p l v b n)) (from 0 (getD h 1 0)))
+    (leb (getD h 6 0) mostLotsRun) (leb (getD h 7 0) 256) (every (memberSound (withHead h t)) (from 0 (getD h 1 0)))
     (le-leb _ _ (if1 .left)) calendar some)
 
 pub is-head-sound-spec : {M : Type 1} → statement M

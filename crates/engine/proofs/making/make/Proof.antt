@@ -4,7 +4,7 @@ use mathlib.Core.Bool.{true}
 use mathlib.Core.List.{[]}
 use Rattle.rules.specs.Header.{beginsWithHeader}
 use Rattle.rules.specs.Refusals.{makeSpec}
-use Rattle.rules.specs.Ledger.{lent}
+use Rattle.rules.specs.Ledger.{lent, withBook, withLines, zeroTables}
 use Rattle.rules.proofs.SoundTables.{long-enough}
 use Rattle.header.proofs.Readings.{turned-back, read-well, holiday-room, limit-room, holiday-most, limit-most, as-listed}
 use borrow.Author.Needs.{needs}
@@ -20,7 +20,7 @@ sound-at c =
 
 returns : tie.Need-returns
 unfolding makeSpec
-returns c = λ n. rw (sym (c .before .is-ledger-short .ensures n) ∙ c .if1 .taken)
+returns c = λ n. rw (sym (c .before .is-ledger-short .ensures (withLines n zeroTables)) ∙ c .if1 .taken)
 
 returns-2 : tie.Need-returns-2
 unfolding makeSpec
@@ -29,7 +29,7 @@ returns-2 c =
     let is-ledger-short = c .before .before .before .before .before .is-ledger-short in
     let if1 = c .before .before .before .before .if1 in
     let read-header = c .before .before .before .read-header in
-    λ n. rw (sym (is-ledger-short .ensures n) ∙ if1 .left, turned-back (args .bytes .now) (read-header .result) (read-header .ensures) (c .if2 .taken))
+    λ n. rw (sym (is-ledger-short .ensures (withLines n zeroTables)) ∙ if1 .left, turned-back (args .bytes .now) (read-header .result) (read-header .ensures) (c .if2 .taken))
 
 array-share-prefix-holidays : tie.Need-array-share-prefix-holidays
 array-share-prefix-holidays c =
@@ -73,7 +73,7 @@ write-fresh-requires c κs =
     let r = read-header .result in
     let e = read-header .ensures in
     let b = sound-at (before) in
-    let w = long-enough (lent (a .head .now) (a .prices .now) (a .lots .now) (a .value .now) (a .book .now) []) (sym (is-ledger-short .ensures []) ∙ if1 .left) in
+    let w = long-enough (lent (a .head .now) (a .prices .now) (a .lots .now) (a .value .now) (a .book .now) []) (sym (is-ledger-short .ensures (withLines [] zeroTables)) ∙ if1 .left) in
     ((w .head, w .prices, w .lots, w .value), (holiday-most s r e b, limit-most s r e b))
 
 returns-3 : tie.Need-returns-3
@@ -90,7 +90,7 @@ returns-3 c =
     let r = read-header .result in
     let e = read-header .ensures in
     let b = sound-at (before) in
-    λ n. rw (sym (is-ledger-short .ensures n) ∙ if1 .left, b, write-fresh .ensures (a .book .now) n, as-listed s r e b)
+    λ n. rw (sym (is-ledger-short .ensures (withLines n zeroTables)) ∙ if1 .left, b, write-fresh .ensures (withBook (a .book .now) (withLines n zeroTables)), as-listed s r e b)
 
 pub make-spec : {M : Type 1} → statement M
 make-spec =

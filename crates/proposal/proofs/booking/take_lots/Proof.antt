@@ -18,13 +18,13 @@ loop-holds : tie.Need-loop-holds Inv-loop μ-loop
 unfolding leftAfter
 loop-holds c = (omega arith, refl, refl)
 
-mul-less : tie.Need-mul-less Inv-loop μ-loop
-mul-less c =
+mul-left-after : tie.Need-mul-left-after Inv-loop μ-loop
+mul-left-after c =
     let start = c .before .before .before .before .before .before in
     let l = c .before .before .loop in omega (arith, start .pre .1 .below (l .i) (c .before .loop-test .taken), start .pre .0, l .inv .1)
 
-slice-read-less : tie.Need-slice-read-less Inv-loop μ-loop
-slice-read-less c =
+slice-read-left-after : tie.Need-slice-read-left-after Inv-loop μ-loop
+slice-read-left-after c =
     let start = c .before .before .before .before .before .before .before in
     let l = c .before .before .before .loop in omega (arith, start .pre .1 .below (l .i) (c .before .before .loop-test .taken), start .pre .0, l .inv .1)
 
@@ -48,7 +48,7 @@ loop-again c =
       omega (arith, c .before .before .before .before .loop-test .taken),
       length-set (l .left) _ _
           ∙ l .inv .1,
-      after-next (a .places .now) (a .lots .now) (l .i) (a .left .now) (l .left) _ (l .inv .2) (c .less .ensures),
+      after-next (a .places .now) (a .lots .now) (l .i) (a .left .now) (l .left) _ (l .inv .2) (c .left-after .ensures),
     )
 
 returns : tie.Need-returns Inv-loop μ-loop
@@ -58,6 +58,6 @@ returns c = let a = c .before .before .before .before .before .args in let l = c
 pub take-lots-spec : {M : Type 1} → statement M
 take-lots-spec =
     tie.close
-    (tie.spec Inv-loop μ-loop loop-holds (λ c. search needs) (λ c. search needs) mul-less slice-read-less
+    (tie.spec Inv-loop μ-loop loop-holds (λ c. search needs) (λ c. search needs) mul-left-after slice-read-left-after
     (λ c. search needs) (λ c. search needs) (λ c κs. search needs) mul-left slice-write-left (λ c. search needs)
     (λ c. search needs) loop-again (λ c. search needs) returns)

@@ -1,13 +1,14 @@
 use mathlib.Core.Path.{_≡_, _∙_}
-use Rattle.rules.specs.Ledger.{Tables, lent, withHead, timed}
+use Rattle.rules.specs.Ledger.{Tables, withHead, withPrices, withRows, withBook, withLines, zeroTables, timed}
 use Rattle.rules.specs.Matching.{counted}
 use Rattle.submit.proofs.Accepted.{countable, counted-is, placed, submitted}
 use borrow.Author.Needs.{needs}
 use Rattle.submit.proofs.booking.book_submit.Statement.{statement}
 use Rattle.submit.proofs.booking.book_submit.Tie as tie
 
-abbrev tables : tie.Start → Tables
-tables s = let a = s .args in lent (a .head .now) (a .prices .now) (a .lots .now) (a .value .now) (a .book .now) (a .lines .now)
+-- Tables with the lists of a call put into them.
+abbrev tables : tie.Start → Tables → Tables
+tables s t = let a = s .args in withHead (a .head .now) (withPrices (a .prices .now) (withRows (a .lots .now) (a .value .now) (withBook (a .book .now) (withLines (a .lines .now) t))))
 
 -- What each part of the function knows, from the part after it.
 abbrev start : tie.After-set-time → tie.Start
@@ -16,20 +17,20 @@ start c = c .before .before .before .before .before .before .before
 abbrev clocked : tie.After-count-submit → tie.After-set-time
 clocked c = c .before .before .before .before
 
-counted-at : (c : tie.After-count-submit) →
+counted-at : (c : tie.After-count-submit) (t : Tables) →
     let s = start (clocked c) in
-    let e = s .args .e in withHead (c .count-submit .last .0) (tables s) ≡ counted (e .member) (timed (e .time) (tables s))
-counted-at c =
+    let e = s .args .e in withHead (c .count-submit .last .0) (tables s t) ≡ counted (e .member) (timed (e .time) (tables s t))
+counted-at c t =
     let s = start (clocked c) in
     let f = s .pre .0 in
-    counted-is (tables s) (s .args .e) (f .0) (f .1) (f .2) (f .3) (s .args .crossing) (s .pre .1 .1) _ (clocked c .set-time .ensures) _ (c .count-submit .ensures)
+    counted-is (tables s t) (s .args .e) (f .0) (f .1) (f .2) (f .3) (s .args .crossing) (s .pre .1 .1 t) _ (clocked c .set-time .ensures) _ (c .count-submit .ensures)
 
 count-submit-requires : tie.Need-count-submit-requires
 count-submit-requires c κs =
     let k = c .before .before .before in
     let s = start k in
     let f = s .pre .0 in
-    countable (tables s) (s .args .e) (f .0) (f .1) (f .2) (f .3) (s .args .crossing) (s .pre .1 .1) _ (k .set-time .ensures)
+    countable (tables s zeroTables) (s .args .e) (f .0) (f .1) (f .2) (f .3) (s .args .crossing) (s .pre .1 .1 zeroTables) _ (k .set-time .ensures)
 
 place-order-requires : tie.Need-place-order-requires
 place-order-requires c κs =
@@ -37,8 +38,8 @@ place-order-requires c κs =
     let s = start (clocked k) in
     let f = s .pre .0 in
     let rows = s .pre .1 .0 in
-    let o = clocked k .before .before .order-of .ensures (tables s) in
-    placed (tables s) (s .args .e) (f .0) (f .1) (f .2) (f .3) _ (counted-at k) _ o (s .args .crossing) (s .pre .1 .1) (rows .0) (rows .1) (f .4)
+    let o = clocked k .before .before .order-of .ensures (tables s zeroTables) in
+    placed (tables s zeroTables) (s .args .e) (f .0) (f .1) (f .2) (f .3) _ (counted-at k zeroTables) _ o (s .args .crossing) (s .pre .1 .1 zeroTables) (rows .0) (rows .1) (f .4)
 
 returns : tie.Need-returns
 returns c =
@@ -46,7 +47,7 @@ returns c =
     let k = p .before .before .before .before .before .before .before .before .before in
     let s = start (clocked k) in
     let f = s .pre .0 in
-    p .place-order .ensures ∙ submitted (tables s) (s .args .e) (f .0) (f .1) (f .2) (f .3) _ (counted-at k) _ (clocked k .before .before .order-of .ensures (tables s))
+    λ t. p .place-order .ensures t ∙ submitted (tables s t) (s .args .e) (f .0) (f .1) (f .2) (f .3) _ (counted-at k t) _ (clocked k .before .before .order-of .ensures (tables s t))
 
 pub book-submit-spec : {M : Type 1} → statement M
 book-submit-spec =

@@ -1,7 +1,6 @@
 use mathlib.Core.Path.{sym, subst}
-use mathlib.Core.List.{[]}
 use native.Mathlib.Omega.{arith}
-use Rattle.rules.specs.Ledger.{Tables, lent}
+use Rattle.rules.specs.Ledger.{Tables, withHead, withRows, withLines, zeroTables}
 use Rattle.matching.specs.Deals.{lineOut}
 use Rattle.deal_lines.specs.Lines.{LineFit}
 use Rattle.deal_lines.proofs.Takes.{Takes, less-room}
@@ -21,7 +20,7 @@ book-line-requires-2 c κs =
     let a = s .args in
     let q = s .pre .1 in
     let small = s .pre .0 .1 in
-    let u = lent (a .head .now) [] (a .lots .now) (a .value .now) [] (a .lines .now) in
+    let u = withHead (a .head .now) (withRows (a .lots .now) (a .value .now) (withLines (a .lines .now) zeroTables)) in
     let b = c .before .before .before .before .before .before .before .before .before in
     let after = b .book-line .ensures u in
     let other = b .before .before .before .before .before .other-side .ensures in

@@ -5,7 +5,7 @@ use Rattle.tables.proofs.lengths.is_lines_short.Tie as tie
 
 returns : tie.Need-returns
 unfolding linesShort
-returns c = λ h p l v b. refl
+returns c = λ t. refl
 
 pub is-lines-short-spec : {M : Type 1} → statement M
 is-lines-short-spec =

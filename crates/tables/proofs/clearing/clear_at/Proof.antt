@@ -1,14 +1,14 @@
 use Rattle.arith.proofs.Writes.{filled}
 use borrow.Author.Needs.{needs}
-use Rattle.fresh.proofs.clear_at.Statement.{statement}
-use Rattle.fresh.proofs.clear_at.Tie as tie
+use Rattle.tables.proofs.clearing.clear_at.Statement.{statement}
+use Rattle.tables.proofs.clearing.clear_at.Tie as tie
 
 returns : tie.Need-returns
 returns c =
     let pre = c .before .before .before .before .before .pre in
     let a = c .before .before .before .before .before .args in
     let clear = c .before .before .clear in
-    rw (clear .ensures) (filled (a .at) (a .count) (a .head .now) 0 (pre))
+    rw (clear .ensures) (filled (a .at) (a .count) (a .places .now) 0 (pre))
 
 pub clear-at-spec : {M : Type 1} → statement M
 clear-at-spec =

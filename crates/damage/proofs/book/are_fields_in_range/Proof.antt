@@ -2,32 +2,32 @@ use mathlib.Core.Path.{sym}
 use borrow.Author.Tests.{lt-ltb, le-leb}
 use Rattle.arith.specs.Lists.{allOf}
 use Rattle.arith.proofs.Tests.{and-true, tests, asked-true, asked-false}
-use Rattle.damage.specs.Orders.{restSound}
+use Rattle.damage.specs.Orders.{fieldsInRange}
 use borrow.Author.Needs.{needs}
-use Rattle.damage.proofs.book.is_rest_sound.Statement.{statement}
-use Rattle.damage.proofs.book.is_rest_sound.Tie as tie
+use Rattle.damage.proofs.book.are_fields_in_range.Statement.{statement}
+use Rattle.damage.proofs.book.are_fields_in_range.Tie as tie
 
 returns : tie.Need-returns
-unfolding restSound allOf
+unfolding fieldsInRange allOf
 returns c = search tests
 
 returns-2 : tie.Need-returns-2
-unfolding restSound allOf
+unfolding fieldsInRange allOf
 returns-2 c = search tests
 
 returns-3 : tie.Need-returns-3
-unfolding restSound allOf
+unfolding fieldsInRange allOf
 returns-3 c = rw (asked-false (c .before .is-between .ensures) (c .if3 .taken)) (search tests)
 
 returns-4 : tie.Need-returns-4
-unfolding restSound allOf
+unfolding fieldsInRange allOf
 returns-4 c =
     let is-between = c .before .before .before .before .is-between in
     let if3 = c .before .before .before .if3 in
     rw (asked-true (is-between .ensures) (if3 .left), asked-false (c .before .is-between2 .ensures) (c .if4 .taken)) (search tests)
 
 returns-5 : tie.Need-returns-5
-unfolding restSound allOf
+unfolding fieldsInRange allOf
 returns-5 c =
     let is-between = c .before .before .before .before .before .before .before .is-between in
     let if3 = c .before .before .before .before .before .before .if3 in
@@ -36,7 +36,7 @@ returns-5 c =
     rw (asked-true (is-between .ensures) (if3 .left), asked-true (is-between2 .ensures) (if4 .left), asked-false (c .before .is-between3 .ensures) (c .if5 .taken)) (search tests)
 
 returns-6 : tie.Need-returns-6
-unfolding restSound allOf
+unfolding fieldsInRange allOf
 returns-6 c =
     let if1 = c .before .before .before .before .before .before .before .before .before .before .before .before .if1 in
     let if2 = c .before .before .before .before .before .before .before .before .before .before .if2 in
@@ -50,8 +50,8 @@ returns-6 c =
     let day = asked-true (is-between3 .ensures) (c .before .if5 .left) in
     rw (lt-ltb _ _ (if1 .left), le-leb _ _ (if2 .left), price, lots, day) (sym (and-true _))
 
-pub is-rest-sound-spec : {M : Type 1} → statement M
-is-rest-sound-spec =
+pub are-fields-in-range-spec : {M : Type 1} → statement M
+are-fields-in-range-spec =
     tie.close
     (tie.spec (λ c. search needs) (λ c. search needs) (λ c. search needs) (λ c. search needs) returns
     (λ c. search needs) (λ c. search needs) (λ c. search needs) returns-2 (λ c. search needs) (λ c. search needs)

@@ -5,8 +5,8 @@ use Rattle.arith.proofs.Writes.{fill-next, fill-end}
 use borrow.Author.Needs.{needs}
 use native.Mathlib.Omega.{arith}
 use mathlib.Core.List.{_++_}
-use Rattle.fresh.proofs.clear.Statement.{statement}
-use Rattle.fresh.proofs.clear.Tie as tie
+use Rattle.tables.proofs.clearing.clear.Statement.{statement}
+use Rattle.tables.proofs.clearing.clear.Tie as tie
 
 abbrev Inv-loop : tie.InvT-loop
 Inv-loop places₀ i₀ places i = (i ≤ length places₀) × (length places ≡ length places₀) × (places ≡ take i (replicate (length places₀) 0) ++ drop i places₀)

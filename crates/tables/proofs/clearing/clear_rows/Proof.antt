@@ -6,8 +6,8 @@ use borrow.Author.Needs.{needs}
 use native.Mathlib.Omega.{arith}
 use mathlib.Core.List.{_++_}
 use lib.IntN.{pos}
-use Rattle.fresh.proofs.clear_rows.Statement.{statement}
-use Rattle.fresh.proofs.clear_rows.Tie as tie
+use Rattle.tables.proofs.clearing.clear_rows.Statement.{statement}
+use Rattle.tables.proofs.clearing.clear_rows.Tie as tie
 
 abbrev Inv-loop : tie.InvT-loop
 Inv-loop rows₀ i₀ rows i = (i ≤ length rows₀) × (length rows ≡ length rows₀) × (rows ≡ take i (replicate (length rows₀) (pos 0)) ++ drop i rows₀)
