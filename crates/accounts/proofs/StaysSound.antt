@@ -1,7 +1,7 @@
 -- Sound tables stay sound under every accepted record but a close of day; after a close only their rows can be unsound. That they can is
 -- computed in rule_examples, `damaged-by-a-close`.
 use mathlib.Core.Path.{_≡_, refl, sym, ap, subst, _∙_}
-use mathlib.Core.Bool.{Bool, true, false, not, _&&_}
+use mathlib.Core.Bool.{Bool, true, false, not, _&&_, _||_}
 use mathlib.Core.List.{[]}
 use Prim.Native.Nat.{_≤_}
 use native.Mathlib.Omega.{arith}
@@ -12,7 +12,7 @@ use Rattle.rules.specs.declared.event.Event.{Event}
 use Rattle.rules.specs.Answers.{Outcome}
 use Rattle.rules.specs.Ledger.{Tables, linesLength, linesShort}
 use Rattle.rules.specs.Records.{isCloseOfDay}
-use Rattle.rules.specs.Refusals.{headSound, pricesSound, rowsSound, bookSound, damaged, unsound, kindBooked}
+use Rattle.rules.specs.Refusals.{headSound, pricesSound, rowsSound, bookSound, damaged, ledgerUnsound, unsound, kindBooked}
 use Rattle.rules.proofs.SoundTables.{Long, not-short, Undamaged, undamaged}
 use Rattle.accounts.specs.StaysSound.{closedBy, StaysSound, OnlyRowsChange}
 use Rattle.accounts.proofs.EachKind.{kind-decides, every-call, every-reading}
@@ -23,10 +23,10 @@ use Rattle.accounts.proofs.KindsKeep.{RowsMove, Keeps, kind-keeps}
 
 -- tables of sufficient length whose head, prices and book are sound are as sound as their rows
 by-rows : (t : Tables) → Long t → linesLength ≤ length (t .lines) → headSound t ≡ true → pricesSound t ≡ true → bookSound t ≡ true → unsound t ≡ not (rowsSound t)
-unfolding unsound damaged linesShort allOf
+unfolding unsound ledgerUnsound damaged linesShort allOf
 by-rows t l k h p b = rw (not-short t l, le-ltb (length (t .lines)) linesLength k, h, p, b) (go (rowsSound t))
   where
-    go : (r : Bool) → not (r && true) ≡ not r
+    go : (r : Bool) → not (r && true) || false ≡ not r
     go true = refl
     go false = refl
 
