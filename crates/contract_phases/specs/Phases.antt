@@ -1,4 +1,4 @@
--- The phase, at the close of a day, of each contract that has a term, one number a contract.
+-- The phase, at the close of a day, of each contract that has a term: one number for each.
 use Prim.Native.Nat.{ℕ}
 use mathlib.Core.Bool.{Bool, cond}
 use mathlib.Core.List.{List, _++_, map}

@@ -1,5 +1,5 @@
-// Which contracts are still to close on a day, by their first delivery days: business days are counted once for each kind,
-// where `is_open` of `contracts` looks for two closing days of one contract.
+// Which contracts are still to close on a day, by their first delivery days. Business days are counted once for each kind;
+// `is_open` of `contracts` looks for two closing days for one contract instead.
 ghost use mathlib.Core.Path.{_≡_};
 ghost use Prim.Native.Nat.{ℕ, _≤_, _<_};
 ghost use Rattle.rules.specs.declared.contract.ContractKind.{ContractKind};

@@ -1,4 +1,4 @@
-// Whether what is lent is too short or damaged.
+// Whether a lent table is too short or damaged.
 ghost use mathlib.Core.Path.{_≡_};
 ghost use Rattle.rules.specs.Ledger.{Tables, lent, withHead, withPrices, withRows, withBook};
 ghost use Rattle.rules.specs.Refusals.{ledgerUnsound, unsound};

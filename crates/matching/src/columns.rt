@@ -1,5 +1,5 @@
-// Two columns, one number a place of the book: what is left of each order, and its rank with its place. A third has the
-// lowest rank of each block of places, so that the best order is found without a look at every rank.
+// Two columns, one number for each place of the book: what is left of each order, and its rank with its place. A third has the
+// lowest rank of each block of places, so that the best order is found without reading every rank.
 ghost use mathlib.Core.Path.{_≡_};
 ghost use mathlib.Core.Bool.{cond};
 ghost use mathlib.Core.List.{map};

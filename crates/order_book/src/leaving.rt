@@ -1,4 +1,4 @@
-// Orders leave the book: what is left of each stands in a column, one number a place of the book.
+// Orders leave the book: what is left of each stands in a column, one number for each place of the book.
 ghost use mathlib.Core.Path.{_≡_};
 ghost use mathlib.Core.Bool.{cond, not};
 ghost use mathlib.Core.List.{flatMap};

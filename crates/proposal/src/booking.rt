@@ -1,4 +1,4 @@
-// A proposal is booked: one line a leg, and each leg's lots taken from its order.
+// A proposal is booked: one line for each leg, and each leg's lots taken from its order.
 ghost use mathlib.Core.Path.{_≡_};
 ghost use Prim.Native.Nat.{ℕ, _*_, _-_, _≤_, _<_};
 ghost use lib.ListN.{length, getD};
@@ -33,7 +33,7 @@ pub fn total_lots(lots: &[u64], prices: &[u64]) -> u64
     sum
 }
 
-// One line a leg, in order, at the leg's price.
+// One line for each leg, in order, at the leg's price.
 pub fn book_legs(
     head: &mut [u64],
     lots: &mut [i64],

@@ -103,7 +103,7 @@ answers =
     -- 10; OEYE that meets nothing is accepted
     ∷ (monday, submit 36000 Teye Buy 0 17 26000 1, no 10)
     ∷ (monday, submit 36000 Oeye Buy 0 17 26000 1, lines 0)
-    -- 11 needs a full book, which takes long to compute: crate rule_examples has it
+    -- 11 needs a full book, which takes long to compute: crate full_book has it
     -- 12
     ∷ (after (buy 0 17 26000 1 ∷ []), cancel 36000 1 0, no 12)
     -- 14; 15; 16

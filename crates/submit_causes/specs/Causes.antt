@@ -30,8 +30,8 @@ firstCauses t e =
     ∷ (leb mostSubmitsInSecond (submitsAt t (e .time) (e .member)), SixthSubmit)
     ∷ []
 
--- 9, 10, 11 and 17, where the member has so many own lots resting and so many lots cross: the order is matched with
--- the smaller of its lots and the lots that cross, and it rests beside as many orders as before only where none cross.
+-- 9, 10, 11 and 17, from the member's own resting lots and the lots that cross. The order is matched with the smaller of its lots and
+-- the lots that cross. Only where none cross does it rest beside as many orders as before.
 abbrev pub measuredCauses : ℕ → ℕ → Tables → Submission → List (Bool × Answer)
 measuredCauses own crossing t e =
     (ltZ (pos (limit t (e .member))) (mirrored (e .side) (lotsAt t (e .contract) (e .member)) +ℤ pos (own + e .lots .0)), AboveLimit)
