@@ -10,7 +10,7 @@ use calendar::is_business_day;
 use rules::ContractKind;
 use rules::DayNo;
 
-// Of each kind, the day from which on a contract has to deliver first to be still to close.
+// For each kind, the day on which or after which a contract must first deliver to be still to close.
 pub struct LeastDays {
     pub year: DayNo,
     pub quarter: DayNo,

@@ -100,7 +100,7 @@ pub fn best_place(lows: &[u64], count: usize) -> usize
     count
 }
 
-// Lots of order i are used; an order used up has no rank.
+// Uses lots of order i; an order used up has no rank.
 pub fn use_lots(left: &mut [u64], ranks: &mut [u64], lows: &mut [u64], i: usize, lots: u64)
     requires { ⌜ (i < length (now left)) × (length (now left) ≤ mostOrders) × (lots ≤ getD (now left) i 0) × (length (now ranks) ≡ mostOrders) × BlockLows (now ranks) (now lows) ⌝ }
     ensures { λ _. ⌜ now (left .exit) ≡ set (now (left .entry)) i (getD (now (left .entry)) i 0 - lots) ⌝ }

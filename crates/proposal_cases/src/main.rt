@@ -223,7 +223,7 @@ fn show_record(
     text(b"\n");
 }
 
-// The first legs are asked of the check, then applied as a record, in a ledger where the first orders rest.
+// The first legs are given to the check, then applied as a record, in a ledger where the first orders rest.
 fn case(orders: [Submission; 12], order_count: usize, legs: [Leg; 12], count: usize)
     requires { ⌜ («order_count» ≤ 12) × (count ≤ 13) ⌝ }
 {

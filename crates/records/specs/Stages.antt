@@ -40,7 +40,7 @@ lengthByNow last left UnknownKind = 1
 abbrev pub lengthNow : Bool → List ℕ → ℕ
 lengthNow last s = lengthByNow last (length s) (frontOf s)
 
--- The same, or 0 where the journal was stopped or the output may lack room.
+-- How many bytes the next record has, or 0 where it cannot be run now: it is cut, the journal was stopped, or the output may lack room.
 unfoldable pub readyLength : Bool → Bool → ℕ → List ℕ → ℕ
 readyLength last stopped room s = cond stopped 0 (cond (ltb room roomWanted) 0 (lengthNow last s))
 
@@ -61,7 +61,7 @@ remaining ReadToEnd t s = []
 remaining RecordUnsound t s = []
 remaining HeaderUnsound t s = []
 
--- Stages follow each other.
+-- The rank of a stage: one that follows another has a higher rank.
 abbrev pub rank : Stage → ℕ
 rank Header = 0
 rank (Records n k) = 1

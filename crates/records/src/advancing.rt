@@ -32,7 +32,7 @@ fn end_stopped(out: &mut [u8], filled: usize, counted: u64, accepted: u64, head:
     standing(end, Stage::RecordUnsound, Wants::Nothing)
 }
 
-// What can be run of these bytes at a stage. The last bytes of a journal are told by is_last.
+// Runs what can be run of these bytes at a stage. is_last says that they are the last of the journal.
 pub fn advance(
     stage: Stage,
     bytes: &[u8],
