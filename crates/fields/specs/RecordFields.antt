@@ -103,7 +103,7 @@ numbersOf (Default m) legs = defaultKind ∷ m ∷ []
 numbersOf (CloseOut e) legs = closeOutKind ∷ e .contract ∷ e .ratio ∷ []
 numbersOf (CloseOfDay s) legs = closeOfDayKind ∷ s ∷ []
 
--- ---- the event of a row of numbers, in whatever ranges
+-- ---- the event of a row of numbers, its fields in range or not
 abbrev pub submissionIn : List ℕ → Submission
 submissionIn f =
     record {

@@ -183,7 +183,7 @@ unfoldable pub within : Range → ℕ → Bool
 within r v = leb (r .least) v && leb v (r .most)
 
 -- ---- verdicts
--- A start day is no Saturday and no Sunday; that it is no holiday is told at the holiday.
+-- A start day is no Saturday and no Sunday; that it is no holiday is tested at the holiday.
 abbrev pub dayVerdict : List ℕ → Quantity → ℕ → Verdict
 dayVerdict s Letter v = Passes
 dayVerdict s Number v = Passes

@@ -27,7 +27,7 @@ const BLOCK: usize = 16;
 
 pub const BLOCKS: usize = ORDERS / BLOCK;
 
-// The rank of the order at place i, with that place in its last digits to the base 256: the lowest tells where it stands.
+// The rank of the order at place i, with that place in its last digits to the base 256: the lowest rank gives its place.
 fn rank_at(o: Order, r: Order, i: usize) -> u64
     requires { ⌜ Ranked r × (0 < r .lots .0) × (i < mostOrders) ⌝ }
     ensures { λ x. ⌜ x ≡ placedRank i (rankIn o (r .lots .0) r) ⌝ }
@@ -88,7 +88,7 @@ pub fn write_lows(ranks: &[u64], lows: &mut [u64])
     }
 }
 
-// The place that the lowest rank of all tells, or the count of the orders where there is none.
+// The place that the lowest rank of all gives, or the count of the orders where there is none.
 pub fn best_place(lows: &[u64], count: usize) -> usize
     requires { ⌜ length (now lows) ≡ blockCount ⌝ }
     ensures { λ r. ⌜ BestPlace (now (lows .entry)) count r ⌝ }

@@ -37,7 +37,7 @@ oneDefaulted run = held ((0, 17, pos 5) ∷ []) (marked (0 ∷ []) (inPrices (wi
 abbrev legs : ℕ → List ℕ
 legs n = proposal (map (λ i. (i, 1, 1)) (from 0 n))
 
--- ---- the answers: tables, a record, and what is told
+-- ---- the answers: tables, a record, and its answer
 answers : List (Tables × List ℕ × Told)
 answers =
     -- 1: 199 places for lines; time 86,400
