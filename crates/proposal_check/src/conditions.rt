@@ -1,4 +1,4 @@
-// What each leg must meet, and what their members and contracts must.
+// What each leg must meet, and what the legs' members and contracts must meet together.
 ghost use mathlib.Core.Path.{_≡_};
 ghost use mathlib.Core.Bool.{not, _&&_};
 ghost use Prim.Native.Nat.{_*_, _+_, _≤_, _<_};

@@ -399,7 +399,7 @@ module _ (k : Calendar) where
       let p : ℕ → Bool = λ j. stillToClose k d (nth (t .kind) j) in
       rw c (lt-ltb (count p (t .index)) (openCount (t .kind)) (omega (arith, count-most p (t .index))))
 
-  -- If not, it is open exactly if the one that lies its kind's open count before it has closed.
+  -- What is still to close and not among the first is open exactly if the one that lies its kind's open count before it has closed.
   pub open-rank : (d : ℕ) (t : Term) → stillToClose k d t ≡ true → openCount (t .kind) ≤ t .index → openByCount k d t ≡ not (stillToClose k d (nth (t .kind) (t .index - openCount (t .kind))))
   unfolding openByCount ahead
   open-rank d t c l = rw c (rank (λ j. stillToClose k d (nth (t .kind) j)) (to-close-up d (t .kind)) (openCount (t .kind)) (t .index) (open-pos (t .kind)) l)
