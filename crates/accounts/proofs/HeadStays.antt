@@ -78,8 +78,8 @@ past-day n i (ofSubmits m h e) = omega arith
 abbrev pub InRange : ℕ → List ℕ → Type 0
 InRange n l = (i : ℕ) → Place n i → getD l i 0 ≤ most i
 
--- ---- l′ is the head l changed by a record whose lines are not booked yet: the header stands (where f is the place of the day, but for the day),
--- the places above are in their ranges, the lots run is l's
+-- ---- l′ is the head l changed by a record whose lines are not booked yet
+-- The header stands, except for the day where f is the place of the day. The places above are in their ranges. The lots run is l's.
 pub record Stays (f n : ℕ) (l l′ : List ℕ) : Type 0 where
   pub header : SameHeader f l l′
   pub ranges : InRange n l′

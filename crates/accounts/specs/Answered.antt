@@ -26,9 +26,9 @@ callCauses t bytes = (unsound t, TableUnsound) ∷ readingCauses t (readOf (memb
 pub record Exact (causes : List Cause) (a : Answer) : Type 0 where
   -- a refusal's cause is one of them and holds
   pub holds : isAccepted a ≡ false → List·Memᴰ (true, a) causes
-  -- none with a lower rank does
+  -- no cause of a lower rank holds
   pub lowest : All (λ cause. rank (cause .1) < rank a → cause .0 ≡ false) causes
-  -- where the record is accepted, none does
+  -- where the record is accepted, no cause holds
   pub none-holds : isAccepted a ≡ true → All (λ cause. cause .0 ≡ false) causes
 
 -- For all tables and bytes, the answer is exact.

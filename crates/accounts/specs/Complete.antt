@@ -1,4 +1,4 @@
--- Matching is complete, and nobody is passed over.
+-- Matching is complete, and it keeps to priority.
 use Prim.Native.Nat.{ℕ}
 use mathlib.Core.Logic.{_⊎_}
 use mathlib.Core.Path.{_≡_}

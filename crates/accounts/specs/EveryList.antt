@@ -30,7 +30,7 @@ AfterEveryList P =
 abbrev pub NeverDamaged : Type 0
 NeverDamaged = AfterEveryList (λ h t ls d. (ledgerShort t ≡ false) × (damaged t ≡ false))
 
--- So number 1 is answered for a short line table alone.
+-- Number 1 is answered for a short line table alone.
 abbrev pub OneForLinesAlone : Type 0
 OneForLinesAlone = AfterEveryList (λ h t ls d. (call : Call) → told (callSpec t call .answer) .number ≡ 1 → linesShort (withLines (call .lines) t) ≡ true)
 

@@ -20,7 +20,7 @@ pub record SameLengths (t u : Tables) : Type 0 where
 abbrev pub LengthsStay : Type 0
 LengthsStay = (t : Tables) (bytes : List ℕ) → SameLengths t (applySpec t bytes .after)
 
--- Nor does making a ledger.
+-- Making a ledger changes the length of no table.
 abbrev pub MakingKeepsLengths : Type 0
 MakingKeepsLengths = (t : Tables) (bytes : List ℕ) → SameLengths t (makeSpec t bytes .after)
 

@@ -1,1 +1,1 @@
-// Demand 3: theorems about rules only, in specs/.
+// Theorems about rules alone: demand 3, and what else holds after every list of calls. specs/ has the statements.

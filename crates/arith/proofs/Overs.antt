@@ -18,11 +18,11 @@ module _ {A : Type 0} (a : ℕ) (xs l : List A) (fits : a + length xs ≤ length
   unfolding over
   behind j z = rw (length-take-le a l (omega arith)) at (getD-append-add (take a l) (xs ++ drop (a + length xs) l) j z)
 
-  -- Inside the part the new list is read,
+  -- Inside the part the new list is read.
   pub over-inside : (j : ℕ) (z : A) → j < length xs → getD (over a xs l) (a + j) z ≡ getD xs j z
   over-inside j z h = behind j z ∙ List·getD-append xs (drop (a + length xs) l) z j h
 
-  -- elsewhere the old one.
+  -- Outside the part the old list is read.
   pub over-outside : (i : ℕ) (z : A) → (a ≤ i → a + length xs ≤ i) → getD (over a xs l) i z ≡ getD l i z
   unfolding over
   over-outside i z out =

@@ -10,12 +10,12 @@ use lib.Seq.{length-take-le, take-all, sets, sets-eq, take-append-seam, drop-app
 use Rattle.arith.specs.Lists.{over, inEachBlock}
 
 module _ {A : Type 0} where
-  -- Stores one after the other,
+  -- Stores one after the other are a list written over the places.
   pub stored : (vs l : List A) (a : ℕ) → a + length vs ≤ length l → sets l a vs ≡ over a vs l
   unfolding over
   stored vs l a h = sets-eq vs l a h ∙ append-assoc (take a l) vs (drop (a + length vs) l)
 
-  -- a part that was lent and came back,
+  -- A part that was lent and came back is written over its places.
   pub came-back : (a n : ℕ) (l ys : List A) → length ys ≡ n → take a l ++ (ys ++ drop n (drop a l)) ≡ over a ys l
   unfolding over
   came-back a n l ys e = rw (drop-drop n a l, e)
@@ -27,7 +27,7 @@ module _ {A : Type 0} where
       let part : length (take n (drop a l)) ≡ n = rw (length-take n (drop a l), length-drop a l) (omega arith) in
       rw (cut, part) (came-back a n l (replicate n v) (length-replicate n v))
 
-  -- and a list behind others.
+  -- A list written behind the first n places leaves these as they are.
   pub over-seam : (n : ℕ) (d r ys : List A) → length d ≡ n → over n ys (d ++ r) ≡ d ++ (ys ++ drop (length ys) r)
   unfolding over
   over-seam n d r ys e = rw (← e, take-append-seam d r, drop-append-add d r (length ys))

@@ -1,4 +1,4 @@
--- Integers: what the rules say with them.
+-- Integers: the definitions that the rules use.
 use Prim.Native.Nat.{ℕ, zero, suc}
 use mathlib.Core.Bool.{Bool, cond}
 use lib.IntN.{ℤ, pos, negsuc, _+ℤ_}

@@ -1,4 +1,4 @@
--- Lists: what the rules say with them.
+-- Lists: the definitions that the rules use.
 use Prim.Native.Nat.{ℕ, zero, suc, _+_}
 use mathlib.Core.Bool.{Bool, true, false, cond, _&&_, _||_}
 use mathlib.Core.List.{List, [], _∷_, _++_}

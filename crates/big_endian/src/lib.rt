@@ -19,7 +19,7 @@ pub fn u8_at(s: &[u8], at: usize) -> u64
     wide(s[at])
 }
 
-// 0 past the end.
+// The byte at a place, or 0 past the end.
 pub fn u8_or_zero(s: &[u8], at: usize) -> u64
     ensures { λ r. ⌜ (r ≡ getD (now (s .entry)) at 0) × (r < 256) ⌝ }
 {

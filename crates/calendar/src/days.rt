@@ -16,7 +16,7 @@ pub const SATURDAY: u64 = 3;
 
 pub const SUNDAY: u64 = 4;
 
-// Reads the whole list, with no branch out of the loop.
+// Whether a day is a holiday. It reads the whole list, with no branch out of the loop.
 fn is_holiday(holidays: &[u64], day: DayNo) -> bool
     ensures { λ r. ⌜ r ≡ any (λ x. eqb x (day .0)) (now (holidays .entry)) ⌝ }
 {
@@ -29,7 +29,7 @@ fn is_holiday(holidays: &[u64], day: DayNo) -> bool
     found
 }
 
-// Whatever the first year.
+// Whether a day is a business day, whatever the first year.
 pub fn is_business_day(holidays: &[u64], day: DayNo) -> bool
     ensures { λ r. ⌜ ((y : ℕ) → r ≡ businessDay (record { firstYear = y; holidays = now (holidays .entry) }) (day .0)) ⌝ }
 {

@@ -1,5 +1,5 @@
-// Business days, and which calendars are sound: each promise is the definition of `rules`. A ledger's calendar is its first year
-// and its holidays.
+// Business days, and which calendars are sound: each function promises what a definition of `rules` says. A ledger's calendar
+// is its first year and its holidays.
 mod days;
 mod sound;
 

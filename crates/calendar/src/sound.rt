@@ -21,7 +21,7 @@ pub fn is_first_year_sound(first_year: u64) -> bool
     (LEAST_FIRST_YEAR <= first_year) & (first_year <= MOST_FIRST_YEAR)
 }
 
-// Each number is compared with the next one only: that is enough.
+// Whether the numbers rise strictly. Each is compared with the next one only: that is enough.
 pub fn are_rising(numbers: &[u64]) -> bool
     ensures { λ r. ⌜ r ≡ rising (now (numbers .entry)) ⌝ }
 {
@@ -46,7 +46,7 @@ fn are_in(span: Span, days: &[u64]) -> bool
     ok
 }
 
-// Of a sound first year and its span.
+// Whether a calendar is sound, given a sound first year and its span.
 pub fn is_calendar_sound(first_year: u64, span: Span, holidays: &[u64]) -> bool
     requires { ⌜ FirstYear «first_year» × IsSpan span (record { firstYear = «first_year»; holidays = now holidays }) ⌝ }
     ensures { λ r. ⌜ r ≡ calendarSound (record { firstYear = «first_year»; holidays = now (holidays .entry) }) ⌝ }
@@ -57,7 +57,7 @@ pub fn is_calendar_sound(first_year: u64, span: Span, holidays: &[u64]) -> bool
     are_rising(holidays) & are_in(span, holidays)
 }
 
-// A business day in the span, whatever the first year.
+// Whether a day is a business day in the span, whatever the first year.
 pub fn is_day_sound(span: Span, holidays: &[u64], day: DayNo) -> bool
     ensures { λ r. ⌜ ((y : ℕ) → r ≡ liesIn span (day .0) && businessDay (record { firstYear = y; holidays = now (holidays .entry) }) (day .0)) ⌝ }
 {

@@ -1,4 +1,4 @@
-// The closing days of document 01's cases, open contracts, and business days with holidays. What it prints is held to the file stdout.
+// The closing days of document 01's cases, open contracts, and business days with holidays. What it prints must be the file stdout.
 ghost use mathlib.Core.Path.{_≡_};
 ghost use Prim.Native.Nat.{_<_};
 ghost use Rattle.rules.specs.Answers.{toldNextDay};

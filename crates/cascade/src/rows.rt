@@ -119,7 +119,7 @@ fn cascade_closing(rows: &mut [i64], members: usize, contract: usize, phase: u64
     }
 }
 
-// Of a kind that has children. A row grows by one parent's at a time, so none comes near the end of its place.
+// The closing contracts of a kind that has children. A row grows by one parent's at a time, so none passes 64 bits.
 fn cascade_kind(rows: &mut [i64], column: &[u64], members: usize, kind: ContractKind)
     requires { ⌜ RowsFit members (7 * mostRow) (now rows) × (members ≤ mostMembers) ⌝ }
     requires { ⌜ (sizeOf kind ≤ quartersInSpan) × (length (now column) ≡ termCount) ⌝ }
@@ -134,7 +134,7 @@ fn cascade_kind(rows: &mut [i64], column: &[u64], members: usize, kind: Contract
     }
 }
 
-// Years before quarters; a month's rows stay.
+// The closing years, then the closing quarters; a month's rows stay.
 pub fn cascade_all(rows: &mut [i64], column: &[u64], members: usize)
     requires { ⌜ RowsFit members mostRow (now rows) × (members ≤ mostMembers) × (length (now column) ≡ termCount) ⌝ }
     ensures { λ _. ⌜ now (rows .exit) ≡ allCascaded members (closing (now (column .entry))) (now (rows .entry)) ⌝ }

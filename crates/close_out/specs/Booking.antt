@@ -20,7 +20,7 @@ withEach i (l ∷ ls) t = withEach (suc i) ls (withLine i l t)
 abbrev pub changes : List ℕ → List ℕ → List ℤ
 changes gains losses = zipWith (λ s l. pos s -ℤ pos l) gains losses
 
--- Step 1; step 2, the defaulted; step 2, the takers; of contract c at price p, q lots netted and l left.
+-- The lines of step 1, of the defaulted in step 2 and of the takers in step 2: contract c at price p, q lots netted and l left.
 unfoldable pub nettingLines : ℕ → ℕ → ℕ → List ℕ → List ℕ → List Line
 nettingLines c p q longs shorts = changeLines c p 0 (changes (givenUp q shorts) (givenUp q longs))
 
@@ -34,7 +34,7 @@ unfoldable pub stepLines : ℕ → ℕ → ℕ → ℕ → List ℕ → List ℕ
 stepLines c p q l longs shorts weights =
     nettingLines c p q longs shorts ++ (defaultedLines c p q longs shorts ++ takerLines c p (sumOf (less longs (givenUp q longs))) l weights)
 
--- What head and lots tell of the defaulted in contract c: their longs and shorts by member, q lots netted, l left.
+-- What the defaulted have in contract c, by head and lots: their longs and shorts by member, q lots netted, l left.
 pub record Defaulted (head : List ℕ) (lots : List ℤ) (c q l : ℕ) (longs shorts : List ℕ) : Type 0 where
   pub longs-are : (t : Tables) (v : List ℤ) → defaultedLongs (withHead head (withRows lots v t)) c ≡ longs
   pub shorts-are : (t : Tables) (v : List ℤ) → defaultedShorts (withHead head (withRows lots v t)) c ≡ shorts

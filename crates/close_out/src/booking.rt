@@ -15,7 +15,7 @@ use rules::Kurus;
 use rules::Lots;
 use rules::Side;
 
-// The change of one member as line i, if there is one; the number of lines then.
+// Books the change of one member as line i, if there is one. The answer is the number of lines then.
 fn book_change(
     head: &mut [u64],
     lots: &mut [i64],
@@ -62,7 +62,7 @@ fn book_change(
     i + 1
 }
 
-// The changes of all members, rising, after i other lines; the number of lines then.
+// Books the changes of all members, rising, after i other lines. The answer is the number of lines then.
 pub fn book_changes(
     head: &mut [u64],
     lots: &mut [i64],

@@ -16,7 +16,7 @@ pub struct Netting {
     pub left: u64,
 }
 
-// Longs and shorts by member; netted is the smaller total.
+// Finds the longs and shorts of the defaulted, by member; the lots netted are the smaller total.
 pub fn find_defaulted(
     head: &[u64],
     lots: &[i64],

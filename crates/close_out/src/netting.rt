@@ -13,7 +13,7 @@ use dealing::give_up;
 use rules::Kurus;
 use rules::layout::ROW_WIDTH;
 
-// What is left of each after what was given up.
+// What each has left after what it gave up.
 fn subtract(held: &mut [u64], given: &[u64])
     requires { ⌜ (length (now given) ≡ length (now held)) × ((i : ℕ) → getD (now given) i 0 ≤ getD (now held) i 0) ⌝ }
     ensures { λ _. ⌜ now (held .exit) ≡ less (now (held .entry)) (now (given .entry)) ⌝ }
@@ -67,7 +67,7 @@ fn net_columns(
     count
 }
 
-// The lines of step 1; of longs and shorts is left what was not netted.
+// Books the lines of step 1, and leaves of longs and shorts what was not netted.
 pub fn book_netting(
     head: &mut [u64],
     lots: &mut [i64],

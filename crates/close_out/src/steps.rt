@@ -14,7 +14,7 @@ use crate::takers::book_takers;
 use dealing::sum_of;
 use rules::Kurus;
 
-// Step 1; step 2, what the defaulted have left; step 2, the takers. The number of lines.
+// Books step 1, then of step 2 what the defaulted have left, then the takers. The answer is the number of lines.
 pub fn book_steps(
     head: &mut [u64],
     lots: &mut [i64],

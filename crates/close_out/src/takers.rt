@@ -63,7 +63,7 @@ fn deal_columns(
     )
 }
 
-// The takers' lines after i others: long lots go to them, short lots come from them.
+// Books the takers' lines after i others: long lots go to them, short lots come from them.
 pub fn book_takers(
     head: &mut [u64],
     lots: &mut [i64],

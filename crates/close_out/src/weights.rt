@@ -17,7 +17,7 @@ use rules::CloseOutTerms;
 
 const PER_MILLE: u64 = 1000;
 
-// By days if 1000 L ≥ ratio times the others' lots here; else by these.
+// Weights by days if 1000 L ≥ ratio times the others' lots in the contract; else those lots.
 pub fn find_weights(head: &[u64], lots: &[i64], e: CloseOutTerms, left: u64, column: &mut [u64])
     requires { ⌜ HeadFit (now head) × RowsFit (membersIn (now head)) mostLotsRun (now lots) × (length (now column) ≡ membersIn (now head)) ⌝ }
     requires { ⌜ (e .contract < contractCount) × (e .ratio ≤ mostRatio) × (left ≤ mostMembers * mostLotsRun) ⌝ }

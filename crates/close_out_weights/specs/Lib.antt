@@ -1,2 +1,2 @@
--- What the columns and the weights of a close-out are stated with.
+-- The definitions that the promises of this crate use.
 pub mod Columns

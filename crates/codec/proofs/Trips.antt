@@ -160,14 +160,14 @@ legs-back n (Default m) legs t l = none legs l
 legs-back n (CloseOut e) legs t l = none legs l
 legs-back n (CloseOfDay s) legs t l = none legs l
 
--- A sound event's record says the event,
+-- A sound event's record says the event.
 read-written : (n : ℕ) (e : Event) (legs : List Leg) → membersSound n ≡ true → eventSound n e legs ≡ true → readOf n (bytesOf e legs) ≡ Sound e
 unfolding readOf
 read-written n e legs m t =
     let sized : length legs ≡ legCount e = beside n e legs t in
     rw (m, fields-back e legs (wide-fields n e legs t) sized, legs-back n e legs t sized, t) refl
 
--- and its legs.
+-- A sound event's record has the event's legs.
 legs-written : (n : ℕ) (e : Event) (legs : List Leg) → eventSound n e legs ≡ true → legsOf (bytesOf e legs) ≡ legs
 legs-written n e legs t = legs-back n e legs t (beside n e legs t)
 

@@ -1,4 +1,4 @@
--- The round trips and the splitter, said of what the functions promise.
+-- The round trips and the splitter, as statements about what the functions promise.
 use Prim.Native.Nat.{ℕ, _≤_}
 use mathlib.Core.List.{List, _++_}
 use mathlib.Core.Path.{_≡_}

@@ -110,7 +110,7 @@ fn close_out_of(bytes: &[u8]) -> CloseOutTerms
     }
 }
 
-// The fields by the kind of record, in whatever ranges.
+// The fields by the kind of record, in range or not.
 fn fields_of(bytes: &[u8]) -> Reading
     ensures { λ r. ⌜ r ≡ fieldsOf (now (bytes .entry)) ⌝ }
 {

@@ -104,7 +104,7 @@ pub fn is_proposal_sound(count: u64, legs: Legs) -> bool
     are_legs_sound(count, legs)
 }
 
-// An event with no legs beside it, in a ledger of that many members; a proposal without legs is none.
+// Whether an event with no legs beside it is sound in a ledger of that many members; a proposal without legs is not.
 pub fn is_legless_sound(members: u64, event: Event) -> bool
     ensures { λ r. ⌜ r ≡ eventSound members event [] ⌝ }
 {
@@ -119,7 +119,7 @@ pub fn is_legless_sound(members: u64, event: Event) -> bool
     }
 }
 
-// An event with its legs in columns.
+// Whether an event with its legs in columns is sound.
 pub fn is_event_sound(members: u64, event: Event, legs: Legs) -> bool
     ensures { λ r. ⌜ r ≡ eventSound members event (legRows (legCount event) legs) ⌝ }
 {

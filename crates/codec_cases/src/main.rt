@@ -1,5 +1,5 @@
-// Records and headers from literal bytes, every field at its ends and one past them. What it prints is held to the file stdout:
-// 3 for an unsound record, 2 for an unsound header, else the fields, and whether writing them gives the bytes again.
+// Records and headers from literal bytes, every field at its ends and one past them. What it prints must be the file stdout: 3
+// for an unsound record, 2 for an unsound header, else the fields, and whether writing them gives the bytes again.
 ghost use mathlib.Core.Path.{_≡_};
 ghost use Rattle.rules.specs.Records.{toldReading, toldFront};
 use codec::Legs;

@@ -31,11 +31,11 @@ module _ (k : Calendar) (d : ℕ) where
   unfolding between count
   one-more x l = rw (add-one, le-leb d x l)
 
-  -- While some of n are left to count up to day x, what delivers from x or earlier has closed;
+  -- While some of n are left to count up to day x, what delivers from x or earlier has closed.
   pub closed-up-to : (n x left f : ℕ) → between k d x + left ≡ n → 0 < left → f ≤ x → notBefore (businessDayBefore k n f) d ≡ false
   closed-up-to n x left f e p h = closes-by-count k d n f (omega arith) ∙ lt-leb n _ (omega (arith, between-up k d f x h))
 
-  -- where x is the last of them, what delivers later is still to close.
+  -- Where x is the last of the n, what delivers later is still to close.
   pub last-counted : (n x f : ℕ) → d ≤ x → between k d x + 1 ≡ n → businessDay k x ≡ true → notBefore (businessDayBefore k n f) d ≡ leb (x + 1) f
   last-counted n x f l e b =
       le-or-lt (x + 1) f

@@ -1,4 +1,4 @@
--- What decides which contracts are still to close: first delivery days beside a day found once for each kind.
+-- Which contracts are still to close: those that first deliver on a certain day or later. That day is found once for each kind.
 use Prim.Native.Nat.{ℕ, zero, suc, _+_, _-_, _≤_}
 use mathlib.Core.Bool.{cond}
 use mathlib.Core.Path.{_≡_}

@@ -1,4 +1,4 @@
--- The phase, at the close of a day, of each contract that has a term, one number a contract.
+-- The phase, at the close of a day, of each contract that has a term: one number for each.
 use Prim.Native.Nat.{ℕ}
 use mathlib.Core.Bool.{Bool, cond}
 use mathlib.Core.List.{List, _++_, map}
@@ -14,7 +14,7 @@ use Rattle.rules.specs.Ranges.{termCount}
 use Rattle.rules.specs.Days.{Calendar}
 use Rattle.rules.specs.Contracts.{termOf, termClosingDay, contractsOf, openCount}
 
--- It closed before the day, closes on it, or later.
+-- A contract closed before the day, closes on it, or closes later.
 abbrev pub closedPhase : ℕ
 closedPhase = 0
 
@@ -28,7 +28,8 @@ abbrev pub phaseOf : Day → ℕ → ℕ
 phaseOf (On x) d = cond (ltb (x .0) d) closedPhase (cond (eqb (x .0) d) closingPhase laterPhase)
 phaseOf NoDay d = closedPhase
 
--- By a contract's first delivery day f: from `least` on it is still to close on the day, from `later` on on the day after.
+-- The phase by a contract's first delivery day f: from `least` on it is still to close on the day, from `later` on also on the next
+-- day.
 abbrev pub phaseFrom : ℕ → ℕ → ℕ → ℕ
 phaseFrom f least later = cond (leb least f) (cond (leb later f) laterPhase closingPhase) closedPhase
 

@@ -21,14 +21,15 @@ use months::read_starts;
 use rules::DayNo;
 use rules::Term;
 
-// The phases of a contract: it closed before the day, closes on it, or later.
+// The phases of a contract: it closed before the day, closes on it, or closes later.
 pub const CLOSED: u64 = 0;
 
 pub const CLOSING: u64 = 1;
 
 const LATER: u64 = 2;
 
-// By a contract's first delivery day: from `least` on it is still to close on the day, from `later` on on the day after.
+// The phase by a contract's first delivery day: from `least` on it is still to close on the day, from `later` on also on the
+// next day.
 fn phase_from(first: u64, least: DayNo, later: DayNo) -> u64
     ensures { λ r. ⌜ r ≡ phaseFrom first (least .0) (later .0) ⌝ }
 {

@@ -1,5 +1,5 @@
-// Which contracts are still to close on a day, by their first delivery days: business days are counted once for each kind,
-// where `is_open` of `contracts` looks for two closing days of one contract.
+// Which contracts are still to close on a day, by their first delivery days. Business days are counted once for each kind;
+// `is_open` of `contracts` looks for two closing days for one contract instead.
 ghost use mathlib.Core.Path.{_≡_};
 ghost use Prim.Native.Nat.{ℕ, _≤_, _<_};
 ghost use Rattle.rules.specs.declared.contract.ContractKind.{ContractKind};
@@ -10,7 +10,7 @@ use calendar::is_business_day;
 use rules::ContractKind;
 use rules::DayNo;
 
-// Of each kind, the day from which on a contract has to deliver first to be still to close.
+// For each kind, the day on which or after which a contract must first deliver to be still to close.
 pub struct LeastDays {
     pub year: DayNo,
     pub quarter: DayNo,

@@ -10,12 +10,12 @@ use Rattle.rules.specs.OtherForms.{nth}
 use Rattle.rules.proofs.CalendarLaws.{term-year, term-quarter, term-month}
 use Rattle.contracts.specs.InLedger.{InLedger}
 
--- Every contract that has a term,
+-- Every contract that has a term is in the ledger.
 pub numbered : (c : ℕ) → c < termCount → InLedger (termOf c)
 numbered c h =
     same-or (c % 17) 0 (λ z. rw (term-year c z) (omega arith))
     (λ z. le-or-lt (c % 17) 4 (λ l. rw (term-quarter c (omega arith) l) (omega arith)) (λ l. rw (term-month c l) (omega arith)))
 
--- and so is each of its kind that delivers earlier.
+-- Each contract of the kind that delivers earlier than one in the ledger is in it too.
 pub earlier : (t : Term) (i : ℕ) → i ≤ t .index → InLedger t → InLedger (nth (t .kind) i)
 earlier t i l w = omega (arith, mul-le-mul-left (monthsIn (t .kind)) l)

@@ -1,4 +1,5 @@
-// Contracts as the ledger's code asks for them: each promise is the definition of `rules`, for every number.
+// Contracts as the ledger's code asks for them: each function promises what a definition of `rules` says. `is_open` takes every
+// number and tests itself whether the contract has a term.
 mod opening;
 mod terms;
 

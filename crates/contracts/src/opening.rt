@@ -48,7 +48,7 @@ fn still_to_close(first_year: u64, holidays: &[u64], day: DayNo, t: Term) -> boo
     }
 }
 
-// Closing days rise with delivery, so two decide: the contract's own, and that of the one that must have closed before it opens.
+// Closing days rise with delivery, so two decide: the contract's own, and that of the contract that must have closed before it opens.
 fn is_open_term(first_year: u64, holidays: &[u64], day: DayNo, t: Term) -> bool
     requires { ⌜ FirstYear «first_year» × InLedger t ⌝ }
     ensures { λ r. ⌜ r ≡ openByCount (record { firstYear = «first_year»; holidays = now (holidays .entry) }) (day .0) t ⌝ }
@@ -66,7 +66,7 @@ fn is_open_term(first_year: u64, holidays: &[u64], day: DayNo, t: Term) -> bool
     !still_to_close(first_year, holidays, day, earlier)
 }
 
-// A contract without a term is never open.
+// Whether a contract is open on a day; one without a term never is.
 pub fn is_open(first_year: u64, holidays: &[u64], day: DayNo, contract: u64) -> bool
     requires { ⌜ FirstYear «first_year» ⌝ }
     ensures { λ r. ⌜ r ≡ openOn (record { firstYear = «first_year»; holidays = now (holidays .entry) }) (day .0) contract ⌝ }

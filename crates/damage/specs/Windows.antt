@@ -9,7 +9,7 @@ use Rattle.arith.specs.Lists.{everyBlock}
 use Rattle.rules.specs.Ranges.{contractCount}
 use Rattle.rules.specs.Ledger.{rowWidth}
 
--- A member's place in the rows of every contract.
+-- A member's place passes in the rows of every contract.
 unfoldable pub everyColumn : (ℤ → Bool) → ℕ → List ℤ → Bool
 everyColumn p member l = everyBlock rowWidth (λ rows. p (getD rows member (pos 0))) contractCount l
 

@@ -1,4 +1,4 @@
-// Two limits by one test.
+// Whether a number lies between two limits, by one comparison.
 ghost use mathlib.Core.Path.{_≡_};
 ghost use Prim.Native.Nat.{_≤_};
 ghost use Rattle.damage.specs.Orders.{between};

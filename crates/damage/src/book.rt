@@ -16,11 +16,11 @@ use months::Span;
 use rules::layout;
 use rules::ranges;
 
-// The bit that a number has which fell below 0 and wrapped.
+// The top bit, which a number has that fell below 0 and wrapped.
 const TOP_BIT: u64 = 0x8000_0000_0000_0000;
 
-// An order's fields but its number and side. Each is read only where those before it are in range, so the compiler keeps
-// the branches, which take less time here than flags.
+// Whether an order's fields but its number and side are in range. Each is read only where those before it are, so the compiler
+// keeps the branches, which take less time here than flags.
 fn are_fields_in_range(book: &[u64], i: usize, members: u64, span: Span) -> bool
     requires { ⌜ (i < mostOrders) × (bookLength ≤ length (now book)) × (span .start .0 ≤ span .end .0) ⌝ }
     ensures { λ r. ⌜ r ≡ fieldsInRange members (span .start .0) (span .end .0) (now (book .entry)) i ⌝ }
@@ -59,7 +59,7 @@ fn is_repeated(book: &[u64], i: usize, count: usize) -> bool
     found
 }
 
-// Each number is compared with every later one.
+// Whether no two orders share a number. Each number is compared with every later one.
 fn is_none_repeated(book: &[u64], count: usize) -> bool
     requires { ⌜ (count ≤ mostOrders) × (bookLength ≤ length (now book)) ⌝ }
     ensures { λ r. ⌜ r ≡ distinct (map (numberAt (now (book .entry))) (from 0 count)) ⌝ }
@@ -73,8 +73,8 @@ fn is_none_repeated(book: &[u64], count: usize) -> bool
     ok
 }
 
-// Each order's places, and that no two share a number: where the numbers rise, this one pass tells. Of all sides the or
-// is tested, since LAST_SIDE + 1 is a power of two.
+// Whether each order's places are sound and no two orders share a number: where the numbers rise, one pass shows both. The
+// bitwise or of all sides is tested, since LAST_SIDE + 1 is a power of two.
 fn are_orders_sound(book: &[u64], count: usize, accepted: u64, members: u64, span: Span) -> bool
     requires { ⌜ (count ≤ mostOrders) × (accepted ≤ mostAcceptedSubmits) × (bookLength ≤ length (now book)) × (span .start .0 ≤ span .end .0) ⌝ }
     ensures { λ r. ⌜ r ≡ placesSound accepted members (span .start .0) (span .end .0) (now (book .entry)) count && distinct (map (numberAt (now (book .entry))) (from 0 count)) ⌝ }

@@ -15,7 +15,7 @@ use rules::DayNo;
 use rules::layout;
 use rules::ranges;
 
-// Each member's limit, mark and count in the present second.
+// Whether each member's limit, mark and count in the present second are in range.
 fn are_members_sound(head: &[u64], members: u64) -> bool
     requires { ⌜ (headLength ≤ length (now head)) × (members ≤ mostMembers) ⌝ }
     ensures { λ r. ⌜ ((t : Tables) → r ≡ every (memberSound (withHead (now (head .entry)) t)) (from 0 members)) ⌝ }
@@ -33,7 +33,7 @@ fn are_members_sound(head: &[u64], members: u64) -> bool
     ok
 }
 
-// Of a sound first year and its span. Every count is tested before it is used.
+// Whether the head is sound, given its sound first year and its span. Every count is tested before it is used.
 pub fn is_head_sound(head: &[u64], span: Span) -> bool
     requires { ⌜ (headLength ≤ length (now head)) × FirstYear (getD (now head) firstYearPlace 0) × IsSpanOf span (getD (now head) firstYearPlace 0) ⌝ }
     ensures { λ r. ⌜ ((t : Tables) → r ≡ headSound (withHead (now (head .entry)) t)) ⌝ }

@@ -1,4 +1,4 @@
-// Whether what is lent is too short or damaged: every record is turned back with 1 then.
+// Whether a lent table is too short or damaged. Then every record is turned back with 1.
 mod between;
 mod book;
 mod head;

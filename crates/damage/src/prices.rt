@@ -10,7 +10,7 @@ use crate::between::is_between;
 use rules::layout;
 use rules::ranges;
 
-// A number is tested before it is a limit of another: no sum or product passes 64 bits.
+// Whether a contract's five numbers are sound. A number is tested before it limits another: no sum or product passes 64 bits.
 fn is_contract_sound(prices: &[u64], run: u64) -> bool
     requires { ⌜ (length (now prices) ≡ priceWidth) × (run ≤ mostLotsRun) ⌝ }
     ensures { λ r. ⌜ r ≡ contractPricesSound run (now (prices .entry)) ⌝ }

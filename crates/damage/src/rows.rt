@@ -13,7 +13,7 @@ ghost use Rattle.rules.specs.Refusals.{everyRow};
 ghost use Rattle.damage.specs.Windows.{everyColumn, IsHalf, IsWidth};
 use rules::layout;
 
-// In absolute size; -1 - x is one less than that of a negative x, and is in range for every x.
+// Whether x is within the bound in absolute size. For a negative x, -1 - x is one less than its size, and is in range.
 fn is_within(x: i64, bound: u64) -> bool
     ensures { λ r. ⌜ r ≡ leb (natAbs x) bound ⌝ }
 {
@@ -36,7 +36,7 @@ fn are_within(rows: &[i64], bound: u64) -> bool
     ok
 }
 
-// Each row compared with the bound itself.
+// Whether each row is within the bound, by comparing it with the bound itself.
 fn is_each_within(rows: &[i64], n: usize, bound: u64) -> bool
     requires { ⌜ (rowsLength ≤ length (now rows)) × (n ≤ mostMembers) ⌝ }
     ensures { λ r. ⌜ r ≡ everyRow (λ z. leb (natAbs z) bound) n (now (rows .entry)) ⌝ }
@@ -52,7 +52,7 @@ fn is_each_within(rows: &[i64], n: usize, bound: u64) -> bool
     ok
 }
 
-// Both arms are the bits of x: the compiler sees it and writes no code for this.
+// The 64 bits of x. Both arms are these bits: the compiler sees it and writes no code.
 fn bits_of(x: i64) -> u64
     ensures { λ r. ⌜ r ≡ bitsOf x ⌝ }
 {
@@ -63,15 +63,15 @@ fn bits_of(x: i64) -> u64
     }
 }
 
-// Below a window's width exactly if x is in the window, whose half is added.
+// x with half a window's width added: below the width exactly if x is in the window.
 fn raised(x: i64, half: u64) -> u64
     ensures { λ r. ⌜ r ≡ (bitsOf x + half) % 2 ^ 64 ⌝ }
 {
     std::num::wrapping_add_u64(bits_of(x), half)
 }
 
-// The or of all: below a power of two exactly if each is. No test stands in the loop, so the compiler takes several
-// places at once.
+// The bitwise or of all rows, half a width added to each: below a power of two exactly if each is. No test stands in the loop,
+// so the compiler takes several places at once.
 fn or_of(rows: &[i64], half: u64) -> u64
     ensures { λ r. ⌜ ((k : ℕ) → IsHalf half k → ltb r (2 ^ k) ≡ every (inWindow (2 ^ k)) (now (rows .entry))) ⌝ }
 {

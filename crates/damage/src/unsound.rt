@@ -1,4 +1,4 @@
-// Whether what is lent is too short or damaged.
+// Whether a lent table is too short or damaged.
 ghost use mathlib.Core.Path.{_≡_};
 ghost use Rattle.rules.specs.Ledger.{Tables, lent, withHead, withPrices, withRows, withBook};
 ghost use Rattle.rules.specs.Refusals.{ledgerUnsound, unsound};
@@ -13,7 +13,8 @@ use rules::ranges;
 use tables::is_ledger_short;
 use tables::is_lines_short;
 
-// The line table apart. Whatever the tables hold: each is read only where its length and the head's counts allow it.
+// Whether a table of the ledger is too short or damaged, the line table apart. The tables may hold anything: each is read only
+// where its length and the head's counts allow it.
 pub fn is_ledger_unsound(
     head: &[u64],
     prices: &[u64],
@@ -49,7 +50,7 @@ pub fn is_ledger_unsound(
     !is_book_sound(head, book, span)
 }
 
-// A record is lent a line table too, of which only the length is tested.
+// Whether a table that a record is lent is too short or damaged. Of the line table only the length is tested.
 pub fn is_unsound(
     head: &[u64],
     prices: &[u64],

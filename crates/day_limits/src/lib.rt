@@ -12,7 +12,7 @@ use rules::layout::HIGH;
 use rules::layout::LOW;
 use rules::layout::PRICE_WIDTH;
 
-// Low and high are written; orders already resting stay.
+// Writes low and high; orders already resting stay.
 pub fn apply(head: &[u64], prices: &mut [u64], e: NewDayLimits) -> Answer
     requires { ⌜ HeadFit (now head) × (pricesLength ≤ length (now prices)) × (e .contract < contractCount) ⌝ }
     ensures { λ r. ⌜ ((t : Tables) → record { answer = r; after = withHead (now (head .entry)) (withPrices (now (prices .exit)) t) }

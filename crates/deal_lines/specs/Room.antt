@@ -1,4 +1,4 @@
--- What lent tables give to a caller that books lines of so many lots.
+-- What a caller that books lines of so many lots may assume of the lent tables.
 use Prim.Native.Nat.{ℕ, _+_, _*_, _≤_}
 use mathlib.Core.List.{List}
 use lib.IntN.{ℤ}

@@ -32,7 +32,7 @@ pub fn fill_to_level(level: u64, minima: &[u64], received: &mut [u64])
     }
 }
 
-// No minimum is larger.
+// The largest minimum.
 fn largest(minima: &[u64]) -> u64
     ensures { λ r. ⌜ ((i : ℕ) → getD (now (minima .entry)) i 0 ≤ r) ⌝ }
 {
@@ -45,7 +45,8 @@ fn largest(minima: &[u64]) -> u64
     found
 }
 
-// A level that the lots suffice for, below one that they do not: one lot a member below it, where that is one.
+// A level that the lots suffice for, below the top, for which they do not. It is as many below the top as there are members if
+// the lots suffice for that one, else 0.
 fn level_below(lots: u64, minima: &[u64], top: u64) -> u64
     requires { ⌜ (top ≤ mostLotsRun) × (length (now minima) ≤ mostMembers) × (lots < sumOf (atLevel top (now minima))) ⌝ }
     ensures { λ r. ⌜ (r < top) × (sumOf (atLevel r (now (minima .entry))) ≤ lots) ⌝ }
@@ -57,8 +58,8 @@ fn level_below(lots: u64, minima: &[u64], top: u64) -> u64
     0
 }
 
-// The highest level that the lots suffice for. Minimums are rounded up, so together they pass the lots by less than one
-// a member: the level is less than so many below the largest, and the halves between do not grow with the lots.
+// The highest level that the lots suffice for. Minimums are rounded up, so together they pass the lots by less than one for
+// each member. The level is less than so many below the largest, and the number of halvings does not grow with the lots.
 pub fn highest_level(lots: u64, minima: &[u64]) -> u64
     requires { ⌜ (lots ≤ mostLotsRun) × (length (now minima) ≤ mostMembers) ⌝ }
     ensures { λ r. ⌜ Highest lots (now (minima .entry)) r ⌝ }

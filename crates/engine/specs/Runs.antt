@@ -1,4 +1,4 @@
--- Demand 3 of what runs: said of every list of calls that keep the promises of `make` and `apply`.
+-- Demand 3 for the code: it holds for every list of calls that keep the promises of `make` and `apply`.
 use Prim.Native.Nat.{ℕ}
 use mathlib.Core.Path.{_≡_}
 use mathlib.Core.Bool.{cond}

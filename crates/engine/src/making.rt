@@ -6,7 +6,7 @@ ghost use Rattle.rules.specs.Refusals.{makeSpec};
 ghost use Rattle.rules.specs.Ledger.{lent};
 use rules::Answer;
 
-// Of the tables only their length is tested. The book stays as it was: a fresh ledger has no orders.
+// Makes a ledger. Of the tables only their length is tested. The book stays as it was: a fresh ledger has no orders.
 pub fn make(
     head: &mut [u64],
     prices: &mut [u64],

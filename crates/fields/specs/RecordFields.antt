@@ -103,7 +103,7 @@ numbersOf (Default m) legs = defaultKind ∷ m ∷ []
 numbersOf (CloseOut e) legs = closeOutKind ∷ e .contract ∷ e .ratio ∷ []
 numbersOf (CloseOfDay s) legs = closeOfDayKind ∷ s ∷ []
 
--- ---- the event of a row of numbers, in whatever ranges
+-- ---- the event of a row of numbers, its fields in range or not
 abbrev pub submissionIn : List ℕ → Submission
 submissionIn f =
     record {
@@ -125,11 +125,11 @@ newDayLimitsIn f = record { contract = getD f dayLimitsContractField 0; low = re
 abbrev pub closeOutIn : List ℕ → CloseOutTerms
 closeOutIn f = record { contract = getD f closeOutContractField 0; ratio = getD f closeOutRatioField 0 }
 
--- No side is above 1, no order kind above 2,
+-- A submit whose side is above 1 or whose order kind is above 2 is no event.
 abbrev pub submitIn : List ℕ → Reading
 submitIn f = cond (sideSound (getD f submitSideField 0) && orderKindSound (getD f submitOrderKindField 0)) (Sound (Submit (submissionIn f))) Unsound
 
--- and a row has room for 12 legs.
+-- A proposal of more than 12 legs is no event: a row has room for 12.
 abbrev pub proposalIn : List ℕ → Reading
 proposalIn f = cond (leb (getD f proposalLegsField 0) mostLegs) (Sound (Proposal (getD f proposalLegsField 0))) Unsound
 

@@ -1,4 +1,4 @@
-// The event of a row of numbers, in whatever ranges, and its legs in columns.
+// The event of a row of numbers, its fields in range or not, and its legs in columns.
 ghost use mathlib.Core.Path.{_≡_};
 ghost use Prim.Native.Nat.{_+_, _≤_};
 ghost use lib.ListN.{length};

@@ -1,1 +1,1 @@
-// An example of rules with a full book, in specs/. It takes as long as all other examples together.
+// An example of rules with a full book, in specs/. It takes nearly as long as rule_examples.

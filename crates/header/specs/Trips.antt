@@ -1,4 +1,4 @@
--- The round trips of headers, said of what the functions promise.
+-- The round trips of headers, as statements about what the functions promise.
 use Prim.Native.Nat.{ℕ, _≤_}
 use mathlib.Core.List.{List}
 use mathlib.Core.Path.{_≡_}

@@ -61,7 +61,7 @@ fn limits_at(bytes: &[u8], at: usize, count: usize) -> [u64; MEMBER_PLACES]
     column
 }
 
-// The fields, in whatever ranges.
+// The fields of a header, in range or not.
 fn fields_at(bytes: &[u8], members: u64, holiday_count: u64) -> JournalHeader
     requires { ⌜ (firstHolidayByte ≤ length (now bytes)) × (members ≡ getD (now bytes) membersByte 0) × («holiday_count» ≡ getD (now bytes) holidayCountByte 0) ⌝ }
     requires { ⌜ (members ≤ mostMembers) × («holiday_count» ≤ mostHolidays) × (headerLength (now bytes) ≤ length (now bytes)) ⌝ }

@@ -74,8 +74,8 @@ fn told_front(front: Front) -> Told
     }
 }
 
-// The record that the bytes begin with, by its kind and legs alone: 0 with its length, or 3 where it is cut or no kind has
-// its number. Its fields are not asked.
+// The record that the bytes begin with, by its kind and legs alone: 0 with its length, or 3 where it is cut or no kind has its
+// number. Its fields are not tested.
 #[no_mangle]
 pub extern "C" fn ledger_front_record(bytes: &[u8], detail: &mut u64) -> u64
     ensures { λ r. ⌜ record { number = r; value = now (detail .exit) } ≡ toldFront (frontOf (now (bytes .entry))) ⌝ }

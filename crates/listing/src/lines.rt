@@ -145,7 +145,7 @@ fn put_reason(
     }
 }
 
-// A field that is cut is found where the bytes end.
+// Where a fault is found; that of a field that is cut, where the bytes end.
 fn fault_place(bytes: &[u8], place: usize, verdict: Verdict) -> u64
     ensures { λ r. ⌜ r ≡ faultPlace (now (bytes .entry)) place verdict ⌝ }
 {
@@ -248,7 +248,7 @@ fn put_fields(
     }
 }
 
-// A line has at most 62,000 bytes.
+// The most bytes of a line.
 pub const ROOM: usize = 62000;
 
 pub fn put_header_line(bytes: &[u8], out: &mut [u8], start: usize) -> Listed
@@ -269,7 +269,7 @@ pub fn put_header_line(bytes: &[u8], out: &mut [u8], start: usize) -> Listed
     }
 }
 
-// The record that the bytes are, by its number, counted from 1; base bytes come before it.
+// Writes the line of the record that the bytes are, with its number, counted from 1; base bytes come before it.
 pub fn put_record_line(
     members: u64,
     first_year: u64,

@@ -159,7 +159,7 @@ fn span_range(first_year: u64) -> Range
     range(span.start.0, span.end.0 - 1)
 }
 
-// Each holiday is above the one before it.
+// The range of a holiday: each is above the one before it.
 fn holiday_range(bytes: &[u8], place: usize) -> Range
     requires { ⌜ place ≤ mostBytes ⌝ }
     ensures { λ r. ⌜ r ≡ holidayRange (now (bytes .entry)) place ⌝ }

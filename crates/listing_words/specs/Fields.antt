@@ -1,5 +1,5 @@
--- The fields of a header and of a record, in the order of their bytes: the size and the range of each, and the first that is out of it.
--- The ranges are document 01's, "Records"; each is told from the bytes before the field.
+-- The fields of a header and of a record, in the order of their bytes: the size and the range of each, and the first that is out of it. The
+-- ranges are document 01's, "Records"; which one a field has follows from the bytes before it.
 use Prim.Native.Nat.{ℕ, zero, suc, _+_, _-_}
 use mathlib.Core.Bool.{Bool, true, false, cond, _&&_, _||_}
 use mathlib.Core.List.{List, [], _∷_, _++_}
@@ -183,7 +183,7 @@ unfoldable pub within : Range → ℕ → Bool
 within r v = leb (r .least) v && leb v (r .most)
 
 -- ---- verdicts
--- A start day is no Saturday and no Sunday; that it is no holiday is told at the holiday.
+-- A start day is no Saturday and no Sunday; that it is no holiday is tested at the holiday.
 abbrev pub dayVerdict : List ℕ → Quantity → ℕ → Verdict
 dayVerdict s Letter v = Passes
 dayVerdict s Number v = Passes

@@ -44,7 +44,7 @@ pub record LowestOf (ranks : List ℕ) (i : ℕ) : Type 0 where
   pub lowest : i < length ranks → Lowest ranks i
   pub none : i ≡ length ranks → (j : ℕ) → j < length ranks → noRank ≤ getD ranks j 0
 
--- A rank with its place in its last digits to the base 256, so that the lowest of such ranks tells where it stands.
+-- A rank with its place in its last digits to the base 256, so that the lowest of such ranks gives its place.
 unfoldable pub placedRank : ℕ → ℕ → ℕ
 placedRank i x = cond (ltb x noRank) (x * mostOrders + i) noRank
 
@@ -73,7 +73,7 @@ pub record BlockLows (column lows : List ℕ) : Type 0 where
   pub long : length lows ≡ blockCount
   pub low : (b : ℕ) → b < blockCount → LowestAmong column (b * blockSize) blockSize (getD lows b 0)
 
--- The place that the lowest rank of all tells, or the count of the orders where there is none.
+-- The place that the lowest rank of all gives, or the count of the orders where there is none.
 pub record BestPlace (lows : List ℕ) (count place : ℕ) : Type 0 where
   pub low : ℕ
   pub lowest : LowestAmong lows 0 blockCount low

@@ -1,5 +1,5 @@
-// Two columns, one number a place of the book: what is left of each order, and its rank with its place. A third has the
-// lowest rank of each block of places, so that the best order is found without a look at every rank.
+// Two columns, one number for each place of the book: what is left of each order, and its rank with its place. A third has the
+// lowest rank of each block of places, so that the best order is found without reading every rank.
 ghost use mathlib.Core.Path.{_≡_};
 ghost use mathlib.Core.Bool.{cond};
 ghost use mathlib.Core.List.{map};
@@ -27,7 +27,7 @@ const BLOCK: usize = 16;
 
 pub const BLOCKS: usize = ORDERS / BLOCK;
 
-// The rank of the order at place i, with that place in its last digits to the base 256: the lowest tells where it stands.
+// The rank of the order at place i, with that place in its last digits to the base 256: the lowest rank gives its place.
 fn rank_at(o: Order, r: Order, i: usize) -> u64
     requires { ⌜ Ranked r × (0 < r .lots .0) × (i < mostOrders) ⌝ }
     ensures { λ x. ⌜ x ≡ placedRank i (rankIn o (r .lots .0) r) ⌝ }
@@ -88,7 +88,7 @@ pub fn write_lows(ranks: &[u64], lows: &mut [u64])
     }
 }
 
-// The place that the lowest rank of all tells, or the count of the orders where there is none.
+// The place that the lowest rank of all gives, or the count of the orders where there is none.
 pub fn best_place(lows: &[u64], count: usize) -> usize
     requires { ⌜ length (now lows) ≡ blockCount ⌝ }
     ensures { λ r. ⌜ BestPlace (now (lows .entry)) count r ⌝ }
@@ -100,7 +100,7 @@ pub fn best_place(lows: &[u64], count: usize) -> usize
     count
 }
 
-// Lots of order i are used; an order used up has no rank.
+// Uses lots of order i; an order used up has no rank.
 pub fn use_lots(left: &mut [u64], ranks: &mut [u64], lows: &mut [u64], i: usize, lots: u64)
     requires { ⌜ (i < length (now left)) × (length (now left) ≤ mostOrders) × (lots ≤ getD (now left) i 0) × (length (now ranks) ≡ mostOrders) × BlockLows (now ranks) (now lows) ⌝ }
     ensures { λ _. ⌜ now (left .exit) ≡ set (now (left .entry)) i (getD (now (left .entry)) i 0 - lots) ⌝ }

@@ -32,7 +32,7 @@ pub struct Matched {
     pub left: u64,
 }
 
-// A deal with the order at i, as far as its lots and those wanted go; what is still wanted.
+// Makes a deal with the order at i, for the smaller of its lots and those wanted. The answer is what is still wanted.
 fn deal(
     book: &[u64],
     left: &mut [u64],
@@ -74,7 +74,7 @@ fn is_at(book: &[u64], count: usize, i: usize, level: u64) -> bool
     order_at(book, i).price.0 == level
 }
 
-// Level by level and in each level by rising number, until nothing is wanted or an order does not cross.
+// Matches level by level, and in each level by rising number, until nothing is wanted or an order does not cross.
 fn match_levels(
     book: &[u64],
     o: Order,

@@ -1,4 +1,4 @@
--- What the table of months asks of a ledger: that its six years lie in it.
+-- The six years of a ledger lie in the table of months.
 use Prim.Native.Nat.{ℕ, _≤_}
 use Rattle.rules.specs.Ranges.{leastFirstYear, mostFirstYear}
 

@@ -13,7 +13,7 @@ pub record IsSpan (s : Span) (k : Calendar) : Type 0 where
   pub starts : s .start .0 ≡ spanStart k
   pub ends : s .end .0 ≡ dayAfterSpan k
 
--- Of a first year, whatever the holidays.
+-- A span is that of a first year, whatever the holidays.
 abbrev pub IsSpanOf : Span → ℕ → Type 0
 IsSpanOf s year = (h : List ℕ) → IsSpan s (record { firstYear = year; holidays = h })
 
@@ -29,6 +29,6 @@ startsOf k = map (λ i. monthStart (firstMonth k + i)) (from 0 (monthsInSpan + 1
 abbrev pub lastMonth : ℕ
 lastMonth = 960
 
--- Its first day; `last-month` of rules/proofs/CalendarLaws says that monthStart gives it.
+-- The first day of that month; `last-month` of rules/proofs/CalendarLaws says that monthStart gives it.
 abbrev pub lastMonthStart : ℕ
 lastMonthStart = 29220

@@ -1,5 +1,5 @@
-// The first days of the months, a constant table, and a ledger's span among them. Callers, which are all proved code, hold the
-// first year to 2020 to 2094: what reads a header or lent tables tests it first.
+// The first days of the months, a constant table, and a ledger's span among them. The first year must be 2020 to 2094. All
+// callers are proved code; what reads a header or lent tables tests it first.
 mod months;
 mod span;
 

@@ -15,7 +15,7 @@ pub fn larger(a: u64, b: u64) -> u64
     if a < b { b } else { a }
 }
 
-// The least i64 has a size too, which -x would not have.
+// The size of x. The least i64 has one too; its -x would pass 64 bits.
 pub fn size(x: i64) -> u64
     ensures { λ r. ⌜ r ≡ natAbs x ⌝ }
 {

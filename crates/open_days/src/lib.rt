@@ -25,8 +25,8 @@ use rules::ContractKind;
 use rules::DayNo;
 use rules::Term;
 
-// As `is_open` of `contracts`: the contract's own first delivery day decides, and that of the one that must have closed
-// before it opens.
+// Whether a contract is open, as `is_open` of `contracts` finds it. Its own first delivery day decides, and that of the
+// contract that must have closed before it opens.
 fn is_open_from(starts: &[u64], least: DayNo, t: Term) -> bool
     requires { ⌜ (length (now starts) ≡ monthsInSpan + 1) × InLedger t ⌝ }
     ensures { λ r. ⌜ ((k : Calendar) (d : ℕ) → now (starts .entry) ≡ startsOf k → IsLeast k d (closingDistance (t .kind)) (least .0) → r ≡ openByCount k d t) ⌝ }
@@ -72,7 +72,7 @@ fn write_open_days(starts: &[u64], least: LeastDays, days: &mut [u64])
     }
 }
 
-// Of every contract that is open on a day its delivery days, of the others 0.
+// The delivery days of every contract that is open on a day, 0 for the others.
 pub fn find_open_days(first_year: u64, holidays: &[u64], day: DayNo, days: &mut [u64])
     requires { ⌜ FirstYear «first_year» × (length (now days) ≡ termCount) ⌝ }
     ensures { λ _. ⌜ now (days .exit) ≡ openDays (record { firstYear = «first_year»; holidays = now (holidays .entry) }) (day .0) ⌝ }

@@ -1,4 +1,4 @@
-// Orders leave the book: what is left of each stands in a column, one number a place of the book.
+// Orders leave the book: what is left of each stands in a column, one number for each place of the book.
 ghost use mathlib.Core.Path.{_≡_};
 ghost use mathlib.Core.Bool.{cond, not};
 ghost use mathlib.Core.List.{flatMap};
@@ -137,7 +137,7 @@ pub fn keep_orders(head: &mut [u64], book: &mut [u64], left: &[u64])
     head[ORDER_COUNT] = staying as u64;
 }
 
-// Some orders leave the book.
+// Removes these orders from the book.
 pub fn remove_orders(head: &mut [u64], book: &mut [u64], w: Leaving)
     requires { ⌜ (headLength ≤ length (now head)) × OrdersFit (orderCountIn (now head)) (now book) ⌝ }
     ensures { λ _. ⌜ ((t : Tables) → withHead (now (head .exit)) (withBook (now (book .exit)) t)

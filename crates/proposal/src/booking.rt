@@ -1,4 +1,4 @@
-// A proposal is booked: one line a leg, and each leg's lots taken from its order.
+// A proposal is booked: one line for each leg, and each leg's lots taken from its order.
 ghost use mathlib.Core.Path.{_≡_};
 ghost use Prim.Native.Nat.{ℕ, _*_, _-_, _≤_, _<_};
 ghost use lib.ListN.{length, getD};
@@ -33,7 +33,7 @@ pub fn total_lots(lots: &[u64], prices: &[u64]) -> u64
     sum
 }
 
-// One line a leg, in order, at the leg's price.
+// One line for each leg, in order, at the leg's price.
 pub fn book_legs(
     head: &mut [u64],
     lots: &mut [i64],
@@ -76,7 +76,7 @@ fn left_after(left: u64, lots: u64) -> u64
     left - lots
 }
 
-// The lots of each order.
+// Writes the lots of each order.
 fn write_lots(book: &[u64], left: &mut [u64])
     requires { ⌜ (length (now left) ≤ mostOrders) × (bookLength ≤ length (now book)) ⌝ }
     ensures { λ _. ⌜ now (left .exit) ≡ lotsIn (length (now (left .entry))) (now (book .entry)) ⌝ }
@@ -102,7 +102,7 @@ fn take_lots(left: &mut [u64], places: &[usize], lots: &[u64])
     }
 }
 
-// What the legs leave of each order.
+// Writes what the legs leave of each order.
 fn write_left(book: &[u64], left: &mut [u64], places: &[usize], lots: &[u64])
     requires { ⌜ (length (now left) ≤ mostOrders) × (bookLength ≤ length (now book)) × PlacesFit (length (now left)) (now places) × (length (now lots) ≡ length (now places)) ⌝ }
     ensures { λ _. ⌜ now (left .exit) ≡ leftAfter (now (places .entry)) (now (lots .entry)) (length (now (places .entry))) (lotsIn (length (now (left .entry))) (now (book .entry))) ⌝ }

@@ -20,7 +20,7 @@ use rules::layout::LOTS_RUN;
 use rules::layout::ORDER_COUNT;
 use rules::ranges::MOST_LOTS_RUN;
 
-// The proposal whose legs name the orders at these places.
+// Applies the proposal whose legs name the orders at these places.
 fn apply_at(
     head: &mut [u64],
     prices: &[u64],

@@ -1,5 +1,6 @@
-// Proposals asked of the check over leg structs, then applied as records to the same ledger. What it prints is held to the file
-// stdout, a line a case: what the check says, and the number that the record gets, with its lines where it is accepted.
+// Proposals given to the check over leg structs, then applied as records to the same ledger. What it prints must be the file
+// stdout. It has a line for each case: what the check says, and the number that the record gets, with its lines where it is
+// accepted.
 ghost use mathlib.Core.Path.{_≡_};
 ghost use Prim.Native.Nat.{_+_, _≤_};
 ghost use lib.ListN.{length};
@@ -222,7 +223,7 @@ fn show_record(
     text(b"\n");
 }
 
-// The first legs are asked of the check, then applied as a record, in a ledger where the first orders rest.
+// The first legs are given to the check, then applied as a record, in a ledger where the first orders rest.
 fn case(orders: [Submission; 12], order_count: usize, legs: [Leg; 12], count: usize)
     requires { ⌜ («order_count» ≤ 12) × (count ≤ 13) ⌝ }
 {

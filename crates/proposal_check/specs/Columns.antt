@@ -49,7 +49,7 @@ placesOf count book numbers = map (λ n. placeOf n (ordersIn count book)) number
 pub record PlacesFit (count : ℕ) (places : List ℕ) : Type 0 where
   pub below : (i : ℕ) → i < length places → getD places i 0 < count
 
--- and is of one of the ledger's contracts.
+-- Each leg's order is of one of the ledger's contracts.
 pub record ContractsFit (book places : List ℕ) : Type 0 where
   pub long : bookLength ≤ length book
   pub contract-below : (i : ℕ) → i < length places → orderAt book (getD places i 0) .contract < contractCount

@@ -1,4 +1,4 @@
--- Of the legs of one contract and side, the last in priority: a resting order is ahead of one of them exactly if it is ahead of that.
+-- The last leg in priority of one contract and side. A resting order is ahead of some leg exactly if it is ahead of this one.
 use Prim.Native.Nat.{ℕ, _≤_, _<_}
 use mathlib.Core.Path.{_≡_}
 use mathlib.Core.Bool.{Bool, not, _&&_, _||_}

@@ -1,4 +1,4 @@
--- What the check of a proposal is stated with.
+-- The definitions that the promises of this crate use.
 pub mod Columns
 pub mod SidePlaces
 pub mod Sums

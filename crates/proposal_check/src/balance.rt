@@ -67,7 +67,7 @@ fn sum_of_three(sums: &[u64], year: usize, quarter: usize, month: usize) -> u64
     sums[year] + sums[quarter] + sums[month]
 }
 
-// Whether the month's bought sum equals the sold one, which lies behind it.
+// Whether the month's bought sum equals the sold one; a contract's sold sum follows its bought one.
 fn is_month_balanced(sums: &[u64], i: u64) -> bool
     requires { ⌜ SumsFit (now sums) × (i < monthsInSpan) ⌝ }
     ensures { λ r. ⌜ r ≡ eqb (monthSum (now (sums .entry)) Buy i) (monthSum (now (sums .entry)) Sell i) ⌝ }
@@ -79,7 +79,7 @@ fn is_month_balanced(sums: &[u64], i: u64) -> bool
     sum_of_three(sums, year, quarter, month) == sum_of_three(sums, year + 1, quarter + 1, month + 1)
 }
 
-// Whether it is so in every month of the six years.
+// Whether the bought sum equals the sold one in every month of the six years.
 fn are_months_balanced(sums: &[u64]) -> bool
     requires { ⌜ SumsFit (now sums) ⌝ }
     ensures { λ r. ⌜ r ≡ balancedSums (now (sums .entry)) ⌝ }

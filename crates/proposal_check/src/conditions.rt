@@ -1,4 +1,4 @@
-// What is asked of the legs one by one, and of their members and contracts.
+// What each leg must meet, and what the legs' members and contracts must meet together.
 ghost use mathlib.Core.Path.{_≡_};
 ghost use mathlib.Core.Bool.{not, _&&_};
 ghost use Prim.Native.Nat.{_*_, _+_, _≤_, _<_};
@@ -47,7 +47,8 @@ pub fn leg_at(orders: &[u64], lots: &[u64], prices: &[u64], i: usize) -> Leg
     }
 }
 
-// A sell is from its order's price to the contract's high, a buy from the low to its order's price.
+// Whether a leg's price is allowed: a sell's from its order's price to the contract's high, a buy's from the low to its order's
+// price.
 fn is_price_allowed(prices: &[u64], leg: Leg, order: Order) -> bool
     requires { ⌜ (pricesLength ≤ length (now prices)) × (order .contract < contractCount) ⌝ }
     ensures { λ r. ⌜ ((t : Tables) → r ≡ priceAllowed (withPrices (now (prices .entry)) t) (record { leg = leg; order = order })) ⌝ }

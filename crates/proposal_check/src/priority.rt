@@ -46,7 +46,7 @@ fn is_full_leg(orders: &[u64], lots: &[u64], o: Order) -> bool
     found
 }
 
-// Whether the order is not ahead of the last leg of its contract and side, or a leg in full.
+// Whether the order is not ahead of the last leg of its contract and side, or is a leg in full.
 fn is_kept(lasts: &[u64], orders: &[u64], lots: &[u64], o: Order) -> bool
     requires { ⌜ (length (now lasts) ≡ sidePlaces) × (length (now lots) ≡ length (now orders)) × (o .contract < contractCount) × Ranked o ⌝ }
     ensures { λ r. ⌜ r ≡ keptBy (now (lasts .entry)) (now (orders .entry)) (now (lots .entry)) o ⌝ }
@@ -58,7 +58,7 @@ fn is_kept(lasts: &[u64], orders: &[u64], lots: &[u64], o: Order) -> bool
     is_full_leg(orders, lots, o)
 }
 
-// Whether it is so of each order of the book.
+// Whether each order of the book is not ahead of the last leg of its contract and side, or is a leg in full.
 fn are_kept(book: &[u64], count: usize, lasts: &[u64], orders: &[u64], lots: &[u64]) -> bool
     requires { ⌜ OrdersRanked count (now book) × (length (now lasts) ≡ sidePlaces) × (length (now lots) ≡ length (now orders)) ⌝ }
     ensures { λ r. ⌜ r ≡ every (keptBy (now (lasts .entry)) (now (orders .entry)) (now (lots .entry))) (ordersIn count (now (book .entry))) ⌝ }

@@ -25,7 +25,7 @@ fn are_lent_acceptable<'t>(
     are_legs_acceptable(&legs[..count], head, prices, book)
 }
 
-// A count past the array's 12 legs is no proposal's.
+// Whether the first legs make an acceptable proposal; a count past the array's 12 legs makes none.
 pub fn are_first_acceptable<'t>(
     legs: [Leg; LEG_PLACES],
     count: usize,

@@ -37,7 +37,7 @@ pub fn order_kind_of(b: u64) -> OrderKind
     OrderKind::Teye
 }
 
-// It fits a byte.
+// The number of an order kind, which fits a byte.
 pub fn order_kind_number(kind: OrderKind) -> u64
     ensures { λ r. ⌜ (r ≡ orderKindNumber kind) × (r < 256) ⌝ }
 {
@@ -48,7 +48,7 @@ pub fn order_kind_number(kind: OrderKind) -> u64
     }
 }
 
-// It fits a byte.
+// The number of an event's kind of record, which fits a byte.
 pub fn kind_number(event: Event) -> u64
     ensures { λ r. ⌜ (r ≡ kindNumber event) × (r < 256) ⌝ }
 {

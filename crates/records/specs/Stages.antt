@@ -40,7 +40,7 @@ lengthByNow last left UnknownKind = 1
 abbrev pub lengthNow : Bool → List ℕ → ℕ
 lengthNow last s = lengthByNow last (length s) (frontOf s)
 
--- The same, or 0 where the journal was stopped or the output may lack room.
+-- How many bytes the next record has, or 0 where it cannot be run now: it is cut, the journal was stopped, or the output may lack room.
 unfoldable pub readyLength : Bool → Bool → ℕ → List ℕ → ℕ
 readyLength last stopped room s = cond stopped 0 (cond (ltb room roomWanted) 0 (lengthNow last s))
 
@@ -61,7 +61,7 @@ remaining ReadToEnd t s = []
 remaining RecordUnsound t s = []
 remaining HeaderUnsound t s = []
 
--- Stages follow each other.
+-- The rank of a stage: one that follows another has a higher rank.
 abbrev pub rank : Stage → ℕ
 rank Header = 0
 rank (Records n k) = 1
@@ -81,7 +81,7 @@ Counts ReadToEnd most = Unit {0}
 Counts RecordUnsound most = Unit {0}
 Counts HeaderUnsound most = Unit {0}
 
--- Less than a header or a record is left.
+-- Less than a whole header or record is left.
 abbrev pub Short : Stage → List ℕ → Type 0
 Short Header s = length s < headerLength s
 Short (Records n k) s = frontOf s ≡ Cut
@@ -91,8 +91,8 @@ Short ReadToEnd s = ⊥
 Short RecordUnsound s = ⊥
 Short HeaderUnsound s = ⊥
 
--- Bytes are wanted only where too few are left and more can come, room only where a record may need it; else the next
--- stage is reached.
+-- What a call may ask for: bytes, if less than a header or record is left and more can come; room, if a record may need it; else
+-- nothing, and the next stage is reached.
 abbrev pub Asks : Wants → Stage → Stage → List ℕ → Bool → ℕ → Type 0
 Asks Nothing before after left last room = rank before < 3 → rank before < rank after
 Asks Bytes before after left last room = (last ≡ false) × Short after left

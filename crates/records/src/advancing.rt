@@ -14,7 +14,7 @@ use crate::stage::Wants;
 use crate::stage::standing;
 use printing::put_end;
 
-// E after the last record.
+// Prints E after the last record.
 fn end_read(out: &mut [u8], filled: usize, counted: u64, accepted: u64, head: &[u64]) -> Progress
     requires { ⌜ (filled + lineRoom ≤ length (now out)) × (accepted ≤ counted) × (headLength ≤ length (now head)) ⌝ }
     ensures { λ r. ⌜ EndPrinted ReadToEnd counted accepted (now (head .entry)) filled (now (out .entry)) (now (out .exit)) r ⌝ }
@@ -23,7 +23,7 @@ fn end_read(out: &mut [u8], filled: usize, counted: u64, accepted: u64, head: &[
     standing(end, Stage::ReadToEnd, Wants::Nothing)
 }
 
-// E after a record that was number 3.
+// Prints E after a record that was number 3.
 fn end_stopped(out: &mut [u8], filled: usize, counted: u64, accepted: u64, head: &[u64]) -> Progress
     requires { ⌜ (filled + lineRoom ≤ length (now out)) × (accepted ≤ counted) × (headLength ≤ length (now head)) ⌝ }
     ensures { λ r. ⌜ EndPrinted RecordUnsound counted accepted (now (head .entry)) filled (now (out .entry)) (now (out .exit)) r ⌝ }
@@ -32,7 +32,7 @@ fn end_stopped(out: &mut [u8], filled: usize, counted: u64, accepted: u64, head:
     standing(end, Stage::RecordUnsound, Wants::Nothing)
 }
 
-// What can be run of these bytes at a stage. The last bytes of a journal are told by is_last.
+// Runs what can be run of these bytes at a stage. is_last says that they are the last of the journal.
 pub fn advance(
     stage: Stage,
     bytes: &[u8],

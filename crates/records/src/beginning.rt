@@ -31,7 +31,7 @@ fn length_of(bytes: &[u8]) -> usize
     header_length(members, holidays) as usize
 }
 
-// A header that is cut waits for more bytes, if any can come.
+// Reads the header and makes a ledger. Where the header is cut, more bytes are asked for, if any can come.
 pub fn begin(
     bytes: &[u8],
     is_last: bool,

@@ -21,7 +21,7 @@ pub struct Printed {
     pub end: usize,
     // 1 if the record was accepted, else 0.
     pub accepted: u64,
-    // It was number 3.
+    // Whether the record was number 3.
     pub is_unsound: bool,
 }
 

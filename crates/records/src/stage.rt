@@ -7,7 +7,7 @@ use rules::layout::LINES_LENGTH;
 // The most that one record prints, 200 lines, and one line more.
 pub const ROOM: usize = (LINES_LENGTH / LINE_WIDTH + 1) * LINE_ROOM;
 
-// With the records counted so far, and those of them that were accepted.
+// How far a journal has been run, with the records counted so far and those of them that were accepted.
 pub enum Stage {
     // The header is to be read.
     Header,
@@ -17,18 +17,18 @@ pub enum Stage {
     Read { counted: u64, accepted: u64 },
     // A record was number 3, and E is left.
     Stopped { counted: u64, accepted: u64 },
-    // All is printed of a journal that was read to its end.
+    // All is printed: the journal was read to its end.
     ReadToEnd,
-    // All is printed of a journal with a record that was number 3.
+    // All is printed: a record was number 3.
     RecordUnsound,
-    // All is printed of a journal with a header that was number 2.
+    // All is printed: the header was number 2.
     HeaderUnsound,
 }
 
 pub enum Wants {
     // The next stage can begin.
     Nothing,
-    // Less than a header or a record is left.
+    // Less than a whole header or record is left.
     Bytes,
     // The output has less room than a record may need.
     Room,

@@ -1,4 +1,4 @@
--- Quotes and reference prices by columns, one number a contract: the best price that quotes, 0 where none does.
+-- Quotes and reference prices by columns, one number for each contract: the best price that quotes, 0 where none does.
 use Prim.Native.Nat.{ℕ, _+_, _*_, _≤_, _<_}
 use mathlib.Core.Path.{_≡_}
 use mathlib.Core.Bool.{Bool, cond, _&&_, _||_}
@@ -66,7 +66,7 @@ pub record DealsFit (prices : List ℕ) : Type 0 where
   pub most-lots : (c : ℕ) → c < contractCount → getD prices (dayLotsPlace c) 0 ≤ mostLotsRun
   pub most-value : (c : ℕ) → c < contractCount → getD prices (dayValuePlace c) 0 ≤ mostPrice * mostLotsRun
 
--- A column of prices, one a contract.
+-- A column of prices, one for each contract.
 pub record ColumnFit (column : List ℕ) : Type 0 where
   pub all : length column ≡ contractCount
   pub most : (c : ℕ) → c < contractCount → getD column c 0 ≤ mostPrice

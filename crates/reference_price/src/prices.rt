@@ -20,7 +20,7 @@ use rules::layout::DAY_VALUE;
 use rules::layout::GGF;
 use rules::layout::PRICE_WIDTH;
 
-// Halves round up.
+// A quotient rounded to the nearest number; halves round up.
 fn rounded(n: u64, d: u64) -> u64
     requires { ⌜ (1 ≤ d) × (d ≤ 8 * mostLotsRun) × (n ≤ 8 * (mostPrice * mostLotsRun)) ⌝ }
     ensures { λ r. ⌜ r ≡ roundedHalfUp n d ⌝ }
@@ -28,7 +28,8 @@ fn rounded(n: u64, d: u64) -> u64
     (2 * n + d) / (2 * d)
 }
 
-// With the best buy and the best sell that quote, or 0; fewer lots than the threshold were dealt.
+// The GGF where fewer lots than the threshold were dealt, from the best buy and the best sell that quote, each 0 where none
+// does.
 fn quoted_price(lots: u64, value: u64, former: u64, buy: u64, sell: u64) -> u64
     requires { ⌜ (lots ≤ mostLotsRun) × (value ≤ mostPrice * mostLotsRun) × (buy ≤ mostPrice) × (sell ≤ mostPrice) ⌝ }
     ensures { λ r. ⌜ r ≡ quotedFrom lots value former buy sell ⌝ }
@@ -71,7 +72,7 @@ fn write_ggf(prices: &mut [u64], buys: &[u64], sells: &[u64], contract: usize)
     prices[at + GGF] = ggf;
 }
 
-// A contract that is still to close is open while fewer than its kind's count are; the answer is how many more can be.
+// Writes the GGF of a contract that is still to close if more of its kind can be open. The answer is how many more can be then.
 fn write_if_open(
     prices: &mut [u64],
     buys: &[u64],

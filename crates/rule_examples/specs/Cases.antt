@@ -20,7 +20,7 @@ use Rattle.rules.specs.Refusals.{applySpec}
 use Rattle.rules.specs.Computed.{tablesAfter, computed}
 use Rattle.rules.specs.ExampleRecords.{buy, sell, proposal, close, made, order}
 
--- What a case is asked of.
+-- What a case computes, and from which numbers.
 data Input : Type 0 where
   -- the closing day of a contract in a ledger with that first year and no holidays
   closing : ℕ → ℕ → Input
@@ -36,7 +36,7 @@ data Input : Type 0 where
   least : ℕ → List ℕ → Input
   received : ℕ → List ℕ → Input
 
--- ---- how it is asked
+-- ---- how it is computed
 dayNumber : Day → ℕ
 dayNumber (On d) = d .0
 dayNumber NoDay = 0

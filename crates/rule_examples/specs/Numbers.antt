@@ -37,7 +37,7 @@ oneDefaulted run = held ((0, 17, pos 5) ∷ []) (marked (0 ∷ []) (inPrices (wi
 abbrev legs : ℕ → List ℕ
 legs n = proposal (map (λ i. (i, 1, 1)) (from 0 n))
 
--- ---- the answers: tables, a record, and what is told
+-- ---- the answers: tables, a record, and its answer
 answers : List (Tables × List ℕ × Told)
 answers =
     -- 1: 199 places for lines; time 86,400
@@ -103,7 +103,7 @@ answers =
     -- 10; OEYE that meets nothing is accepted
     ∷ (monday, submit 36000 Teye Buy 0 17 26000 1, no 10)
     ∷ (monday, submit 36000 Oeye Buy 0 17 26000 1, lines 0)
-    -- 11 needs a full book, which takes long to compute: crate rule_examples has it
+    -- 11 needs a full book, which takes long to compute: crate full_book has it
     -- 12
     ∷ (after (buy 0 17 26000 1 ∷ []), cancel 36000 1 0, no 12)
     -- 14; 15; 16

@@ -55,13 +55,13 @@ month-next i =
     rw (e, f, g) (omega (arith, year-next y, total-more (monthDays (2020 + y)) 0 11)))
     (λ l. let e : suc i / 12 ≡ y = omega arith in let f : suc i % 12 ≡ suc (i % 12) = omega arith in rw (e, f, total-more, zero-add) (omega arith))
 
--- A later month starts no earlier,
+-- A later month starts no earlier.
 pub month-le : (i j : ℕ) → i ≤ j → monthStart i ≤ monthStart j
 month-le zero zero h = omega arith
 month-le (suc i) zero h = absurd (omega arith)
 month-le i (suc j) h = le-or-lt i j (λ l. omega (arith, month-le i j l, month-next j)) (λ l. let e : i ≡ suc j = omega arith in rw e (omega arith))
 
--- and a month that is another one at least 28 days later.
+-- A month that comes after another starts at least 28 days later.
 pub month-lt : (i j : ℕ) → i < j → monthStart i + 28 ≤ monthStart j
 month-lt i j h = omega (arith, month-le (suc i) j h, month-next i, month-least i)
 
@@ -294,20 +294,20 @@ module _ (k : Calendar) where
           (λ m. same-or (z .0) d (λ q. rw (le-ltb (z .0) d m, eq-eqb (z .0) d q)) (λ q. never (sym (closing-business t z e .0) ∙ next-business d x n .3 (z .0) (omega arith) l)))
           (λ m. rw (lt-ltb (z .0) d m))))
 
-  -- Of two contracts, the one that keeps no more distance and delivers no earlier closes no earlier,
+  -- Of two contracts, the one that keeps no more distance and delivers no earlier closes no earlier.
   pub closes-no-earlier : (d : ℕ) (s t : Term) → closingDistance (t .kind) ≤ closingDistance (s .kind) → termFirstDay k s ≤ termFirstDay k t → stillToClose k d s ≡ true → stillToClose k d t ≡ true
   closes-no-earlier d s t l f c = to-close-enough d t (omega (arith, to-close-least d s c, between-up d (termFirstDay k s) (termFirstDay k t) f))
 
-  -- and, where it keeps less distance, closes later.
+  -- Of two contracts, the one that keeps less distance and delivers no earlier closes later.
   pub closes-later : (d : ℕ) (s t : Term) → closingDistance (t .kind) < closingDistance (s .kind) → termFirstDay k s ≤ termFirstDay k t → stillToClose k d s ≡ true → stillToClose k (suc d) t ≡ true
   closes-later d s t l f c = to-close-enough (suc d) t (omega (arith, to-close-least d s c, between-up (suc d) (termFirstDay k s) (termFirstDay k t) f, between-later d (termFirstDay k s)))
 
-  -- A year's quarters close on a later day than the year,
+  -- A year's quarters close on a later day than the year.
   pub quarter-later : (d i q : ℕ) → stillToClose k d (nth Year i) ≡ true → stillToClose k (suc d) (nth Quarter (4 * i + q)) ≡ true
   unfolding termFirstDay
   quarter-later d i q c = closes-later d (nth Year i) (nth Quarter (4 * i + q)) (omega arith) (month-le _ _ (omega arith)) c
 
-  -- and a quarter's months no earlier than the quarter.
+  -- A quarter's months close no earlier than the quarter.
   pub month-no-earlier : (d i m : ℕ) → stillToClose k d (nth Quarter i) ≡ true → stillToClose k d (nth Month (3 * i + m)) ≡ true
   unfolding termFirstDay
   month-no-earlier d i m c = closes-no-earlier d (nth Quarter i) (nth Month (3 * i + m)) (omega arith) (month-le _ _ (omega arith)) c
@@ -319,16 +319,16 @@ module _ (k : Calendar) where
       rw (z, quarter-of c (e - c - 1) h (omega arith)) (quarter-later d (c / 17) (e - c - 1) (rw (term-year c h) at w))
 
   -- ---- open
-  -- Of a kind, what comes later delivers no earlier,
+  -- Of a kind, what comes later delivers no earlier.
   pub first-le : (s : ContractKind) (i j : ℕ) → i ≤ j → termFirstDay k (nth s i) ≤ termFirstDay k (nth s j)
   unfolding termFirstDay
   first-le s i j l = month-le _ _ (omega (arith, mul-le-mul-left (monthsIn s) l))
 
-  -- and closes no earlier.
+  -- Of a kind, what comes later closes no earlier.
   pub to-close-up : (d : ℕ) (s : ContractKind) (i j : ℕ) → i ≤ j → stillToClose k d (nth s i) ≡ true → stillToClose k d (nth s j) ≡ true
   to-close-up d s i j l c = closes-no-earlier d (nth s i) (nth s j) (omega arith) (first-le s i j l) c
 
-  -- Which of a kind are open, by counting,
+  -- Which contracts of a kind are open, by counting.
   any-open : (d : ℕ) (s : ContractKind) (c : ℕ)
       → any (λ x. eqb x c) (openOfKind k d s) ≡ ltb (termOf c .index) (sizeOf s) && (openByCount k d (nth s (termOf c .index)) && eqb (numberOf s (termOf c .index)) c)
   unfolding openOfKind openByCount ahead
@@ -336,7 +336,7 @@ module _ (k : Calendar) where
       let only : (j : ℕ) → eqb (numberOf s j) c ≡ true → j ≡ termOf c .index = λ j e. ap (λ (t : Term). t .index) (sym (term-number s j) ∙ ap termOf (eqb-true (numberOf s j) c e)) in
       rw (contracts-of s) (picked (numberOf s) (λ x. stillToClose k d (termOf x)) c (termOf c .index) only (sizeOf s) (openCount s) ∙ simp term-number)
 
-  -- and which of all numbers.
+  -- Which of all numbers are open, by counting.
   open-counted : (d c : ℕ) → openOn k d c ≡ hasTerm c && openByCount k d (termOf c)
   unfolding openOn
   open-counted d c =
@@ -387,19 +387,19 @@ module _ (k : Calendar) where
       go Quarter h = rw (other-kind d Year c h refl, other-kind d Month c h refl) (or-false (listed Quarter))
       go Month h = rw (other-kind d Year c h refl, other-kind d Quarter c h refl)
 
-  -- Two closing days decide what is open: what has closed is not open;
+  -- Two closing days decide what is open. What has closed is not open.
   pub open-closed : (d : ℕ) (t : Term) → stillToClose k d t ≡ false → openByCount k d t ≡ false
   unfolding openByCount
   open-closed d t c = rw c
 
-  -- what is still to close is open if it is among the first of the ledger's,
+  -- What is still to close is open if it is among the first of the ledger's.
   pub open-first : (d : ℕ) (t : Term) → stillToClose k d t ≡ true → t .index < openCount (t .kind) → openByCount k d t ≡ true
   unfolding openByCount ahead
   open-first d t c l =
       let p : ℕ → Bool = λ j. stillToClose k d (nth (t .kind) j) in
       rw c (lt-ltb (count p (t .index)) (openCount (t .kind)) (omega (arith, count-most p (t .index))))
 
-  -- and else if the one that lies its kind's open count before it has closed.
+  -- What is still to close and not among the first is open exactly if the one that lies its kind's open count before it has closed.
   pub open-rank : (d : ℕ) (t : Term) → stillToClose k d t ≡ true → openCount (t .kind) ≤ t .index → openByCount k d t ≡ not (stillToClose k d (nth (t .kind) (t .index - openCount (t .kind))))
   unfolding openByCount ahead
   open-rank d t c l = rw c (rank (λ j. stillToClose k d (nth (t .kind) j)) (to-close-up d (t .kind)) (openCount (t .kind)) (t .index) (open-pos (t .kind)) l)

@@ -49,7 +49,7 @@ log t [] = []
 log t (call ∷ calls) = let o = callSpec t call in linesOf (o .answer) (o .after .lines) ++ log (o .after) calls
 
 -- ---- the engine's account
--- The sum, in a member's rows of all contracts whose period holds the hour.
+-- The sum of a member's rows over all contracts whose period holds the hour.
 unfoldable pub engineAccount : Calendar → (ℕ → ℕ → ℤ) → ℕ → ℕ → ℤ
 engineAccount k row m h = sum contractCount (λ c. when (holdsHour k c h) (row c m))
 

@@ -1,5 +1,5 @@
--- A record of each kind and a header, written out by hand from document 01's field list, with values that change if
--- their bytes are turned round: so a slip that reader and writer share cannot hide.
+-- A record of each kind and a header, written out by hand from document 01's field list. Their values change if their bytes are
+-- exchanged, so that a slip in both reader and writer is seen.
 use Prim.Native.Nat.{ℕ}
 use mathlib.Core.Path.{_≡_, refl}
 use mathlib.Core.Bool.{true, false}

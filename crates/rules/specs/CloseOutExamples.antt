@@ -33,7 +33,7 @@ larger-minimum-first : closedOut (0 ∷ []) ((0, 17, pos 3) ∷ (1, 17, negsuc 0
 unfolding computed closedOut lent held marked
 larger-minimum-first = refl
 
--- Step 1, the lowest member first on each side; step 2, what is left of member 2. Others' lots of that side take too.
+-- Step 1, the lowest member first on each side; step 2, what is left of member 2. Member 4, whose lots are of that side, takes it.
 netting : closedOut (0 ∷ 1 ∷ 2 ∷ 3 ∷ []) ((0, 17, negsuc 2) ∷ (1, 17, pos 3) ∷ (2, 17, pos 3) ∷ (3, 17, negsuc 0) ∷ (4, 17, pos 7) ∷ []) 1000
     ≡ accepted
     (line 0 17 (pos 3) 26000 ∷ line 1 17 (negsuc 2) 26000 ∷ line 2 17 (negsuc 0) 26000 ∷ line 3 17 (pos 1) 26000

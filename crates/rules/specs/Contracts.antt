@@ -115,12 +115,12 @@ abbrev pub notBefore : Day → ℕ → Bool
 notBefore (On x) d = leb d (x .0)
 notBefore NoDay d = false
 
--- It is day d.
+-- A day that is looked for is day d.
 abbrev pub isOn : Day → ℕ → Bool
 isOn (On x) d = eqb (x .0) d
 isOn NoDay d = false
 
--- It is earlier than day d.
+-- A day that is looked for is earlier than day d.
 abbrev pub isBefore : Day → ℕ → Bool
 isBefore (On x) d = ltb (x .0) d
 isBefore NoDay d = true

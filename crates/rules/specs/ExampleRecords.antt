@@ -105,7 +105,7 @@ refused n = record { answer = record { number = n; value = 0 }; lines = [] }
 abbrev pub refusedOf : ℕ → ℕ → Printed
 refusedOf n v = record { answer = record { number = n; value = v }; lines = [] }
 
--- What is asked of each of these, beside its answer.
+-- A function of each of these has the value beside it.
 abbrev pub Each : {A B : Type 0} → (A → B) → List (A × B) → Type 0
 Each asked xs = map (λ x. asked (x .0)) xs ≡ map (λ x. x .1) xs
 

@@ -34,7 +34,7 @@ unfoldable pub namedLegs : List Order → List Leg → List Named
 namedLegs os [] = []
 namedLegs os (g ∷ gs) = elim (numbered (g .order) os) [ none ↦ namedLegs os gs | some o ↦ record { leg = g; order = o } ∷ namedLegs os gs ]
 
--- ---- what is asked of them
+-- ---- what they must meet
 abbrev pub hasLots : Named → Bool
 hasLots n = leb (n .leg .lots .0) (n .order .lots .0)
 

@@ -1,6 +1,6 @@
 // The answer to a record or to a header: a case for each cause of document 01, in its order.
 pub enum Answer {
-    // With the number of deal lines; of a writer, of the bytes written.
+    // With the number of deal lines or, from a writer, of bytes written.
     Accepted(u64),
     TableUnsound,
     HeaderUnsound,

@@ -13,7 +13,7 @@ pub fn side_of(n: u64) -> Side
     Side::Sell
 }
 
-// It fits a byte.
+// The number of a side, which fits a byte.
 pub fn side_number(side: Side) -> u64
     ensures { λ r. ⌜ (r ≡ sideNumber side) × (r < 256) ⌝ }
 {

@@ -21,7 +21,7 @@ use submit_causes::Verdict;
 use submit_causes::first_cause;
 use submit_causes::measured_cause;
 
-// What refuses it is known before anything is written.
+// What refuses a submit is known before anything is written.
 pub fn apply(
     head: &mut [u64],
     prices: &mut [u64],

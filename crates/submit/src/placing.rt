@@ -22,7 +22,7 @@ use rules::layout::ORDERS;
 use rules::ranges::MOST_LOTS;
 use submit_causes::is_resting;
 
-// A deal takes one lot at least.
+// Places for the deals of an order: each takes one lot at least.
 const DEAL_PLACES: usize = MOST_LOTS as usize * DEAL_WIDTH;
 
 // What is left of an order that rests comes last in the book, under its own number.
@@ -39,7 +39,7 @@ fn rest_order(head: &mut [u64], book: &mut [u64], kind: OrderKind, o: Order, lef
     }
 }
 
-// Lots cross. Only then are there columns to write: what is left of each order, and the deals.
+// Places an order of which some lots cross. Only then are there columns to write: what is left of each order, and the deals.
 fn trade(
     head: &mut [u64],
     prices: &mut [u64],
@@ -84,7 +84,7 @@ fn trade(
     Answer::Accepted(count as u64 * 2)
 }
 
-// So many lots cross.
+// Places an order of which so many lots cross.
 pub fn place_order(
     head: &mut [u64],
     prices: &mut [u64],

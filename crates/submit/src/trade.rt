@@ -31,7 +31,7 @@ fn add_dealt(prices: &mut [u64], contract: u64, lots: u64, worth: u64)
     prices[at + DAY_VALUE] = all_worth;
 }
 
-// With a column for what is left of each order and one for the deals.
+// Matches an order and writes M, V and the book. One column is for what is left of each order, one for the deals.
 pub fn settle(
     head: &mut [u64],
     prices: &mut [u64],

@@ -1,4 +1,4 @@
--- A submit's causes in two parts: those that the head and the prices tell, and those that the book tells.
+-- A submit's causes in two parts: those that follow from head and prices, and those that need the book.
 use Prim.Native.Nat.{ℕ, _+_, _*_, min}
 use mathlib.Core.Bool.{Bool, not, _&&_, _||_}
 use mathlib.Core.List.{List, [], _∷_}
@@ -20,7 +20,7 @@ abbrev pub outcome : Verdict → Tables → Outcome Tables → Outcome Tables
 outcome (Refused a) t booked = record { answer = a; after = t }
 outcome Sound t booked = booked
 
--- 4 to 8.
+-- Causes 4 to 8.
 abbrev pub firstCauses : Tables → Submission → List (Bool × Answer)
 firstCauses t e =
     (ltb (e .time) (time t), TimeBelowLedger)
@@ -30,8 +30,8 @@ firstCauses t e =
     ∷ (leb mostSubmitsInSecond (submitsAt t (e .time) (e .member)), SixthSubmit)
     ∷ []
 
--- 9, 10, 11 and 17, where the member has so many own lots resting and so many lots cross: the order is matched with
--- the smaller of its lots and the lots that cross, and it rests beside as many orders as before only where none cross.
+-- Causes 9, 10, 11 and 17, from the member's own resting lots and the lots that cross. The order is matched with the smaller of its
+-- lots and the lots that cross. Only where none cross does it rest beside as many orders as before.
 abbrev pub measuredCauses : ℕ → ℕ → Tables → Submission → List (Bool × Answer)
 measuredCauses own crossing t e =
     (ltZ (pos (limit t (e .member))) (mirrored (e .side) (lotsAt t (e .contract) (e .member)) +ℤ pos (own + e .lots .0)), AboveLimit)

@@ -1,4 +1,4 @@
--- What code may count on of a submit that was read.
+-- What code may assume of a submit that was read.
 use Prim.Native.Nat.{ℕ, _+_, _≤_, _<_}
 use mathlib.Core.Path.{_≡_}
 use mathlib.Core.Bool.{true}

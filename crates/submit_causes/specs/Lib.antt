@@ -1,3 +1,3 @@
--- What the causes of a submit are stated with.
+-- The definitions that the promises of this crate use.
 pub mod Fit
 pub mod Causes

@@ -78,7 +78,7 @@ fn submits_at(head: &[u64], time: u64, member: u64) -> u64
     head[SUBMITS + member as usize]
 }
 
-// What the head and the prices tell.
+// The first that holds of the causes that follow from head and prices.
 pub fn first_cause(head: &[u64], prices: &[u64], e: Submission) -> Verdict
     requires { ⌜ HeadFit (now head) × (pricesLength ≤ length (now prices)) × SubmissionFit (now head) e ⌝ }
     ensures { λ r. ⌜ ((t : Tables) (b : Outcome Tables) → outcome r (withHead (now (head .entry)) (withPrices (now (prices .entry)) t)) b
@@ -105,7 +105,7 @@ pub fn first_cause(head: &[u64], prices: &[u64], e: Submission) -> Verdict
     Verdict::Sound
 }
 
-// What the book tells: the member's own lots there and the lots that cross.
+// The first that holds of the causes that need the book: the member's own lots there and the lots that cross.
 pub fn measured_cause(head: &[u64], lots: &[i64], e: Submission, found: Crossing) -> Verdict
     requires { ⌜ HeadFit (now head) × RowsFit (membersIn (now head)) (lotsRunIn (now head)) (now lots) × SubmissionFit (now head) e ⌝ }
     requires { ⌜ found .own ≤ mostOrders * mostLots ⌝ }

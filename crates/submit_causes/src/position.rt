@@ -10,7 +10,7 @@ ghost use Rattle.rules.specs.Matching.{mirrored};
 use rules::Side;
 use rules::layout::ROW_WIDTH;
 
-// Buys less sells; mirrored for a sell.
+// A member's buys less its sells; mirrored for a sell.
 pub struct NetLots(i64);
 
 pub fn position(lots: &[i64], contract: u64, member: u64, side: Side) -> NetLots

@@ -1,4 +1,4 @@
--- What code may count on of lent tables that passed their tests: lengths, counts and ranges, table by table.
+-- What code may assume of lent tables that passed their tests: lengths, counts and ranges, table by table.
 use Prim.Native.Nat.{ℕ, _+_, _*_, _≤_, _<_}
 use mathlib.Core.Path.{_≡_}
 use mathlib.Core.Bool.{true}

@@ -25,7 +25,7 @@ fn clear(places: &mut [u64])
     }
 }
 
-// So many places, from one on.
+// Sets so many places to zero, from one on.
 pub fn clear_at(places: &mut [u64], at: usize, count: usize)
     requires { ⌜ at + count ≤ length (now places) ⌝ }
     ensures { λ _. ⌜ now (places .exit) ≡ over at (replicate count 0) (now (places .entry)) ⌝ }

@@ -29,7 +29,7 @@ pub fn is_contract_open(head: &[u64], contract: u64) -> bool
     )
 }
 
-// An accepted record's time; in a later second nobody has submitted yet.
+// Writes an accepted record's time; in a later second nobody has submitted yet.
 pub fn set_time(head: &mut [u64], time: u64)
     requires { ⌜ (headLength ≤ length (now head)) × (membersIn (now head) ≤ mostMembers) ⌝ }
     ensures { λ _. ⌜ ((t : Tables) → withHead (now (head .exit)) t ≡ timed time (withHead (now (head .entry)) t)) ⌝ }

@@ -62,7 +62,7 @@ pub fn put_field(out: &mut [u8], place: usize, n: u64) -> usize
     put_decimal(out, digits, n)
 }
 
-// The same of a signed number.
+// A space and a signed number, which take at most 21 places.
 pub fn put_signed_field(out: &mut [u8], place: usize, x: i64) -> usize
     requires { ⌜ place + 21 ≤ length (now out) ⌝ }
     ensures { λ r. ⌜ Wrote place (space ∷ signedDecimal x) (now (out .entry)) (now (out .exit)) r × (r ≤ place + 21) ⌝ }
