@@ -15,7 +15,7 @@ import sys
 ROOT = pathlib.Path(__file__).resolve().parents[2]
 PAGES = [ROOT / "README.md", *sorted((ROOT / "docs").glob("*.md"))]
 PLACES = ("crates", "include", "programs", "tests", ".ci", "examples")
-COMMANDS = ("rt", "gcc", "rustc", "tar", "make")
+COMMANDS = ("rt", "gcc", "rustc", "tar", "make", "durskafn")
 
 LINK = re.compile(r"\[[^\]]*\]\(([^)\s]+)\)")
 REFERENCE = re.compile(r"^\[([^\]]+)\]: (\S+)$", re.M)
