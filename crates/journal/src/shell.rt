@@ -59,9 +59,18 @@ fn first_place(progress: Progress) -> Place
 // How many records were run, for progress.
 fn counted_by(stage: Stage) -> u64 {
     match stage {
-        Stage::Records { counted, accepted: _ } => counted,
-        Stage::Read { counted, accepted: _ } => counted,
-        Stage::Stopped { counted, accepted: _ } => counted,
+        Stage::Records {
+            counted,
+            accepted: _,
+        } => counted,
+        Stage::Read {
+            counted,
+            accepted: _,
+        } => counted,
+        Stage::Stopped {
+            counted,
+            accepted: _,
+        } => counted,
         _ => 0,
     }
 }

@@ -1,5 +1,4 @@
-use Prim.Native.Nat.{_-_}
-use mathlib.Core.Path.{_≡_, refl}
+use mathlib.Core.Path.{_≡_}
 use native.Mathlib.Omega.{arith}
 use lib.ListN.{length}
 use Rattle.streams.specs.Windows.{Within}
@@ -16,7 +15,10 @@ abbrev μ-loop : tie.MeasureT-loop
 μ-loop input₀ output window₀ turns₀ input window turns = turns
 
 loop-again : tie.Need-loop-again Inv-loop μ-loop
-loop-again c = ?
+loop-again c =
+    let more = c .before .before .before .before .before in
+    let inv = more .before .before .before .before .before .before .before .before .before .loop .inv in
+    (read-within _ _ _ _ (more .read-more .ensures) (inv .1) (c .before .next .given .1), omega (arith, more .read-more .kept .1 .1 .0, inv .1))
 
 pub read-header-spec : {M : Type 1} → statement M
 read-header-spec =

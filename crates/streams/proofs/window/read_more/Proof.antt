@@ -5,7 +5,6 @@ use borrow.Author.Needs.{needs}
 use Rattle.streams.proofs.window.read_more.Statement.{statement}
 use Rattle.streams.proofs.window.read_more.Tie as tie
 
-
 sub-read-on : tie.Need-sub-read-on
 sub-read-on c = filled-until _ _ (c .before .before .before .before .before .fill .ensures .0) (c .before .end .given .1) .0
 
