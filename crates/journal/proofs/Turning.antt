@@ -2,13 +2,12 @@
 use Prim.Native.Nat.{ℕ, _+_, _-_, _*_, _^_, _<_, _≤_}
 use mathlib.Core.List.{List}
 use mathlib.Core.Path.{_≡_}
-use native.Mathlib.Nat.{min-le-left}
 use native.Mathlib.Omega.{arith}
-use lib.ListN.{length, take, drop, length-take}
+use lib.ListN.{length, take, drop}
 use Rattle.records.specs.declared.stage.Stage.{Stage}
 use Rattle.records.specs.declared.stage.Stage.the-variants.{Header, Records, Read, Stopped, ReadToEnd, RecordUnsound, HeaderUnsound}
 use Rattle.records.specs.Stages.{Counts}
-use Rattle.streams.specs.declared.window.Window.{Window}
+use Rattle.streams.proofs.Reading.{part-length}
 use Rattle.journal.specs.declared.shell.Next.{Next}
 use Rattle.journal.specs.declared.shell.Next.the-variants.{Going}
 use Rattle.journal.specs.declared.shell.Place.{Place}
@@ -28,9 +27,6 @@ counts-most RecordUnsound most more h c = tt
 counts-most HeaderUnsound most more h c = tt
 
 -- The part of the buffer that a turn runs, and what it leaves of it.
-pub part-length : (w : Window) (l : List ℕ) → length (take (w .end - w .from) (drop (w .from) l)) ≤ w .end - w .from
-part-length w l = rw length-take (min-le-left (w .end - w .from) (length (drop (w .from) l)))
-
 module _ (p : Place) (l : List ℕ) (s : Stands p) (few : p .turns < mostTurns) where
   abbrev part : List ℕ
   part = take (p .window .end - p .window .from) (drop (p .window .from) l)

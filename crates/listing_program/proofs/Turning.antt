@@ -1,17 +1,10 @@
 -- The places after the header and after a record. Assumes nothing.
-use Prim.Native.Nat.{ℕ, _+_, _-_, _<_, _≤_}
-use mathlib.Core.List.{List}
-use native.Mathlib.Nat.{min-le-left}
+use Prim.Native.Nat.{ℕ, _+_, _<_, _≤_}
 use native.Mathlib.Omega.{arith}
-use lib.ListN.{length, take, drop, length-take}
 use Rattle.streams.specs.declared.window.Window.{Window}
 use Rattle.streams.specs.Windows.{Within}
 use Rattle.listing_program.specs.declared.shell.Place.{Place}
 use Rattle.listing_program.specs.Places.{inputLength, outputLength, mostTurns, Stands}
-
--- The part of the input that a window holds.
-pub part-length : (w : Window) (l : List ℕ) → length (take (w .end - w .from) (drop (w .from) l)) ≤ w .end - w .from
-part-length w l = rw length-take (min-le-left (w .end - w .from) (length (drop (w .from) l)))
 
 pub listed-stands : (p : Place) (size end : ℕ) → Stands p → p .turns < mostTurns → p .window .from + size ≤ p .window .end → end ≤ outputLength
     → Stands

@@ -58,6 +58,7 @@ enum Next {
     Ended(Ending),
 }
 
+// What is printed goes out, then more bytes come.
 fn read_on(place: Place, input: &mut [u8], output: &[u8]) -> Next
     requires { ⌜ Stands place × (length (now input) ≡ inputLength) × (length (now output) ≡ outputLength) ⌝ }
     ensures { λ r. ⌜ nextStands (place .turns) r ⌝ }
@@ -73,6 +74,7 @@ fn read_on(place: Place, input: &mut [u8], output: &[u8]) -> Next
     }
 }
 
+// What is printed so far goes out.
 fn write_on(place: Place, output: &[u8]) -> Next
     requires { ⌜ Stands place × (length (now output) ≡ outputLength) ⌝ }
     ensures { λ r. ⌜ nextStands (place .turns) r ⌝ }
@@ -242,8 +244,8 @@ fn run(progress: Progress) -> Ending {
 }
 
 // The exit status, promised to be one of five; which one is tested: 0 if the journal was listed to its end, 2 after a header and 3
-// after a record that is unsound, and, with a message on standard error, 4 if it could not be read, 5 if not written. How far
-// it is is said on standard error if is_said; size is what there is to read, or 0.
+// after a record that is unsound, and, with a message on standard error, 4 if it could not be read, 5 if not written. If
+// is_said, progress goes to standard error; size is how many bytes there are to read, 0 if not known.
 #[no_mangle]
 pub extern "C" fn listing_run(is_said: bool, size: u64) -> i32
     ensures { λ r. ⌜ ((ending : Ending) × (r ≡ statusOf ending)) ⌝ }

@@ -2,8 +2,9 @@
 use Prim.Native.Nat.{ℕ, _-_, _≤_}
 use mathlib.Core.List.{List, _++_}
 use mathlib.Core.Path.{_≡_, _∙_, ap}
+use native.Mathlib.Nat.{min-le-left}
 use native.Mathlib.Omega.{arith}
-use lib.ListN.{length, take, drop, length-drop}
+use lib.ListN.{length, take, drop, length-drop, length-take}
 use lib.Seq.{length-take-le, take-at}
 use Rattle.streams.specs.declared.progress.Progress.{Progress}
 use Rattle.streams.specs.declared.window.Filled.{Filled}
@@ -23,6 +24,10 @@ pub rest-kept : (from end : ℕ) (entry moved exit : List ℕ) → from ≤ end 
 rest-kept from end entry moved exit h g e k =
     k ∙ ap (take (end - from)) e
     ∙ take-at (take (end - from) (drop from entry)) (drop (end - from) entry) (end - from) (length-take-le (end - from) (drop from entry) (rw length-drop (omega arith)))
+
+-- What a window holds of the input.
+pub part-length : (w : Window) (l : List ℕ) → length (take (w .end - w .from) (drop (w .from) l)) ≤ w .end - w .from
+part-length w l = rw length-take (min-le-left (w .end - w .from) (length (drop (w .from) l)))
 
 pub same-run : {p q r : Progress} → SameRun p q → SameRun q r → SameRun p r
 same-run a b = record { said = b .said ∙ a .said; size = b .size ∙ a .size }

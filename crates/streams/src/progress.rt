@@ -11,7 +11,7 @@ const FIRST_WAIT: u64 = 2;
 
 const WAIT: u64 = 1;
 
-const HUNDREDTHS: u64 = 100;
+const PERCENTS: u64 = 100;
 
 pub struct Progress {
     pub is_said: bool,
@@ -65,7 +65,7 @@ fn put_line(progress: Progress, records: u64) {
     put_number(records, b" records");
     if progress.bytes < progress.size {
         io::write_all(STDERR_FILENO, b", ");
-        put_number(progress.bytes / (progress.size / HUNDREDTHS + 1), b"%");
+        put_number(progress.bytes / (progress.size / PERCENTS + 1), b"%");
     }
     io::write_all(STDERR_FILENO, b"\n");
 }

@@ -3,7 +3,8 @@ use native.Mathlib.Omega.{arith}
 use Rattle.arith.proofs.Tests.{asked-true}
 use Rattle.rules.specs.Header.{headerLength}
 use Rattle.listing.proofs.HeaderSizes.{header-fits}
-use Rattle.listing_program.proofs.Turning.{part-length, first-stands}
+use Rattle.streams.proofs.Reading.{part-length}
+use Rattle.listing_program.proofs.Turning.{first-stands}
 use borrow.Author.Needs.{needs}
 use Rattle.listing_program.proofs.shell.list_from.Statement.{statement}
 use Rattle.listing_program.proofs.shell.list_from.Tie as tie
