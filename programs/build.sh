@@ -1,6 +1,10 @@
 #!/usr/bin/env bash
 # build.sh: target/programs/durskafn from programs/durskafn.c and the proved libraries that it links.
 set -euo pipefail
+if [ $# -gt 0 ]; then
+  echo "usage: $0, without arguments" >&2
+  exit 1
+fi
 cd "$(dirname "$0")/.."
 libraries=()
 for crate in journal listing_program; do

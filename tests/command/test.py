@@ -114,6 +114,18 @@ def test_files():
         expect(f"{word} of a file, input closed", closed.stdout, run(word, str(ROOT / "examples/winter.vjr"))[0])
 
 
+def test_run_script():
+    """programs/run.sh takes paths from where the caller stands, and says its usage without words."""
+    def script(*arguments):
+        done = subprocess.run(["../programs/run.sh", *arguments], cwd=ROOT / "examples", capture_output=True, check=False)
+        return done.stdout, done.stderr, done.returncode
+
+    expect("run.sh in examples", script("journal", "winter.vjr"), ((ROOT / "examples/winter.out").read_bytes(), b"", ENDED))
+    printed, said, status = script()
+    expect("run.sh without words", (printed, said.startswith(b"usage: "), status), (b"", True, WRONG_CALL))
+    expect("run.sh with an unknown word", script("ledger")[2], WRONG_CALL)
+
+
 def read_until(pipe, length):
     """What comes until so many bytes came, nothing more comes or patience ends."""
     out, ends = b"", time.monotonic() + PATIENCE
@@ -202,8 +214,9 @@ def test_progress(long):
         expect(f"{word}, output with progress", printed == whole, True)
         lines = [tuple(map(int, found)) for found in LINE.findall(said)]
         expect(f"{word}, lines of progress", (bool(lines), LINE.sub(b"", said)), (True, b""))
-        expect(f"{word}, its figures", [0 < read < size and 0 < records and percent == read // (size // 100 + 1)
-                                        for read, records, percent in lines], [True] * len(lines))
+        wanted = [100 if read == size else read // (size // 100 + 1) for read, _, _ in lines]
+        expect(f"{word}, its percents", [percent for _, _, percent in lines], wanted)
+        expect(f"{word}, its figures", [0 < read <= size and 0 < records < read for read, records, _ in lines], [True] * len(lines))
         terminal, seen = pty.openpty()
         printed, _ = held_up(word, long, stderr=seen)
         os.close(seen)
@@ -227,6 +240,7 @@ def main():
     test_calls()
     test_help()
     test_files()
+    test_run_script()
     test_open_pipes()
     test_cut()
     with tempfile.NamedTemporaryFile() as file:

@@ -11,7 +11,8 @@ const FIRST_WAIT: u64 = 2;
 
 const WAIT: u64 = 1;
 
-const PERCENTS: u64 = 100;
+// In percent.
+const ALL: u64 = 100;
 
 pub struct Progress {
     pub is_said: bool,
@@ -58,14 +59,22 @@ fn put_number(n: u64, what: &[u8]) {
     io::write_all(STDERR_FILENO, what);
 }
 
+// A file may have grown.
+fn percent(bytes: u64, size: u64) -> u64 {
+    if bytes < size {
+        return bytes / (size / ALL + 1);
+    }
+    ALL
+}
+
 // A line: bytes, records, and percent where the size is known.
 fn put_line(progress: Progress, records: u64) {
     io::write_all(STDERR_FILENO, b"durskafn: ");
     put_number(progress.bytes, b" bytes, ");
     put_number(records, b" records");
-    if progress.bytes < progress.size {
+    if 0 < progress.size {
         io::write_all(STDERR_FILENO, b", ");
-        put_number(progress.bytes / (progress.size / PERCENTS + 1), b"%");
+        put_number(percent(progress.bytes, progress.size), b"%");
     }
     io::write_all(STDERR_FILENO, b"\n");
 }
