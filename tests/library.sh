@@ -1,6 +1,6 @@
 #!/usr/bin/env bash
 # library.sh NAME: the proved library target/staticlib/libNAME.a, built again only where what it is proved from has changed.
-# Each crate that is proved for it is named on standard error, k of n.
+# Each crate that is proved for it, k of n, and the library are named on standard error.
 set -euo pipefail
 cd "$(dirname "$0")/.."
 mkdir -p target
@@ -34,6 +34,7 @@ fail() { cat target/library.log >&2; exit 1; }
 built=target/staticlib/$1.stamp
 rt check "$1" 2>&1 | tee target/library.log | proved "$1" || fail
 if ! cmp -s "target/stamp/$1" "$built"; then
+  echo "building target/staticlib/lib$1.a" >&2
   rt staticlib "$1" > target/library.log 2>&1 || fail
   cp "target/stamp/$1" "$built"
 fi
