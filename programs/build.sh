@@ -1,9 +1,16 @@
 #!/usr/bin/env bash
-# build.sh NAME: target/programs/NAME from programs/NAME.c and the proved library that it links.
+# build.sh: target/programs/durskafn from programs/durskafn.c and the proved libraries that it links.
 set -euo pipefail
+if [ $# -gt 0 ]; then
+  echo "usage: $0, without arguments" >&2
+  exit 1
+fi
 cd "$(dirname "$0")/.."
-case $1 in listing) crate=listing_program ;; *) crate=$1 ;; esac
-tests/library.sh "$crate"
+libraries=()
+for crate in journal listing_program; do
+  tests/library.sh "$crate"
+  libraries+=("target/staticlib/lib$crate.a")
+done
 mkdir -p target/programs
 kit=$(dirname "$(dirname "$(rt doc)")")
-gcc -std=c11 -Wall -Wextra -Werror -O2 -o "target/programs/$1" "programs/$1.c" "target/staticlib/lib$crate.a" "$kit/lib/libos_c.a"
+gcc -std=c11 -Wall -Wextra -Werror -O2 -DKIT="\"$(rt version)\"" -o target/programs/durskafn programs/durskafn.c "${libraries[@]}" "$kit/lib/libos_c.a"

@@ -1,6 +1,10 @@
 #!/usr/bin/env bash
-# run.sh NAME FILE: builds programs/NAME.c where that is needed, and runs it on a journal.
+# run.sh WORD [FILE]: builds durskafn where that is needed, and runs it where the caller stands.
 set -euo pipefail
-cd "$(dirname "$0")/.."
-programs/build.sh "$1" >&2
-exec "target/programs/$1" < "$2"
+programs=$(cd "$(dirname "$0")" && pwd)
+if [ $# -eq 0 ]; then
+  echo "usage: $0 WORD [FILE], as in: $0 journal FILE; $0 --help names the words" >&2
+  exit 1
+fi
+"$programs/build.sh" >&2
+exec "$programs/../target/programs/durskafn" "$@"

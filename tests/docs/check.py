@@ -28,7 +28,7 @@ DECISIONS = ROOT / "docs" / "DECISIONS.md"
 READING = ROOT / "docs" / "READING.md"
 ANSWERS = ROOT / "crates" / "rules" / "specs" / "Answers.antt"
 PLACES = ("crates", "include", "programs", "tests", ".ci", "examples")
-COMMANDS = ("rt", "gcc", "rustc", "tar", "make")
+COMMANDS = ("rt", "gcc", "rustc", "tar", "make", "durskafn")
 MOST_COLUMNS = 120
 REFUSAL_LINES = ("answer", "definition", "theorem", "code", "example")
 

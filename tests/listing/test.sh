@@ -2,5 +2,5 @@
 # The listing program beside a listing written apart from it.
 set -euo pipefail
 cd "$(dirname "$0")/../.."
-programs/build.sh listing
-exec python3 tests/listing/test.py target/programs/listing
+programs/build.sh
+exec python3 tests/listing/test.py target/programs/durskafn

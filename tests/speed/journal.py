@@ -1,7 +1,6 @@
 #!/usr/bin/env python3
-"""journal.py PROGRAM PLAIN JOURNAL: see journal.sh."""
+"""journal.py DURSKAFN PLAIN JOURNAL: see journal.sh."""
 import os
-import resource
 import subprocess
 import sys
 
@@ -24,17 +23,9 @@ def engine():
         return float(subprocess.run([PLAIN, 'applied'], stdin=journal, stdout=subprocess.PIPE, check=True).stdout)
 
 
-def runs_on(kib):
-    def limited():
-        resource.setrlimit(resource.RLIMIT_STACK, (kib * 1024, kib * 1024))
-    with open(JOURNAL, 'rb') as journal:
-        return subprocess.run([PROGRAM], stdin=journal, stdout=subprocess.DEVNULL, preexec_fn=limited).returncode == 0
-
-
-rounds = [(seconds([PROGRAM]), seconds([PLAIN, 'printed']), engine()) for _ in range(ROUNDS)]
+rounds = [(seconds([PROGRAM, 'journal']), seconds([PLAIN, 'printed']), engine()) for _ in range(ROUNDS)]
 program, plain, applied = (min(column) for column in zip(*rounds))
 ratio = (program - applied) / (plain - applied)
 print(f'journal program {program * 1000:.0f} ms, plain Rust {plain * 1000:.0f} ms, engine alone {applied * 1000:.0f} ms')
 print(f'added to the engine: {(program - applied) * 1000:.0f} ms beside {(plain - applied) * 1000:.0f} ms, ratio {ratio:.2f}')
-print(f'stack: runs on {next(kib for kib in range(64, 1024, 8) if runs_on(kib))} KiB')
 sys.exit(ratio > MOST)

@@ -4,11 +4,10 @@ ghost use mathlib.Core.Path.{_≡_};
 ghost use Prim.Native.Nat.{_+_, _≤_, _<_};
 ghost use lib.ListN.{length};
 ghost use Rattle.rules.specs.Ledger.{headLength, linesLength};
-ghost use Rattle.journal.specs.Places.{bufferLength, rowsRoom, mostTurns, Stands, nextStands, filledTo, statusOf};
-ghost use Rattle.journal.specs.declared.shell.Ending.{Ending};
+ghost use Rattle.streams.specs.declared.ending.Ending.{Ending};
+ghost use Rattle.streams.specs.Windows.{statusOf};
+ghost use Rattle.journal.specs.Places.{bufferLength, rowsRoom, mostTurns, Stands, nextStands};
 use libc::STDERR_FILENO;
-use libc::STDIN_FILENO;
-use libc::STDOUT_FILENO;
 use records::Stage;
 use records::Wants;
 use records::advance;
@@ -17,7 +16,16 @@ use rules::layout::HEAD_LENGTH;
 use rules::layout::LINES_LENGTH;
 use rules::layout::PRICES_LENGTH;
 use rules::layout::ROWS_LENGTH;
-use text::shift;
+use streams::Ending;
+use streams::Moved;
+use streams::Progress;
+use streams::Window;
+use streams::finish;
+use streams::first_window;
+use streams::read_more;
+use streams::start;
+use streams::status;
+use streams::write_out;
 
 const BUFFER: usize = 65536;
 
@@ -27,60 +35,9 @@ const ROWS: usize = ROWS_LENGTH + 2;
 // Nothing says that standard input ends, so turns are counted: this many take years.
 const MOST_TURNS: u64 = 70368744177664;
 
-enum Ending {
-    ReadToEnd,
-    HeaderUnsound,
-    RecordUnsound,
-    ReadFailed,
-    WriteFailed,
-}
-
-// What a read of standard input brought.
-enum Filled {
-    // Bytes came, and the buffer holds bytes up to here.
-    Until(usize),
-    // No more bytes come.
-    End,
-    Failed,
-}
-
-// One read, to the bytes from end on. A read that a signal broke off brings nothing.
-fn fill(input: &mut [u8], end: usize) -> Filled
-    requires { ⌜ end ≤ length (now input) ⌝ }
-    ensures { λ r. ⌜ filledTo r (length (now (input .entry))) ⌝ }
-{
-    let got = libc::read(STDIN_FILENO, &mut input[end..]);
-    if got < 0 {
-        if os::errno() == libc::EINTR {
-            return Filled::Until(end);
-        }
-        os::fail(b"journal: standard input");
-        return Filled::Failed;
-    }
-    if got == 0 {
-        return Filled::End;
-    }
-    Filled::Until(end + io::count(got, &input[end..]))
-}
-
-// Whether all of the buffer's first bytes were written.
-fn flush(output: &[u8], filled: usize) -> bool
-    requires { ⌜ filled ≤ length (now output) ⌝ }
-{
-    if io::write_all(STDOUT_FILENO, &output[..filled]) {
-        return true;
-    }
-    os::fail(b"journal: standard output");
-    false
-}
-
-// The bytes from a place to end are still to be run, those below filled still to be written.
 struct Place {
     turns: u64,
-    from: usize,
-    end: usize,
-    is_last: bool,
-    filled: usize,
+    window: Window,
     stage: Stage,
 }
 
@@ -89,68 +46,65 @@ enum Next {
     Ended(Ending),
 }
 
-fn first_place() -> Place
+fn first_place(progress: Progress) -> Place
     ensures { λ r. ⌜ Stands r × (r .turns ≡ 0) ⌝ }
 {
     Place {
         turns: 0,
-        from: 0,
-        end: 0,
-        is_last: false,
-        filled: 0,
+        window: first_window(progress),
         stage: Stage::Header,
     }
 }
 
-// The rest goes to the front, and more comes behind it. After a failed read what is printed goes out.
-fn read_more(place: Place, input: &mut [u8], output: &[u8]) -> Next
+// How many records were run, for progress.
+fn counted_by(stage: Stage) -> u64 {
+    match stage {
+        Stage::Records {
+            counted,
+            accepted: _,
+        } => counted,
+        Stage::Read {
+            counted,
+            accepted: _,
+        } => counted,
+        Stage::Stopped {
+            counted,
+            accepted: _,
+        } => counted,
+        _ => 0,
+    }
+}
+
+// What is printed goes out, then more bytes come.
+fn read_on(place: Place, input: &mut [u8], output: &[u8]) -> Next
     requires { ⌜ Stands place × (length (now input) ≡ bufferLength) × (length (now output) ≡ bufferLength) ⌝ }
     ensures { λ r. ⌜ nextStands (place .turns) r ⌝ }
 {
-    let rest = place.end - place.from;
     let stage = place.stage;
-    shift(&mut *input, place.from, place.end);
-    match fill(input, rest) {
-        Filled::Until(end) => Next::Going(Place {
+    match read_more(place.window, counted_by(stage), input, output) {
+        Moved::On(window) => Next::Going(Place {
             turns: place.turns,
-            from: 0,
-            end: end,
-            is_last: false,
-            filled: place.filled,
+            window: window,
             stage: stage,
         }),
-        Filled::End => Next::Going(Place {
-            turns: place.turns,
-            from: 0,
-            end: rest,
-            is_last: true,
-            filled: place.filled,
-            stage: stage,
-        }),
-        Filled::Failed => {
-            flush(output, place.filled);
-            Next::Ended(Ending::ReadFailed)
-        }
+        Moved::Ended(ending) => Next::Ended(ending),
     }
 }
 
 // What is printed so far goes out.
-fn write_out(place: Place, output: &[u8]) -> Next
+fn write_on(place: Place, output: &[u8]) -> Next
     requires { ⌜ Stands place × (length (now output) ≡ bufferLength) ⌝ }
     ensures { λ r. ⌜ nextStands (place .turns) r ⌝ }
 {
     let stage = place.stage;
-    if flush(output, place.filled) {
-        return Next::Going(Place {
+    match write_out(place.window, output) {
+        Moved::On(window) => Next::Going(Place {
             turns: place.turns,
-            from: place.from,
-            end: place.end,
-            is_last: place.is_last,
-            filled: 0,
+            window: window,
             stage: stage,
-        });
+        }),
+        Moved::Ended(ending) => Next::Ended(ending),
     }
-    Next::Ended(Ending::WriteFailed)
 }
 
 fn is_ended(stage: Stage) -> bool {
@@ -181,10 +135,8 @@ fn go_on(place: Place, output: &[u8]) -> Next
     if !is_ended(stage) {
         return Next::Going(place);
     }
-    if flush(output, place.filled) {
-        return Next::Ended(ending_of(stage));
-    }
-    Next::Ended(Ending::WriteFailed)
+    let window = place.window;
+    Next::Ended(finish(output, window.filled, ending_of(stage)))
 }
 
 // What an advance wants is done.
@@ -194,8 +146,8 @@ fn follow(wants: Wants, place: Place, input: &mut [u8], output: &[u8]) -> Next
 {
     match wants {
         Wants::Nothing => go_on(place, output),
-        Wants::Bytes => read_more(place, input, output),
-        Wants::Room => write_out(place, output),
+        Wants::Bytes => read_on(place, input, output),
+        Wants::Room => write_on(place, output),
     }
 }
 
@@ -214,15 +166,16 @@ fn turn(
         × (headLength ≤ length (now head)) × (linesLength ≤ length (now lines)) ⌝ }
     ensures { λ r. ⌜ nextStands (place .turns + 1) r ⌝ }
 {
-    let from = place.from;
-    let end = place.end;
+    let window = place.window;
+    let from = window.from;
+    let end = window.end;
     let before = place.stage;
     let done = advance(
         before,
         &input[from..end],
-        place.is_last,
+        window.is_last,
         &mut *output,
-        place.filled,
+        window.filled,
         head,
         prices,
         lots,
@@ -231,12 +184,16 @@ fn turn(
         lines,
     );
     let stage = done.stage;
+    let progress = window.progress;
     let next = Place {
         turns: place.turns + 1,
-        from: from + done.used,
-        end: end,
-        is_last: place.is_last,
-        filled: done.end,
+        window: Window {
+            from: from + done.used,
+            end: end,
+            is_last: window.is_last,
+            filled: done.end,
+            progress: progress,
+        },
         stage: stage,
     };
     let wants = done.wants;
@@ -244,6 +201,7 @@ fn turn(
 }
 
 fn run_turns(
+    progress: Progress,
     input: &mut [u8],
     output: &mut [u8],
     head: &mut [u64],
@@ -255,7 +213,7 @@ fn run_turns(
 ) -> Ending
     requires { ⌜ (length (now input) ≡ bufferLength) × (length (now output) ≡ bufferLength) × (headLength ≤ length (now head)) × (linesLength ≤ length (now lines)) ⌝ }
 {
-    let mut place = first_place();
+    let mut place = first_place(progress);
     let mut turns: u64 = 0;
     while turns < MOST_TURNS {
         match turn(
@@ -276,13 +234,14 @@ fn run_turns(
         }
         turns += 1;
     }
-    io::write_all(STDERR_FILENO, b"journal: too long\n");
+    io::write_all(STDERR_FILENO, b"durskafn: standard input: too long\n");
     Ending::ReadFailed
 }
 
 // The compiler places arrays 8 bytes past a multiple of 16, where the test of all rows takes a tenth longer. The rows are
 // lent from the second place on.
 fn run_on_rows(
+    progress: Progress,
     input: &mut [u8],
     output: &mut [u8],
     head: &mut [u64],
@@ -298,6 +257,7 @@ fn run_on_rows(
     let first: usize = 1;
     let end = first + ROWS_LENGTH;
     run_turns(
+        progress,
         input,
         output,
         head,
@@ -309,7 +269,7 @@ fn run_on_rows(
     )
 }
 
-fn run() -> Ending {
+fn run(progress: Progress) -> Ending {
     let mut input = [0u8; BUFFER];
     let mut output = [0u8; BUFFER];
     let mut head = [0u64; HEAD_LENGTH];
@@ -319,6 +279,7 @@ fn run() -> Ending {
     let mut book = [0u64; BOOK_LENGTH];
     let mut lines = [0i64; LINES_LENGTH];
     run_on_rows(
+        progress,
         &mut input,
         &mut output,
         &mut head,
@@ -330,23 +291,12 @@ fn run() -> Ending {
     )
 }
 
-fn status(ending: Ending) -> i32
-    ensures { λ r. ⌜ r ≡ statusOf ending ⌝ }
-{
-    match ending {
-        Ending::ReadToEnd => 0,
-        Ending::HeaderUnsound => 2,
-        Ending::RecordUnsound => 3,
-        Ending::ReadFailed => 4,
-        Ending::WriteFailed => 5,
-    }
-}
-
 // The exit status, promised to be one of five; which one is tested: 0 if the journal was read to its end, 2 after a header and 3
-// after a record that is unsound, and, with a message on standard error, 4 if it could not be read, 5 if not written.
+// after a record that is unsound, and, with a message on standard error, 4 if it could not be read, 5 if not written. If
+// is_said, progress goes to standard error; size is how many bytes there are to read, 0 if not known.
 #[no_mangle]
-pub extern "C" fn journal_run() -> i32
+pub extern "C" fn journal_run(is_said: bool, size: u64) -> i32
     ensures { λ r. ⌜ ((ending : Ending) × (r ≡ statusOf ending)) ⌝ }
 {
-    status(run())
+    status(run(start(is_said, size)))
 }

@@ -1,4 +1,5 @@
-// The listing program, for a C main: standard input is read, listed by crate listing, and the lines written to standard output.
+// The listing program, for the C main in programs/durskafn.c: standard input is read, listed by crate listing, and the lines
+// written to standard output.
 mod shell;
 
 pub use shell::listing_run;

@@ -1,4 +1,5 @@
 use mathlib.Core.Path.{_∙_}
+use native.Mathlib.Omega.{arith}
 use Rattle.journal.proofs.Turning.{turn-counts, turn-bytes, turn-printed, turn-stands}
 use borrow.Author.Needs.{needs}
 use Rattle.journal.proofs.shell.turn.Statement.{statement}
@@ -6,7 +7,7 @@ use Rattle.journal.proofs.shell.turn.Tie as tie
 
 advance-requires : tie.Need-advance-requires
 advance-requires c κs =
-    let start = c .before .before .before .before .before .before .before .before .before .before .before .before .before .before in
+    let start = c .before .before .before .before .before .before .before .before .before .before .before .before .before .before .before in
     let place = start .args .place in
     let bytes = start .args .input .now in
     let pre = start .pre in
@@ -14,17 +15,18 @@ advance-requires c κs =
 
 follow-requires : tie.Need-follow-requires
 follow-requires c κs =
-    let earlier = c .before .before .before .before .before .before .before .before .before .before in
-    let start = earlier .before .before .before .before .before .before .before .before .before .before .before .before .before .before .before .before .before .before .before .before in
-    let place = start .args .place in
+    let ran = c .before .before .before .before .before .before .before .before .before .before .before .before .before .before .before .before in
+    let start = ran .before .before .before .before .before .before .before .before .before .before .before .before .before .before .before .before in
     let pre = start .pre in
-    let advance = earlier .before .before .before .before .before .advance in
-    let a = advance .ensures in
-    (turn-stands place (start .args .input .now) (pre .0) (pre .1) _ _ _ (pre .3) (a .inside) (a .within) (a .counts), pre .2, advance .kept .1 .1 .1 .0 ∙ pre .3)
+    let a = ran .advance .ensures in
+    (turn-stands (start .args .place) (start .args .input .now) (pre .0) (pre .1) _ _ _ (pre .3) (a .inside) (a .within) (a .counts), pre .2, ran .advance .kept .1 .1 .1 .0 ∙ pre .3)
+
+add-t37 : tie.Need-add-t37
+add-t37 c = omega (arith, c .before .before .before .before .before .before .before .before .before .before .before .before .before .before .before .before .before .before .before .before .before .before .before .before .before .before .before .before .before .pre .1)
 
 pub turn-spec : {M : Type 1} → statement M
 turn-spec =
     tie.close
-    (tie.spec (λ c. search needs) (λ c. search needs) (λ c. search needs) advance-requires (λ c. search needs)
+    (tie.spec (λ c. search needs) (λ c. search needs) (λ c. search needs) advance-requires add-t37
     (λ c. search needs) follow-requires (λ c. search needs) (λ c. search needs) (λ c. search needs) (λ c. search needs)
     (λ c. search needs) (λ c. search needs) (λ c. search needs) (λ c. search needs) (λ c. search needs))

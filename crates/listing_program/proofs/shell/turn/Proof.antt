@@ -8,16 +8,16 @@ list-record-requires : tie.Need-list-record-requires
 list-record-requires c κs =
     let e = rw (c .before .before .before .size .given .1) at (c .before .before .before .before .before .next-piece .ensures .1) in (
       (
-        c .before .before .before .before .before .before .before .before .before .before .before .before .before .pre .0,
-        c .before .before .before .before .before .before .before .before .before .before .before .before .before .pre .1,
+        c .before .before .before .before .before .before .before .before .before .before .before .before .before .before .pre .0,
+        c .before .before .before .before .before .before .before .before .before .before .before .before .before .before .pre .1,
         omega (arith, simp length-take at (e .1)),
         omega (
           arith,
           c .before .before .before .before .before .before .before .before .if1 .left,
-          c .before .before .before .before .before .before .before .before .before .before .before .before .before .pre .0 .printed,
+          c .before .before .before .before .before .before .before .before .before .before .before .before .before .before .pre .0 .within .printed,
         ),
       ),
-      (c .before .before .before .before .before .before .before .before .before .before .before .before .before .pre .2, omega arith, omega arith),
+      (c .before .before .before .before .before .before .before .before .before .before .before .before .before .before .pre .2, omega arith, omega arith),
     )
 
 pub turn-spec : {M : Type 1} → statement M

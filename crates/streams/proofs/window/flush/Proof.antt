@@ -1,8 +1,8 @@
 use mathlib.Core.Path.{sym}
 use lib.Seq.{length-take-le}
 use borrow.Author.Needs.{needs}
-use Rattle.listing_program.proofs.shell.flush.Statement.{statement}
-use Rattle.listing_program.proofs.shell.flush.Tie as tie
+use Rattle.streams.proofs.window.flush.Statement.{statement}
+use Rattle.streams.proofs.window.flush.Tie as tie
 
 slice-aggregate-write-all : tie.Need-slice-aggregate-write-all
 slice-aggregate-write-all c = sym (length-take-le _ _ (c .before .before .pre))

@@ -1,27 +1,28 @@
-use Rattle.journal.specs.Places.{statusOf}
+use mathlib.Core.Path.{refl}
+use Rattle.streams.specs.Windows.{statusOf}
 use borrow.Author.Needs.{needs}
-use Rattle.journal.proofs.shell.status.Statement.{statement}
-use Rattle.journal.proofs.shell.status.Tie as tie
+use Rattle.streams.proofs.ending.status.Statement.{statement}
+use Rattle.streams.proofs.ending.status.Tie as tie
 
 returns : tie.Need-returns
 unfolding statusOf
-returns c = rw (c .enum-told .given .1)
+returns c = rw (c .enum-told .given .1) refl
 
 returns-2 : tie.Need-returns-2
 unfolding statusOf
-returns-2 c = rw (c .enum-told2 .given .1)
+returns-2 c = rw (c .enum-told2 .given .1) refl
 
 returns-3 : tie.Need-returns-3
 unfolding statusOf
-returns-3 c = rw (c .enum-told3 .given .1)
+returns-3 c = rw (c .enum-told3 .given .1) refl
 
 returns-4 : tie.Need-returns-4
 unfolding statusOf
-returns-4 c = rw (c .enum-told4 .given .1)
+returns-4 c = rw (c .enum-told4 .given .1) refl
 
 returns-5 : tie.Need-returns-5
 unfolding statusOf
-returns-5 c = rw (c .enum-told5 .given .1)
+returns-5 c = rw (c .enum-told5 .given .1) refl
 
 pub status-spec : {M : Type 1} → statement M
 status-spec =
