@@ -65,7 +65,7 @@ fn write_from(starts: &[u64], least: LeastDays, later: LeastDays, column: &mut [
     }
 }
 
-// The phase of each contract on a day of the table.
+// The phase of each contract that has a term, on a day of the table.
 pub fn write_phases(first_year: u64, holidays: &[u64], day: DayNo, column: &mut [u64])
     requires { ⌜ FirstYear «first_year» × (day .0 ≤ lastMonthStart) × (length (now column) ≡ termCount) ⌝ }
     ensures { λ _. ⌜ now (column .exit) ≡ phases (record { firstYear = «first_year»; holidays = now (holidays .entry) }) (day .0) ⌝ }

@@ -8,7 +8,7 @@ use Rattle.rules.specs.Ranges.{termCount, monthsInSpan}
 use Rattle.rules.specs.Days.{Calendar}
 use Rattle.rules.specs.Contracts.{daysOf, openOn}
 
--- The delivery days of each contract that is open on a day, 0 for the others.
+-- The delivery days of each contract that is open on a day, 0 for the others that have a term.
 unfoldable pub openDays : Calendar → ℕ → List ℕ
 openDays k d = map (λ c. cond (openOn k d c) (daysOf k c) 0) (from 0 termCount)
 

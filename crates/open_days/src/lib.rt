@@ -72,7 +72,7 @@ fn write_open_days(starts: &[u64], least: LeastDays, days: &mut [u64])
     }
 }
 
-// The delivery days of every contract that is open on a day, 0 for the others.
+// The delivery days of every contract that is open on a day, 0 for the others that have a term.
 pub fn find_open_days(first_year: u64, holidays: &[u64], day: DayNo, days: &mut [u64])
     requires { ⌜ FirstYear «first_year» × (length (now days) ≡ termCount) ⌝ }
     ensures { λ _. ⌜ now (days .exit) ≡ openDays (record { firstYear = «first_year»; holidays = now (holidays .entry) }) (day .0) ⌝ }

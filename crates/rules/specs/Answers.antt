@@ -48,8 +48,8 @@ pub record Outcome (S : Type 0) : Type 0 where
   pub after : S
 
 -- ---- which cause is answered
--- The numbers in the order of their ranks. Of two causes that hold, the one whose number stands first is answered: document 01's
--- lower number wins. A further number is put in its place here, and no other rank is written anew.
+-- The numbers in the order of their ranks, document 01's own: lower number wins. The causes of a record stand in this order, so that
+-- the answer is the one of the lowest rank. A further number is put in its place here, and no other rank is written anew.
 unfoldable pub ranking : List ℕ
 ranking = 1 ∷ 2 ∷ 3 ∷ 4 ∷ 5 ∷ 6 ∷ 7 ∷ 8 ∷ 9 ∷ 10 ∷ 11 ∷ 12 ∷ 13 ∷ 14 ∷ 15 ∷ 16 ∷ 17 ∷ 18 ∷ []
 

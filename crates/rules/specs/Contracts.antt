@@ -64,7 +64,7 @@ termOf c =
 abbrev pub kindOf : ℕ → ContractKind
 kindOf c = termOf c .kind
 
--- All contracts of a kind, by delivery: within a kind the numbers rise with delivery.
+-- All contracts of a kind, each of which has a term, by delivery: within a kind the numbers rise with delivery.
 unfoldable pub contractsOf : ContractKind → List ℕ
 contractsOf s = kept (λ c. sameKind (kindOf c) s) (from 0 termCount)
 

@@ -264,7 +264,8 @@ orderPlaces o =
 unfoldable pub orders : Tables → List Order
 orders t = map (orderAt (t .book)) (from 0 (orderCount t))
 
--- Those that rest, for every rule that says so; all orders of the table do. What is tested, kept or written is the table.
+-- Those that rest, which all orders of the table do: they match, quote, count towards a limit, can be cancelled and named by a leg.
+-- Damage is tested of the whole table, and what closes or defaults leaves the whole table.
 abbrev pub resting : Tables → List Order
 resting t = orders t
 
