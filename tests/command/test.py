@@ -130,7 +130,10 @@ def read_until(pipe, length):
     """What comes until so many bytes came, nothing more comes or patience ends."""
     out, ends = b"", time.monotonic() + PATIENCE
     while len(out) < length and select.select([pipe], [], [], max(0, ends - time.monotonic()))[0]:
-        more = os.read(pipe, 65536)
+        try:
+            more = os.read(pipe, 65536)
+        except OSError:  # a terminal that was closed
+            break
         if not more:
             break
         out += more
@@ -220,7 +223,7 @@ def test_progress(long):
         terminal, seen = pty.openpty()
         printed, _ = held_up(word, long, stderr=seen)
         os.close(seen)
-        expect(f"{word}, at a terminal", (printed == whole, b" bytes, " in os.read(terminal, 65536)), (True, True))
+        expect(f"{word}, at a terminal", (printed == whole, b" bytes, " in read_until(terminal, 1)), (True, True))
         os.close(terminal)
 
 
