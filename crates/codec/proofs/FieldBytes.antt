@@ -44,6 +44,14 @@ width High = four
 width Legs = one
 width Ratio = two
 
+pub some-width : (f : Field) → 1 ≤ widthOf f
+some-width f = go (width f)
+  where
+    go : {w : ℕ} → Width w → 1 ≤ w
+    go one = omega arith
+    go two = omega arith
+    go four = omega arith
+
 number-wide : {w : ℕ} → Width w → (v : ℕ) → length (numberBytes w v) ≡ w
 unfolding numberBytes
 number-wide one v = refl
