@@ -53,12 +53,9 @@ at-least [] legs h = absurd (h refl)
 at-least (f ∷ fs) legs h = above-kind (widthOf f) (widths fs) legs (some-width f)
 
 none-of : (fs : List Field) (m n : ℕ) → lengthWith fs m ≡ 0 → lengthWith fs n ≡ 0
+unfolding widths
 none-of [] m n h = refl
-none-of (f ∷ fs) m n h = absurd (above-none f fs m h)
-  where
-    above-none : (f : Field) (fs : List Field) (m : ℕ) → lengthWith (f ∷ fs) m ≡ 0 → ⊥
-    unfolding widths
-    above-none f fs m h = let two = above-kind (widthOf f) (widths fs) m (some-width f) in omega arith
+none-of (f ∷ fs) m n h = let two = above-kind (widthOf f) (widths fs) m (some-width f) in absurd (omega arith)
 
 abbrev legsLength : ℕ → ℕ → ℕ
 legsLength kind legs = cond (hasLegs kind) (widths legFields * legs) 0
