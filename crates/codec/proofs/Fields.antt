@@ -1,5 +1,5 @@
 -- What the fields of a record say, kind by kind. Assumes nothing.
-use Prim.Native.Nat.{ℕ, _≤_, _<_}
+use Prim.Native.Nat.{ℕ, _+_, _≤_, _<_}
 use mathlib.Core.Bool.{Bool, true, false, cond, _&&_}
 use mathlib.Core.List.{List}
 use mathlib.Core.Path.{_≡_, refl, sym, _∙_}
@@ -12,9 +12,10 @@ use Rattle.rules.specs.declared.event.Event.the-variants.{Submit, Cancel, DayLi
 use Rattle.rules.specs.declared.event.Event.{Event}
 use Rattle.rules.specs.declared.event.Reading.the-variants.{Sound, Unsound}
 use Rattle.rules.specs.declared.event.Reading.{Reading}
-use Rattle.rules.specs.Header.{u32At, membersSound}
+use Rattle.rules.specs.Fields.{numbersAt}
+use Rattle.rules.specs.Header.{u16At, u32At, membersSound}
 use Rattle.rules.specs.Records.{submitLength, cancelLength, dayLimitsLength, defaultLength, closeOutLength, closeOfDayLength, legPlace, recordLength, frontLength, submissionOf}
-use Rattle.rules.specs.Records.{cancellationOf, newDayLimitsOf, closeOutOf, submitOf, fieldsByKind, fieldsOf, legsOf, eventSound, ifSound, readOf}
+use Rattle.rules.specs.Records.{cancellationOf, newDayLimitsOf, closeOutOf, submitOf, recordNumbers, fieldsByKind, fieldsOf, legAt, legsOf, eventSound, ifSound, readOf}
 
 -- ---- by the kind and the length, as they were read
 module _ (s : List ℕ) {k second n : ℕ} (kind : k ≡ getD s 0 0) (next : second ≡ getD s 1 0) (sized : n ≡ recordLength k second) where
@@ -37,20 +38,27 @@ module _ (k : ℕ) (a : k ≡ 1 → ⊥) (b : k ≡ 2 → ⊥) (c : k ≡ 3 → 
   unknown-kind s = simp (ne-eqb _ _ a, ne-eqb _ _ b, ne-eqb _ _ c, ne-eqb _ _ d, ne-eqb _ _ e, ne-eqb _ _ f, ne-eqb _ _ g)
 
 module _ (s : List ℕ) where
-  pub submit-side : 1 < getD s 7 0 → Unsound ≡ submitOf s
+  pub submit-side : 1 < getD s 7 0 → Unsound ≡ submitOf (recordNumbers 1 s)
+  unfolding recordNumbers
   submit-side h = rw (lt-leb (getD s 7 0) 1 h) refl
 
-  pub submit-order-kind : 2 < getD s 8 0 → Unsound ≡ submitOf s
+  pub submit-order-kind : 2 < getD s 8 0 → Unsound ≡ submitOf (recordNumbers 1 s)
+  unfolding recordNumbers
   submit-order-kind h = rw (lt-leb (getD s 8 0) 2 h, and-false (leb (getD s 7 0) 1)) refl
+
+-- a leg's numbers, where they stand
+pub leg-read : (s : List ℕ) (i : ℕ) → record { order = u32At s i; lots = record { 0 = u16At s (i + 4) }; price = record { 0 = u32At s (i + 6) } } ≡ legAt s i
+unfolding numbersAt
+leg-read s i = let price : i + 4 + 2 ≡ i + 6 = omega arith in rw price refl
 
 -- ---- which kind a record has that says an event
 pub data Says (s : List ℕ) : Event → Type 0 where
-  submits : getD s 0 0 ≡ 1 → length s ≡ submitLength → getD s 7 0 ≤ 1 → getD s 8 0 ≤ 2 → Says s (Submit (submissionOf s))
-  cancels : getD s 0 0 ≡ 2 → length s ≡ cancelLength → Says s (Cancel (cancellationOf s))
-  limits : getD s 0 0 ≡ 3 → length s ≡ dayLimitsLength → Says s (DayLimits (newDayLimitsOf s))
+  submits : getD s 0 0 ≡ 1 → length s ≡ submitLength → getD s 7 0 ≤ 1 → getD s 8 0 ≤ 2 → Says s (Submit (submissionOf (recordNumbers 1 s)))
+  cancels : getD s 0 0 ≡ 2 → length s ≡ cancelLength → Says s (Cancel (cancellationOf (recordNumbers 2 s)))
+  limits : getD s 0 0 ≡ 3 → length s ≡ dayLimitsLength → Says s (DayLimits (newDayLimitsOf (recordNumbers 3 s)))
   proposes : getD s 0 0 ≡ 4 → length s ≡ legPlace (getD s 1 0) → Says s (Proposal (getD s 1 0))
   defaults : getD s 0 0 ≡ 5 → length s ≡ defaultLength → Says s (Default (getD s 1 0))
-  closes-out : getD s 0 0 ≡ 6 → length s ≡ closeOutLength → Says s (CloseOut (closeOutOf s))
+  closes-out : getD s 0 0 ≡ 6 → length s ≡ closeOutLength → Says s (CloseOut (closeOutOf (recordNumbers 6 s)))
   closes : getD s 0 0 ≡ 7 → length s ≡ closeOfDayLength → Says s (CloseOfDay (u32At s 1))
 
 pub nothing : {P : Type 0} {e : Event} → Unsound ≡ Sound e → P
@@ -85,11 +93,11 @@ says s e h =
     is : {x : Event} → Sound x ≡ Sound e → Says s x → Says s e
     is {x} w y = let same : x ≡ e = cc in rw same at y
 
-    submit : getD s 0 0 ≡ 1 → length s ≡ submitLength → submitOf s ≡ Sound e → Says s e
+    submit : getD s 0 0 ≡ 1 → length s ≡ submitLength → submitOf (recordNumbers 1 s) ≡ Sound e → Says s e
     submit k l w =
         let side = leb (getD s 7 0) 1 in
         let order = leb (getD s 8 0) 2 in
-        let both = if-true (side && order) (Sound (Submit (submissionOf s))) e w in
+        let both = if-true (side && order) (Sound (Submit (submissionOf (recordNumbers 1 s)))) e w in
         is (both .1) (submits k l (leb-true (getD s 7 0) 1 (and-left side order (both .0))) (leb-true (getD s 8 0) 2 (and-right side order (both .0))))
 
 -- ---- reading by what the fields say

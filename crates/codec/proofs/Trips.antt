@@ -1,6 +1,6 @@
 -- Records written and read back, and read and written again. Assumes nothing.
 use Prim.Native.Nat.{ℕ, _+_, _*_, _≤_, _<_}
-use mathlib.Core.Bool.{true, false, _&&_}
+use mathlib.Core.Bool.{true, false, cond, _&&_}
 use mathlib.Core.List.{List, [], _∷_, _++_, flatMap, append-assoc, append-nil}
 use mathlib.Core.Path.{_≡_, refl, sym, ap, _∙_}
 use native.Mathlib.Omega.{arith}
@@ -22,18 +22,20 @@ use Rattle.rules.specs.declared.event.Reading.the-variants.{Sound}
 use Rattle.rules.specs.declared.order.Side.the-variants.{Buy, Sell}
 use Rattle.rules.specs.declared.order.Side.{Side}
 use Rattle.rules.specs.Ranges.{lastSecond, mostPrice, mostLots, leastLegs, mostLegs, mostRatio}
-use Rattle.rules.specs.Header.{u16At, u32At, u16Bytes, u32Bytes, membersSound}
+use Rattle.rules.specs.Fields.{hasLegs, widths, kindFields, legFields, numbersAt, bytesBy}
+use Rattle.rules.specs.Header.{membersSound}
 use Rattle.rules.specs.Sides.{sideNumber, sideOf}
-use Rattle.rules.specs.Records.{legPlace, recordLength, frontLength, sideSound, orderKindNumber, orderKindOf, orderKindSound, legSound, eventSound, legBytes, fieldBytes, bytesOf}
-use Rattle.rules.specs.Records.{writeSpec, fieldsByKind, fieldsOf, legAt, legsOf, readOf, frontOf}
+use Rattle.rules.specs.Records.{legPlace, recordLength, frontLength, sideSound, orderKindNumber, orderKindOf, orderKindSound, legSound, eventSound, kindNumber, eventNumbers, legNumbers, eventByKind, legIn}
+use Rattle.rules.specs.Records.{legBytes, fieldBytes, bytesOf, writeSpec, recordNumbers, fieldsByKind, fieldsOf, legAt, legsOf, readOf, frontOf}
 use Rattle.rules.proofs.Writing.{written, not-refused}
-use Rattle.big_endian.proofs.Numbers.{bytes-small, u16-wide, u32-wide, u16-back, u32-back, all-back, u8-again, u16-again, u32-again, u8-last, u16-last, u32-last, u8-first, none-past, all-again}
+use Rattle.big_endian.proofs.Numbers.{bytes-small, all-back, u8-first, none-past, all-again}
 use Rattle.record_kinds.specs.LegCount.{legCount}
-use Rattle.codec.specs.Columns.{legRows}
+use Rattle.codec.specs.Columns.{legRows, OneByteFields}
 use Rattle.codec.specs.Trips.{WrittenIsRead, ReadIsWritten, SoundStandsWhole}
-use Rattle.codec.proofs.Fields.{Says, submits, cancels, limits, proposes, defaults, closes-out, closes, says, said}
+use Rattle.codec.proofs.Fields.{Says, submits, cancels, limits, proposes, defaults, closes-out, closes, says, said, fields-of-kind}
+use Rattle.codec.proofs.FieldBytes.{Fits, numbers-back, numbers-again}
 use Rattle.codec.proofs.LegColumns.{legs-to, rows-said}
-use Rattle.codec.proofs.Written.{leg-wide, bound, write-whole}
+use Rattle.codec.proofs.Written.{leg-wide, length-record, bound, one-byte, write-whole}
 use Rattle.rules.proofs.Sides.{side-again}
 
 -- ---- a sound event's wide fields fit their bytes
@@ -76,54 +78,74 @@ order-kind-back Resting = (refl, refl)
 order-kind-back Oeye = (refl, refl)
 order-kind-back Teye = (refl, refl)
 
-fields-back : (e : Event) (legs : List Leg) → WideFields e → length legs ≡ legCount e → fieldsOf (bytesOf e legs) ≡ Sound e
-unfolding fieldsOf fieldsByKind recordLength bytesOf fieldBytes u16Bytes u32Bytes
-fields-back (Submit e) legs w l =
-    let front = 1 ∷ u32Bytes (e .time) ++ (e .member ∷ e .contract ∷ sideNumber (e .side) ∷ orderKindNumber (e .kind) ∷ []) in
-    let back = e .member ∷ e .contract ∷ sideNumber (e .side) ∷ orderKindNumber (e .kind) ∷ u32Bytes (e .price .0) ++ u16Bytes (e .lots .0) in
-    rw (
-      side-back (e .side) .1,
-      order-kind-back (e .kind) .1,
-      side-back (e .side) .0,
-      order-kind-back (e .kind) .0,
-      u32-back (1 ∷ []) back 1 refl (e .time) (omega arith),
-      u32-back front (u16Bytes (e .lots .0)) 9 refl (e .price .0) (omega arith),
-      u16-back (front ++ u32Bytes (e .price .0)) [] 13 refl (e .lots .0) (omega arith),
-    ) refl
-fields-back (Cancel e) legs w l =
-    rw (
-      u32-back (2 ∷ []) (e .member ∷ u32Bytes (e .order)) 1 refl (e .time) (omega arith),
-      u32-back (2 ∷ u32Bytes (e .time) ++ (e .member ∷ [])) [] 6 refl (e .order) (omega arith),
-    ) refl
-fields-back (DayLimits e) legs w l =
-    rw (
-      u32-back (3 ∷ e .contract ∷ []) (u32Bytes (e .high .0)) 2 refl (e .low .0) (omega arith),
-      u32-back (3 ∷ e .contract ∷ u32Bytes (e .low .0)) [] 6 refl (e .high .0) (omega arith),
-    ) refl
-fields-back (Proposal k) legs w l =
-    let whole : length (flatMap legBytes legs) ≡ 10 * k = omega (arith, flat-length 10 legBytes leg-wide legs) in
-    rw (eq-eqb (length (4 ∷ k ∷ flatMap legBytes legs)) (legPlace k) (omega arith)) refl
-fields-back (Default m) legs w l = refl
-fields-back (CloseOut e) legs w l = rw (u16-back (6 ∷ e .contract ∷ []) [] 2 refl (e .ratio) (omega arith)) refl
-fields-back (CloseOfDay s) legs w l = rw (u32-back (7 ∷ []) [] 1 refl s (omega arith)) refl
+side-small : (x : Side) → sideNumber x < 256
+side-small Buy = omega arith
+side-small Sell = omega arith
+
+order-kind-small : (x : OrderKind) → orderKindNumber x < 256
+order-kind-small Resting = omega arith
+order-kind-small Oeye = omega arith
+order-kind-small Teye = omega arith
+
+first-byte : (e : Event) (legs : List Leg) → kindNumber e ≡ getD (bytesOf e legs) 0 0
+unfolding bytesOf
+first-byte e legs = refl
+
+-- Each number of a sound event fits its field,
+fits : (e : Event) → OneByteFields e → WideFields e → Fits (kindFields (kindNumber e)) (eventNumbers e)
+unfolding kindFields Fits
+fits (Submit e) o w = (omega arith, (o .0, (o .1, (side-small (e .side), (order-kind-small (e .kind), (omega arith, (omega arith, tt)))))))
+fits (Cancel e) o w = (omega arith, (o, (omega arith, tt)))
+fits (DayLimits e) o w = (o, (omega arith, (omega arith, tt)))
+fits (Proposal k) o w = (omega arith, tt)
+fits (Default m) o w = (o, tt)
+fits (CloseOut e) o w = (o, (omega arith, tt))
+fits (CloseOfDay s) o w = (omega arith, tt)
+
+-- and the numbers give the event.
+event-back : (e : Event) → eventByKind (kindNumber e) (kindNumber e ∷ eventNumbers e) ≡ Sound e
+unfolding eventByKind
+event-back (Submit e) = rw (side-back (e .side) .1, order-kind-back (e .kind) .1, side-back (e .side) .0, order-kind-back (e .kind) .0) refl
+event-back (Cancel e) = refl
+event-back (DayLimits e) = refl
+event-back (Proposal k) = refl
+event-back (Default m) = refl
+event-back (CloseOut e) = refl
+event-back (CloseOfDay s) = refl
+
+-- The second byte counts only where a record has legs.
+second-byte : (e : Event) (legs : List Leg) → recordLength (kindNumber e) (legCount e) ≡ recordLength (kindNumber e) (getD (bytesOf e legs) 1 0)
+unfolding recordLength bytesOf fieldBytes
+second-byte (Submit e) legs = refl
+second-byte (Cancel e) legs = refl
+second-byte (DayLimits e) legs = refl
+second-byte (Proposal k) legs = refl
+second-byte (Default m) legs = refl
+second-byte (CloseOut e) legs = refl
+second-byte (CloseOfDay s) legs = refl
+
+by-numbers : (kind : ℕ) (s f : List ℕ) → recordNumbers kind s ≡ f → fieldsByKind kind s ≡ eventByKind kind f
+unfolding fieldsByKind
+by-numbers kind s f h = ap (eventByKind kind) h
+
+numbers-written : (e : Event) (legs : List Leg) → Fits (kindFields (kindNumber e)) (eventNumbers e) → recordNumbers (kindNumber e) (bytesOf e legs) ≡ kindNumber e ∷ eventNumbers e
+unfolding recordNumbers bytesOf fieldBytes
+numbers-written e legs f = ap (λ x. kindNumber e ∷ x) (numbers-back (kindFields (kindNumber e)) (eventNumbers e) (kindNumber e ∷ []) (cond (hasLegs (kindNumber e)) (flatMap legBytes legs) []) 1 f refl)
+
+fields-back : (e : Event) (legs : List Leg) → Fits (kindFields (kindNumber e)) (eventNumbers e) → length legs ≡ legCount e → fieldsOf (bytesOf e legs) ≡ Sound e
+fields-back e legs f l =
+    let s = bytesOf e legs in
+    let sized : length s ≡ recordLength (kindNumber e) (getD s 1 0) = length-record e legs l ∙ second-byte e legs in
+    sym (fields-of-kind s (first-byte e legs) refl refl sized (kindNumber e) refl)
+    ∙ (by-numbers (kindNumber e) s (kindNumber e ∷ eventNumbers e) (numbers-written e legs f) ∙ event-back e)
 
 leg-back : (p q : List ℕ) (i : ℕ) → i ≡ length p → (g : Leg) → legSound g ≡ true → legAt (p ++ (legBytes g ++ q)) i ≡ g
+unfolding Fits
 leg-back p q i e g t =
-    let o = u32Bytes (g .order) in
-    let l = u16Bytes (g .lots .0) in
-    let r = u32Bytes (g .price .0) in
     let number : g .order ≤ 4294967295 = bound (g .order) 4294967295 (λ h. sym (simp (le-ltb (g .order) 4294967296 h) at t)) in
     let lots : g .lots .0 ≤ mostLots = bound (g .lots .0) mostLots (λ h. sym (simp (lt-leb (g .lots .0) mostLots h, and-false) at t)) in
     let price : g .price .0 ≤ mostPrice = bound (g .price .0) mostPrice (λ h. sym (simp (lt-leb (g .price .0) mostPrice h, and-false) at t)) in
-    let shape₁ : p ++ ((o ++ (l ++ r)) ++ q) ≡ p ++ (o ++ ((l ++ r) ++ q)) = ap (λ x. p ++ x) (append-assoc o (l ++ r) q) in
-    let shape₂ : p ++ (o ++ ((l ++ r) ++ q)) ≡ (p ++ o) ++ (l ++ (r ++ q)) = rw append-assoc (sym (append-assoc p o (l ++ (r ++ q)))) in
-    let shape₃ : (p ++ o) ++ (l ++ (r ++ q)) ≡ ((p ++ o) ++ l) ++ (r ++ q) = sym (append-assoc (p ++ o) l (r ++ q)) in
-    let at₂ : i + 4 ≡ length (p ++ o) = rw e (sym (length-append p o ∙ ap (λ k. length p + k) (u32-wide (g .order)))) in
-    let at₃ : i + 6 ≡ length ((p ++ o) ++ l) = sym (length-append (p ++ o) l ∙ rw (← at₂, u16-wide (g .lots .0)) (omega arith)) in
-    let first : u32At (p ++ ((o ++ (l ++ r)) ++ q)) i ≡ g .order = rw shape₁ (u32-back p ((l ++ r) ++ q) i e (g .order) (omega arith)) in
-    let second : u16At (p ++ ((o ++ (l ++ r)) ++ q)) (i + 4) ≡ g .lots .0 = rw (shape₁ ∙ shape₂) (u16-back (p ++ o) (r ++ q) (i + 4) at₂ (g .lots .0) (omega arith)) in
-    let third : u32At (p ++ ((o ++ (l ++ r)) ++ q)) (i + 6) ≡ g .price .0 = rw (shape₁ ∙ (shape₂ ∙ shape₃)) (u32-back ((p ++ o) ++ l) q (i + 6) at₃ (g .price .0) (omega arith)) in
-    λ j. record { order = first j; lots = record { 0 = second j }; price = record { 0 = third j } }
+    ap (λ f. legIn f 0) (numbers-back legFields (legNumbers g) p q i (omega arith, (omega arith, (omega arith, tt))) e)
 
 no-leg : (legs : List Leg) → ((length legs ≡ 0 → ⊥) → true ≡ false) → legs ≡ []
 no-leg [] f = refl
@@ -165,7 +187,7 @@ read-written : (n : ℕ) (e : Event) (legs : List Leg) → membersSound n ≡ tr
 unfolding readOf
 read-written n e legs m t =
     let sized : length legs ≡ legCount e = beside n e legs t in
-    rw (m, fields-back e legs (wide-fields n e legs t) sized, legs-back n e legs t sized, t) refl
+    rw (m, fields-back e legs (fits e (one-byte n m e legs t) (wide-fields n e legs t)) sized, legs-back n e legs t sized, t) refl
 
 -- A sound event's record has the event's legs.
 legs-written : (n : ℕ) (e : Event) (legs : List Leg) → eventSound n e legs ≡ true → legsOf (bytesOf e legs) ≡ legs
@@ -177,41 +199,33 @@ order-kind-again b h =
 
 module _ (s : List ℕ) (small : (i : ℕ) → getD s i 0 < 256) where
   leg-again : (i : ℕ) → i + 10 ≤ length s → legBytes (legAt s i) ++ drop (i + 10) s ≡ drop i s
-  leg-again i h =
-      let four : i + 4 + 2 ≡ i + 6 = omega arith in
-      let six : i + 6 + 4 ≡ i + 10 = omega arith in
-      let last : u32Bytes (u32At s (i + 6)) ++ drop (i + 10) s ≡ drop (i + 6) s = rw six at (u32-again s small (i + 6) (omega arith)) in
-      let middle : u16Bytes (u16At s (i + 4)) ++ drop (i + 6) s ≡ drop (i + 4) s = rw four at (u16-again s small (i + 4) (omega arith)) in
-      rw (append-assoc, append-assoc, last, middle, u32-again s small i (omega arith)) refl
+  unfolding numbersAt widths
+  leg-again i h = numbers-again s small legFields i h
+
+  -- the kind, the fields, and what is past them
+  kind-again : (k : ℕ) → getD s 0 0 ≡ k → 1 + widths (kindFields k) ≤ length s
+      → k ∷ (bytesBy (kindFields k) (numbersAt s 1 (kindFields k)) ++ drop (1 + widths (kindFields k)) s) ≡ s
+  kind-again k e h = ap (λ x. k ∷ x) (numbers-again s small (kindFields k) 1 h) ∙ u8-first s small k e (omega arith)
+
+  legless-again : (k : ℕ) → getD s 0 0 ≡ k → length s ≡ 1 + widths (kindFields k) → k ∷ (bytesBy (kindFields k) (numbersAt s 1 (kindFields k)) ++ []) ≡ s
+  legless-again k e l =
+      let all = bytesBy (kindFields k) (numbersAt s 1 (kindFields k)) in
+      ap (λ x. k ∷ (all ++ x)) (sym (none-past s small (1 + widths (kindFields k)) l)) ∙ kind-again k e (omega arith)
 
   record-again : (e : Event) → Says s e → bytesOf e (legsOf s) ≡ s
-  unfolding bytesOf fieldBytes
-  record-again e (submits k l a b) =
-      rw (
-        side-again (getD s 7 0) a,
-        order-kind-again (getD s 8 0) b,
-        u16-last s small 13 l,
-        u32-again s small 9 (omega arith),
-        u8-again s small 8 (omega arith),
-        u8-again s small 7 (omega arith),
-        u8-again s small 6 (omega arith),
-        u8-again s small 5 (omega arith),
-        u32-again s small 1 (omega arith),
-      ) (u8-first s small 1 k (omega arith))
-  record-again e (cancels k l) =
-      rw (u32-last s small 6 l, u8-again s small 5 (omega arith), u32-again s small 1 (omega arith)) (u8-first s small 2 k (omega arith))
-  record-again e (limits k l) =
-      rw (u32-last s small 6 l, u32-again s small 2 (omega arith), u8-again s small 1 (omega arith)) (u8-first s small 3 k (omega arith))
-  record-again e (proposes k l) =
-      rw (proposed, u8-again s small 1 (omega arith)) (u8-first s small 4 k (omega arith))
+  unfolding bytesOf fieldBytes recordNumbers widths
+  record-again e (submits k l a b) = rw (side-again (getD s 7 0) a, order-kind-again (getD s 8 0) b) (legless-again 1 k l)
+  record-again e (cancels k l) = legless-again 2 k l
+  record-again e (limits k l) = legless-again 3 k l
+  record-again e (proposes k l) = rw proposed (kind-again 4 k (omega arith))
     where
       proposed : flatMap legBytes (legsOf s) ≡ drop 2 s
       proposed =
           sym (append-nil (flatMap legBytes (legsOf s)))
           ∙ rw (legs-to s k, ← none-past s small (legPlace (getD s 1 0)) l) (all-again legBytes 10 legAt s leg-again (getD s 1 0) 2 (omega arith))
-  record-again e (defaults k l) = rw (u8-last s small 1 l) (u8-first s small 5 k (omega arith))
-  record-again e (closes-out k l) = rw (u16-last s small 2 l, u8-again s small 1 (omega arith)) (u8-first s small 6 k (omega arith))
-  record-again e (closes k l) = rw (u32-last s small 1 l) (u8-first s small 7 k (omega arith))
+  record-again e (defaults k l) = legless-again 5 k l
+  record-again e (closes-out k l) = legless-again 6 k l
+  record-again e (closes k l) = legless-again 7 k l
 
 -- A record that says an event is the event's record.
 written-again : (n : ℕ) (s : List ℕ) (e : Event) → T (every (λ b. ltb b 256) s) → readOf n s ≡ Sound e → bytesOf e (legsOf s) ≡ s

@@ -16,13 +16,14 @@ use Rattle.rules.specs.declared.event.Event.the-variants.{Submit, Cancel, DayLi
 use Rattle.rules.specs.declared.event.Event.{Event}
 use Rattle.rules.specs.declared.event.Leg.{Leg}
 use Rattle.rules.specs.Ranges.{contractCount, mostMembers, lastSecond, leastLegs, mostLegs}
+use Rattle.rules.specs.Fields.{bytesBy}
 use Rattle.rules.specs.Header.{u16Bytes, u32Bytes, membersSound}
 use Rattle.rules.specs.Records.{recordLength, eventSound, legBytes, kindNumber, fieldBytes, bytesOf, writeSpec}
 use Rattle.record_kinds.specs.LegCount.{legCount}
 use Rattle.codec.specs.Columns.{OneByteFields}
 
 pub leg-wide : (g : Leg) → length (legBytes g) ≡ 10
-unfolding u16Bytes u32Bytes
+unfolding bytesBy u16Bytes u32Bytes
 leg-wide g = refl
 
 pub length-record : (e : Event) (legs : List Leg) → length legs ≡ legCount e → length (bytesOf e legs) ≡ recordLength (kindNumber e) (legCount e)

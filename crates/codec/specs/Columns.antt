@@ -11,7 +11,8 @@ use Rattle.rules.specs.declared.event.Event.the-variants.{Submit, Cancel, DayLi
 use Rattle.rules.specs.declared.event.Event.{Event}
 use Rattle.rules.specs.declared.event.Leg.{Leg}
 use Rattle.rules.specs.Ranges.{mostLegs}
-use Rattle.rules.specs.Records.{kindByte, proposalLegsByte, proposalKind, legPlace, legsOf, legAt}
+use Rattle.rules.specs.Fields.{proposalKind}
+use Rattle.rules.specs.Records.{kindByte, proposalLegsByte, legPlace, legsOf, legAt}
 use Rattle.codec.specs.declared.legs.Legs.{Legs}
 
 -- Leg i of the columns.

@@ -3,8 +3,9 @@ ghost use mathlib.Core.Path.{_≡_};
 ghost use Prim.Native.Nat.{_≤_};
 ghost use lib.ListN.{length};
 ghost use Rattle.rules.specs.declared.event.Reading.the-variants.{Sound};
+ghost use Rattle.rules.specs.Fields.{submitKind, cancelKind, dayLimitsKind, closeOutKind};
 ghost use Rattle.rules.specs.Records.{submitLength, cancelLength, dayLimitsLength, closeOutLength};
-ghost use Rattle.rules.specs.Records.{submitOf, cancellationOf, newDayLimitsOf, closeOutOf, fieldsOf, legsOf, eventSound, readOf};
+ghost use Rattle.rules.specs.Records.{submitOf, cancellationOf, newDayLimitsOf, closeOutOf, recordNumbers, fieldsOf, legsOf, eventSound, readOf};
 use crate::legs::read_legs;
 use crate::sound::is_legless_sound;
 use crate::sound::is_proposal_sound;
@@ -57,7 +58,7 @@ use sides::side_of;
 
 fn submit_of(bytes: &[u8]) -> Reading
     requires { ⌜ submitLength ≤ length (now bytes) ⌝ }
-    ensures { λ r. ⌜ r ≡ submitOf (now (bytes .entry)) ⌝ }
+    ensures { λ r. ⌜ r ≡ submitOf (recordNumbers submitKind (now (bytes .entry))) ⌝ }
 {
     let side = u8_at(bytes, SUBMIT_SIDE_BYTE);
     let kind = u8_at(bytes, SUBMIT_ORDER_KIND_BYTE);
@@ -80,7 +81,7 @@ fn submit_of(bytes: &[u8]) -> Reading
 
 fn cancellation_of(bytes: &[u8]) -> Cancellation
     requires { ⌜ cancelLength ≤ length (now bytes) ⌝ }
-    ensures { λ r. ⌜ r ≡ cancellationOf (now (bytes .entry)) ⌝ }
+    ensures { λ r. ⌜ r ≡ cancellationOf (recordNumbers cancelKind (now (bytes .entry))) ⌝ }
 {
     Cancellation {
         time: u32_at(bytes, CANCEL_TIME_BYTE),
@@ -91,7 +92,7 @@ fn cancellation_of(bytes: &[u8]) -> Cancellation
 
 fn new_day_limits_of(bytes: &[u8]) -> NewDayLimits
     requires { ⌜ dayLimitsLength ≤ length (now bytes) ⌝ }
-    ensures { λ r. ⌜ r ≡ newDayLimitsOf (now (bytes .entry)) ⌝ }
+    ensures { λ r. ⌜ r ≡ newDayLimitsOf (recordNumbers dayLimitsKind (now (bytes .entry))) ⌝ }
 {
     NewDayLimits {
         contract: u8_at(bytes, DAY_LIMITS_CONTRACT_BYTE),
@@ -102,7 +103,7 @@ fn new_day_limits_of(bytes: &[u8]) -> NewDayLimits
 
 fn close_out_of(bytes: &[u8]) -> CloseOutTerms
     requires { ⌜ closeOutLength ≤ length (now bytes) ⌝ }
-    ensures { λ r. ⌜ r ≡ closeOutOf (now (bytes .entry)) ⌝ }
+    ensures { λ r. ⌜ r ≡ closeOutOf (recordNumbers closeOutKind (now (bytes .entry))) ⌝ }
 {
     CloseOutTerms {
         contract: u8_at(bytes, CLOSE_OUT_CONTRACT_BYTE),

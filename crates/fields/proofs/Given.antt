@@ -15,21 +15,21 @@ use Rattle.rules.specs.declared.event.Reading.the-variants.{Sound}
 use Rattle.rules.specs.Ranges.{mostLegs}
 use Rattle.record_kinds.specs.LegCount.{legCount}
 use Rattle.codec.proofs.Fields.{nothing, if-true}
-use Rattle.fields.specs.RecordFields.{kindField, submitSideField, submitOrderKindField, proposalLegsField, defaultMemberField, closeOfDayTimeField, submissionIn, cancellationIn, newDayLimitsIn}
-use Rattle.fields.specs.RecordFields.{closeOutIn, submitIn, proposalIn, eventByKind, eventIn, firstLegs, legsIn}
+use Rattle.rules.specs.Records.{submissionOf, submitOf, cancellationOf, newDayLimitsOf, closeOutOf}
+use Rattle.fields.specs.RecordFields.{kindField, proposalLegsField, rowEvent, eventIn, firstLegs, legsIn}
 use Rattle.fields.proofs.Rows.{no-kind}
 
 pub data Gives (f : List ℕ) : Event → Type 0 where
-  submits : getD f kindField 0 ≡ 1 → getD f submitSideField 0 ≤ 1 → getD f submitOrderKindField 0 ≤ 2 → Gives f (Submit (submissionIn f))
-  cancels : getD f kindField 0 ≡ 2 → Gives f (Cancel (cancellationIn f))
-  limits : getD f kindField 0 ≡ 3 → Gives f (DayLimits (newDayLimitsIn f))
+  submits : getD f kindField 0 ≡ 1 → getD f 4 0 ≤ 1 → getD f 5 0 ≤ 2 → Gives f (Submit (submissionOf f))
+  cancels : getD f kindField 0 ≡ 2 → Gives f (Cancel (cancellationOf f))
+  limits : getD f kindField 0 ≡ 3 → Gives f (DayLimits (newDayLimitsOf f))
   proposes : getD f kindField 0 ≡ 4 → getD f proposalLegsField 0 ≤ mostLegs → Gives f (Proposal (getD f proposalLegsField 0))
-  defaults : getD f kindField 0 ≡ 5 → Gives f (Default (getD f defaultMemberField 0))
-  closes-out : getD f kindField 0 ≡ 6 → Gives f (CloseOut (closeOutIn f))
-  closes : getD f kindField 0 ≡ 7 → Gives f (CloseOfDay (getD f closeOfDayTimeField 0))
+  defaults : getD f kindField 0 ≡ 5 → Gives f (Default (getD f 1 0))
+  closes-out : getD f kindField 0 ≡ 6 → Gives f (CloseOut (closeOutOf f))
+  closes : getD f kindField 0 ≡ 7 → Gives f (CloseOfDay (getD f 1 0))
 
 pub gives : (f : List ℕ) (e : Event) → eventIn f ≡ Sound e → Gives f e
-unfolding eventByKind
+unfolding rowEvent
 gives f e h =
     same-or kind 1 (λ k. submit k (rw k at h))
     (λ n₁. same-or kind 2 (λ k. is (rw k at h) (cancels k))
@@ -46,15 +46,15 @@ gives f e h =
     is : {x : Event} → Sound x ≡ Sound e → Gives f x → Gives f e
     is {x} w y = let same : x ≡ e = cc in rw same at y
 
-    submit : getD f kindField 0 ≡ 1 → submitIn f ≡ Sound e → Gives f e
+    submit : getD f kindField 0 ≡ 1 → submitOf f ≡ Sound e → Gives f e
     submit k w =
-        let side = leb (getD f submitSideField 0) 1 in
-        let order = leb (getD f submitOrderKindField 0) 2 in
-        let both = if-true (side && order) (Sound (Submit (submissionIn f))) e w in
-        let one = leb-true (getD f submitSideField 0) 1 (and-left side order (both .0)) in
-        is (both .1) (submits k one (leb-true (getD f submitOrderKindField 0) 2 (and-right side order (both .0))))
+        let side = leb (getD f 4 0) 1 in
+        let order = leb (getD f 5 0) 2 in
+        let both = if-true (side && order) (Sound (Submit (submissionOf f))) e w in
+        let one = leb-true (getD f 4 0) 1 (and-left side order (both .0)) in
+        is (both .1) (submits k one (leb-true (getD f 5 0) 2 (and-right side order (both .0))))
 
-    proposal : getD f kindField 0 ≡ 4 → proposalIn f ≡ Sound e → Gives f e
+    proposal : getD f kindField 0 ≡ 4 → rowEvent 4 f ≡ Sound e → Gives f e
     proposal k w =
         let few = if-true (leb (getD f proposalLegsField 0) mostLegs) (Sound (Proposal (getD f proposalLegsField 0))) e w in
         is (few .1) (proposes k (leb-true (getD f proposalLegsField 0) mostLegs (few .0)))

@@ -11,14 +11,14 @@ use Rattle.rules.specs.declared.event.Reading.{Reading}
 use Rattle.rules.specs.declared.event.Reading.the-variants.{Sound, Unsound}
 use Rattle.rules.specs.Answers.{Outcome}
 use Rattle.rules.specs.Ranges.{mostLegs}
-use Rattle.rules.specs.Records.{writeSpec, legsOf, readOf}
+use Rattle.rules.specs.Records.{legIn, writeSpec, legsOf, readOf}
 use Rattle.record_kinds.specs.LegCount.{legCount}
 use Rattle.codec.specs.Columns.{legRows, legColumns, heldLegs}
 use Rattle.codec.specs.declared.legs.Legs.{Legs}
 use Rattle.codec.proofs.Fields.{said}
 use Rattle.codec.proofs.LegColumns.{rows-of-columns, rows-said}
 use Rattle.codec.proofs.Written.{one-byte, few-legs-beside}
-use Rattle.fields.specs.RecordFields.{recordFields, legField, legIn, eventIn, firstLegs, legsIn, withNumbers, withReading, readFields, writeReading, writeFields}
+use Rattle.fields.specs.RecordFields.{recordFields, legField, eventIn, firstLegs, legsIn, withNumbers, withReading, readFields, writeReading, writeFields}
 use Rattle.fields.proofs.Given.{gives, legs-given, few-given}
 
 pub length-legs : (f : List ℕ) (n : ℕ) → length (firstLegs f n) ≡ n

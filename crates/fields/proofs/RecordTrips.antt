@@ -23,7 +23,7 @@ use Rattle.rules.specs.declared.event.Reading.{Reading}
 use Rattle.rules.specs.declared.event.Reading.the-variants.{Sound, Unsound}
 use Rattle.rules.specs.Answers.{Outcome, told}
 use Rattle.rules.specs.Ranges.{mostLegs}
-use Rattle.rules.specs.Records.{writeSpec, legsOf, readOf}
+use Rattle.rules.specs.Records.{legNumbers, numbersOf, legIn, writeSpec, legsOf, readOf}
 use Rattle.big_endian.proofs.Numbers.{all-back, all-again}
 use Rattle.header.specs.Journal.{firsts}
 use Rattle.header.proofs.Headers.{take-firsts}
@@ -31,7 +31,7 @@ use Rattle.record_kinds.specs.LegCount.{legCount}
 use Rattle.codec.specs.Columns.{legRows, legColumns, heldLegs}
 use Rattle.codec.proofs.LegColumns.{length-rows, rows-of-columns}
 use Rattle.codec.proofs.Trips as codec
-use Rattle.fields.specs.RecordFields.{recordFields, proposalLegsField, legField, legNumbers, numbersOf, eventByKind, eventIn, legIn, firstLegs, legsIn, readFields, writeFields}
+use Rattle.fields.specs.RecordFields.{recordFields, proposalLegsField, legField, rowEvent, eventIn, firstLegs, legsIn, readFields, writeFields}
 use Rattle.fields.specs.Trips.{NumbersGiveEvent, EventGivesNumbers, ReadIsWritten, WrittenIsRead}
 use Rattle.fields.proofs.Given.{Gives, submits, cancels, limits, proposes, defaults, closes-out, closes, gives, legs-given}
 use Rattle.fields.proofs.RecordOutcomes.{length-legs, read-short, read-by, few-read, rows-read, write-short, write-by}
@@ -53,7 +53,7 @@ legs-back k legs rest l =
     rw l at (all-back legNumbers 3 (λ g. refl) legIn (λ g. Unit {0}) leg-back legs (4 ∷ k ∷ []) rest 2 refl any)
 
 pub numbers-give-event : NumbersGiveEvent
-unfolding numbersOf eventByKind legsIn
+unfolding numbersOf rowEvent legsIn
 numbers-give-event (Submit e) legs rest l m =
     let side = codec.side-back (e .side) in
     let kind = codec.order-kind-back (e .kind) in

@@ -17,8 +17,9 @@ use Rattle.rules.specs.declared.event.Event.{Event}
 use Rattle.rules.specs.declared.event.Event.the-variants.{Proposal}
 use Rattle.rules.specs.declared.event.Leg.{Leg}
 use Rattle.rules.specs.declared.event.Reading.the-variants.{Unsound}
-use Rattle.rules.specs.Records.{proposalKind}
-use Rattle.fields.specs.RecordFields.{kindField, submitSideField, submitOrderKindField, legField, legNumbers, numbersOf, submitIn, eventByKind, eventIn, withNumbers}
+use Rattle.rules.specs.Fields.{proposalKind}
+use Rattle.rules.specs.Records.{legNumbers, numbersOf, submitOf}
+use Rattle.fields.specs.RecordFields.{kindField, legField, rowEvent, eventIn, withNumbers}
 
 -- ---- stores
 -- Numbers stored one after the other from the front.
@@ -45,15 +46,15 @@ pasted row at list i e = rw (e, take-length list) (append-assoc (take at row) li
 
 -- ---- by the kind
 module _ (f : List ℕ) where
-  pub by-kind : (k : ℕ) → getD f kindField 0 ≡ k → eventByKind k f ≡ eventIn f
-  by-kind k e = ap (λ x. eventByKind x f) (sym e)
+  pub by-kind : (k : ℕ) → getD f kindField 0 ≡ k → rowEvent k f ≡ eventIn f
+  by-kind k e = ap (λ x. rowEvent x f) (sym e)
 
-  pub no-kind : (k : ℕ) → (k ≡ 1 → ⊥) → (k ≡ 2 → ⊥) → (k ≡ 3 → ⊥) → (k ≡ 4 → ⊥) → (k ≡ 5 → ⊥) → (k ≡ 6 → ⊥) → (k ≡ 7 → ⊥) → Unsound ≡ eventByKind k f
-  unfolding eventByKind
+  pub no-kind : (k : ℕ) → (k ≡ 1 → ⊥) → (k ≡ 2 → ⊥) → (k ≡ 3 → ⊥) → (k ≡ 4 → ⊥) → (k ≡ 5 → ⊥) → (k ≡ 6 → ⊥) → (k ≡ 7 → ⊥) → Unsound ≡ rowEvent k f
+  unfolding rowEvent
   no-kind k n₁ n₂ n₃ n₄ n₅ n₆ n₇ = simp (ne-eqb k 1 n₁, ne-eqb k 2 n₂, ne-eqb k 3 n₃, ne-eqb k 4 n₄, ne-eqb k 5 n₅, ne-eqb k 6 n₆, ne-eqb k 7 n₇)
 
-  pub no-side : 1 < getD f submitSideField 0 → Unsound ≡ submitIn f
-  no-side h = rw (lt-leb (getD f submitSideField 0) 1 h) refl
+  pub no-side : 1 < getD f 4 0 → Unsound ≡ submitOf f
+  no-side h = rw (lt-leb (getD f 4 0) 1 h) refl
 
-  pub no-order-kind : 2 < getD f submitOrderKindField 0 → Unsound ≡ submitIn f
-  no-order-kind h = rw (lt-leb (getD f submitOrderKindField 0) 2 h, and-false (leb (getD f submitSideField 0) 1)) refl
+  pub no-order-kind : 2 < getD f 5 0 → Unsound ≡ submitOf f
+  no-order-kind h = rw (lt-leb (getD f 5 0) 2 h, and-false (leb (getD f 4 0) 1)) refl

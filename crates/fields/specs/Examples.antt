@@ -8,7 +8,8 @@ use Rattle.rules.specs.declared.event.Reading.the-variants.{Sound, Unsound}
 use Rattle.rules.specs.Bytes.{examples}
 use Rattle.rules.specs.Bytes as Bytes
 use Rattle.fields.specs.HeaderFields.{withHeader}
-use Rattle.fields.specs.RecordFields.{numbersOf, eventByKind, eventIn}
+use Rattle.rules.specs.Records.{numbersOf}
+use Rattle.fields.specs.RecordFields.{rowEvent, eventIn}
 
 abbrev pub numbers : List (List ℕ)
 numbers =
@@ -27,7 +28,7 @@ unfolding numbersOf flatMap
 examples-in-numbers = refl
 
 pub events-of-numbers : map eventIn numbers ≡ map (λ x. Sound (x .event)) examples
-unfolding eventByKind
+unfolding rowEvent
 events-of-numbers = refl
 
 -- Kinds 0 and 8, side 2, order kind 3, 13 legs.
@@ -39,7 +40,7 @@ pub no-events : map eventIn
     ∷ (4 ∷ 13 ∷ [])
     ∷ [])
     ≡ Unsound ∷ Unsound ∷ Unsound ∷ Unsound ∷ Unsound ∷ []
-unfolding eventByKind
+unfolding rowEvent
 no-events = refl
 
 -- In a row of 5,000, 5,001 and so on: three members, two holidays; the places past them stay as they were.

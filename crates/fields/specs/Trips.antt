@@ -13,7 +13,8 @@ use Rattle.rules.specs.Ranges.{mostHolidays, mostLegs, mostMembers}
 use Rattle.rules.specs.Header.{Header}
 use Rattle.record_kinds.specs.LegCount.{legCount}
 use Rattle.fields.specs.HeaderFields.{headerFields, membersField, holidayCountField, withHeader, headerIn, readHeaderFields, writeHeaderFields}
-use Rattle.fields.specs.RecordFields.{recordFields, numbersOf, eventIn, legsIn, readFields, writeFields}
+use Rattle.rules.specs.Records.{numbersOf}
+use Rattle.fields.specs.RecordFields.{recordFields, eventIn, legsIn, readFields, writeFields}
 
 -- ---- an event and a row
 -- An event's numbers, whatever stands past them, give the event and its legs.

@@ -2,9 +2,11 @@
 ghost use mathlib.Core.Path.{_≡_};
 ghost use Prim.Native.Nat.{_+_, _≤_};
 ghost use lib.ListN.{length};
+ghost use Rattle.rules.specs.Fields.{proposalKind};
 ghost use Rattle.rules.specs.Ranges.{mostLegs};
 ghost use Rattle.codec.specs.Columns.{legColumns};
-ghost use Rattle.fields.specs.RecordFields.{recordFields, cancellationIn, newDayLimitsIn, closeOutIn, submitIn, proposalIn, eventIn, legIn, firstLegs};
+ghost use Rattle.rules.specs.Records.{cancellationOf, newDayLimitsOf, closeOutOf, submitOf, legIn};
+ghost use Rattle.fields.specs.RecordFields.{recordFields, eventIn, firstLegs, rowEvent};
 use crate::places::CANCEL_MEMBER_FIELD;
 use crate::places::CANCEL_ORDER_FIELD;
 use crate::places::CANCEL_TIME_FIELD;
@@ -52,7 +54,7 @@ use sides::side_of;
 
 fn submit_in(row: &[u64]) -> Reading
     requires { ⌜ recordFields ≤ length (now row) ⌝ }
-    ensures { λ r. ⌜ r ≡ submitIn (now (row .entry)) ⌝ }
+    ensures { λ r. ⌜ r ≡ submitOf (now (row .entry)) ⌝ }
 {
     let side = row[SUBMIT_SIDE_FIELD];
     let kind = row[SUBMIT_ORDER_KIND_FIELD];
@@ -75,7 +77,7 @@ fn submit_in(row: &[u64]) -> Reading
 
 fn cancellation_in(row: &[u64]) -> Cancellation
     requires { ⌜ recordFields ≤ length (now row) ⌝ }
-    ensures { λ r. ⌜ r ≡ cancellationIn (now (row .entry)) ⌝ }
+    ensures { λ r. ⌜ r ≡ cancellationOf (now (row .entry)) ⌝ }
 {
     Cancellation {
         time: row[CANCEL_TIME_FIELD],
@@ -86,7 +88,7 @@ fn cancellation_in(row: &[u64]) -> Cancellation
 
 fn new_day_limits_in(row: &[u64]) -> NewDayLimits
     requires { ⌜ recordFields ≤ length (now row) ⌝ }
-    ensures { λ r. ⌜ r ≡ newDayLimitsIn (now (row .entry)) ⌝ }
+    ensures { λ r. ⌜ r ≡ newDayLimitsOf (now (row .entry)) ⌝ }
 {
     NewDayLimits {
         contract: row[DAY_LIMITS_CONTRACT_FIELD],
@@ -97,7 +99,7 @@ fn new_day_limits_in(row: &[u64]) -> NewDayLimits
 
 fn proposal_in(row: &[u64]) -> Reading
     requires { ⌜ recordFields ≤ length (now row) ⌝ }
-    ensures { λ r. ⌜ r ≡ proposalIn (now (row .entry)) ⌝ }
+    ensures { λ r. ⌜ r ≡ rowEvent proposalKind (now (row .entry)) ⌝ }
 {
     let count = row[PROPOSAL_LEGS_FIELD];
     if MOST_LEGS < count {
@@ -108,7 +110,7 @@ fn proposal_in(row: &[u64]) -> Reading
 
 fn close_out_in(row: &[u64]) -> CloseOutTerms
     requires { ⌜ recordFields ≤ length (now row) ⌝ }
-    ensures { λ r. ⌜ r ≡ closeOutIn (now (row .entry)) ⌝ }
+    ensures { λ r. ⌜ r ≡ closeOutOf (now (row .entry)) ⌝ }
 {
     CloseOutTerms {
         contract: row[CLOSE_OUT_CONTRACT_FIELD],

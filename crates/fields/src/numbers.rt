@@ -9,7 +9,8 @@ ghost use Rattle.rules.specs.declared.event.Event.the-variants.{Submit, Cancel,
 ghost use Rattle.rules.specs.Ranges.{mostLegs};
 ghost use Rattle.record_kinds.specs.LegCount.{legCount};
 ghost use Rattle.codec.specs.Columns.{legRows};
-ghost use Rattle.fields.specs.RecordFields.{recordFields, legNumbers, withNumbers};
+ghost use Rattle.rules.specs.Records.{legNumbers};
+ghost use Rattle.fields.specs.RecordFields.{recordFields, withNumbers};
 use crate::places::CANCEL_FIELDS;
 use crate::places::CANCEL_MEMBER_FIELD;
 use crate::places::CANCEL_ORDER_FIELD;

@@ -1,4 +1,4 @@
-// Every place of a row; specs/RecordFields and specs/HeaderFields have the same under the same names.
+// Every place of a row: a record's numbers are its kind and its fields in the order of rules, Fields; a header's are those of specs/HeaderFields.
 
 // ---- a record
 pub const RECORD_FIELDS: usize = 38;

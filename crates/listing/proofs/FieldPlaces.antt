@@ -6,13 +6,13 @@ use mathlib.Core.Bool.{Bool, true, false, cond}
 use native.Mathlib.Omega.{arith}
 use borrow.Author.Tests.{ne-eqb}
 use lib.Dec.{eqb}
-use Rattle.rules.specs.Records.{closeOfDayKind}
 use lib.ListN.{length, getD, replicate, length-append, List·getD-append}
 use lib.Seq.{getD-append-add}
-use Rattle.listing_words.specs.declared.field.Field.{Field}
-use Rattle.listing_words.specs.declared.field.Field.the-variants.{Kind, Time, Order, Lots, Price, Holiday, Limit}
+use Rattle.rules.specs.declared.field.Field.{Field}
+use Rattle.rules.specs.declared.field.Field.the-variants.{Kind, Time, Holiday, Limit}
 use Rattle.listing_words.specs.declared.field.Shape.the-variants.{Header}
-use Rattle.listing_words.specs.Fields.{legFields, proposalFields, fixedFields, fieldsOfKind, fieldsOf}
+use Rattle.rules.specs.Fields.{closeOfDayKind, closeOfDayFields, legFields, timesOver, fieldsOfKind}
+use Rattle.listing_words.specs.Fields.{fixedFields, fieldsOf}
 
 -- The last of numbers of which all others are ruled out.
 pub last-of-four : (i : ℕ) → 3 ≤ i → i < 7 → (i ≡ 3 → ⊥) → (i ≡ 4 → ⊥) → (i ≡ 5 → ⊥) → i ≡ 6
@@ -22,14 +22,14 @@ pub last-of-five : (i : ℕ) → 3 ≤ i → i < 8 → (i ≡ 3 → ⊥) → (i 
 last-of-five i h k a b c d = omega arith
 
 -- ---- legs
-pub legs-length : (n : ℕ) → length (legFields n) ≡ 3 * n
-unfolding legFields
+pub legs-length : (n : ℕ) → length (timesOver n legFields) ≡ 3 * n
+unfolding timesOver
 legs-length zero = refl
 legs-length (suc n) = rw (legs-length n) (omega arith)
 
 module _ {f : Field} where
-  pub leg-at : (n i j : ℕ) → i < 3 * n → i % 3 ≡ j → f ≡ getD (Order ∷ Lots ∷ Price ∷ []) j Kind → f ≡ getD (legFields n) i Kind
-  unfolding legFields
+  pub leg-at : (n i j : ℕ) → i < 3 * n → i % 3 ≡ j → f ≡ getD legFields j Kind → f ≡ getD (timesOver n legFields) i Kind
+  unfolding timesOver
   leg-at zero i j h e g = absurd (omega arith)
   leg-at (suc n) zero j h e g = g ∙ rw (← e) refl
   leg-at (suc n) (suc zero) j h e g = g ∙ rw (← e) refl
@@ -57,7 +57,8 @@ pub days-and-limits : (holidays members : ℕ) → length (replicate holidays Ho
 days-and-limits holidays members = length-append (replicate holidays Holiday) (replicate members Limit) ∙ rw (repeated-length Holiday holidays, repeated-length Limit members) refl
 
 module _ {f : Field} where
-  pub proposal-at : (n i j : ℕ) → (i ≡ 0 → ⊥) → i < length (proposalFields n) → (i - 1) % 3 ≡ j → f ≡ getD (Order ∷ Lots ∷ Price ∷ []) j Kind → f ≡ getD (proposalFields n) i Kind
+  pub proposal-at : (n i j : ℕ) → (i ≡ 0 → ⊥) → i < length (fieldsOfKind 4 n) → (i - 1) % 3 ≡ j → f ≡ getD legFields j Kind → f ≡ getD (fieldsOfKind 4 n) i Kind
+  unfolding fieldsOfKind
   proposal-at n zero j some h e g = absurd (some refl)
   proposal-at n (suc i) j some h e g = let k : suc i - 1 ≡ i = omega arith in leg-at n i j (omega (arith, legs-length n)) (rw k at e) g
 
@@ -82,14 +83,14 @@ only f i h = let e : i ≡ 0 = omega arith in rw e refl
 
 -- A kind that is none of the first six is a close of day or none.
 module _ (k legs : ℕ) (a : k ≡ 1 → ⊥) (b : k ≡ 2 → ⊥) (c : k ≡ 3 → ⊥) (d : k ≡ 4 → ⊥) (e : k ≡ 5 → ⊥) (f : k ≡ 6 → ⊥) where
-  last-kind : fieldsOfKind k legs ≡ cond (eqb k closeOfDayKind) (Time ∷ []) []
+  last-kind : fieldsOfKind k legs ≡ cond (eqb k closeOfDayKind) closeOfDayFields [] ++ []
   unfolding fieldsOfKind
   last-kind = simp (ne-eqb _ _ a, ne-eqb _ _ b, ne-eqb _ _ c, ne-eqb _ _ d, ne-eqb _ _ e, ne-eqb _ _ f)
 
   pub time-at : (i : ℕ) → i < length (fieldsOfKind k legs) → Time ≡ getD (fieldsOfKind k legs) i Kind
   time-at i h = rw last-kind (go (eqb k closeOfDayKind) (rw last-kind at h))
     where
-      go : (t : Bool) → i < length (cond t (Time ∷ []) []) → Time ≡ getD (cond t (Time ∷ []) []) i Kind
+      go : (t : Bool) → i < length (cond t closeOfDayFields [] ++ []) → Time ≡ getD (cond t closeOfDayFields [] ++ []) i Kind
       go true q = only Time i q
       go false q = absurd (omega arith)
 

@@ -9,19 +9,20 @@ use borrow.Author.Tests.{lt-ltb}
 use lib.ListN.{length, drop, getD, drop-of-length-le}
 use lib.Seq.{drop-cons}
 use Rattle.arith.proofs.Tests.{le-or-lt, never}
-use Rattle.listing_words.specs.declared.field.Field.{Field}
-use Rattle.listing_words.specs.declared.field.Field.the-variants.{Kind}
+use Rattle.rules.specs.declared.field.Field.{Field}
+use Rattle.rules.specs.declared.field.Field.the-variants.{Kind}
 use Rattle.listing_words.specs.declared.field.Verdict.{Verdict}
 use Rattle.listing_words.specs.declared.field.Verdict.the-variants.{Passes, Cut, OutOfRange, NoBusinessDay, OnStartDay}
-use Rattle.listing_words.specs.Fields.{sizeOf, numberAt, verdictOf, passes, faultPlace, isNone, faultIn}
+use Rattle.rules.specs.Fields.{widthOf, numberAt}
+use Rattle.listing_words.specs.Fields.{verdictOf, passes, faultPlace, isNone, faultIn}
 use Rattle.listing.specs.Lines.{ListedAs, Going}
 use Rattle.listing_numbers.specs.Short.{Short}
 use Rattle.listing_words.specs.Words.{fieldWords, faultWords, wordsIn}
 use Rattle.listing_numbers.proofs.Writers.{next, nothing, within-room}
 
-not-cut : (n : ℕ) (s : List ℕ) (place : ℕ) (f : Field) → passes (verdictOf n s place f) ≡ true → place + sizeOf f ≤ length s
+not-cut : (n : ℕ) (s : List ℕ) (place : ℕ) (f : Field) → passes (verdictOf n s place f) ≡ true → place + widthOf f ≤ length s
 unfolding verdictOf
-not-cut n s place f e = le-or-lt (place + sizeOf f) (length s) (λ h. h) (λ h. never (sym (rw (lt-ltb (length s) (place + sizeOf f) h) at e)))
+not-cut n s place f e = le-or-lt (place + widthOf f) (length s) (λ h. h) (λ h. never (sym (rw (lt-ltb (length s) (place + widthOf f) h) at e)))
 
 module _ (first base n : ℕ) (s : List ℕ) (fs : List Field) {entry : List ℕ} {start : ℕ} where
   pub going-start : start ≤ length entry → Going first base n s fs entry entry start 0 0 start
@@ -42,11 +43,11 @@ module _ (first base n : ℕ) (s : List ℕ) (fs : List Field) {entry : List ℕ
       here = drop-cons fs i Kind below ∙ rw (add-one i, ← is) refl
 
       pub going-next : {out' : List ℕ} {end' : ℕ} → passes (verdictOf n s place f) ≡ true → start + 80 * i ≤ length entry → length out' ≡ length out
-          → Short 80 end (fieldWords first f (numberAt s place (sizeOf f))) out out' end' → Going first base n s fs entry out' start (i + 1) (place + sizeOf f) end'
+          → Short 80 end (fieldWords first f (numberAt s place (widthOf f))) out out' end' → Going first base n s fs entry out' start (i + 1) (place + widthOf f) end'
       unfolding wordsIn faultIn
       going-next e room same w =
           record {
-            text = g .text ++ fieldWords first f (numberAt s place (sizeOf f));
+            text = g .text ++ fieldWords first f (numberAt s place (widthOf f));
             wrote = within-room (80 * (i + 1)) _ (next (g .wrote) w room) refl (omega arith);
             words = append-assoc (g .text) _ _ ∙ (sym (rw (here, e) at (ap (λ (x : List ℕ). x) (sym (g .words)))));
             faults = rw (here, e) at (g .faults);

@@ -16,13 +16,14 @@ use Rattle.rules.specs.Header.{u16At, u32At, u16sAt, u32sAt, lettersAndVersion,
 use Rattle.rules.specs.Header.{membersSound, limitSound, daySound, headerSound, beginsWithHeader}
 use Rattle.rules.specs.Ranges.{leastFirstYear, mostFirstYear, mostMembers, mostHolidays}
 use Rattle.rules.proofs.Rising.{rising-cons, rising-short}
-use Rattle.listing_words.specs.declared.field.Field.{Field}
-use Rattle.listing_words.specs.declared.field.Field.the-variants.{Holiday, Limit}
+use Rattle.rules.specs.declared.field.Field.{Field}
+use Rattle.rules.specs.declared.field.Field.the-variants.{Holiday, Limit}
 use Rattle.listing_words.specs.declared.field.Verdict.the-variants.{Passes, NoBusinessDay, OnStartDay}
 use Rattle.listing.specs.Exact.{HeaderExact}
-use Rattle.listing_words.specs.Fields.{sizeOf, fieldsOf, headerShape, numberAt, range, spanRange, holidayRange, within, passes, isNone, headerFault}
-use Rattle.listing.proofs.Faults.{sizes, inRanges, none-is, from-zero, last-before}
-use Rattle.listing.proofs.HeaderSizes.{sizes-holidays, header-sizes}
+use Rattle.rules.specs.Fields.{widths, widthOf, numberAt}
+use Rattle.listing_words.specs.Fields.{fieldsOf, headerShape, range, spanRange, holidayRange, within, passes, isNone, headerFault}
+use Rattle.listing.proofs.Faults.{inRanges, none-is, from-zero, last-before}
+use Rattle.listing.proofs.HeaderSizes.{widths-holidays, header-widths}
 use Rattle.listing.proofs.SpanDays.{some-day}
 
 -- ---- tests
@@ -59,10 +60,10 @@ letters (a ∷ b ∷ c ∷ d ∷ []) h = absurd (omega arith)
 letters (a ∷ b ∷ c ∷ d ∷ e ∷ s) h = rw (one-value 86 a, one-value 74 b, one-value 82 c, one-value 1 (d * 256 + e), version d e) refl
 
 -- ---- lists of fields
-ranges-append : (n : ℕ) (s : List ℕ) (place : ℕ) (xs ys : List Field) → inRanges n s place (xs ++ ys) ≡ inRanges n s place xs && inRanges n s (place + sizes xs) ys
-unfolding inRanges sizes
+ranges-append : (n : ℕ) (s : List ℕ) (place : ℕ) (xs ys : List Field) → inRanges n s place (xs ++ ys) ≡ inRanges n s place xs && inRanges n s (place + widths xs) ys
+unfolding inRanges widths
 ranges-append n s place [] ys = rw native.Mathlib.Nat.add-zero refl
-ranges-append n s place (f ∷ xs) ys = rw (ranges-append n s (place + sizeOf f) xs ys, add-assoc place (sizeOf f) (sizes xs)) (simp and-assoc)
+ranges-append n s place (f ∷ xs) ys = rw (ranges-append n s (place + widthOf f) xs ys, add-assoc place (widthOf f) (widths xs)) (simp and-assoc)
 
 limits-ranges : (n : ℕ) (s : List ℕ) (first k a place : ℕ) → place ≡ first + 4 * a
     → inRanges n s place (replicate k Limit) ≡ every limitSound (map (λ j. u32At s (first + 4 * j)) (from a k))
@@ -191,7 +192,7 @@ module _ (s : List ℕ) where
       let limits = map (λ j. u32At s (first + 4 * j)) (from 0 (getD s 9 0)) in
       rw (e, mapped-length (λ j. u16At s (11 + 2 * j)) 0 (getD s 10 0), mapped-length (λ j. u32At s (first + 4 * j)) 0 (getD s 9 0), eq-eqb (getD s 9 0) (getD s 9 0) refl)
       (rw (in-span s days e (u16At s 7), weekend-passes (saturday (u16At s 7)) (sunday (u16At s 7)), members-range (getD s 9 0), count-range (getD s 10 0))
-      (rw (ranges-append 0 s 11 (replicate (getD s 10 0) Holiday) (replicate (getD s 9 0) Limit), sizes-holidays (getD s 10 0))
+      (rw (ranges-append 0 s 11 (replicate (getD s 10 0) Holiday) (replicate (getD s 9 0) Limit), widths-holidays (getD s 10 0))
       (rw (holidays-ranges s days e (getD s 10 0), limits-ranges 0 s first (getD s 9 0) 0 first (omega arith))
       (header-order (leb (getD s 10 0) mostHolidays) (rising days) (every (inSpan span) days) (inSpan span (u16At s 7))
       (not (saturday (u16At s 7)) && not (sunday (u16At s 7))) (not (any (λ x. eqb x (u16At s 7)) days)) (membersSound (getD s 9 0)) (every limitSound limits)))))
@@ -214,9 +215,9 @@ module _ (s : List ℕ) where
       (in-order (within (range 86 86) (getD s 0 0)) (within (range 74 74) (getD s 1 0)) (within (range 82 82) (getD s 2 0)) (within (range 1 1) (u16At s 3))
       (headerSound (headerOf s)) (within (range leastFirstYear mostFirstYear) (u16At s 5) && behindYear) behind-version)
 
-  whole : headerLength s ≡ 0 + sizes (fieldsOf (headerShape s))
+  whole : headerLength s ≡ 0 + widths (fieldsOf (headerShape s))
   unfolding headerLength
-  whole = rw (header-sizes (getD s 10 0) (getD s 9 0)) (omega arith)
+  whole = rw (header-widths (getD s 10 0) (getD s 9 0)) (omega arith)
 
   length-least : 11 ≤ headerLength s
   unfolding headerLength

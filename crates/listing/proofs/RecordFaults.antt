@@ -20,10 +20,11 @@ use Rattle.rules.specs.declared.event.Reading.the-variants.{Sound, Unsound}
 use Rattle.rules.specs.Ranges.{mostMembers, mostPrice, leastLegs, mostLegs}
 use Rattle.rules.specs.Header.{u16At, u32At, membersSound}
 use Rattle.rules.specs.Records.{recordLength, frontLength, timeSound, contractSound, sideSound, orderKindSound, priceSound, lotsSound, dayLimitsSound, numberSound, legSound, legAt}
-use Rattle.rules.specs.Records.{legPlace, submissionOf, submitOf, cancellationOf, newDayLimitsOf, closeOutOf, fieldsByKind, fieldsOf as readFields, legsOf, eventSound, ifSound, readOf}
+use Rattle.rules.specs.Records.{legPlace, submissionOf, submitOf, cancellationOf, newDayLimitsOf, closeOutOf, recordNumbers, fieldsByKind, fieldsOf as readFields, legsOf, eventSound, ifSound, readOf}
 use Rattle.listing.specs.Exact.{isSound, RecordExact}
-use Rattle.listing_words.specs.Fields.{legFields, fieldsOfKind, fieldsOf, numberAt, range, within, recordShape, isNone, faultOf}
-use Rattle.listing.proofs.Faults.{sizes, inRanges, none-is, from-zero, last-before}
+use Rattle.rules.specs.Fields.{widths, legFields, timesOver, fieldsOfKind, numberAt, numbersAt}
+use Rattle.listing_words.specs.Fields.{fieldsOf, range, within, recordShape, isNone, faultOf}
+use Rattle.listing.proofs.Faults.{inRanges, none-is, from-zero, last-before}
 
 -- ---- tests in another order
 sound-event : (n : ℕ) (legs : List Leg) (e : Event) → isSound (ifSound n legs (Sound e)) ≡ eventSound n e legs
@@ -70,20 +71,19 @@ limits-order true low high =
 leg-order : (o l p rest : Bool) → o && l && p && rest ≡ o && (l && (p && rest))
 leg-order o l p rest = simp and-assoc
 
-legs-ranges : (n : ℕ) (s : List ℕ) (k a place : ℕ) → place ≡ legPlace a → inRanges n s place (legFields k) ≡ every legSound (map (λ j. legAt s (legPlace j)) (from a k))
-unfolding legFields inRanges within numberAt every from
+legs-ranges : (n : ℕ) (s : List ℕ) (k a place : ℕ) → place ≡ legPlace a → inRanges n s place (timesOver k legFields) ≡ every legSound (map (λ j. legAt s (legPlace j)) (from a k))
+unfolding timesOver inRanges within numberAt numbersAt every from
 legs-ranges n s zero a place e = refl
 legs-ranges n s (suc k) a place e =
-    let lots : place + 4 ≡ legPlace a + 4 = omega arith in
-    let price : place + 4 + 2 ≡ legPlace a + 6 = omega arith in
-    rw (price, e, from-zero (u32At s (legPlace a)), order-range (u32At s (legPlace a)), legs-ranges n s k (suc a) (legPlace a + 6 + 4) (omega arith))
-    (sym (leg-order (numberSound (u32At s (legPlace a))) (lotsSound (u16At s (legPlace a + 4))) (priceSound (u32At s (legPlace a + 6)))
+    let price = legPlace a + 4 + 2 in
+    rw (e, from-zero (u32At s (legPlace a)), order-range (u32At s (legPlace a)), legs-ranges n s k (suc a) (price + 4) (omega arith))
+    (sym (leg-order (numberSound (u32At s (legPlace a))) (lotsSound (u16At s (legPlace a + 4))) (priceSound (u32At s price))
     (every legSound (map (λ j. legAt s (legPlace j)) (from (suc a) k)))))
 
-leg-sizes : (k : ℕ) → sizes (legFields k) ≡ 10 * k
-unfolding sizes legFields
-leg-sizes zero = refl
-leg-sizes (suc k) = rw (leg-sizes k) (omega arith)
+leg-widths : (k : ℕ) → widths (timesOver k legFields) ≡ 10 * k
+unfolding widths timesOver
+leg-widths zero = refl
+leg-widths (suc k) = rw (leg-widths k) (omega arith)
 
 module _ (n : ℕ) (s : List ℕ) (some : 1 ≤ n) where
   member-range : (m : ℕ) → leb m (n - 1) ≡ ltb m n
@@ -92,27 +92,27 @@ module _ (n : ℕ) (s : List ℕ) (some : 1 ≤ n) where
   Ranges : ℕ → List Leg → Reading → Type 0
   Ranges kind legs r = getD s 0 0 ≡ kind → isSound (ifSound n legs r) ≡ inRanges n s 0 (fieldsOf (recordShape s))
 
-  submit-ranges : Ranges 1 [] (submitOf s)
-  unfolding Ranges fieldsOf fieldsOfKind inRanges within numberAt eventSound
+  submit-ranges : Ranges 1 [] (submitOf (recordNumbers 1 s))
+  unfolding Ranges recordNumbers fieldsOf fieldsOfKind inRanges within numberAt eventSound
   submit-ranges e =
       rw e
       (simp (from-zero, member-range)
-      (gated (sideSound (getD s 7 0) && orderKindSound (getD s 8 0)) n [] (Submit (submissionOf s))
+      (gated (sideSound (getD s 7 0) && orderKindSound (getD s 8 0)) n [] (Submit (submissionOf (recordNumbers 1 s)))
       ∙ submit-order (timeSound (u32At s 1)) (ltb (getD s 5 0) n) (contractSound (getD s 6 0)) (sideSound (getD s 7 0)) (orderKindSound (getD s 8 0)) (priceSound (u32At s 9))
       (lotsSound (u16At s 13))))
 
-  cancel-ranges : Ranges 2 [] (Sound (Cancel (cancellationOf s)))
-  unfolding Ranges fieldsOf fieldsOfKind inRanges within numberAt eventSound
+  cancel-ranges : Ranges 2 [] (Sound (Cancel (cancellationOf (recordNumbers 2 s))))
+  unfolding Ranges recordNumbers fieldsOf fieldsOfKind inRanges within numberAt eventSound
   cancel-ranges e =
       rw e
-      (simp (from-zero, member-range, order-range) (sound-event n [] (Cancel (cancellationOf s)) ∙ simp and-assoc))
+      (simp (from-zero, member-range, order-range) (sound-event n [] (Cancel (cancellationOf (recordNumbers 2 s))) ∙ simp and-assoc))
 
-  limits-ranges : Ranges 3 [] (Sound (DayLimits (newDayLimitsOf s)))
-  unfolding Ranges fieldsOf fieldsOfKind inRanges within numberAt eventSound
-  limits-ranges e = rw e (simp from-zero (sound-event n [] (DayLimits (newDayLimitsOf s)) ∙ limits-order (contractSound (getD s 1 0)) (u32At s 2) (u32At s 6)))
+  limits-ranges : Ranges 3 [] (Sound (DayLimits (newDayLimitsOf (recordNumbers 3 s))))
+  unfolding Ranges recordNumbers fieldsOf fieldsOfKind inRanges within numberAt eventSound
+  limits-ranges e = rw e (simp from-zero (sound-event n [] (DayLimits (newDayLimitsOf (recordNumbers 3 s))) ∙ limits-order (contractSound (getD s 1 0)) (u32At s 2) (u32At s 6)))
 
   proposal-ranges : Ranges 4 (map (λ j. legAt s (legPlace j)) (from 0 (getD s 1 0))) (Sound (Proposal (getD s 1 0)))
-  unfolding Ranges fieldsOf fieldsOfKind inRanges within numberAt eventSound
+  unfolding Ranges recordNumbers fieldsOf fieldsOfKind inRanges within numberAt eventSound
   proposal-ranges e =
       let k = getD s 1 0 in
       let legs = map (λ j. legAt s (legPlace j)) (from 0 k) in
@@ -122,15 +122,15 @@ module _ (n : ℕ) (s : List ℕ) (some : 1 ≤ n) where
       ∙ rw (mapped-length (λ j. legAt s (legPlace j)) 0 k, eq-eqb k k refl) (rw (and-true (leb leastLegs k && leb k mostLegs)) refl)))
 
   default-ranges : Ranges 5 [] (Sound (Default (getD s 1 0)))
-  unfolding Ranges fieldsOf fieldsOfKind inRanges within numberAt eventSound
+  unfolding Ranges recordNumbers fieldsOf fieldsOfKind inRanges within numberAt eventSound
   default-ranges e = rw e (simp (from-zero, member-range) (sound-event n [] (Default (getD s 1 0)) ∙ simp and-assoc))
 
-  close-out-ranges : Ranges 6 [] (Sound (CloseOut (closeOutOf s)))
-  unfolding Ranges fieldsOf fieldsOfKind inRanges within numberAt eventSound
-  close-out-ranges e = rw e (simp from-zero (sound-event n [] (CloseOut (closeOutOf s)) ∙ simp and-assoc))
+  close-out-ranges : Ranges 6 [] (Sound (CloseOut (closeOutOf (recordNumbers 6 s))))
+  unfolding Ranges recordNumbers fieldsOf fieldsOfKind inRanges within numberAt eventSound
+  close-out-ranges e = rw e (simp from-zero (sound-event n [] (CloseOut (closeOutOf (recordNumbers 6 s))) ∙ simp and-assoc))
 
   close-ranges : Ranges 7 [] (Sound (CloseOfDay (u32At s 1)))
-  unfolding Ranges fieldsOf fieldsOfKind inRanges within numberAt eventSound
+  unfolding Ranges recordNumbers fieldsOf fieldsOfKind inRanges within numberAt eventSound
   close-ranges e = rw e (simp from-zero (sound-event n [] (CloseOfDay (u32At s 1)) ∙ simp and-assoc))
 
   -- ---- whichever kind it is
@@ -139,48 +139,48 @@ module _ (n : ℕ) (s : List ℕ) (some : 1 ≤ n) where
 
   module _ (members : membersSound n ≡ true) where
     of-kind : (kind m : ℕ) (legs : List Leg) (r : Reading) → getD s 0 0 ≡ kind → readFields s ≡ cond (eqb (length s) m) r Unsound → legsOf s ≡ legs
-        → sizes (fieldsOf (recordShape s)) ≡ m → frontLength s ≡ m → Ranges kind legs r → Exact
+        → widths (fieldsOf (recordShape s)) ≡ m → frontLength s ≡ m → Ranges kind legs r → Exact
     unfolding Exact readOf Ranges
     of-kind kind m legs r e reads has takes front ranges =
         rw (members, reads, has, none-is n s 0 (fieldsOf (recordShape s)) (omega arith), takes, zero-add m, front)
         (of-length (length s) m n legs r (inRanges n s 0 (fieldsOf (recordShape s))) (ranges e))
 
     submit-exact : getD s 0 0 ≡ 1 → Exact
-    unfolding readFields fieldsByKind recordLength legsOf fieldsOf fieldsOfKind sizes
-    submit-exact e = of-kind 1 15 [] (submitOf s) e (rw e refl) (rw e refl) (rw e refl) (rw e refl) submit-ranges
+    unfolding readFields fieldsByKind recordLength legsOf fieldsOf fieldsOfKind widths
+    submit-exact e = of-kind 1 15 [] (submitOf (recordNumbers 1 s)) e (rw e refl) (rw e refl) (rw e refl) (rw e refl) submit-ranges
 
     cancel-exact : getD s 0 0 ≡ 2 → Exact
-    unfolding readFields fieldsByKind recordLength legsOf fieldsOf fieldsOfKind sizes
-    cancel-exact e = of-kind 2 10 [] (Sound (Cancel (cancellationOf s))) e (rw e refl) (rw e refl) (rw e refl) (rw e refl) cancel-ranges
+    unfolding readFields fieldsByKind recordLength legsOf fieldsOf fieldsOfKind widths
+    cancel-exact e = of-kind 2 10 [] (Sound (Cancel (cancellationOf (recordNumbers 2 s)))) e (rw e refl) (rw e refl) (rw e refl) (rw e refl) cancel-ranges
 
     limits-exact : getD s 0 0 ≡ 3 → Exact
-    unfolding readFields fieldsByKind recordLength legsOf fieldsOf fieldsOfKind sizes
-    limits-exact e = of-kind 3 10 [] (Sound (DayLimits (newDayLimitsOf s))) e (rw e refl) (rw e refl) (rw e refl) (rw e refl) limits-ranges
+    unfolding readFields fieldsByKind recordLength legsOf fieldsOf fieldsOfKind widths
+    limits-exact e = of-kind 3 10 [] (Sound (DayLimits (newDayLimitsOf (recordNumbers 3 s)))) e (rw e refl) (rw e refl) (rw e refl) (rw e refl) limits-ranges
 
     proposal-exact : getD s 0 0 ≡ 4 → Exact
-    unfolding readFields fieldsByKind recordLength legsOf fieldsOf fieldsOfKind sizes
+    unfolding readFields fieldsByKind recordLength legsOf fieldsOf fieldsOfKind widths
     proposal-exact e =
         let k = getD s 1 0 in
         of-kind 4 (legPlace k) (map (λ j. legAt s (legPlace j)) (from 0 k)) (Sound (Proposal k)) e (rw e refl) (rw e refl)
-        (rw (e, leg-sizes k) (omega arith)) (rw e refl) proposal-ranges
+        (rw (e, leg-widths k) (omega arith)) (rw e refl) proposal-ranges
 
     default-exact : getD s 0 0 ≡ 5 → Exact
-    unfolding readFields fieldsByKind recordLength legsOf fieldsOf fieldsOfKind sizes
+    unfolding readFields fieldsByKind recordLength legsOf fieldsOf fieldsOfKind widths
     default-exact e = of-kind 5 2 [] (Sound (Default (getD s 1 0))) e (rw e refl) (rw e refl) (rw e refl) (rw e refl) default-ranges
 
     close-out-exact : getD s 0 0 ≡ 6 → Exact
-    unfolding readFields fieldsByKind recordLength legsOf fieldsOf fieldsOfKind sizes
-    close-out-exact e = of-kind 6 4 [] (Sound (CloseOut (closeOutOf s))) e (rw e refl) (rw e refl) (rw e refl) (rw e refl) close-out-ranges
+    unfolding readFields fieldsByKind recordLength legsOf fieldsOf fieldsOfKind widths
+    close-out-exact e = of-kind 6 4 [] (Sound (CloseOut (closeOutOf (recordNumbers 6 s)))) e (rw e refl) (rw e refl) (rw e refl) (rw e refl) close-out-ranges
 
     close-exact : getD s 0 0 ≡ 7 → Exact
-    unfolding readFields fieldsByKind recordLength legsOf fieldsOf fieldsOfKind sizes
+    unfolding readFields fieldsByKind recordLength legsOf fieldsOf fieldsOfKind widths
     close-exact e = of-kind 7 5 [] (Sound (CloseOfDay (u32At s 1))) e (rw e refl) (rw e refl) (rw e refl) (rw e refl) close-ranges
 
     -- Of no kind: unsound, and the kind is out of its range.
     unknown-exact : fieldsByKind (getD s 0 0) s ≡ Unsound → within (range 1 7) (getD s 0 0) ≡ false → Exact
     unfolding Exact readOf readFields fieldsOf inRanges numberAt
     unknown-exact reads out =
-        rw (members, none-is n s 0 (fieldsOf (recordShape s)) (omega arith), out, reads, and-false (leb (0 + sizes (fieldsOf (recordShape s))) (length s)))
+        rw (members, none-is n s 0 (fieldsOf (recordShape s)) (omega arith), out, reads, and-false (leb (0 + widths (fieldsOf (recordShape s))) (length s)))
         (true-or (eqb (length s) (frontLength s)) (λ h. rw h refl) (λ h. rw h refl))
 
 above-four : (k : ℕ) → 1 ≤ k → (k ≡ 1 → ⊥) → (k ≡ 2 → ⊥) → (k ≡ 3 → ⊥) → (k ≡ 4 → ⊥) → 4 < k

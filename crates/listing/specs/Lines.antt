@@ -3,7 +3,7 @@ use Prim.Native.Nat.{ℕ, _+_, _*_, _≤_}
 use mathlib.Core.List.{List, _++_}
 use mathlib.Core.Path.{_≡_}
 use lib.ListN.{length, drop}
-use Rattle.listing_words.specs.declared.field.Field.{Field}
+use Rattle.rules.specs.declared.field.Field.{Field}
 use Rattle.listing_words.specs.declared.field.Shape.{Shape}
 use Rattle.listing.specs.declared.lines.Listed.{Listed}
 use Rattle.listing_words.specs.Fields.{fieldsOf, Fault, isNone, faultIn}

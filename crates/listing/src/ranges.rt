@@ -5,7 +5,8 @@ ghost use Prim.Native.Nat.{_+_, _-_, _^_, _≤_, _<_};
 ghost use lib.ListN.{length};
 ghost use Rattle.rules.specs.Days.{saturday, sunday};
 ghost use Rattle.rules.specs.Header.{u16At, u32At};
-ghost use Rattle.listing_words.specs.Fields.{sizeOf, quantityOf, range as rangeFrom, numberAt, spanRange, holidayRange, rangeOf, within, dayVerdict, verdictOf, passes};
+ghost use Rattle.rules.specs.Fields.{widthOf, numberAt};
+ghost use Rattle.listing_words.specs.Fields.{quantityOf, range as rangeFrom, spanRange, holidayRange, rangeOf, within, dayVerdict, verdictOf, passes};
 ghost use Rattle.listing.specs.Sizes.{mostBytes};
 ghost use Rattle.listing_words.specs.Words.{otherWayRound};
 use big_endian::u8_or_zero;
@@ -16,12 +17,12 @@ use calendar::is_first_year_sound;
 use header::FIRST_HOLIDAY_BYTE;
 use header::FIRST_YEAR_BYTE;
 use header::START_DAY_BYTE;
-use listing_words::Field;
 use listing_words::Quantity;
 use listing_words::Range;
 use listing_words::Verdict;
 use months::span_of;
 use record_kinds::places::DAY_LIMITS_LOW_BYTE;
+use rules::Field;
 use rules::kinds::CLOSE_OF_DAY;
 use rules::kinds::SUBMIT;
 use rules::ranges::LAST_CONTRACT;
@@ -52,7 +53,7 @@ const LETTER_R: u64 = b'R' as u64;
 const VERSION: u64 = 1;
 
 pub fn size_of(field: Field) -> usize
-    ensures { λ r. ⌜ (r ≡ sizeOf field) × (r ≤ 4) ⌝ }
+    ensures { λ r. ⌜ (r ≡ widthOf field) × (r ≤ 4) ⌝ }
 {
     match field {
         Field::LetterV => 1,

@@ -2,11 +2,12 @@
 ghost use mathlib.Core.Path.{_≡_};
 ghost use Prim.Native.Nat.{ℕ, _<_, _≤_};
 ghost use lib.ListN.{length, getD};
-ghost use Rattle.listing_words.specs.declared.field.Field.the-variants.{Kind as firstField};
+ghost use Rattle.rules.specs.declared.field.Field.the-variants.{Kind as firstField};
 ghost use Rattle.listing_words.specs.declared.field.Shape.the-variants.{Header as HeaderShape};
-ghost use Rattle.listing_words.specs.Fields.{fixedFields, submitFields, cancelFields, dayLimitsFields, proposalFields, closeOutFields, fieldsOfKind, fieldsOf};
-use listing_words::Field;
+ghost use Rattle.rules.specs.Fields.{proposalKind, submitFields, cancelFields, dayLimitsFields, closeOutFields, fieldsOfKind};
+ghost use Rattle.listing_words.specs.Fields.{fixedFields, fieldsOf};
 use listing_words::Shape;
+use rules::Field;
 use rules::kinds::CANCEL;
 use rules::kinds::CLOSE_OF_DAY;
 use rules::kinds::CLOSE_OUT;
@@ -62,8 +63,8 @@ fn day_limits_field(i: u64) -> Field
 }
 
 fn proposal_field(legs: u64, i: u64) -> Field
-    requires { ⌜ i < length (proposalFields legs) ⌝ }
-    ensures { λ r. ⌜ r ≡ getD (proposalFields legs) i firstField ⌝ }
+    requires { ⌜ i < length (fieldsOfKind proposalKind legs) ⌝ }
+    ensures { λ r. ⌜ r ≡ getD (fieldsOfKind proposalKind legs) i firstField ⌝ }
 {
     if i == 0 {
         return Field::Legs;

@@ -6,8 +6,9 @@ use Rattle.rules.specs.Contracts.{termOf}
 use Rattle.rules.specs.Header.{u16At, u32At}
 use Rattle.rules.specs.Text.{decimal, digits}
 use Rattle.listing_numbers.specs.Numbers.{twoDigits, timeText, priceText, quarterText, termName, contractText}
-use Rattle.listing_words.specs.declared.field.Field.the-variants.{Side, Lots}
-use Rattle.listing_words.specs.Fields.{fieldsOfKind, fieldsOf, numberAt, within, verdictOf, none, at, faultIn, faultOf}
+use Rattle.rules.specs.declared.field.Field.the-variants.{Side, Lots}
+use Rattle.rules.specs.Fields.{fieldsOfKind, numberAt}
+use Rattle.listing_words.specs.Fields.{fieldsOf, within, verdictOf, none, at, faultIn, faultOf}
 use Rattle.listing_words.specs.Words.{kindWord, sideWord, orderKindWord, quantityWords, otherWayRound, hint}
 use Rattle.listing_words.specs.Words.{outOfRange, faultText, faultWords, wordsIn, recordLine, headerLine}
 

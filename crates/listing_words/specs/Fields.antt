@@ -1,6 +1,6 @@
--- The fields of a header and of a record, in the order of their bytes: the size and the range of each, and the first that is out of it. The
--- ranges are document 01's, "Records"; which one a field has follows from the bytes before it.
-use Prim.Native.Nat.{ℕ, zero, suc, _+_, _-_}
+-- The fields of a header and of a record, in the order of their bytes: the range of each, and the first that is out of it.
+-- The ranges are document 01's, "Records"; which one a field has follows from the bytes before it.
+use Prim.Native.Nat.{ℕ, _+_, _-_}
 use mathlib.Core.Bool.{Bool, true, false, cond, _&&_, _||_}
 use mathlib.Core.List.{List, [], _∷_, _++_}
 use lib.Dec.{eqb, leb, ltb}
@@ -8,10 +8,10 @@ use lib.ListN.{length, getD, replicate}
 use Rattle.rules.specs.Ranges.{contractCount, leastFirstYear, mostFirstYear, mostMembers, lastSecond, mostHolidays, mostLimit, mostPrice, mostLots, leastLegs, mostLegs, orderNumbersEnd, mostRatio}
 use Rattle.rules.specs.Days.{Calendar, saturday, sunday, spanStart, dayAfterSpan}
 use Rattle.rules.specs.Header.{u16At, u32At, firstYearSound}
-use Rattle.rules.specs.Records.{submitKind, cancelKind, dayLimitsKind, proposalKind, defaultKind, closeOutKind, closeOfDayKind}
-use Rattle.listing_words.specs.declared.field.Field.{Field}
-use Rattle.listing_words.specs.declared.field.Field.the-variants.{LetterV, LetterJ, LetterR, Version, FirstYear, StartDay, Members, HolidayCount, Holiday, Limit}
-use Rattle.listing_words.specs.declared.field.Field.the-variants.{Kind, Time, Member, Contract, Side, OrderKind, Price, Lots, Order, Low, High, Legs, Ratio}
+use Rattle.rules.specs.Fields.{submitKind, closeOfDayKind, widthOf, fieldsOfKind, numberAt}
+use Rattle.rules.specs.declared.field.Field.{Field}
+use Rattle.rules.specs.declared.field.Field.the-variants.{LetterV, LetterJ, LetterR, Version, FirstYear, StartDay, Members, HolidayCount, Holiday, Limit}
+use Rattle.rules.specs.declared.field.Field.the-variants.{Kind, Time, Member, Contract, Side, OrderKind, Price, Lots, Order, Low, High, Legs, Ratio}
 use Rattle.listing_words.specs.declared.field.Quantity.{Quantity}
 use Rattle.listing_words.specs.declared.field.Quantity.the-variants.{Letter, Number, StartDayNumber, HolidayNumber, KindNumber, SideNumber, OrderKindNumber, Seconds, ContractNumber, Kurus}
 use Rattle.listing_words.specs.declared.field.Range.{Range}
@@ -21,37 +21,6 @@ use Rattle.listing_words.specs.declared.field.Verdict.{Verdict}
 use Rattle.listing_words.specs.declared.field.Verdict.the-variants.{Passes, Cut, OutOfRange, NoBusinessDay, OnStartDay}
 
 -- ---- which fields follow each other
--- Each leg of a proposal.
-unfoldable pub legFields : ℕ → List Field
-legFields zero = []
-legFields (suc n) = Order ∷ Lots ∷ Price ∷ legFields n
-
-abbrev pub submitFields : List Field
-submitFields = Time ∷ Member ∷ Contract ∷ Side ∷ OrderKind ∷ Price ∷ Lots ∷ []
-
-abbrev pub cancelFields : List Field
-cancelFields = Time ∷ Member ∷ Order ∷ []
-
-abbrev pub dayLimitsFields : List Field
-dayLimitsFields = Contract ∷ Low ∷ High ∷ []
-
-abbrev pub proposalFields : ℕ → List Field
-proposalFields legs = Legs ∷ legFields legs
-
-abbrev pub closeOutFields : List Field
-closeOutFields = Contract ∷ Ratio ∷ []
-
--- After the kind; none where no kind has that number.
-unfoldable pub fieldsOfKind : ℕ → ℕ → List Field
-fieldsOfKind kind legs =
-    cond (eqb kind submitKind) submitFields
-    (cond (eqb kind cancelKind) cancelFields
-    (cond (eqb kind dayLimitsKind) dayLimitsFields
-    (cond (eqb kind proposalKind) (proposalFields legs)
-    (cond (eqb kind defaultKind) (Member ∷ [])
-    (cond (eqb kind closeOutKind) closeOutFields
-    (cond (eqb kind closeOfDayKind) (Time ∷ []) []))))))
-
 abbrev pub fixedFields : List Field
 fixedFields = LetterV ∷ LetterJ ∷ LetterR ∷ Version ∷ FirstYear ∷ StartDay ∷ Members ∷ HolidayCount ∷ []
 
@@ -66,34 +35,8 @@ headerShape s = Header (getD s 10 0) (getD s 9 0)
 abbrev pub recordShape : List ℕ → Shape
 recordShape s = Record (getD s 0 0) (getD s 1 0)
 
--- ---- sizes and numbers
--- How many bytes a field takes.
-abbrev pub sizeOf : Field → ℕ
-sizeOf LetterV = 1
-sizeOf LetterJ = 1
-sizeOf LetterR = 1
-sizeOf Version = 2
-sizeOf FirstYear = 2
-sizeOf StartDay = 2
-sizeOf Members = 1
-sizeOf HolidayCount = 1
-sizeOf Holiday = 2
-sizeOf Limit = 4
-sizeOf Kind = 1
-sizeOf Time = 4
-sizeOf Member = 1
-sizeOf Contract = 1
-sizeOf Side = 1
-sizeOf OrderKind = 1
-sizeOf Price = 4
-sizeOf Lots = 2
-sizeOf Order = 4
-sizeOf Low = 4
-sizeOf High = 4
-sizeOf Legs = 1
-sizeOf Ratio = 2
-
--- What its number stands for.
+-- ---- numbers
+-- What a field's number stands for.
 abbrev pub quantityOf : Field → Quantity
 quantityOf LetterV = Letter
 quantityOf LetterJ = Letter
@@ -118,10 +61,6 @@ quantityOf Low = Kurus
 quantityOf High = Kurus
 quantityOf Legs = Number
 quantityOf Ratio = Number
-
--- The number of so many bytes at a place.
-unfoldable pub numberAt : List ℕ → ℕ → ℕ → ℕ
-numberAt s place size = cond (eqb size 1) (getD s place 0) (cond (eqb size 2) (u16At s place) (u32At s place))
 
 -- ---- ranges
 abbrev pub range : ℕ → ℕ → Range
@@ -198,8 +137,8 @@ dayVerdict s Kurus v = Passes
 
 unfoldable pub verdictOf : ℕ → List ℕ → ℕ → Field → Verdict
 verdictOf n s place f =
-    let v = numberAt s place (sizeOf f) in
-    cond (ltb (length s) (place + sizeOf f)) Cut
+    let v = numberAt s place (widthOf f) in
+    cond (ltb (length s) (place + widthOf f)) Cut
     (cond (within (rangeOf n s place f) v) (dayVerdict s (quantityOf f) v) OutOfRange)
 
 abbrev pub passes : Verdict → Bool
@@ -228,7 +167,7 @@ isNone (at place f) = false
 
 unfoldable pub faultIn : ℕ → List ℕ → ℕ → List Field → Fault
 faultIn n s place [] = none
-faultIn n s place (f ∷ fs) = let later = faultIn n s (place + sizeOf f) fs in cond (passes (verdictOf n s place f)) later (at (faultPlace s place (verdictOf n s place f)) f)
+faultIn n s place (f ∷ fs) = let later = faultIn n s (place + widthOf f) fs in cond (passes (verdictOf n s place f)) later (at (faultPlace s place (verdictOf n s place f)) f)
 
 abbrev pub headerFault : List ℕ → Fault
 headerFault s = faultIn 0 s 0 (fieldsOf (headerShape s))

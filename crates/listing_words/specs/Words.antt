@@ -4,18 +4,19 @@ use mathlib.Core.Bool.{cond}
 use mathlib.Core.List.{List, [], _∷_, _++_}
 use lib.Dec.{eqb}
 use Rattle.rules.specs.Header.{u16At, u32At}
-use Rattle.rules.specs.Records.{submitKind, cancelKind, dayLimitsKind, proposalKind, defaultKind, closeOutKind}
+use Rattle.rules.specs.Fields.{submitKind, cancelKind, dayLimitsKind, proposalKind, defaultKind, closeOutKind}
 use Rattle.rules.specs.Text.{space, newline, decimal}
 use Rattle.listing_numbers.specs.Numbers.{timeText, priceText, contractText}
-use Rattle.listing_words.specs.declared.field.Field.{Field}
-use Rattle.listing_words.specs.declared.field.Field.the-variants.{LetterV, LetterJ, LetterR, Version, FirstYear, StartDay, Members, HolidayCount, Holiday, Limit}
-use Rattle.listing_words.specs.declared.field.Field.the-variants.{Kind, Time, Member, Contract, Side, OrderKind, Price, Lots, Order, Low, High, Legs, Ratio}
+use Rattle.rules.specs.declared.field.Field.{Field}
+use Rattle.rules.specs.declared.field.Field.the-variants.{LetterV, LetterJ, LetterR, Version, FirstYear, StartDay, Members, HolidayCount, Holiday, Limit}
+use Rattle.rules.specs.declared.field.Field.the-variants.{Kind, Time, Member, Contract, Side, OrderKind, Price, Lots, Order, Low, High, Legs, Ratio}
 use Rattle.listing_words.specs.declared.field.Quantity.{Quantity}
 use Rattle.listing_words.specs.declared.field.Quantity.the-variants.{Letter, Number, StartDayNumber, HolidayNumber, KindNumber, SideNumber, OrderKindNumber, Seconds, ContractNumber, Kurus}
 use Rattle.listing_words.specs.declared.field.Range.{Range}
 use Rattle.listing_words.specs.declared.field.Verdict.{Verdict}
 use Rattle.listing_words.specs.declared.field.Verdict.the-variants.{Passes, Cut, OutOfRange, NoBusinessDay, OnStartDay}
-use Rattle.listing_words.specs.Fields.{fieldsOf, headerShape, recordShape, sizeOf, quantityOf, numberAt, rangeOf, within, verdictOf, passes, faultPlace}
+use Rattle.rules.specs.Fields.{widthOf, numberAt}
+use Rattle.listing_words.specs.Fields.{fieldsOf, headerShape, recordShape, quantityOf, rangeOf, within, verdictOf, passes, faultPlace}
 
 -- ---- names
 abbrev pub nameOf : Field → List ℕ
@@ -114,15 +115,15 @@ faultText byte f why = (59 ∷ 32 ∷ 98 ∷ 121 ∷ 116 ∷ 101 ∷ []) ++ ((sp
 unfoldable pub faultWords : ℕ → ℕ → List ℕ → ℕ → Field → List ℕ
 faultWords base n s place f =
     let verdict = verdictOf n s place f in
-    faultText (base + faultPlace s place verdict) f (reason (rangeOf n s place f) (sizeOf f) (numberAt s place (sizeOf f)) verdict)
+    faultText (base + faultPlace s place verdict) f (reason (rangeOf n s place f) (widthOf f) (numberAt s place (widthOf f)) verdict)
 
 -- ---- lines
 -- The fields that pass, and what is found of the first that does not.
 unfoldable pub wordsIn : ℕ → ℕ → ℕ → List ℕ → ℕ → List Field → List ℕ
 wordsIn first base n s place [] = []
 wordsIn first base n s place (f ∷ fs) =
-    let later = wordsIn first base n s (place + sizeOf f) fs in
-    cond (passes (verdictOf n s place f)) (fieldWords first f (numberAt s place (sizeOf f)) ++ later) (faultWords base n s place f)
+    let later = wordsIn first base n s (place + widthOf f) fs in
+    cond (passes (verdictOf n s place f)) (fieldWords first f (numberAt s place (widthOf f)) ++ later) (faultWords base n s place f)
 
 -- The first line: "VJR version 1 first year 2021 start day 369 members 2 holidays 0 limit 1000 limit 1000".
 unfoldable pub headerLine : List ℕ → List ℕ

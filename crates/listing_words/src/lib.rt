@@ -2,7 +2,6 @@
 mod field;
 mod names;
 
-pub use field::Field;
 pub use field::Quantity;
 pub use field::Range;
 pub use field::Shape;

@@ -5,7 +5,7 @@ ghost use lib.ListN.{length, take};
 ghost use Rattle.listing_numbers.specs.Short.{Short};
 ghost use Rattle.listing_words.specs.Word.{IsWord};
 ghost use Rattle.listing_words.specs.Words.{nameOf, kindWord, sideWord, orderKindWord};
-use crate::field::Field;
+use rules::Field;
 use rules::kinds::CANCEL;
 use rules::kinds::CLOSE_OUT;
 use rules::kinds::DAY_LIMITS;

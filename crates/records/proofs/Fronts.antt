@@ -1,7 +1,7 @@
 -- The record at the front of some bytes, when more bytes come behind them. Assumes nothing.
 use Prim.Native.Nat.{ℕ, zero, suc, _+_, _*_, _<_, _≤_}
 use mathlib.Core.Bool.{Bool, true, false, cond}
-use mathlib.Core.List.{List, [], _++_, append-nil}
+use mathlib.Core.List.{List, [], _∷_, _++_, append-nil}
 use mathlib.Core.Path.{_≡_, refl, sym, _∙_}
 use native.Mathlib.Omega.{arith}
 use borrow.Author.Tests.{le-leb, ne-eqb, eqb-true, eqb-false, leb-true}
@@ -11,7 +11,10 @@ use Rattle.arith.proofs.Tests.{never}
 use Rattle.rules.specs.declared.event.Front.{Front}
 use Rattle.rules.specs.declared.event.Front.the-variants.{Whole, Cut, UnknownKind}
 use Rattle.rules.specs.Journal.{lengthByFront, nextLength}
-use Rattle.rules.specs.Records.{recordLength, frontLength, frontOf}
+use Rattle.rules.specs.declared.field.Field.{Field}
+use Rattle.rules.specs.Fields.{hasLegs, widthOf, widths, legFields, kindFields}
+use Rattle.rules.specs.Records.{lengthWith, recordLength, frontLength, frontOf}
+use Rattle.codec.proofs.FieldBytes.{some-width}
 use Rattle.records.specs.Stages.{lengthByNow, lengthNow}
 
 pub positive : (k : ℕ) → (k ≡ 0 → ⊥) → 0 < k
@@ -40,43 +43,30 @@ front-tests : (s : List ℕ) → frontOf s ≡ tested (eqb (length s) 0) (eqb (f
 unfolding frontOf tested
 front-tests s = refl
 
--- ---- lengths by kind
-byKind : Bool → Bool → Bool → Bool → Bool → Bool → Bool → ℕ → ℕ
-byKind a b c d e f g m = cond a 15 (cond b 10 (cond c 10 (cond d (2 + m) (cond e 2 (cond f 4 (cond g 5 0))))))
+-- ---- lengths, whatever the fields are
+above-kind : (w more legs : ℕ) → 1 ≤ w → 2 ≤ 1 + (w + more) + legs
+above-kind w more legs h = omega arith
 
-at-least : (a b c d e f g : Bool) (m : ℕ) → (byKind a b c d e f g m ≡ 0 → ⊥) → 2 ≤ byKind a b c d e f g m
-unfolding byKind
-at-least true b c d e f g m h = omega arith
-at-least false true c d e f g m h = omega arith
-at-least false false true d e f g m h = omega arith
-at-least false false false true e f g m h = omega arith
-at-least false false false false true f g m h = omega arith
-at-least false false false false false true g m h = omega arith
-at-least false false false false false false true m h = omega arith
-at-least false false false false false false false m h = absurd (h refl)
+at-least : (fs : List Field) (legs : ℕ) → (lengthWith fs legs ≡ 0 → ⊥) → 2 ≤ lengthWith fs legs
+unfolding widths
+at-least [] legs h = absurd (h refl)
+at-least (f ∷ fs) legs h = above-kind (widthOf f) (widths fs) legs (some-width f)
 
-none-of : (a b c d e f g : Bool) (m n : ℕ) → byKind a b c d e f g m ≡ 0 → byKind a b c d e f g n ≡ 0
-unfolding byKind
-none-of true b c d e f g m n h = absurd (omega (arith, h))
-none-of false true c d e f g m n h = absurd (omega (arith, h))
-none-of false false true d e f g m n h = absurd (omega (arith, h))
-none-of false false false true e f g m n h = absurd (omega (arith, h))
-none-of false false false false true f g m n h = absurd (omega (arith, h))
-none-of false false false false false true g m n h = absurd (omega (arith, h))
-none-of false false false false false false true m n h = absurd (omega (arith, h))
-none-of false false false false false false false m n h = refl
+none-of : (fs : List Field) (m n : ℕ) → lengthWith fs m ≡ 0 → lengthWith fs n ≡ 0
+unfolding widths
+none-of [] m n h = refl
+none-of (f ∷ fs) m n h = let two = above-kind (widthOf f) (widths fs) m (some-width f) in absurd (omega arith)
 
-kinds : (k m : ℕ) → ℕ
-kinds k m = byKind (eqb k 1) (eqb k 2) (eqb k 3) (eqb k 4) (eqb k 5) (eqb k 6) (eqb k 7) m
-
-by-kinds : (s : List ℕ) → frontLength s ≡ kinds (getD s 0 0) (10 * getD s 1 0)
-unfolding recordLength kinds byKind
-by-kinds s = refl
+abbrev legsLength : ℕ → ℕ → ℕ
+legsLength kind legs = cond (hasLegs kind) (widths legFields * legs) 0
 
 two-at-least : (s : List ℕ) → (frontLength s ≡ 0 → ⊥) → 2 ≤ frontLength s
-unfolding kinds
-two-at-least s h = let k = getD s 0 0 in
-    rw (by-kinds s) (at-least (eqb k 1) (eqb k 2) (eqb k 3) (eqb k 4) (eqb k 5) (eqb k 6) (eqb k 7) (10 * getD s 1 0) (λ z. h (by-kinds s ∙ z)))
+unfolding recordLength
+two-at-least s h = at-least (kindFields (getD s 0 0)) (legsLength (getD s 0 0) (getD s 1 0)) h
+
+no-length : (kind m n : ℕ) → recordLength kind m ≡ 0 → recordLength kind n ≡ 0
+unfolding recordLength
+no-length kind m n h = none-of (kindFields kind) (legsLength kind m) (legsLength kind n) h
 
 -- ---- a whole record is not empty and lies within the bytes
 module _ (s : List ℕ) (n : ℕ) (e : frontOf s ≡ Whole n) where
@@ -95,8 +85,7 @@ module _ (s : List ℕ) (n : ℕ) (e : frontOf s ≡ Whole n) where
   unfolding tested
   front-more t =
       let f = whole-fits in
-      let same : frontLength (s ++ t) ≡ n = by-kinds (s ++ t) ∙
-      (rw (List·getD-append s t 0 0 (omega arith), List·getD-append s t 0 1 (omega arith)) (sym (by-kinds s)) ∙ whole .2) in
+      let same : frontLength (s ++ t) ≡ n = rw (List·getD-append s t 0 0 (omega arith), List·getD-append s t 0 1 (omega arith)) (whole .2) in
       let l = length-append s t in
       front-tests (s ++ t) ∙ rw (ne-eqb (length (s ++ t)) 0 (λ z. omega arith), same, ne-eqb n 0 (λ z. omega arith), le-leb n (length (s ++ t)) (omega arith)) refl
 
@@ -109,13 +98,12 @@ module _ (s : List ℕ) (e : frontOf s ≡ UnknownKind) where
   unknown-fits = positive (length s) (eqb-false (length s) 0 (unknown .0))
 
   unknown-more : (t : List ℕ) → frontOf (s ++ t) ≡ UnknownKind
-  unfolding tested kinds
+  unfolding tested
   unknown-more t =
       let one = unknown-fits in
       let k = getD s 0 0 in
       let none : frontLength s ≡ 0 = eqb-true (frontLength s) 0 (unknown .1) in
-      let still : frontLength (s ++ t) ≡ 0 = by-kinds (s ++ t) ∙ rw (List·getD-append s t 0 0 one)
-      (none-of (eqb k 1) (eqb k 2) (eqb k 3) (eqb k 4) (eqb k 5) (eqb k 6) (eqb k 7) (10 * getD s 1 0) (10 * getD (s ++ t) 1 0) (sym (by-kinds s) ∙ none)) in
+      let still : frontLength (s ++ t) ≡ 0 = rw (List·getD-append s t 0 0 one) (no-length k (getD s 1 0) (getD (s ++ t) 1 0) none) in
       let l = length-append s t in
       front-tests (s ++ t) ∙ rw (ne-eqb (length (s ++ t)) 0 (λ z. omega arith), still) refl
 

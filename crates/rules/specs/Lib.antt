@@ -4,6 +4,7 @@ pub mod Days
 pub mod Contracts
 pub mod Answers
 pub mod Header
+pub mod Fields
 pub mod Ledger
 pub mod Records
 pub mod Matching

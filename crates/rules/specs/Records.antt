@@ -2,6 +2,7 @@
 use Prim.Native.Nat.{ℕ, _+_, _*_, _-_}
 use mathlib.Core.Bool.{Bool, cond, not, _&&_}
 use mathlib.Core.List.{List, [], _∷_, _++_, map, flatMap}
+use mathlib.Core.Path.{_≡_, refl}
 use lib.Dec.{eqb, leb, ltb}
 use lib.ListN.{length, getD}
 use Rattle.arith.specs.Lists.{from, every, over}
@@ -19,105 +20,39 @@ use Rattle.rules.specs.declared.event.OrderKind.the-variants.{Resting, O
 use Rattle.rules.specs.declared.event.Reading.{Reading}
 use Rattle.rules.specs.declared.event.Reading.the-variants.{Sound, Unsound}
 use Rattle.rules.specs.declared.event.Submission.{Submission}
+use Rattle.rules.specs.declared.field.Field.{Field}
+use Rattle.rules.specs.declared.field.Field.the-variants.{Kind}
 use Rattle.rules.specs.declared.order.Side.the-variants.{Sell}
 use Rattle.rules.specs.Ranges.{contractCount, lastSecond, mostPrice, mostLots, leastLegs, mostLegs, orderNumbersEnd, mostRatio}
 use Rattle.rules.specs.Sides.{sideNumber, sideOf}
 use Rattle.rules.specs.Answers.{Outcome, decide, Told, told}
-use Rattle.rules.specs.Header.{u16At, u32At, u16Bytes, u32Bytes, membersSound}
+use Rattle.rules.specs.Header.{membersSound}
+use Rattle.rules.specs.Fields.{submitKind, cancelKind, dayLimitsKind, proposalKind, defaultKind, closeOutKind, closeOfDayKind, hasLegs, widths, legFields}
+use Rattle.rules.specs.Fields.{kindFields, numbersAt, bytesBy}
 
--- ---- kinds and lengths
--- A record's first byte is the number of its kind.
-abbrev pub submitKind : ℕ
-submitKind = 1
+-- ---- lengths and places
+-- In bytes, with the kind, of a record with such fields and so many bytes of legs; 0 where no kind has that number.
+abbrev pub lengthWith : List Field → ℕ → ℕ
+lengthWith [] legs = 0
+lengthWith (f ∷ fs) legs = widths (Kind ∷ f ∷ fs) + legs
 
-abbrev pub cancelKind : ℕ
-cancelKind = 2
+-- By a record's kind and, of a proposal, its number of legs.
+unfoldable pub recordLength : ℕ → ℕ → ℕ
+unfolding kindFields widths
+recordLength kind legs = lengthWith (kindFields kind) (cond (hasLegs kind) (widths legFields * legs) 0)
 
-abbrev pub dayLimitsKind : ℕ
-dayLimitsKind = 3
-
-abbrev pub proposalKind : ℕ
-proposalKind = 4
-
-abbrev pub defaultKind : ℕ
-defaultKind = 5
-
-abbrev pub closeOutKind : ℕ
-closeOutKind = 6
-
-abbrev pub closeOfDayKind : ℕ
-closeOfDayKind = 7
-
--- Where each field of a record begins, in bytes, by the record's kind.
+-- What code names. `lengths` and `leg-lengths` below say that they are the description's (Fields).
 abbrev pub kindByte : ℕ
 kindByte = 0
 
 abbrev pub firstFieldByte : ℕ
 firstFieldByte = 1
 
-abbrev pub submitTimeByte : ℕ
-submitTimeByte = 1
-
-abbrev pub submitMemberByte : ℕ
-submitMemberByte = 5
-
-abbrev pub submitContractByte : ℕ
-submitContractByte = 6
-
-abbrev pub submitSideByte : ℕ
-submitSideByte = 7
-
-abbrev pub submitOrderKindByte : ℕ
-submitOrderKindByte = 8
-
-abbrev pub submitPriceByte : ℕ
-submitPriceByte = 9
-
-abbrev pub submitLotsByte : ℕ
-submitLotsByte = 13
-
-abbrev pub cancelTimeByte : ℕ
-cancelTimeByte = 1
-
-abbrev pub cancelMemberByte : ℕ
-cancelMemberByte = 5
-
-abbrev pub cancelOrderByte : ℕ
-cancelOrderByte = 6
-
-abbrev pub dayLimitsContractByte : ℕ
-dayLimitsContractByte = 1
-
-abbrev pub dayLimitsLowByte : ℕ
-dayLimitsLowByte = 2
-
-abbrev pub dayLimitsHighByte : ℕ
-dayLimitsHighByte = 6
-
 abbrev pub proposalLegsByte : ℕ
 proposalLegsByte = 1
 
 abbrev pub firstLegByte : ℕ
 firstLegByte = 2
-
--- In a leg, which begins with the order's number.
-abbrev pub legLotsByte : ℕ
-legLotsByte = 4
-
-abbrev pub legPriceByte : ℕ
-legPriceByte = 6
-
-abbrev pub defaultMemberByte : ℕ
-defaultMemberByte = 1
-
-abbrev pub closeOutContractByte : ℕ
-closeOutContractByte = 1
-
-abbrev pub closeOutRatioByte : ℕ
-closeOutRatioByte = 2
-
-abbrev pub closeOfDayTimeByte : ℕ
-closeOfDayTimeByte = 1
 
 -- How many bytes a record of each kind takes.
 abbrev pub submitLength : ℕ
@@ -138,7 +73,6 @@ closeOutLength = 4
 abbrev pub closeOfDayLength : ℕ
 closeOfDayLength = 5
 
--- A leg: order number u32, lots u16, price u32.
 abbrev pub legLength : ℕ
 legLength = 10
 
@@ -146,16 +80,14 @@ legLength = 10
 abbrev pub legPlace : ℕ → ℕ
 legPlace j = firstLegByte + legLength * j
 
--- The length by a record's kind and, of a proposal, its number of legs; 0 where no kind has that number.
-unfoldable pub recordLength : ℕ → ℕ → ℕ
-recordLength kind legs =
-    cond (eqb kind submitKind) submitLength
-    (cond (eqb kind cancelKind) cancelLength
-    (cond (eqb kind dayLimitsKind) dayLimitsLength
-    (cond (eqb kind proposalKind) (legPlace legs)
-    (cond (eqb kind defaultKind) defaultLength
-    (cond (eqb kind closeOutKind) closeOutLength
-    (cond (eqb kind closeOfDayKind) closeOfDayLength 0))))))
+lengths : map (λ kind. recordLength kind 0) (from 1 7)
+    ≡ submitLength ∷ cancelLength ∷ dayLimitsLength ∷ legPlace 0 ∷ defaultLength ∷ closeOutLength ∷ closeOfDayLength ∷ []
+unfolding recordLength from
+lengths = refl
+
+leg-lengths : (legs : ℕ) → recordLength proposalKind legs ≡ legPlace legs
+unfolding recordLength
+leg-lengths legs = refl
 
 -- The same of the record that bytes begin with: its second byte is a proposal's number of legs.
 abbrev pub frontLength : List ℕ → ℕ
@@ -214,10 +146,7 @@ eventSound n (Default m) legs = ltb m n && eqb (length legs) 0
 eventSound n (CloseOut e) legs = contractSound (e .contract) && leb 1 (e .ratio) && leb (e .ratio) mostRatio && eqb (length legs) 0
 eventSound n (CloseOfDay s) legs = timeSound s && eqb (length legs) 0
 
--- ---- writing
-abbrev pub legBytes : Leg → List ℕ
-legBytes g = u32Bytes (g .order) ++ (u16Bytes (g .lots .0) ++ u32Bytes (g .price .0))
-
+-- ---- the numbers of an event
 abbrev pub kindNumber : Event → ℕ
 kindNumber (Submit e) = submitKind
 kindNumber (Cancel e) = cancelKind
@@ -230,16 +159,71 @@ kindNumber (CloseOfDay s) = closeOfDayKind
 abbrev pub isCloseOfDay : Event → Bool
 isCloseOfDay e = eqb (kindNumber e) closeOfDayKind
 
+-- One for each field of its kind.
+abbrev pub eventNumbers : Event → List ℕ
+eventNumbers (Submit e) = e .time ∷ e .member ∷ e .contract ∷ sideNumber (e .side) ∷ orderKindNumber (e .kind) ∷ e .price .0 ∷ e .lots .0 ∷ []
+eventNumbers (Cancel e) = e .time ∷ e .member ∷ e .order ∷ []
+eventNumbers (DayLimits e) = e .contract ∷ e .low .0 ∷ e .high .0 ∷ []
+eventNumbers (Proposal k) = k ∷ []
+eventNumbers (Default m) = m ∷ []
+eventNumbers (CloseOut e) = e .contract ∷ e .ratio ∷ []
+eventNumbers (CloseOfDay s) = s ∷ []
+
+abbrev pub legNumbers : Leg → List ℕ
+legNumbers g = g .order ∷ g .lots .0 ∷ g .price .0 ∷ []
+
+-- The kind, the fields, the legs.
+unfoldable pub numbersOf : Event → List Leg → List ℕ
+numbersOf e legs = kindNumber e ∷ eventNumbers e ++ cond (hasLegs (kindNumber e)) (flatMap legNumbers legs) []
+
+-- ---- the event of numbers, kind first, in whatever ranges
+abbrev pub submissionOf : List ℕ → Submission
+submissionOf f =
+    record {
+      time = getD f 1 0;
+      member = getD f 2 0;
+      contract = getD f 3 0;
+      side = sideOf (getD f 4 0);
+      kind = orderKindOf (getD f 5 0);
+      price = record { 0 = getD f 6 0 };
+      lots = record { 0 = getD f 7 0 };
+    }
+
+-- A side or an order kind that no number stands for is out of range.
+abbrev pub submitOf : List ℕ → Reading
+submitOf f = cond (sideSound (getD f 4 0) && orderKindSound (getD f 5 0)) (Sound (Submit (submissionOf f))) Unsound
+
+abbrev pub cancellationOf : List ℕ → Cancellation
+cancellationOf f = record { time = getD f 1 0; member = getD f 2 0; order = getD f 3 0 }
+
+abbrev pub newDayLimitsOf : List ℕ → NewDayLimits
+newDayLimitsOf f = record { contract = getD f 1 0; low = record { 0 = getD f 2 0 }; high = record { 0 = getD f 3 0 } }
+
+abbrev pub closeOutOf : List ℕ → CloseOutTerms
+closeOutOf f = record { contract = getD f 1 0; ratio = getD f 2 0 }
+
+unfoldable pub eventByKind : ℕ → List ℕ → Reading
+eventByKind kind f =
+    cond (eqb kind submitKind) (submitOf f)
+    (cond (eqb kind cancelKind) (Sound (Cancel (cancellationOf f)))
+    (cond (eqb kind dayLimitsKind) (Sound (DayLimits (newDayLimitsOf f)))
+    (cond (eqb kind proposalKind) (Sound (Proposal (getD f 1 0)))
+    (cond (eqb kind defaultKind) (Sound (Default (getD f 1 0)))
+    (cond (eqb kind closeOutKind) (Sound (CloseOut (closeOutOf f)))
+    (cond (eqb kind closeOfDayKind) (Sound (CloseOfDay (getD f 1 0)))
+    Unsound))))))
+
+-- A leg whose numbers begin at a place of some.
+abbrev pub legIn : List ℕ → ℕ → Leg
+legIn f i = record { order = getD f i 0; lots = record { 0 = getD f (i + 1) 0 }; price = record { 0 = getD f (i + 2) 0 } }
+
+-- ---- writing
+abbrev pub legBytes : Leg → List ℕ
+legBytes g = bytesBy legFields (legNumbers g)
+
 unfoldable pub fieldBytes : Event → List Leg → List ℕ
-fieldBytes (Submit e) legs =
-    u32Bytes (e .time)
-    ++ (e .member ∷ e .contract ∷ sideNumber (e .side) ∷ orderKindNumber (e .kind) ∷ u32Bytes (e .price .0) ++ u16Bytes (e .lots .0))
-fieldBytes (Cancel e) legs = u32Bytes (e .time) ++ (e .member ∷ u32Bytes (e .order))
-fieldBytes (DayLimits e) legs = e .contract ∷ u32Bytes (e .low .0) ++ u32Bytes (e .high .0)
-fieldBytes (Proposal k) legs = k ∷ flatMap legBytes legs
-fieldBytes (Default m) legs = m ∷ []
-fieldBytes (CloseOut e) legs = e .contract ∷ u16Bytes (e .ratio)
-fieldBytes (CloseOfDay s) legs = u32Bytes s
+unfolding kindFields bytesBy
+fieldBytes e legs = bytesBy (kindFields (kindNumber e)) (eventNumbers e) ++ cond (hasLegs (kindNumber e)) (flatMap legBytes legs) []
 
 -- The record of an event: its kind, then its fields.
 unfoldable pub bytesOf : Event → List Leg → List ℕ
@@ -255,53 +239,25 @@ writeSpec n e legs out =
     (record { answer = Accepted (length bytes); after = over 0 bytes out })
 
 -- ---- reading
-abbrev pub submissionOf : List ℕ → Submission
-submissionOf s =
-    record {
-      time = u32At s submitTimeByte;
-      member = getD s submitMemberByte 0;
-      contract = getD s submitContractByte 0;
-      side = sideOf (getD s submitSideByte 0);
-      kind = orderKindOf (getD s submitOrderKindByte 0);
-      price = record { 0 = u32At s submitPriceByte };
-      lots = record { 0 = u16At s submitLotsByte };
-    }
+-- The numbers of a record of a kind, which is the first; those of its legs aside.
+unfoldable pub recordNumbers : ℕ → List ℕ → List ℕ
+unfolding kindFields numbersAt
+recordNumbers kind s = numbersAt s kindByte (Kind ∷ kindFields kind)
 
-abbrev pub cancellationOf : List ℕ → Cancellation
-cancellationOf s = record { time = u32At s cancelTimeByte; member = getD s cancelMemberByte 0; order = u32At s cancelOrderByte }
-
-abbrev pub newDayLimitsOf : List ℕ → NewDayLimits
-newDayLimitsOf s =
-    record { contract = getD s dayLimitsContractByte 0; low = record { 0 = u32At s dayLimitsLowByte }; high = record { 0 = u32At s dayLimitsHighByte } }
-
-abbrev pub closeOutOf : List ℕ → CloseOutTerms
-closeOutOf s = record { contract = getD s closeOutContractByte 0; ratio = u16At s closeOutRatioByte }
-
--- A side or an order kind that no byte stands for is out of range.
-abbrev pub submitOf : List ℕ → Reading
-submitOf s = cond (sideSound (getD s submitSideByte 0) && orderKindSound (getD s submitOrderKindByte 0)) (Sound (Submit (submissionOf s))) Unsound
-
--- The fields of a record of a kind.
 unfoldable pub fieldsByKind : ℕ → List ℕ → Reading
-fieldsByKind kind s =
-    cond (eqb kind submitKind) (submitOf s)
-    (cond (eqb kind cancelKind) (Sound (Cancel (cancellationOf s)))
-    (cond (eqb kind dayLimitsKind) (Sound (DayLimits (newDayLimitsOf s)))
-    (cond (eqb kind proposalKind) (Sound (Proposal (getD s proposalLegsByte 0)))
-    (cond (eqb kind defaultKind) (Sound (Default (getD s defaultMemberByte 0)))
-    (cond (eqb kind closeOutKind) (Sound (CloseOut (closeOutOf s)))
-    (cond (eqb kind closeOfDayKind) (Sound (CloseOfDay (u32At s closeOfDayTimeByte)))
-    Unsound))))))
+unfolding eventByKind recordNumbers
+fieldsByKind kind s = eventByKind kind (recordNumbers kind s)
 
 -- A record cut or with surplus bytes is unsound; the ranges of its fields are tested after.
 unfoldable pub fieldsOf : List ℕ → Reading
 fieldsOf s = cond (eqb (length s) (frontLength s)) (fieldsByKind (getD s kindByte 0) s) Unsound
 
 abbrev pub legAt : List ℕ → ℕ → Leg
-legAt s i = record { order = u32At s i; lots = record { 0 = u16At s (i + legLotsByte) }; price = record { 0 = u32At s (i + legPriceByte) } }
+legAt s i = legIn (numbersAt s i legFields) 0
 
 -- The legs of a record, if it is a proposal.
 unfoldable pub legsOf : List ℕ → List Leg
+unfolding numbersAt
 legsOf s = cond (eqb (getD s kindByte 0) proposalKind) (map (λ j. legAt s (legPlace j)) (from 0 (getD s proposalLegsByte 0))) []
 
 -- An event whose fields are in their ranges.

@@ -2,6 +2,7 @@
 mod answer;
 mod contract;
 mod event;
+mod field;
 pub mod kinds;
 pub mod layout;
 mod order;
@@ -20,6 +21,7 @@ pub use event::NewDayLimits;
 pub use event::OrderKind;
 pub use event::Reading;
 pub use event::Submission;
+pub use field::Field;
 pub use order::Order;
 pub use order::Side;
 pub use units::Day;

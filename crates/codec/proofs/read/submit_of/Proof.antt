@@ -1,6 +1,7 @@
 use mathlib.Core.Path.{refl}
 use borrow.Author.Tests.{le-leb}
 use Rattle.codec.proofs.Fields.{submit-side, submit-order-kind}
+use Rattle.rules.specs.Records.{recordNumbers}
 use borrow.Author.Needs.{needs}
 use Rattle.codec.proofs.read.submit_of.Statement.{statement}
 use Rattle.codec.proofs.read.submit_of.Tie as tie
@@ -12,6 +13,7 @@ returns-2 : tie.Need-returns-2
 returns-2 c = submit-order-kind (c .before .before .before .before .before .args .bytes .now) (rw (c .before .before .u8-at2 .ensures .0) at (c .if2 .taken))
 
 returns-3 : tie.Need-returns-3
+unfolding recordNumbers
 returns-3 c =
     let order-kind-of = c .before .before .order-kind-of in
     let side-of = c .before .before .before .side-of in

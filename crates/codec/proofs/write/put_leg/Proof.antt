@@ -1,13 +1,14 @@
 use mathlib.Core.Path.{refl}
 use native.Mathlib.Omega.{arith}
 use Rattle.arith.proofs.Beside.{over-next}
+use Rattle.rules.specs.Fields.{bytesBy}
 use Rattle.rules.specs.Header.{u16Bytes, u32Bytes}
 use borrow.Author.Needs.{needs}
 use Rattle.codec.proofs.write.put_leg.Statement.{statement}
 use Rattle.codec.proofs.write.put_leg.Tie as tie
 
 returns : tie.Need-returns
-unfolding u16Bytes u32Bytes
+unfolding bytesBy u16Bytes u32Bytes
 returns c =
     let put-u322 = c .before .before .put-u322 in
     let put-u16 = c .before .before .before .before .before .before .put-u16 in

@@ -1,38 +1,38 @@
 use mathlib.Core.Path.{ap, _∙_}
 use Rattle.rules.specs.declared.event.Event.the-variants.{Cancel, DayLimits, CloseOut}
 use Rattle.rules.specs.declared.event.Reading.the-variants.{Sound}
-use Rattle.fields.specs.RecordFields.{eventByKind}
+use Rattle.fields.specs.RecordFields.{rowEvent}
 use Rattle.fields.proofs.Rows.{by-kind, no-kind}
 use borrow.Author.Needs.{needs}
 use Rattle.fields.proofs.event.event_in.Statement.{statement}
 use Rattle.fields.proofs.event.event_in.Tie as tie
 
 returns : tie.Need-returns
-unfolding eventByKind
+unfolding rowEvent
 returns c = c .submit-in .ensures ∙ by-kind (c .before .before .before .before .args .row .now) 1 (c .before .match .keys1)
 
 returns-2 : tie.Need-returns-2
-unfolding eventByKind
+unfolding rowEvent
 returns-2 c = ap (λ e. Sound (Cancel e)) (c .cancellation-in .ensures) ∙ by-kind (c .before .before .before .before .args .row .now) 2 (c .before .match .keys2)
 
 returns-3 : tie.Need-returns-3
-unfolding eventByKind
+unfolding rowEvent
 returns-3 c = ap (λ e. Sound (DayLimits e)) (c .new-day-limits-in .ensures) ∙ by-kind (c .before .before .before .before .args .row .now) 3 (c .before .match .keys3)
 
 returns-4 : tie.Need-returns-4
-unfolding eventByKind
+unfolding rowEvent
 returns-4 c = c .proposal-in .ensures ∙ by-kind (c .before .before .before .before .args .row .now) 4 (c .before .match .keys4)
 
 returns-5 : tie.Need-returns-5
-unfolding eventByKind
+unfolding rowEvent
 returns-5 c = by-kind (c .before .before .before .before .args .row .now) 5 (c .before .match .keys5)
 
 returns-6 : tie.Need-returns-6
-unfolding eventByKind
+unfolding rowEvent
 returns-6 c = ap (λ e. Sound (CloseOut e)) (c .close-out-in .ensures) ∙ by-kind (c .before .before .before .before .args .row .now) 6 (c .before .match .keys6)
 
 returns-7 : tie.Need-returns-7
-unfolding eventByKind
+unfolding rowEvent
 returns-7 c = by-kind (c .before .before .before .before .args .row .now) 7 (c .before .match .keys7)
 
 returns-8 : tie.Need-returns-8

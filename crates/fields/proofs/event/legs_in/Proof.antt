@@ -8,7 +8,8 @@ use Rattle.arith.specs.Lists.{from}
 use Rattle.arith.proofs.Padded.{column-next}
 use Rattle.rules.specs.Ranges.{mostLegs}
 use Rattle.codec.specs.Columns.{legColumns}
-use Rattle.fields.specs.RecordFields.{legField, legIn, firstLegs}
+use Rattle.rules.specs.Records.{legIn}
+use Rattle.fields.specs.RecordFields.{legField, firstLegs}
 use Rattle.fields.proofs.event.legs_in.Statement.{statement}
 use Rattle.fields.proofs.event.legs_in.Tie as tie
 

@@ -2,7 +2,7 @@ use native.Mathlib.Omega.{arith}
 use native.Mathlib.Numerals.{add-one, add-two}
 use lib.ListN.{length-set}
 use Rattle.arith.proofs.Writes.{stored}
-use Rattle.fields.specs.RecordFields.{legNumbers}
+use Rattle.rules.specs.Records.{legNumbers}
 use borrow.Author.Needs.{needs}
 use Rattle.fields.proofs.numbers.put_leg.Statement.{statement}
 use Rattle.fields.proofs.numbers.put_leg.Tie as tie

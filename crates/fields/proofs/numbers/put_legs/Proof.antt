@@ -7,7 +7,7 @@ use lib.ListN.{length}
 use Rattle.arith.proofs.Widths.{blocks-none, blocks-next}
 use Rattle.arith.specs.Lists.{from, over}
 use Rattle.codec.specs.Columns.{legRow, legRows}
-use Rattle.fields.specs.RecordFields.{legNumbers}
+use Rattle.rules.specs.Records.{legNumbers}
 use Rattle.fields.proofs.numbers.put_legs.Statement.{statement}
 use Rattle.fields.proofs.numbers.put_legs.Tie as tie
 

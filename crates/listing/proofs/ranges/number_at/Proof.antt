@@ -1,7 +1,7 @@
 use mathlib.Core.Path.{refl, _∙_}
 use borrow.Author.Tests.{ne-eqb}
 use native.Mathlib.Omega.{arith}
-use Rattle.listing_words.specs.Fields.{numberAt}
+use Rattle.rules.specs.Fields.{numberAt}
 use borrow.Author.Needs.{needs}
 use Rattle.listing.proofs.ranges.number_at.Statement.{statement}
 use Rattle.listing.proofs.ranges.number_at.Tie as tie

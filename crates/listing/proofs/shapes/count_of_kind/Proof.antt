@@ -1,5 +1,5 @@
 use mathlib.Core.Path.{refl}
-use Rattle.listing_words.specs.Fields.{fieldsOfKind}
+use Rattle.rules.specs.Fields.{fieldsOfKind}
 use native.Mathlib.Omega.{arith}
 use Rattle.listing.proofs.FieldPlaces.{legs-length, no-fields}
 use borrow.Author.Needs.{needs}

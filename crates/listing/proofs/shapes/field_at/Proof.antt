@@ -1,5 +1,5 @@
-use Rattle.listing_words.specs.declared.field.Field.the-variants.{Kind}
-use Rattle.listing_words.specs.Fields.{fieldsOfKind}
+use Rattle.rules.specs.declared.field.Field.the-variants.{Kind}
+use Rattle.rules.specs.Fields.{fieldsOfKind}
 use Rattle.listing.proofs.FieldPlaces.{after-first}
 use mathlib.Core.Path.{refl}
 use native.Mathlib.Omega.{arith}

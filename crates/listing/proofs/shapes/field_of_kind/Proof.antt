@@ -1,6 +1,6 @@
-use Rattle.listing_words.specs.declared.field.Field.the-variants.{Member}
+use Rattle.rules.specs.declared.field.Field.the-variants.{Member}
 use mathlib.Core.Path.{refl, _∙_}
-use Rattle.listing_words.specs.Fields.{fieldsOfKind}
+use Rattle.rules.specs.Fields.{fieldsOfKind}
 use Rattle.listing.proofs.FieldPlaces.{only, time-at}
 use Rattle.listing.proofs.shapes.field_of_kind.Statement.{statement}
 use Rattle.listing.proofs.shapes.field_of_kind.Tie as tie
