@@ -7,7 +7,7 @@ if [ $# -gt 0 ]; then
 fi
 cd "$(dirname "$0")/.."
 libraries=()
-for crate in journal listing_program; do
+for crate in journal_program listing_program; do
   tests/library.sh "$crate"
   libraries+=("target/staticlib/lib$crate.a")
 done

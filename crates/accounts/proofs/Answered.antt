@@ -13,7 +13,7 @@ use Rattle.rules.specs.declared.event.Event.{Event}
 use Rattle.rules.specs.declared.event.Leg.{Leg}
 use Rattle.rules.specs.declared.event.Reading.{Reading}
 use Rattle.rules.specs.declared.event.Reading.the-variants.{Sound, Unsound}
-use Rattle.rules.specs.Answers.{Outcome, told, ranking, placeFrom, rankOf, rank, Cause, decide}
+use Rattle.rules.specs.Answers.{Outcome, replyOf, ranking, placeFrom, rankOf, rank, Cause, decide}
 use Rattle.rules.specs.Ledger.{Tables, members}
 use Rattle.rules.specs.Records.{legsOf, readOf}
 use Rattle.rules.specs.Refusals.{unsound, kindCauses, kindBooked, eventSpec, readingSpec, applySpec}
@@ -73,12 +73,12 @@ answers-exactly t bytes =
     (rising-cons 0 (rank TableUnsound) _ ∙ reading-rising t x (legsOf bytes)) (reading-exact t x (legsOf bytes))
 
 -- ---- number 1 is for tables alone
-pub one-is-unsound : (t : Tables) (bytes : List ℕ) → told (applySpec t bytes .answer) .number ≡ 1 → unsound t ≡ true
+pub one-is-unsound : (t : Tables) (bytes : List ℕ) → replyOf (applySpec t bytes .answer) .number ≡ 1 → unsound t ≡ true
 one-is-unsound t bytes e =
     let a = applySpec t bytes .answer in
     let later = readingCauses t (readOf (members t) bytes) (legsOf bytes) in
-    let Says : Cause → Type 0 = λ cause. told (cause .1) .number ≡ 1 → cause .0 ≡ true → unsound t ≡ true in
-    all-member Says (answers-exactly t bytes .holds (ne-eqb (told a .number) 0 (λ z. omega arith))) (
+    let Says : Cause → Type 0 = λ cause. replyOf (cause .1) .number ≡ 1 → cause .0 ≡ true → unsound t ≡ true in
+    all-member Says (answers-exactly t bytes .holds (ne-eqb (replyOf a .number) 0 (λ z. omega arith))) (
       λ _ q. q,
       all-map (λ cause. rankOf 1 < rank (cause .1)) Says later (λ cause h q _. absurd (omega (arith, ap rankOf q)))
           (all-above (rankOf 1) later (reading-rising t (readOf (members t) bytes) (legsOf bytes))),

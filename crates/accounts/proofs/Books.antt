@@ -14,7 +14,7 @@ use Rattle.arith.proofs.Among.{from-every}
 use Rattle.arith.proofs.Overs.{over-outside}
 use Rattle.arith.proofs.Tests.{by-bool, passed, and-right}
 use Rattle.rules.specs.Ranges.{mostMembers, mostOrders}
-use Rattle.rules.specs.Ledger.{headLength, marksFrom, orderCountPlace, orderWidth, submitsFrom, firstYearPlace, membersPlace, holidayCountPlace, dayPlace, timePlace, lotsRunPlace, holidaysFrom, marked, acceptedSubmitsPlace}
+use Rattle.rules.specs.Ledger.{headLength, marksFrom, orderCountPlace, orderWidth, submitsFrom, firstYearPlace, membersPlace, holidayCountPlace, dayPlace, timePlace, lotsRunPlace, holidaysFrom, defaultMark, acceptedSubmitsPlace}
 use Rattle.rules.specs.declared.event.CloseOutTerms.{CloseOutTerms}
 use Rattle.rules.specs.declared.event.Leg.{Leg}
 use Rattle.rules.specs.declared.event.Submission.{Submission}
@@ -200,8 +200,8 @@ module _ (t : Tables) (s : Sound t) (k : BookKept t) where
   pub default-book : (m : ℕ) → BookKept (defaultBooked t m .after)
   unfolding defaultBooked
   default-book m =
-      taken-book [] (kept (λ o. not (eqb (o .member) m)) (orders t)) (withHead (set (t .head) (marksFrom + m) marked) t) (set-other timePlace (t .head) (marksFrom + m) 1 (omega arith) (ofMember (omega arith)))
-      (getD-set-other (t .head) (marksFrom + m) acceptedSubmitsPlace marked 0 (λ e. omega arith)) (kept-remain _ (orders t))
+      taken-book [] (kept (λ o. not (eqb (o .member) m)) (orders t)) (withHead (set (t .head) (marksFrom + m) defaultMark) t) (set-other timePlace (t .head) (marksFrom + m) 1 (omega arith) (ofMember (omega arith)))
+      (getD-set-other (t .head) (marksFrom + m) acceptedSubmitsPlace defaultMark 0 (λ e. omega arith)) (kept-remain _ (orders t))
 
   pub proposal-book : (legs : List Leg) → BookKept (proposalBooked t legs .after)
   unfolding proposalBooked

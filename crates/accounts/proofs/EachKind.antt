@@ -16,7 +16,7 @@ use Rattle.rules.specs.declared.event.Event.the-variants.{Submit, Cancel, DayLi
 use Rattle.rules.specs.declared.event.Leg.{Leg}
 use Rattle.rules.specs.declared.event.Reading.{Reading}
 use Rattle.rules.specs.declared.event.Reading.the-variants.{Sound, Unsound}
-use Rattle.rules.specs.Answers.{Outcome, told, ranking, placeFrom, rankOf, rank, Cause, decide}
+use Rattle.rules.specs.Answers.{Outcome, replyOf, ranking, placeFrom, rankOf, rank, Cause, decide}
 use Rattle.rules.specs.Header.{membersSound, rising}
 use Rattle.rules.specs.Ledger.{Tables, members, booked}
 use Rattle.rules.specs.Records.{eventSound, fieldsOf, legsOf, ifSound, readOf}
@@ -89,7 +89,7 @@ unfolding rankOf ranking placeFrom
 no-rank = refl
 
 pub not-accepted : (a : Answer) → 0 < rank a → isAccepted a ≡ false
-not-accepted a h = ne-eqb (told a .number) 0 (λ e. omega (arith, ap rankOf e, no-rank))
+not-accepted a h = ne-eqb (replyOf a .number) 0 (λ e. omega (arith, ap rankOf e, no-rank))
 
 -- whatever the tables, the causes stand in the order of their ranks, after 3, and what is booked is accepted
 pub record Decides (causes : List Cause) (o : Outcome Tables) : Type 0 where
@@ -126,10 +126,10 @@ pub accepted-call : (t : Tables) (bytes : List ℕ) (e : Event) → readOf (memb
 unfolding applySpec readingSpec eventSpec
 accepted-call t bytes e r a =
     let legs = legsOf bytes in
-    let told = decided-accepted ((unsound t, TableUnsound) ∷ []) t (readingSpec t (readOf (members t) bytes) legs) (refl, tt) a in
+    let replyOf = decided-accepted ((unsound t, TableUnsound) ∷ []) t (readingSpec t (readOf (members t) bytes) legs) (refl, tt) a in
     let is : readingSpec t (readOf (members t) bytes) legs ≡ decide (kindCauses t e legs) t (kindBooked t e legs) = ap (λ x. readingSpec t x legs) r in
-    let kind = decided-accepted (kindCauses t e legs) t (kindBooked t e legs) (causes-refuse t e legs) (ap (λ o. isAccepted (o .answer)) (sym (told .1 ∙ is)) ∙ a) in
-    record { tables = undamaged t (told .0 .0); event = read-sound (members t) bytes e r; no-cause = kind .0; leads = told .1 ∙ is ∙ kind .1 }
+    let kind = decided-accepted (kindCauses t e legs) t (kindBooked t e legs) (causes-refuse t e legs) (ap (λ o. isAccepted (o .answer)) (sym (replyOf .1 ∙ is)) ∙ a) in
+    record { tables = undamaged t (replyOf .0 .0); event = read-sound (members t) bytes e r; no-cause = kind .0; leads = replyOf .1 ∙ is ∙ kind .1 }
 
 -- ---- every call, with what its bytes say
 module _ (P : Reading → Tables → Outcome Tables → Type 0) (refused : (x : Reading) (t : Tables) (a : Answer) → isAccepted a ≡ false → P x t (record { answer = a; after = t }))

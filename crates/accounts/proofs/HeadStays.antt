@@ -13,7 +13,7 @@ use Rattle.arith.proofs.Alls.{all-hold, hold-all, all-place}
 use Rattle.arith.proofs.Among.{every-from, from-every}
 use Rattle.arith.proofs.Overs.{over-inside, over-outside}
 use Rattle.arith.proofs.Tests.{never, by-bool, le-or-lt, same-or, and-left, and-right, passed, passes, or-left, or-right}
-use Rattle.rules.specs.Ledger.{headLength, limitsFrom, marksFrom, submitsFrom, firstYearPlace, membersPlace, holidayCountPlace, dayPlace, timePlace, acceptedSubmitsPlace, lotsRunPlace, orderCountPlace, holidaysFrom, marked}
+use Rattle.rules.specs.Ledger.{headLength, limitsFrom, marksFrom, submitsFrom, firstYearPlace, membersPlace, holidayCountPlace, dayPlace, timePlace, acceptedSubmitsPlace, lotsRunPlace, orderCountPlace, holidaysFrom, defaultMark}
 use Rattle.rules.specs.Ranges.{lastSecond, mostAcceptedSubmits, mostLimit, mostLotsRun, mostMembers, mostOrders, mostHolidays, mostSubmitsInSecond}
 use Rattle.rules.specs.declared.event.CloseOutTerms.{CloseOutTerms}
 use Rattle.rules.specs.declared.event.Leg.{Leg}
@@ -50,14 +50,14 @@ pub data Place (n i : ℕ) : Type 0 where
   ofSubmits : (m : ℕ) → m < n → i ≡ submitsFrom + m → Place n i
 
 unfoldable pub most : ℕ → ℕ
-most i = cond (ltb i holidaysFrom) (getD (0 ∷ 0 ∷ 0 ∷ 0 ∷ lastSecond ∷ mostAcceptedSubmits ∷ mostLotsRun ∷ mostOrders ∷ []) i 0) (cond (ltb i marksFrom) mostLimit (cond (ltb i submitsFrom) marked mostSubmitsInSecond))
+most i = cond (ltb i holidaysFrom) (getD (0 ∷ 0 ∷ 0 ∷ 0 ∷ lastSecond ∷ mostAcceptedSubmits ∷ mostLotsRun ∷ mostOrders ∷ []) i 0) (cond (ltb i marksFrom) mostLimit (cond (ltb i submitsFrom) defaultMark mostSubmitsInSecond))
 
 module _ (m : ℕ) (few : m < mostMembers) where
   most-limit : most (limitsFrom + m) ≡ mostLimit
   unfolding most
   most-limit = rw (le-ltb (limitsFrom + m) holidaysFrom (omega arith), lt-ltb (limitsFrom + m) marksFrom (omega arith))
 
-  most-mark : most (marksFrom + m) ≡ marked
+  most-mark : most (marksFrom + m) ≡ defaultMark
   unfolding most
   most-mark = rw (le-ltb (marksFrom + m) holidaysFrom (omega arith), le-ltb (marksFrom + m) marksFrom (omega arith), lt-ltb (marksFrom + m) submitsFrom (omega arith))
 
@@ -140,7 +140,7 @@ module _ (t : Tables) (holidays≤ : leb (holidayCount t) mostHolidays ≡ true)
   member-shows m h =
       let few : m < mostMembers = omega (arith, leb-true (members t) mostMembers (and-right (leb 1 (members t)) (leb (members t) mostMembers) membersAre)) in
       let limitIs = le-leb (limit t m) mostLimit (rw (most-limit m few) at (b (limitsFrom + m) (ofLimit m h refl))) in
-      let markIs = le-leb (mark t m) marked (rw (most-mark m few) at (b (marksFrom + m) (ofMark m h refl))) in
+      let markIs = le-leb (mark t m) defaultMark (rw (most-mark m few) at (b (marksFrom + m) (ofMark m h refl))) in
       let submitsAre = le-leb (submitsThisSecond t m) mostSubmitsInSecond (rw (most-submits m few) at (b (submitsFrom + m) (ofSubmits m h refl))) in
       hold-all _ (limitIs, (markIs, (submitsAre, tt)))
 
@@ -171,7 +171,7 @@ module _ (t : Tables) (sound : headSound t ≡ true) where
   head-in-range i (ofRun e) = rw e (leb-true (lotsRun t) mostLotsRun (all-hold _ sound .1 .1 .1 .1 .1 .1 .0))
   head-in-range i (ofOrders e) = rw e (leb-true (orderCount t) mostOrders (all-hold _ sound .1 .1 .1 .1 .1 .1 .1 .0))
   head-in-range i (ofLimit m h e) = rw (e, most-limit m (omega (arith, few-members))) (leb-true (limit t m) mostLimit (all-hold _ (member-sound m h) .0))
-  head-in-range i (ofMark m h e) = rw (e, most-mark m (omega (arith, few-members))) (leb-true (mark t m) marked (all-hold _ (member-sound m h) .1 .0))
+  head-in-range i (ofMark m h e) = rw (e, most-mark m (omega (arith, few-members))) (leb-true (mark t m) defaultMark (all-hold _ (member-sound m h) .1 .0))
   head-in-range i (ofSubmits m h e) = rw (e, most-submits m (omega (arith, few-members))) (leb-true (submitsThisSecond t m) mostSubmitsInSecond (all-hold _ (member-sound m h) .1 .1 .0))
 
   module _ (f : ℕ) (t′ : Tables) (f≥ : dayPlace ≤ f) (long : headLength ≤ length (t .head)) (header : SameHeader f (t .head) (t′ .head)) where
@@ -203,7 +203,7 @@ unfoldable pub submitUnbooked : Tables → Submission → Tables
 submitUnbooked t e = withOrders (submitOrders t e) (withDeals (e .contract) (submitMatched t e .deals) (counted (e .member) (timed (e .time) t)))
 
 unfoldable pub defaultUnbooked : Tables → ℕ → Tables
-defaultUnbooked t m = withOrders (kept (λ o. not (eqb (o .member) m)) (orders t)) (withHead (set (t .head) (marksFrom + m) marked) t)
+defaultUnbooked t m = withOrders (kept (λ o. not (eqb (o .member) m)) (orders t)) (withHead (set (t .head) (marksFrom + m) defaultMark) t)
 
 module _ (t : Tables) (sound : headSound t ≡ true) (long : headLength ≤ length (t .head)) where
   bounds : InRange (members t) (t .head)
@@ -311,7 +311,7 @@ module _ (t : Tables) (sound : headSound t ≡ true) (long : headLength ≤ leng
   default-stays m h =
       let others : Order → Bool = λ o. not (eqb (o .member) m) in
       stays-orders timePlace (length (kept others (orders t))) (omega arith) (omega (arith, remain-few t _ (kept-remain others (orders t)), bounds orderCountPlace (ofOrders refl)))
-      (stays-set (marksFrom + m) marked (omega arith) (ofMember (omega arith)) (λ e. omega arith) (λ _. omega (arith, most-mark m (omega (arith, few-members t sound)))) (unchanged timePlace))
+      (stays-set (marksFrom + m) defaultMark (omega arith) (ofMember (omega arith)) (λ e. omega arith) (λ _. omega (arith, most-mark m (omega (arith, few-members t sound)))) (unchanged timePlace))
 
   pub default-head : (m : ℕ) → m < members t → headSound (defaultBooked t m .after) ≡ true
   unfolding defaultBooked defaultUnbooked

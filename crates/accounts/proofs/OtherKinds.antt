@@ -8,7 +8,7 @@ use lib.Dec.{eqb, ltb}
 use lib.ListN.{length, set}
 use Rattle.arith.specs.Lists.{All, kept}
 use Rattle.arith.proofs.Alls.{all-map, all-kept}
-use Rattle.rules.specs.Ledger.{marksFrom, timePlace, marked, orderCountPlace}
+use Rattle.rules.specs.Ledger.{marksFrom, timePlace, defaultMark, orderCountPlace}
 use Rattle.rules.specs.Ranges.{contractCount}
 use Rattle.rules.specs.declared.event.CloseOutTerms.{CloseOutTerms}
 use Rattle.rules.specs.declared.order.Order.{Order}
@@ -46,7 +46,7 @@ module _ (h : Header) (d : ℕ) (t : Tables) (r : Runs h d t) (s : Sound t) wher
 
   pub default-does : (m : ℕ) → Does h d d t (defaultBooked t m)
   unfolding defaultBooked
-  default-does m = removed-does (withHead (set (t .head) (marksFrom + m) marked) t) (λ o. not (eqb (o .member) m)) (set-other timePlace (t .head) (marksFrom + m) 1 (omega arith) (ofMember (omega arith))) refl refl
+  default-does m = removed-does (withHead (set (t .head) (marksFrom + m) defaultMark) t) (λ o. not (eqb (o .member) m)) (set-other timePlace (t .head) (marksFrom + m) 1 (omega arith) (ofMember (omega arith))) refl refl
 
   -- low and high are in the prices alone
   pub limits-does : (l : List ℕ) → Does h d d t (booked [] (withPrices l t))

@@ -5,7 +5,7 @@ use mathlib.Core.List.{List, [], _∷_, _++_}
 use lib.IntN.{ℤ}
 use Rattle.arith.proofs.Tests.{never, by-bool}
 use Rattle.rules.specs.declared.answer.Answer.the-variants.{Accepted, TableUnsound, HeaderUnsound}
-use Rattle.rules.specs.Answers.{Outcome, told}
+use Rattle.rules.specs.Answers.{Outcome, replyOf}
 use Rattle.rules.specs.Header.{headerOf, beginsWithHeader}
 use Rattle.rules.specs.Ledger.{Tables, withLines, firstLines, ledgerShort, fresh}
 use Rattle.rules.specs.Refusals.{applySpec, makeSpec}
@@ -53,7 +53,7 @@ struck-same t u (call ∷ calls) s =
     (ap (λ v. applySpec v (call .bytes)) (lent-same (call .lines) s)) (ih .0, ap (λ ls. lines ++ ls) (ih .1)))
     (λ e. let left = refused-changes-nothing (withLines (call .lines) t) (call .bytes) e in
     let ih = struck-same (o .after) u calls (subst (λ v. SameLedger v u) (sym left) (relent (call .lines) s)) in
-    (ih .0, ap (λ b. cond b (firstLines (told (o .answer) .value) (o .after .lines)) [] ++ log (o .after) calls) e ∙ ih .1))
+    (ih .0, ap (λ b. cond b (firstLines (replyOf (o .answer) .detail) (o .after .lines)) [] ++ log (o .after) calls) e ∙ ih .1))
 
 pub striking-changes-nothing : StrikingChangesNothing
 striking-changes-nothing t calls = struck-same t t calls (ledger-same t)

@@ -24,7 +24,7 @@ use Rattle.rules.specs.declared.event.Leg.{Leg}
 use Rattle.rules.specs.declared.event.Submission.{Submission}
 use Rattle.rules.specs.declared.order.Order.{Order}
 use Rattle.rules.specs.Answers.{Outcome}
-use Rattle.rules.specs.Ledger.{membersPlace, dayPlace, timePlace, acceptedSubmitsPlace, lotsRunPlace, orderCountPlace, marked, Tables, Line, withHead, withPrices, members, time, lotsRun, ggf, orders, withOrders, withoutSubmits, timed, lineRun, booked}
+use Rattle.rules.specs.Ledger.{membersPlace, dayPlace, timePlace, acceptedSubmitsPlace, lotsRunPlace, orderCountPlace, defaultMark, Tables, Line, withHead, withPrices, members, time, lotsRun, ggf, orders, withOrders, withoutSubmits, timed, lineRun, booked}
 use Rattle.rules.specs.Records.{numberSound, lotsSound, priceSound, legSound}
 use Rattle.rules.specs.Matching.{incoming, matching, matched, submitMatched, submitLines, submitOrders, withDeals, counted, submitBooked}
 use Rattle.rules.specs.Synthetic.{numbered, namedLegs, legLine, proposalLines, usedByLegs, proposalBooked}
@@ -186,7 +186,7 @@ module _ (t : Tables) (s : Sound t) where
   pub default-posts : (m : ℕ) → Posts t (defaultBooked t m)
   unfolding defaultBooked withOrders
   default-posts m =
-      booked-posts [] t (withOrders (kept (λ o. not (eqb (o .member) m)) (orders t)) (withHead (set (t .head) (marksFrom + m) marked) t)) s
+      booked-posts [] t (withOrders (kept (λ o. not (eqb (o .member) m)) (orders t)) (withHead (set (t .head) (marksFrom + m) defaultMark) t)) s
       (run-set orderCountPlace _ (omega arith) (omega arith) (run-set (marksFrom + m) 1 (omega arith) (omega arith) (run-start (t .head)))) refl refl tt tt
 
   pub close-out-posts : (e : CloseOutTerms) → e .contract < contractCount → pricesSound t ≡ true → Posts t (closeOutBooked t e)

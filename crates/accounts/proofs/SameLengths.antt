@@ -20,7 +20,7 @@ use Rattle.rules.specs.declared.event.CloseOutTerms.{CloseOutTerms}
 use Rattle.rules.specs.declared.event.Leg.{Leg}
 use Rattle.rules.specs.declared.event.Submission.{Submission}
 use Rattle.rules.specs.declared.order.Order.{Order}
-use Rattle.rules.specs.Answers.{Outcome, told}
+use Rattle.rules.specs.Answers.{Outcome, replyOf}
 use Rattle.rules.specs.Contracts.{openContracts}
 use Rattle.rules.specs.Header.{Header}
 use Rattle.rules.specs.Ledger.{Tables, Line, withHead, withPrices, members, day, calendar, time, withTime, withMark, orders, withOrders, orderPlaces, linePlaces}
@@ -205,7 +205,7 @@ stays-long a l = record {
 -- lengths stay, and an accepted record's lines fit
 pub record Fits (t : Tables) (o : Outcome Tables) : Type 0 where
   pub lengths : SameLengths t (o .after)
-  pub few : isAccepted (o .answer) ≡ true → told (o .answer) .value ≤ leastLines
+  pub few : isAccepted (o .answer) ≡ true → replyOf (o .answer) .detail ≤ leastLines
 
 booked-fits : (t u : Tables) (ls : List Line) → length ls ≤ leastLines → SameLengths t (booked ls u .after) → Fits t (booked ls u)
 unfolding booked

@@ -8,7 +8,7 @@ use Rattle.arith.specs.Lists.{All}
 use Rattle.rules.specs.Ranges.{contractCount}
 use Rattle.rules.specs.declared.order.Order.{Order}
 use Rattle.rules.specs.declared.order.Side.the-variants.{Buy, Sell}
-use Rattle.rules.specs.Answers.{told}
+use Rattle.rules.specs.Answers.{replyOf}
 use Rattle.rules.specs.Contracts.{openOn}
 use Rattle.rules.specs.Header.{Header, calendarOf, headerOf, beginsWithHeader}
 use Rattle.rules.specs.Ledger.{Tables, Line, withLines, day, lotsRun, defaulted, ggf, orders, resting, lineRun, ledgerShort, linesShort}
@@ -32,7 +32,7 @@ NeverDamaged = AfterEveryList (λ h t ls d. (ledgerShort t ≡ false) × (damage
 
 -- Number 1 is answered for a short line table alone.
 abbrev pub OneForLinesAlone : Type 0
-OneForLinesAlone = AfterEveryList (λ h t ls d. (call : Call) → told (callSpec t call .answer) .number ≡ 1 → linesShort (withLines (call .lines) t) ≡ true)
+OneForLinesAlone = AfterEveryList (λ h t ls d. (call : Call) → replyOf (callSpec t call .answer) .number ≡ 1 → linesShort (withLines (call .lines) t) ≡ true)
 
 -- An order rests only in a contract that is open on the list's day.
 abbrev pub OrdersRestInOpen : Type 0

@@ -4,7 +4,7 @@ use mathlib.Core.Path.{_≡_}
 use mathlib.Core.Bool.{true}
 use mathlib.Core.List.{List}
 use lib.ListN.{length}
-use Rattle.rules.specs.Answers.{told}
+use Rattle.rules.specs.Answers.{replyOf}
 use Rattle.rules.specs.Ledger.{Tables}
 use Rattle.rules.specs.Refusals.{applySpec, makeSpec}
 use Rattle.rules.specs.Accounts.{isAccepted}
@@ -25,4 +25,4 @@ abbrev pub MakingKeepsLengths : Type 0
 MakingKeepsLengths = (t : Tables) (bytes : List ℕ) → SameLengths t (makeSpec t bytes .after)
 
 abbrev pub AtMost200Lines : Type 0
-AtMost200Lines = (t : Tables) (bytes : List ℕ) → isAccepted (applySpec t bytes .answer) ≡ true → told (applySpec t bytes .answer) .value ≤ 200
+AtMost200Lines = (t : Tables) (bytes : List ℕ) → isAccepted (applySpec t bytes .answer) ≡ true → replyOf (applySpec t bytes .answer) .detail ≤ 200

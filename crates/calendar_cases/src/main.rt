@@ -1,7 +1,7 @@
 // The closing days of document 01's cases, open contracts, and business days with holidays. What it prints must be the file stdout.
 ghost use mathlib.Core.Path.{_≡_};
 ghost use Prim.Native.Nat.{_<_};
-ghost use Rattle.rules.specs.Answers.{toldNextDay};
+ghost use Rattle.rules.specs.Answers.{replyOfNextDay};
 use libc::STDOUT_FILENO;
 use rules::Day;
 use rules::DayNo;
@@ -45,7 +45,7 @@ fn print_day(day: Day) {
 
 // The paper's number for the next business day.
 fn next_day_number(day: Day) -> u64
-    ensures { λ r. ⌜ r ≡ toldNextDay day .number ⌝ }
+    ensures { λ r. ⌜ r ≡ replyOfNextDay day .number ⌝ }
 {
     match day {
         Day::On(_) => 0,

@@ -23,7 +23,7 @@ use Rattle.rules.specs.declared.contract.ContractKind.the-variants.{Year, Quart
 use Rattle.rules.specs.Ranges.{contractCount, termCount}
 use Rattle.rules.specs.Contracts.{childrenOf, contractsOf}
 use Rattle.rules.specs.Ledger.{rowsLength}
-use Rattle.rules.specs.OtherForms.{numberOf, sizeOf, firstMonthOf}
+use Rattle.rules.specs.OtherForms.{contractOf, contractsIn, firstMonthOf}
 use Rattle.rules.proofs.CalendarLaws.{contracts-of}
 use Rattle.rules.proofs.HourLaws.{Cascading, year, quarter, cascading}
 use Rattle.rules.specs.CloseOfDay.{contractRows, addedTo, cascaded, allCascaded}
@@ -100,23 +100,23 @@ module _ (n p end size : ℕ) (all parent : List ℤ) (few : n ≤ 32) (last : e
 
 -- ---- contracts of a kind, one after the other
 -- No contract of a kind is a child of another.
-not-child : (s : ContractKind) (i j : ℕ) → sizeOf s ≤ 24 → numberOf s i < termCount → any (λ x. eqb x (numberOf s j)) (childrenOf (numberOf s i)) ≡ false
+not-child : (s : ContractKind) (i j : ℕ) → contractsIn s ≤ 24 → contractOf s i < termCount → any (λ x. eqb x (contractOf s j)) (childrenOf (contractOf s i)) ≡ false
 not-child Year i j f b = go (cascading (17 * i) b (omega arith))
   where
     go : Cascading (17 * i) → any (λ x. eqb x (17 * j)) (childrenOf (17 * i)) ≡ false
     go (year z e) = rw e (not-among (17 * i + 1) 4 (17 * j) (λ l u. le-or-lt j i (λ q. omega arith) (λ q. omega arith)))
     go (quarter z y e) = absurd (omega arith)
-not-child Quarter i j f b = go (cascading (numberOf Quarter i) b (omega arith))
+not-child Quarter i j f b = go (cascading (contractOf Quarter i) b (omega arith))
   where
-    go : Cascading (numberOf Quarter i) → any (λ x. eqb x (numberOf Quarter j)) (childrenOf (numberOf Quarter i)) ≡ false
+    go : Cascading (contractOf Quarter i) → any (λ x. eqb x (contractOf Quarter j)) (childrenOf (contractOf Quarter i)) ≡ false
     go (year z e) = absurd (omega arith)
     go (quarter z y e) =
-        let y : numberOf Quarter i / 17 ≡ i / 4 = omega arith in
-        let r : numberOf Quarter i % 17 ≡ 1 + i % 4 = omega arith in
-        rw e (not-among (firstMonthOf (numberOf Quarter i)) 3 (numberOf Quarter j) (λ l u. le-or-lt (j / 4) (i / 4) (λ q. omega arith) (λ q. omega arith)))
+        let y : contractOf Quarter i / 17 ≡ i / 4 = omega arith in
+        let r : contractOf Quarter i % 17 ≡ 1 + i % 4 = omega arith in
+        rw e (not-among (firstMonthOf (contractOf Quarter i)) 3 (contractOf Quarter j) (λ l u. le-or-lt (j / 4) (i / 4) (λ q. omega arith) (λ q. omega arith)))
 not-child Month i j f b = absurd (omega arith)
 
-pub number-parent : (s : ContractKind) (i : ℕ) → sizeOf s ≤ 24 → numberOf s i % 17 ≤ 4
+pub number-parent : (s : ContractKind) (i : ℕ) → contractsIn s ≤ 24 → contractOf s i % 17 ≤ 4
 number-parent Year i h = omega arith
 number-parent Quarter i h = omega arith
 number-parent Month i h = absurd (omega arith)
@@ -146,29 +146,29 @@ module _ (n c x b : ℕ) (l : List ℤ) (few : n ≤ 32) (below : c < termCount)
 
 -- the first i contracts of a kind are done: no row has grown by more than one parent's for each
 pub record KindRun (n size b : ℕ) (s : ContractKind) (column : List ℕ) (all : List ℤ) (i : ℕ) (rows : List ℤ) : Type 0 where
-  pub most : i ≤ sizeOf s
+  pub most : i ≤ contractsIn s
   pub same : length rows ≡ size
   pub fit : RowsFit n ((i + 1) * b) rows
-  pub kind-fit : (j m : ℕ) → j < sizeOf s → m < n → natAbs (rowOf rows (numberOf s j) m) ≤ b
-  pub known : allCascaded n (kept (closes column) (map (numberOf s) (from i (sizeOf s - i)))) rows ≡ all
+  pub kind-fit : (j m : ℕ) → j < contractsIn s → m < n → natAbs (rowOf rows (contractOf s j) m) ≤ b
+  pub known : allCascaded n (kept (closes column) (map (contractOf s) (from i (contractsIn s - i)))) rows ≡ all
 
-module _ (n size b : ℕ) (s : ContractKind) (column : List ℕ) (all : List ℤ) (few : n ≤ 32) (parents : sizeOf s ≤ 24) where
-  pub kind-next : (i : ℕ) (rows : List ℤ) → i < sizeOf s → KindRun n size b s column all i rows
-      → KindRun n size b s column all (i + 1) (cond (closes column (numberOf s i)) (cascaded n (numberOf s i) rows) rows)
+module _ (n size b : ℕ) (s : ContractKind) (column : List ℕ) (all : List ℤ) (few : n ≤ 32) (parents : contractsIn s ≤ 24) where
+  pub kind-next : (i : ℕ) (rows : List ℤ) → i < contractsIn s → KindRun n size b s column all i rows
+      → KindRun n size b s column all (i + 1) (cond (closes column (contractOf s i)) (cascaded n (contractOf s i) rows) rows)
   unfolding kept allCascaded
   kind-next i rows h r =
-      let c = numberOf s i in
+      let c = contractOf s i in
       let below = number-below s i h in
       let parent = number-parent s i parents in
       let grown : (i + 1 + 1) * b ≡ (i + 1) * b + b = rw (add-one (i + 1), suc-mul (i + 1) b) in
-      let rest = map (numberOf s) (from (i + 1) (sizeOf s - (i + 1))) in
-      let known = rw (from-next i (sizeOf s) h) at (r .known) in
+      let rest = map (contractOf s) (from (i + 1) (contractsIn s - (i + 1))) in
+      let known = rw (from-next i (contractsIn s) h) at (r .known) in
       true-or (closes column c)
       (λ e. rw e (record {
         most = omega arith;
         same = cascaded-length n c rows (r .fit .long) below few ∙ r .same;
         fit = rw grown (cascade-fit n c ((i + 1) * b) b rows few below parent (r .fit) (λ m k. r .kind-fit i m h k));
-        kind-fit = λ j m u k. cascade-other n c ((i + 1) * b) b rows few below parent (r .fit) (numberOf s j) m k (not-child s i j parents below) (r .kind-fit j m u k);
+        kind-fit = λ j m u k. cascade-other n c ((i + 1) * b) b rows few below parent (r .fit) (contractOf s j) m k (not-child s i j parents below) (r .kind-fit j m u k);
         known = rw e at known;
       }))
       (λ e. rw e (record {
@@ -186,25 +186,25 @@ module _ (n size b : ℕ) (s : ContractKind) (column : List ℕ) (all : List ℤ
         most = omega arith;
         same = same;
         fit = rw one fit;
-        kind-fit = λ j m u k. fit .within (numberOf s j) m (omega (arith, number-below s j u)) k;
-        known = rw (contracts-of s, ← sub-zero (sizeOf s)) at known;
+        kind-fit = λ j m u k. fit .within (contractOf s j) m (omega (arith, number-below s j u)) k;
+        known = rw (contracts-of s, ← sub-zero (contractsIn s)) at known;
       }
 
-  pub kind-end : (i : ℕ) (rows : List ℤ) → sizeOf s ≤ i → KindRun n size b s column all i rows → rows ≡ all
+  pub kind-end : (i : ℕ) (rows : List ℤ) → contractsIn s ≤ i → KindRun n size b s column all i rows → rows ≡ all
   unfolding kept allCascaded
-  kind-end i rows h r = rw (from-end i (sizeOf s) h) at (r .known)
+  kind-end i rows h r = rw (from-end i (contractsIn s) h) at (r .known)
 
-  run-fit : (k i : ℕ) (rows : List ℤ) → i + k ≡ sizeOf s → KindRun n size b s column all i rows → RowsFit n ((sizeOf s + 1) * b) all
+  run-fit : (k i : ℕ) (rows : List ℤ) → i + k ≡ contractsIn s → KindRun n size b s column all i rows → RowsFit n ((contractsIn s + 1) * b) all
   run-fit zero i rows e r =
-      let last : i ≡ sizeOf s = omega arith in
-      subst (RowsFit n ((sizeOf s + 1) * b)) (kind-end i rows (omega arith) r) (rw last at (r .fit))
+      let last : i ≡ contractsIn s = omega arith in
+      subst (RowsFit n ((contractsIn s + 1) * b)) (kind-end i rows (omega arith) r) (rw last at (r .fit))
   run-fit (suc k) i rows e r = run-fit k (i + 1) _ (omega arith) (kind-next i rows (omega arith) r)
 
 -- after the contracts of a kind no row has grown by more than one parent's for each
-pub kind-fit-after : (n b : ℕ) (s : ContractKind) (column : List ℕ) (rows : List ℤ) → n ≤ 32 → sizeOf s ≤ 24 → RowsFit n b rows
-    → RowsFit n ((sizeOf s + 1) * b) (allCascaded n (kept (closes column) (contractsOf s)) rows)
+pub kind-fit-after : (n b : ℕ) (s : ContractKind) (column : List ℕ) (rows : List ℤ) → n ≤ 32 → contractsIn s ≤ 24 → RowsFit n b rows
+    → RowsFit n ((contractsIn s + 1) * b) (allCascaded n (kept (closes column) (contractsOf s)) rows)
 kind-fit-after n b s column rows few parents fit =
-    run-fit n (length rows) b s column _ few parents (sizeOf s) 0 rows (omega arith) (kind-start n (length rows) b s column _ few parents rows refl fit refl)
+    run-fit n (length rows) b s column _ few parents (contractsIn s) 0 rows (omega arith) (kind-start n (length rows) b s column _ few parents rows refl fit refl)
 
 -- ---- all closing contracts
 cascaded-append : (n : ℕ) (xs ys : List ℕ) (l : List ℤ) → allCascaded n (xs ++ ys) l ≡ allCascaded n ys (allCascaded n xs l)
@@ -212,11 +212,11 @@ unfolding allCascaded
 cascaded-append n [] ys l = refl
 cascaded-append n (x ∷ xs) ys l = cascaded-append n xs ys (cascaded n x l)
 
-months-stay : (n : ℕ) (p : ℕ → Bool) (k i : ℕ) (l : List ℤ) → allCascaded n (kept p (map (numberOf Month) (from i k))) l ≡ l
+months-stay : (n : ℕ) (p : ℕ → Bool) (k i : ℕ) (l : List ℤ) → allCascaded n (kept p (map (contractOf Month) (from i k))) l ≡ l
 unfolding allCascaded kept from
 months-stay n p zero i l = refl
 months-stay n p (suc k) i l =
-    true-or (p (numberOf Month i)) (λ e. rw e (months-stay n p k (suc i) (cascaded n (numberOf Month i) l) ∙ cascaded-month n (numberOf Month i) l (omega arith)))
+    true-or (p (contractOf Month i)) (λ e. rw e (months-stay n p k (suc i) (cascaded n (contractOf Month i) l) ∙ cascaded-month n (contractOf Month i) l (omega arith)))
     (λ e. rw e (months-stay n p k (suc i) l))
 
 pub all-closed : (n : ℕ) (column : List ℕ) (rows : List ℤ)

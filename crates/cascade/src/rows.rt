@@ -8,7 +8,7 @@ ghost use lib.ListN.{length, getD, take, drop};
 ghost use lib.IntN.{pos, natAbs, _+ℤ_};
 ghost use Rattle.arith.specs.Lists.{from, over, kept};
 ghost use Rattle.rules.specs.Ranges.{contractCount, termCount, contractsInYear, quartersInSpan, lastQuarter, mostMembers};
-ghost use Rattle.rules.specs.OtherForms.{sizeOf};
+ghost use Rattle.rules.specs.OtherForms.{contractsIn};
 ghost use Rattle.rules.specs.Contracts.{contractsOf};
 ghost use Rattle.rules.specs.Ledger.{rowsLength, rowsFrom, rowPlace};
 ghost use Rattle.rules.specs.CloseOfDay.{contractRows, addedTo, zeroRows, cascaded, allCascaded};
@@ -122,7 +122,7 @@ fn cascade_closing(rows: &mut [i64], members: usize, contract: usize, phase: u64
 // The closing contracts of a kind that has children. A row grows by one parent's at a time, so none passes 64 bits.
 fn cascade_kind(rows: &mut [i64], column: &[u64], members: usize, kind: ContractKind)
     requires { ⌜ RowsFit members (7 * mostRow) (now rows) × (members ≤ mostMembers) ⌝ }
-    requires { ⌜ (sizeOf kind ≤ quartersInSpan) × (length (now column) ≡ termCount) ⌝ }
+    requires { ⌜ (contractsIn kind ≤ quartersInSpan) × (length (now column) ≡ termCount) ⌝ }
     ensures { λ _. ⌜ now (rows .exit) ≡ allCascaded members (kept (closes (now (column .entry))) (contractsOf kind)) (now (rows .entry)) ⌝ }
 {
     let count = contracts_in(kind);

@@ -12,7 +12,7 @@ use Rattle.rules.specs.Ledger.{Tables, Line, members}
 use Rattle.rules.specs.Ranges.{contractCount, mostPrice, leastLines, mostMembers}
 use Rattle.rules.proofs.Netting.{given-length}
 use Rattle.tables.specs.Fit.{membersIn}
-use Rattle.dealing.specs.Levels.{mostWeight, Column}
+use Rattle.dealing.specs.Levels.{mostWeight, MemberColumn}
 use Rattle.deal_lines.specs.Room.{Bookable}
 use Rattle.close_out.specs.Booking.{withEach, changes, nettingLines, defaultedLines, takerLines, stepLines, Dealable}
 use Rattle.close_out.proofs.Changes.{each-append}
@@ -38,7 +38,7 @@ less-le (x ∷ xs) (y ∷ ys) (suc i) = less-le xs ys i
 pub left-length : (q : ℕ) (held : List ℕ) → length (less held (givenUp q held)) ≡ length held
 left-length q held = less-length held (givenUp q held) (given-length q held)
 
-pub left-column : (q : ℕ) (held left : List ℕ) → left ≡ less held (givenUp q held) → Column mostWeight held → Column mostWeight left
+pub left-column : (q : ℕ) (held left : List ℕ) → left ≡ less held (givenUp q held) → MemberColumn mostWeight held → MemberColumn mostWeight left
 left-column q held left e f =
     record { few = omega (arith, ap length e, left-length q held, f .few); each = λ i. rw e (omega (arith, less-le held (givenUp q held) i, f .each i)) }
 
@@ -135,7 +135,7 @@ module _ (c p q l : ℕ) (longs shorts ws : List ℕ) (hc : c < contractCount) (
       second-few : second ≤ membersIn head + membersIn head
       second-few = omega (arith, count1, count2, netting-few, change-length c p 0 (changes shorts1 longs1), changes-length shorts1 longs1 (sym longs-wide), shorts-wide, members1)
 
-      pub takers-requires : 0 < l → (Bookable l head2 lots2 value2 lines2 × Column mostWeight ws × (0 < sumOf ws))
+      pub takers-requires : 0 < l → (Bookable l head2 lots2 value2 lines2 × MemberColumn mostWeight ws × (0 < sumOf ws))
           × ((c < contractCount) × (p ≤ mostPrice) × (second + length ws ≤ leastLines) × (length ws ≡ membersIn head2))
       takers-requires h = ((ready2, d .weights-column, d .takers h), (hc, hp, omega (arith, second-few, d .weights-length, few), d .weights-length ∙ sym members2))
 

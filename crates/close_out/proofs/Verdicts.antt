@@ -20,7 +20,7 @@ use Rattle.rules.specs.Ranges.{contractCount, mostMembers, mostLotsRun}
 use Rattle.rules.specs.Refusals.{closeOutSpec}
 use Rattle.rules.proofs.Netting.{given-sum, given-length, given-le}
 use Rattle.tables.specs.Fit.{RowsFit, membersIn}
-use Rattle.dealing.specs.Levels.{mostWeight, Column}
+use Rattle.dealing.specs.Levels.{mostWeight, MemberColumn}
 use Rattle.close_out_weights.specs.declared.columns.Part.{Part}
 use Rattle.close_out_weights.specs.declared.columns.Part.the-variants.{DefaultedLongs, DefaultedShorts}
 use Rattle.close_out_weights.specs.Columns.{columnOf}
@@ -39,7 +39,7 @@ rows-fit f = rows-wider _ _ mostLotsRun _ (omega (arith, f .most-run)) (f .lots-
 
 -- ---- a column that was read
 pub record Read (head column : List ℕ) : Type 0 where
-  pub fits : Column mostWeight column
+  pub fits : MemberColumn mostWeight column
   pub most : sumOf column ≤ mostMembers * mostLotsRun
   pub long : length column ≡ membersIn head
 
@@ -175,7 +175,7 @@ module _ (head : List ℕ) (lots value lines : List ℤ) (f : Bookable 0 head lo
   takers-there : (ws : List ℕ) (sum : ℕ) → sum ≡ sumOf ws → ltb 0 l && eqb sum 0 ≡ false → 0 < l → 0 < sumOf ws
   takers-there ws sum e h k = le-or-lt 1 (sumOf ws) (λ p. p) (λ p. never (rw (lt-ltb 0 l k, eq-eqb sum 0 (omega arith)) at h))
 
-  pub dealable : (ws : List ℕ) (sum : ℕ) → sum ≡ sumOf ws → ltb 0 l && eqb sum 0 ≡ false → length ws ≡ membersIn head → Column mostWeight ws → Dealable q l (membersIn head) longs shorts ws
+  pub dealable : (ws : List ℕ) (sum : ℕ) → sum ≡ sumOf ws → ltb 0 l && eqb sum 0 ≡ false → length ws ≡ membersIn head → MemberColumn mostWeight ws → Dealable q l (membersIn head) longs shorts ws
   dealable ws sum e h long g =
       record {
         longs-length = longs-read .long;

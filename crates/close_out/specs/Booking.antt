@@ -9,7 +9,7 @@ use lib.ListN.{length}
 use Rattle.rules.specs.Default.{sumOf, givenUp, less, changeLines, dealtOut, defaultedLongs, defaultedShorts, smallerTotal, lotsLeft}
 use Rattle.rules.specs.Ledger.{Tables, Line, withHead, withRows}
 use Rattle.deal_lines.specs.Lines.{withLine}
-use Rattle.dealing.specs.Levels.{mostWeight, Column}
+use Rattle.dealing.specs.Levels.{mostWeight, MemberColumn}
 
 -- Lines booked one after the other, the first as line i.
 unfoldable pub withEach : ℕ → List Line → Tables → Tables
@@ -46,7 +46,7 @@ pub record Dealable (q l members : ℕ) (longs shorts weights : List ℕ) : Type
   pub longs-length : length longs ≡ members
   pub shorts-length : length shorts ≡ members
   pub weights-length : length weights ≡ members
-  pub longs-column : Column mostWeight longs
-  pub weights-column : Column mostWeight weights
+  pub longs-column : MemberColumn mostWeight longs
+  pub weights-column : MemberColumn mostWeight weights
   pub left : l ≡ sumOf (less longs (givenUp q longs)) + sumOf (less shorts (givenUp q shorts))
   pub takers : 0 < l → 0 < sumOf weights

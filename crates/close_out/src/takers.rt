@@ -6,7 +6,7 @@ ghost use Rattle.rules.specs.Default.{sumOf};
 ghost use Rattle.rules.specs.Ledger.{Tables, withHead, withRows, withLines};
 ghost use Rattle.rules.specs.Ranges.{contractCount, mostPrice, leastLines};
 ghost use Rattle.tables.specs.Fit.{membersIn};
-ghost use Rattle.dealing.specs.Levels.{mostWeight, Column};
+ghost use Rattle.dealing.specs.Levels.{mostWeight, MemberColumn};
 ghost use Rattle.deal_lines.specs.Room.{Bookable};
 ghost use Rattle.close_out.specs.Booking.{withEach, takerLines};
 use crate::booking::book_changes;
@@ -28,7 +28,7 @@ fn deal_columns(
     taken: &mut [u64],
     nothing: &[u64],
 ) -> usize
-    requires { ⌜ Bookable left (now head) (now lots) (now value) (now lines) × Column mostWeight (now weights) × (0 < sumOf (now weights)) ⌝ }
+    requires { ⌜ Bookable left (now head) (now lots) (now value) (now lines) × MemberColumn mostWeight (now weights) × (0 < sumOf (now weights)) ⌝ }
     requires { ⌜ (contract < contractCount) × (price .0 ≤ mostPrice) × (i + length (now weights) ≤ leastLines) × (length (now weights) ≡ membersIn (now head)) ⌝ }
     requires { ⌜ (length (now taken) ≡ membersIn (now head)) × (now nothing ≡ replicate (membersIn (now head)) 0) ⌝ }
     ensures { λ r. ⌜ r ≡ i + length (takerLines contract (price .0) long left (now (weights .entry))) ⌝ }
@@ -76,7 +76,7 @@ pub fn book_takers(
     left: u64,
     weights: &[u64],
 ) -> usize
-    requires { ⌜ Bookable left (now head) (now lots) (now value) (now lines) × Column mostWeight (now weights) × (0 < sumOf (now weights)) ⌝ }
+    requires { ⌜ Bookable left (now head) (now lots) (now value) (now lines) × MemberColumn mostWeight (now weights) × (0 < sumOf (now weights)) ⌝ }
     requires { ⌜ (contract < contractCount) × (price .0 ≤ mostPrice) × (i + length (now weights) ≤ leastLines) × (length (now weights) ≡ membersIn (now head)) ⌝ }
     ensures { λ r. ⌜ r ≡ i + length (takerLines contract (price .0) long left (now (weights .entry))) ⌝ }
     ensures { λ _. ⌜ ((t : Tables) → withHead (now (head .exit)) (withRows (now (lots .exit)) (now (value .exit)) (withLines (now (lines .exit)) t))

@@ -6,7 +6,7 @@ ghost use lib.IntN.{ℤ};
 ghost use lib.ListN.{length};
 ghost use Rattle.rules.specs.Ranges.{contractCount, mostMembers, mostLotsRun, mostRatio};
 ghost use Rattle.rules.specs.Default.{lotsLeft, weights};
-ghost use Rattle.dealing.specs.Levels.{mostWeight, Column};
+ghost use Rattle.dealing.specs.Levels.{mostWeight, MemberColumn};
 ghost use Rattle.rules.specs.Ledger.{Tables, withHead, withRows};
 ghost use Rattle.tables.specs.Fit.{HeadFit, RowsFit, membersIn};
 use close_out_weights::Part;
@@ -23,7 +23,7 @@ pub fn find_weights(head: &[u64], lots: &[i64], e: CloseOutTerms, left: u64, col
     requires { ⌜ (e .contract < contractCount) × (e .ratio ≤ mostRatio) × (left ≤ mostMembers * mostLotsRun) ⌝ }
     ensures { λ _. ⌜ ((t : Tables) (v : List ℤ) → lotsLeft (withHead (now (head .entry)) (withRows (now (lots .entry)) v t)) (e .contract) ≡ left → now (column .exit)
         ≡ weights (withHead (now (head .entry)) (withRows (now (lots .entry)) v t)) e) ⌝ }
-    ensures { λ _. ⌜ Column mostWeight (now (column .exit)) ⌝ }
+    ensures { λ _. ⌜ MemberColumn mostWeight (now (column .exit)) ⌝ }
 {
     let ratio = e.ratio;
     read_column(Part::Others, head, lots, e.contract, &mut *column);

@@ -19,7 +19,7 @@ use Rattle.rules.specs.Ledger.{Tables, members, defaulted, lotsAt, calendar, da
 use Rattle.rules.specs.Ranges.{contractCount, termCount, mostMembers, mostLotsRun}
 use Rattle.rules.proofs.Netting.{sum-most}
 use Rattle.tables.specs.Fit.{RowsFit}
-use Rattle.dealing.specs.Levels.{mostDays, mostWeight, Column}
+use Rattle.dealing.specs.Levels.{mostDays, mostWeight, MemberColumn}
 use Rattle.close_out_weights.specs.declared.columns.Part.{Part}
 use Rattle.close_out_weights.specs.declared.columns.Part.the-variants.{DefaultedLongs, DefaultedShorts, Others}
 use Rattle.close_out_weights.specs.Columns.{lotsIn, columnOf, weightBy, daysWeights}
@@ -71,7 +71,7 @@ module _ (t : Tables) (few : members t ≤ mostMembers) (fit : RowsFit (members 
   column-most part c h =
       mapped-most (λ m. lotsIn part (defaulted t m) (lotsAt t c m)) (members t) mostLotsRun (λ m k. omega (arith, part-most part (defaulted t m) (lotsAt t c m), fit .within c m h k))
 
-  pub column-fits : (part : Part) (c : ℕ) → c < contractCount → Column mostWeight (columnOf part t c)
+  pub column-fits : (part : Part) (c : ℕ) → c < contractCount → MemberColumn mostWeight (columnOf part t c)
   column-fits part c h = record { few = omega (arith, column-length part c); each = λ i. omega (arith, column-most part c h i) }
 
   pub column-sum : (part : Part) (c : ℕ) → c < contractCount → sumOf (columnOf part t c) ≤ mostMembers * mostLotsRun
@@ -85,7 +85,7 @@ module _ (t : Tables) (few : members t ≤ mostMembers) (fit : RowsFit (members 
   or-none true x most h = omega arith
   or-none false x most h = h
 
-  pub days-column : Column mostWeight (daysWeights t)
+  pub days-column : MemberColumn mostWeight (daysWeights t)
   unfolding daysWeights
   days-column =
       let f : ℕ → ℕ = λ m. cond (defaulted t m) 0 (openWeight t m) in
@@ -104,5 +104,5 @@ module _ (t : Tables) (e : CloseOutTerms) (left : ℕ) (known : lotsLeft t (e .c
   unfolding weights othersLots columnOf daysWeights
   weights-days h = rw (known, le-leb (e .ratio * sumOf here) (1000 * left) h)
 
-pub sum-fits : (ns : List ℕ) → Column mostWeight ns → sumOf ns ≤ mostMembers * mostWeight
+pub sum-fits : (ns : List ℕ) → MemberColumn mostWeight ns → sumOf ns ≤ mostMembers * mostWeight
 sum-fits ns f = omega (arith, sum-most ns mostWeight (f .each), f .few)

@@ -9,7 +9,7 @@ ghost use Rattle.rules.specs.Ledger.{Tables, membersPlace, withHead, withRows, 
 ghost use Rattle.rules.specs.Ranges.{contractCount, mostMembers};
 ghost use Rattle.close_out_weights.specs.Columns.{lotsIn, columnOf};
 use numbers::size;
-use rules::layout::MARKED;
+use rules::layout::DEFAULT_MARK;
 use rules::layout::MARKS;
 use rules::layout::ROW_WIDTH;
 
@@ -54,7 +54,7 @@ pub fn read_column(part: Part, head: &[u64], lots: &[i64], contract: u64, column
     let row = contract as usize * ROW_WIDTH;
     let mut i: usize = 0;
     while i < column.len() {
-        let marked = head[MARKS + i] == MARKED;
+        let marked = head[MARKS + i] == DEFAULT_MARK;
         column[i] = lots_in(part, marked, lots[row + i]);
         i += 1;
     }

@@ -15,10 +15,10 @@ ghost use Rattle.close_out_weights.specs.Columns.{weightBy, daysWeights}
 use numbers::size;
 use rules::DayNo;
 use rules::layout::DAY;
+use rules::layout::DEFAULT_MARK;
 use rules::layout::FIRST_YEAR;
 use rules::layout::HOLIDAY_COUNT;
 use rules::layout::HOLIDAYS;
-use rules::layout::MARKED;
 use rules::layout::MARKS;
 use rules::layout::ROW_WIDTH;
 use rules::layout::TERMS;
@@ -70,7 +70,7 @@ fn write_weights(head: &[u64], sums: &[u64], weights: &mut [u64])
 {
     let mut i: usize = 0;
     while i < weights.len() {
-        weights[i] = if head[MARKS + i] == MARKED {
+        weights[i] = if head[MARKS + i] == DEFAULT_MARK {
             0
         } else {
             sums[i]

@@ -238,10 +238,10 @@ written-is-read n e l out k after w =
     let legs = legRows (legCount e) l in
     let bytes = bytesOf e legs in
     let both = membersSound n && eventSound n e legs in
-    let told = written RecordUnsound k (length bytes) out after (over 0 bytes out) (not-refused k) both (ltb (length out) (length bytes)) w in
-    let few = and-left (membersSound n) (eventSound n e legs) (told .0) in
-    let sound = and-right (membersSound n) (eventSound n e legs) (told .0) in
-    let whole : take k after ≡ bytes = rw (told .1, told .2) (take-over bytes out) in
+    let replyOf = written RecordUnsound k (length bytes) out after (over 0 bytes out) (not-refused k) both (ltb (length out) (length bytes)) w in
+    let few = and-left (membersSound n) (eventSound n e legs) (replyOf .0) in
+    let sound = and-right (membersSound n) (eventSound n e legs) (replyOf .0) in
+    let whole : take k after ≡ bytes = rw (replyOf .1, replyOf .2) (take-over bytes out) in
     let read = read-written n e legs few sound in
     let back = legs-written n e legs sound in
     rw whole (read, rows-said n bytes e (said n bytes read .1) (rw back sound) ∙ back)

@@ -1,7 +1,7 @@
 // Records and headers from literal bytes, every field at its ends and one past them. What it prints must be the file stdout: 3
 // for an unsound record, 2 for an unsound header, else the fields, and whether writing them gives the bytes again.
 ghost use mathlib.Core.Path.{_≡_};
-ghost use Rattle.rules.specs.Records.{toldReading, toldFront};
+ghost use Rattle.rules.specs.Records.{replyOfReading, replyOfFront};
 use codec::Legs;
 use header::JournalHeader;
 use libc::STDOUT_FILENO;
@@ -41,7 +41,7 @@ fn show_answer(answer: Answer) {
 
 // The paper's number for what a reader answers.
 fn reading_number(reading: Reading) -> u64
-    ensures { λ r. ⌜ r ≡ toldReading reading .number ⌝ }
+    ensures { λ r. ⌜ r ≡ replyOfReading reading .number ⌝ }
 {
     match reading {
         Reading::Sound(_) => 0,
@@ -51,7 +51,7 @@ fn reading_number(reading: Reading) -> u64
 
 // The same for what stands at the front of a stream.
 fn front_number(front: Front) -> u64
-    ensures { λ r. ⌜ r ≡ toldFront front .number ⌝ }
+    ensures { λ r. ⌜ r ≡ replyOfFront front .number ⌝ }
 {
     match front {
         Front::Whole(_) => 0,

@@ -22,7 +22,7 @@ use Rattle.rules.specs.Ranges.{termCount}
 use Rattle.rules.specs.Days.{Calendar, businessDayBefore}
 use Rattle.rules.specs.Contracts.{hasTerm, kindOf, termOf, sameKind, contractsOf, monthsIn, closingDistance, termFirstDay, termClosingDay}
 use Rattle.rules.specs.Contracts.{closingDay, closesOn, isOn, notBefore, stillToClose, openOfKind, openContracts}
-use Rattle.rules.specs.OtherForms.{numberOf, sizeOf}
+use Rattle.rules.specs.OtherForms.{contractOf, contractsIn}
 use Rattle.months.specs.Spans.{startsOf}
 use Rattle.contracts.specs.InLedger.{InLedger}
 use Rattle.contract_phases.specs.Least.{IsLeast}
@@ -46,7 +46,7 @@ phase-by-first k d t w least later g h =
     rw (first-read k t w, ← (g (termFirstDay k t) (in-span k t w)), ← (h (termFirstDay k t) (in-span k t w)))
     (by-days (businessDayBefore k (closingDistance (t .kind)) (termFirstDay k t)) d)
 
-pub number-below : (s : ContractKind) (i : ℕ) → i < sizeOf s → numberOf s i < termCount
+pub number-below : (s : ContractKind) (i : ℕ) → i < contractsIn s → contractOf s i < termCount
 number-below Year i h = omega arith
 number-below Quarter i h = omega arith
 number-below Month i h = omega arith

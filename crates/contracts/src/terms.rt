@@ -2,7 +2,7 @@
 ghost use mathlib.Core.Path.{_≡_};
 ghost use Prim.Native.Nat.{_<_};
 ghost use Rattle.rules.specs.Contracts.{monthsIn, termOf, kindOf};
-ghost use Rattle.rules.specs.OtherForms.{numberOf, sizeOf};
+ghost use Rattle.rules.specs.OtherForms.{contractOf, contractsIn};
 use rules::ContractKind;
 use rules::Term;
 use rules::ranges::CONTRACTS_IN_YEAR;
@@ -58,7 +58,7 @@ pub fn months_in(kind: ContractKind) -> u64
 
 // How many contracts of a kind a ledger has.
 pub fn contracts_in(kind: ContractKind) -> u64
-    ensures { λ r. ⌜ r ≡ sizeOf kind ⌝ }
+    ensures { λ r. ⌜ r ≡ contractsIn kind ⌝ }
 {
     match kind {
         ContractKind::Year => YEARS_IN_SPAN,
@@ -69,8 +69,8 @@ pub fn contracts_in(kind: ContractKind) -> u64
 
 // The number of a kind's contract by its place in delivery.
 pub fn contract_of(kind: ContractKind, index: u64) -> u64
-    requires { ⌜ index < sizeOf kind ⌝ }
-    ensures { λ r. ⌜ r ≡ numberOf kind index ⌝ }
+    requires { ⌜ index < contractsIn kind ⌝ }
+    ensures { λ r. ⌜ r ≡ contractOf kind index ⌝ }
 {
     match kind {
         ContractKind::Year => CONTRACTS_IN_YEAR * index,

@@ -26,7 +26,7 @@ fn are_members_sound(head: &[u64], members: u64) -> bool
     while m < count {
         ok = ok
             & ((head[layout::LIMITS + m] <= ranges::MOST_LIMIT)
-                & (head[layout::MARKS + m] <= layout::MARKED)
+                & (head[layout::MARKS + m] <= layout::DEFAULT_MARK)
                 & (head[layout::SUBMITS + m] <= ranges::MOST_SUBMITS_IN_SECOND));
         m += 1;
     }

@@ -23,6 +23,6 @@ abbrev pub mostWeight : ℕ
 mostWeight = contractCount * (mostDays * mostLotsRun)
 
 -- One number for each member, none above a bound.
-pub record Column (most : ℕ) (ns : List ℕ) : Type 0 where
+pub record MemberColumn (most : ℕ) (ns : List ℕ) : Type 0 where
   pub few : length ns ≤ mostMembers
   pub each : (i : ℕ) → getD ns i 0 ≤ most

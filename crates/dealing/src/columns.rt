@@ -2,11 +2,11 @@
 ghost use mathlib.Core.Path.{_≡_};
 ghost use lib.ListN.{length};
 ghost use Rattle.rules.specs.Default.{sumOf, givenUp};
-ghost use Rattle.dealing.specs.Levels.{mostWeight, Column};
+ghost use Rattle.dealing.specs.Levels.{mostWeight, MemberColumn};
 use numbers::smaller;
 
 pub fn sum_of(numbers: &[u64]) -> u64
-    requires { ⌜ Column mostWeight (now numbers) ⌝ }
+    requires { ⌜ MemberColumn mostWeight (now numbers) ⌝ }
     ensures { λ r. ⌜ r ≡ sumOf (now (numbers .entry)) ⌝ }
 {
     let mut sum: u64 = 0;

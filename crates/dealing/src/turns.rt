@@ -4,7 +4,7 @@ ghost use Prim.Native.Nat.{ℕ, _≤_, _<_};
 ghost use lib.ListN.{length, getD};
 ghost use Rattle.rules.specs.Default.{sumOf, minimums, round, dealtOut};
 ghost use Rattle.rules.specs.Ranges.{mostLotsRun};
-ghost use Rattle.dealing.specs.Levels.{mostWeight, Column};
+ghost use Rattle.dealing.specs.Levels.{mostWeight, MemberColumn};
 use crate::level::fill_to_level;
 use crate::level::highest_level;
 use crate::level::lots_at_level;
@@ -35,7 +35,7 @@ fn take_turns(minima: &[u64], order: &[usize], received: &mut [u64], lots: u64) 
 // Whole rounds are taken at once: up to the highest level that the lots suffice for; one round deals the rest.
 fn deal_by_minimums(lots: u64, weights: &[u64], minima: &[u64], received: &mut [u64])
     requires { ⌜ (lots ≤ mostLotsRun) × (0 < sumOf (now weights)) × (length (now received) ≡ length (now weights)) ⌝ }
-    requires { ⌜ Column mostWeight (now weights) × (now minima ≡ minimums lots (now weights)) ⌝ }
+    requires { ⌜ MemberColumn mostWeight (now weights) × (now minima ≡ minimums lots (now weights)) ⌝ }
     ensures { λ _. ⌜ now (received .exit) ≡ dealtOut lots (now (weights .entry)) ⌝ }
 {
     let mut order = [0usize; ROW_WIDTH];
@@ -50,7 +50,7 @@ fn deal_by_minimums(lots: u64, weights: &[u64], minima: &[u64], received: &mut [
 // Lots dealt out to the members by weight.
 pub fn deal_out(lots: u64, weights: &[u64], received: &mut [u64])
     requires { ⌜ (lots ≤ mostLotsRun) × (0 < sumOf (now weights)) × (length (now received) ≡ length (now weights)) ⌝ }
-    requires { ⌜ Column mostWeight (now weights) ⌝ }
+    requires { ⌜ MemberColumn mostWeight (now weights) ⌝ }
     ensures { λ _. ⌜ now (received .exit) ≡ dealtOut lots (now (weights .entry)) ⌝ }
 {
     let mut minima = [0u64; ROW_WIDTH];

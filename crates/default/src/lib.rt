@@ -6,7 +6,7 @@ ghost use Rattle.rules.specs.Refusals.{defaultSpec};
 ghost use Rattle.tables.specs.Fit.{HeadFit, BookFit, membersIn};
 use order_book::Leaving;
 use rules::Answer;
-use rules::layout::MARKED;
+use rules::layout::DEFAULT_MARK;
 use rules::layout::MARKS;
 
 // The member is marked and its orders leave the book.
@@ -16,10 +16,10 @@ pub fn apply(head: &mut [u64], book: &mut [u64], member: u64) -> Answer
         ≡ defaultSpec (withHead (now (head .entry)) (withBook (now (book .entry)) t)) member) ⌝ }
 {
     let at = MARKS + member as usize;
-    if head[at] == MARKED {
+    if head[at] == DEFAULT_MARK {
         return Answer::MemberDefaulted(member);
     }
-    head[at] = MARKED;
+    head[at] = DEFAULT_MARK;
     order_book::remove_orders(&mut *head, &mut *book, Leaving::OfMember(member));
     Answer::Accepted(0)
 }

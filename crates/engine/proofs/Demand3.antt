@@ -5,7 +5,7 @@ use mathlib.Core.Path.{_≡_, refl, sym, ap, _∙_}
 use mathlib.Core.Bool.{true, false, not, cond}
 use mathlib.Core.List.{List, [], _∷_, _++_, map}
 use Rattle.arith.proofs.Tests.{true-or, passes}
-use Rattle.rules.specs.Answers.{Outcome, told}
+use Rattle.rules.specs.Answers.{Outcome, replyOf}
 use Rattle.rules.specs.Header.{Header, headerOf, calendarOf, beginsWithHeader}
 use Rattle.rules.specs.Ledger.{Tables, ledgerShort}
 use Rattle.rules.specs.Records.{readOf}
@@ -41,7 +41,7 @@ kept-same h (a ∷ done) d t k =
     }
 
 -- a ledger is made only from a sound header, in tables that are long enough
-made-well : (t : Tables) (header : List ℕ) → told (makeSpec t header .answer) .number ≡ 0 → (ledgerShort t ≡ false) × (beginsWithHeader header ≡ true)
+made-well : (t : Tables) (header : List ℕ) → replyOf (makeSpec t header .answer) .number ≡ 0 → (ledgerShort t ≡ false) × (beginsWithHeader header ≡ true)
 unfolding makeSpec
 made-well t header e =
     true-or (ledgerShort t) (λ s. absurd (let z : _≡_ {A = ℕ} 0 1 = sym (rw s at e) in omega arith))
@@ -50,7 +50,7 @@ made-well t header e =
 pub demand-3-runs : Demand3Runs
 demand-3-runs header t made done m k =
     let h = headerOf header in
-    let well = made-well t header (ap (λ (o : Outcome Tables). told (o .answer) .number) (sym m)) in
+    let well = made-well t header (ap (λ (o : Outcome Tables). replyOf (o .answer) .number) (sym m)) in
     let start : makeSpec t header .after ≡ made = ap (λ (o : Outcome Tables). o .after) (sym m) in
     let same = kept-same h done (h .startDay) made k in
     rw (← (same .tables), ← (same .lines), ← (same .days), ← start)

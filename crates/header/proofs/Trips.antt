@@ -185,10 +185,10 @@ written-is-read h out k after w =
     let x = headerFrom h in
     let bytes = headerBytes x in
     let rest = drop (length bytes) out in
-    let told = written HeaderUnsound k (length bytes) out after (over 0 bytes out) (not-header-refused k) (headerSound x) (ltb (length out) (length bytes)) w in
-    let held = holds x (told .0) in
-    let begins = begins-back x held rest (told .0) in
-    rw (told .1, told .2 ∙ over-front bytes out)
+    let replyOf = written HeaderUnsound k (length bytes) out after (over 0 bytes out) (not-header-refused k) (headerSound x) (ltb (length out) (length bytes)) w in
+    let held = holds x (replyOf .0) in
+    let begins = begins-back x held rest (replyOf .0) in
+    rw (replyOf .1, replyOf .2 ∙ over-front bytes out)
     (sym (rw (fields-back x held rest) at (reading-sound (bytes ++ rest) (length bytes) begins (sym (length-read x held rest)))))
 
 abbrev soundReading : List ℕ → HeaderReading
@@ -207,12 +207,12 @@ given s k h r = go (beginsWithHeader s) r
 
 pub read-is-written : ReadIsWritten
 read-is-written s out k h b r room =
-    let told = given s k h r in
-    let w = begun s (told .0) in
+    let replyOf = given s k h r in
+    let w = begun s (replyOf .0) in
     let n = headerLength s in
     let size : length (headerBytes (headerOf s)) ≡ n = header-size s (w .2) in
     let again = header-bytes-again s (bytes-small s b) (w .0) (w .1) in
     let whole : headerBytes (headerOf s) ≡ take n s = sym (rw again at (take-at (headerBytes (headerOf s)) (drop n s) n size)) in
-    let fits : n ≤ length out = rw (told .1) at room in
-    rw (told .1, told .2, columns-read s)
+    let fits : n ≤ length out = rw (replyOf .1) at room in
+    rw (replyOf .1, replyOf .2, columns-read s)
     (sym (write-header-whole (headerOf s) out (w .2) n (over 0 (take n s) out) (sym size) (rw size fits) (ap (λ l. over 0 l out) (sym whole))))

@@ -1,7 +1,7 @@
 -- An outcome as a host gets it: the paper's number and value, and what it lent.
 use Prim.Native.Nat.{ℕ}
 use mathlib.Core.Bool.{cond}
-use Rattle.rules.specs.Answers.{Outcome, told}
+use Rattle.rules.specs.Answers.{Outcome, replyOf}
 use Rattle.rules.specs.Ledger.{Tables}
 use Rattle.rules.specs.Refusals.{unsound}
 
@@ -11,7 +11,7 @@ pub record Sent (S : Type 0) : Type 0 where
   pub after : S
 
 abbrev pub sent : {S : Type 0} → Outcome S → Sent S
-sent o = record { number = told (o .answer) .number; value = told (o .answer) .value; after = o .after }
+sent o = record { number = replyOf (o .answer) .number; detail = replyOf (o .answer) .detail; after = o .after }
 
 -- 1, the number of a short or damaged table, or 0.
 unfoldable pub damageNumber : Tables → ℕ

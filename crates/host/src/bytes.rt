@@ -1,14 +1,14 @@
 // The bytes of headers and records for a host in C: read to rows of numbers, written from them, found one after the other.
 ghost use mathlib.Core.Path.{_≡_};
-ghost use Rattle.rules.specs.Records.{frontOf, toldFront};
-ghost use Rattle.fields.specs.HeaderFields.{readHeaderFields, writeHeaderFields};
-ghost use Rattle.fields.specs.RecordFields.{readFields, writeFields};
+ghost use Rattle.rules.specs.Records.{frontOf, replyOfFront};
+ghost use Rattle.number_fields.specs.HeaderFields.{readHeaderFields, writeHeaderFields};
+ghost use Rattle.number_fields.specs.RecordFields.{readFields, writeFields};
 ghost use Rattle.host.specs.Sent.{sent};
+use reply::Reply;
+use reply::numbered;
+use reply::reply_of;
 use rules::Answer;
 use rules::Front;
-use told::Told;
-use told::numbered;
-use told::told_of;
 
 // Reads a record of a ledger of that many members to the fields: 0 with how many numbers were written, or 1 (fewer
 // fields than a record may have) or 3, and then the fields are as they were.
@@ -19,11 +19,11 @@ pub extern "C" fn ledger_read_record(
     fields: &mut [u64],
     detail: &mut u64,
 ) -> u64
-    ensures { λ r. ⌜ record { number = r; value = now (detail .exit); after = now (fields .exit) } ≡ sent (readFields members (now (bytes .entry)) (now (fields .entry))) ⌝ }
+    ensures { λ r. ⌜ record { number = r; detail = now (detail .exit); after = now (fields .exit) } ≡ sent (readFields members (now (bytes .entry)) (now (fields .entry))) ⌝ }
 {
-    let told = told_of(fields::read_record_fields(members, bytes, &mut *fields));
-    *detail = told.detail;
-    told.number
+    let reply = reply_of(number_fields::read_record_fields(members, bytes, &mut *fields));
+    *detail = reply.detail;
+    reply.number
 }
 
 // Writes the record that the fields say in a ledger of that many members: 0 with its bytes, or 1 (too few fields), 3, or
@@ -35,42 +35,42 @@ pub extern "C" fn ledger_write_record(
     bytes: &mut [u8],
     detail: &mut u64,
 ) -> u64
-    ensures { λ r. ⌜ record { number = r; value = now (detail .exit); after = now (bytes .exit) } ≡ sent (writeFields members (now (fields .entry)) (now (bytes .entry))) ⌝ }
+    ensures { λ r. ⌜ record { number = r; detail = now (detail .exit); after = now (bytes .exit) } ≡ sent (writeFields members (now (fields .entry)) (now (bytes .entry))) ⌝ }
 {
-    let told = told_of(fields::write_record_fields(members, fields, &mut *bytes));
-    *detail = told.detail;
-    told.number
+    let reply = reply_of(number_fields::write_record_fields(members, fields, &mut *bytes));
+    *detail = reply.detail;
+    reply.number
 }
 
 // Reads the header that the bytes begin with to the fields: 0 with its length, where the first record begins, or 1 (too
 // few fields) or 2, and then the fields are as they were.
 #[no_mangle]
 pub extern "C" fn ledger_read_header(bytes: &[u8], fields: &mut [u64], detail: &mut u64) -> u64
-    ensures { λ r. ⌜ record { number = r; value = now (detail .exit); after = now (fields .exit) } ≡ sent (readHeaderFields (now (bytes .entry)) (now (fields .entry))) ⌝ }
+    ensures { λ r. ⌜ record { number = r; detail = now (detail .exit); after = now (fields .exit) } ≡ sent (readHeaderFields (now (bytes .entry)) (now (fields .entry))) ⌝ }
 {
-    let told = told_of(fields::read_header_fields(bytes, &mut *fields));
-    *detail = told.detail;
-    told.number
+    let reply = reply_of(number_fields::read_header_fields(bytes, &mut *fields));
+    *detail = reply.detail;
+    reply.number
 }
 
 // Writes the header that the fields say: 0 with its bytes, or 1 (too few fields), 2, or 1 (too few bytes), in this order,
 // and then the bytes are as they were.
 #[no_mangle]
 pub extern "C" fn ledger_write_header(fields: &[u64], bytes: &mut [u8], detail: &mut u64) -> u64
-    ensures { λ r. ⌜ record { number = r; value = now (detail .exit); after = now (bytes .exit) } ≡ sent (writeHeaderFields (now (fields .entry)) (now (bytes .entry))) ⌝ }
+    ensures { λ r. ⌜ record { number = r; detail = now (detail .exit); after = now (bytes .exit) } ≡ sent (writeHeaderFields (now (fields .entry)) (now (bytes .entry))) ⌝ }
 {
-    let told = told_of(fields::write_header_fields(fields, &mut *bytes));
-    *detail = told.detail;
-    told.number
+    let reply = reply_of(number_fields::write_header_fields(fields, &mut *bytes));
+    *detail = reply.detail;
+    reply.number
 }
 
-fn told_front(front: Front) -> Told
-    ensures { λ r. ⌜ (r .number ≡ toldFront front .number) × (r .detail ≡ toldFront front .value) ⌝ }
+fn reply_of_front(front: Front) -> Reply
+    ensures { λ r. ⌜ (r .number ≡ replyOfFront front .number) × (r .detail ≡ replyOfFront front .detail) ⌝ }
 {
     match front {
         Front::Whole(length) => numbered(0, length),
-        Front::Cut => told_of(Answer::RecordUnsound),
-        Front::UnknownKind => told_of(Answer::RecordUnsound),
+        Front::Cut => reply_of(Answer::RecordUnsound),
+        Front::UnknownKind => reply_of(Answer::RecordUnsound),
     }
 }
 
@@ -78,9 +78,9 @@ fn told_front(front: Front) -> Told
 // number. Its fields are not tested.
 #[no_mangle]
 pub extern "C" fn ledger_front_record(bytes: &[u8], detail: &mut u64) -> u64
-    ensures { λ r. ⌜ record { number = r; value = now (detail .exit) } ≡ toldFront (frontOf (now (bytes .entry))) ⌝ }
+    ensures { λ r. ⌜ record { number = r; detail = now (detail .exit) } ≡ replyOfFront (frontOf (now (bytes .entry))) ⌝ }
 {
-    let told = told_front(codec::front_record(bytes));
-    *detail = told.detail;
-    told.number
+    let reply = reply_of_front(codec::front_record(bytes));
+    *detail = reply.detail;
+    reply.number
 }

@@ -13,7 +13,7 @@ pub use bytes::ledger_read_header;
 pub use bytes::ledger_read_record;
 pub use bytes::ledger_write_header;
 pub use bytes::ledger_write_record;
-use told::told_of;
+use reply::reply_of;
 
 // Makes a ledger in the lent tables: 0, or the number of the cause, 1 or 2, and then every table is as it was.
 #[no_mangle]
@@ -25,7 +25,7 @@ pub extern "C" fn ledger_make(
     book: &[u64],
     header: &[u8],
 ) -> u64
-    ensures { λ r. ⌜ ((n : List ℤ) → record { number = r; value = 0; after = lent (now (head .exit)) (now (prices .exit)) (now (lots .exit)) (now (value .exit)) (now (book .entry)) n }
+    ensures { λ r. ⌜ ((n : List ℤ) → record { number = r; detail = 0; after = lent (now (head .exit)) (now (prices .exit)) (now (lots .exit)) (now (value .exit)) (now (book .entry)) n }
         ≡ sent (makeSpec (lent (now (head .entry)) (now (prices .entry)) (now (lots .entry)) (now (value .entry)) (now (book .entry)) n) (now (header .entry)))) ⌝ }
 {
     let answer = engine::make(
@@ -36,7 +36,7 @@ pub extern "C" fn ledger_make(
         book,
         header,
     );
-    told_of(answer).number
+    reply_of(answer).number
 }
 
 // Whether any record applied to these tables is answered 1: 1 if a table is too short or damaged, else 0.
@@ -86,7 +86,7 @@ pub extern "C" fn ledger_apply(
         &mut *lines,
         bytes,
     );
-    let told = told_of(answer);
-    *detail = told.detail;
-    told.number
+    let reply = reply_of(answer);
+    *detail = reply.detail;
+    reply.number
 }

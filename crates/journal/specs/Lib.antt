@@ -1,1 +1,3 @@
-pub mod Places
+pub mod Room
+pub mod Stages
+pub mod Chunks

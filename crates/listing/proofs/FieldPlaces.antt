@@ -12,7 +12,7 @@ use Rattle.rules.specs.declared.field.Field.{Field}
 use Rattle.rules.specs.declared.field.Field.the-variants.{Kind, Time, Holiday, Limit}
 use Rattle.listing_words.specs.declared.field.Shape.the-variants.{Header}
 use Rattle.rules.specs.Fields.{closeOfDayKind, closeOfDayFields, legFields, timesOver, fieldsOfKind}
-use Rattle.listing_words.specs.Fields.{fixedFields, fieldsOf}
+use Rattle.listing_words.specs.Fields.{fixedFields, fieldsIn}
 
 -- The last of numbers of which all others are ruled out.
 pub last-of-four : (i : ℕ) → 3 ≤ i → i < 7 → (i ≡ 3 → ⊥) → (i ≡ 4 → ⊥) → (i ≡ 5 → ⊥) → i ≡ 6
@@ -62,19 +62,19 @@ module _ {f : Field} where
   proposal-at n zero j some h e g = absurd (some refl)
   proposal-at n (suc i) j some h e g = let k : suc i - 1 ≡ i = omega arith in leg-at n i j (omega (arith, legs-length n)) (rw k at e) g
 
-  pub fixed-at : (holidays members i : ℕ) → i < 8 → f ≡ getD fixedFields i Kind → f ≡ getD (fieldsOf (Header holidays members)) i Kind
-  unfolding fieldsOf
+  pub fixed-at : (holidays members i : ℕ) → i < 8 → f ≡ getD fixedFields i Kind → f ≡ getD (fieldsIn (Header holidays members)) i Kind
+  unfolding fieldsIn
   fixed-at holidays members i h e = e ∙ sym (List·getD-append fixedFields (replicate holidays Holiday ++ replicate members Limit) Kind i h)
 
-  pub past-fixed : (holidays members i : ℕ) → 8 ≤ i → f ≡ getD (replicate holidays Holiday ++ replicate members Limit) (i - 8) Kind → f ≡ getD (fieldsOf (Header holidays members)) i Kind
-  unfolding fieldsOf
+  pub past-fixed : (holidays members i : ℕ) → 8 ≤ i → f ≡ getD (replicate holidays Holiday ++ replicate members Limit) (i - 8) Kind → f ≡ getD (fieldsIn (Header holidays members)) i Kind
+  unfolding fieldsIn
   past-fixed holidays members i h e =
       let k : i ≡ 8 + (i - 8) = omega arith in
       e ∙ (sym (getD-append-add fixedFields (replicate holidays Holiday ++ replicate members Limit) (i - 8) Kind) ∙ ap
       (λ (x : ℕ). getD (fixedFields ++ (replicate holidays Holiday ++ replicate members Limit)) x Kind) (sym k))
 
-pub header-length : (holidays members : ℕ) → length (fieldsOf (Header holidays members)) ≡ 8 + (holidays + members)
-unfolding fieldsOf
+pub header-length : (holidays members : ℕ) → length (fieldsIn (Header holidays members)) ≡ 8 + (holidays + members)
+unfolding fieldsIn
 header-length holidays members = length-append fixedFields (replicate holidays Holiday ++ replicate members Limit) ∙ rw (days-and-limits holidays members) refl
 
 -- A list of one field.

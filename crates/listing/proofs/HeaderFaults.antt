@@ -21,7 +21,7 @@ use Rattle.rules.specs.declared.field.Field.the-variants.{Holiday, Limit}
 use Rattle.listing_words.specs.declared.field.Verdict.the-variants.{Passes, NoBusinessDay, OnStartDay}
 use Rattle.listing.specs.Exact.{HeaderExact}
 use Rattle.rules.specs.Fields.{widths, widthOf, numberAt}
-use Rattle.listing_words.specs.Fields.{fieldsOf, headerShape, range, spanRange, holidayRange, within, passes, isNone, headerFault}
+use Rattle.listing_words.specs.Fields.{fieldsIn, headerShape, range, spanRange, holidayRange, within, passes, isNone, headerFault}
 use Rattle.listing.proofs.Faults.{inRanges, none-is, from-zero, last-before}
 use Rattle.listing.proofs.HeaderSizes.{widths-holidays, header-widths}
 use Rattle.listing.proofs.SpanDays.{some-day}
@@ -208,14 +208,14 @@ module _ (s : List ℕ) where
   in-order : (a b c v x y : Bool) → x ≡ y → (a && (b && (c && v))) && x ≡ a && (b && (c && (v && y)))
   in-order a b c v x y e = rw e (simp and-assoc)
 
-  fields-passed : 5 ≤ length s → sameBytes (take 5 s) lettersAndVersion && headerSound (headerOf s) ≡ inRanges 0 s 0 (fieldsOf (headerShape s))
-  unfolding fieldsOf inRanges numberAt behindYear start count members
+  fields-passed : 5 ≤ length s → sameBytes (take 5 s) lettersAndVersion && headerSound (headerOf s) ≡ inRanges 0 s 0 (fieldsIn (headerShape s))
+  unfolding fieldsIn inRanges numberAt behindYear start count members
   fields-passed h =
       rw (letters s h)
       (in-order (within (range 86 86) (getD s 0 0)) (within (range 74 74) (getD s 1 0)) (within (range 82 82) (getD s 2 0)) (within (range 1 1) (u16At s 3))
       (headerSound (headerOf s)) (within (range leastFirstYear mostFirstYear) (u16At s 5) && behindYear) behind-version)
 
-  whole : headerLength s ≡ 0 + widths (fieldsOf (headerShape s))
+  whole : headerLength s ≡ 0 + widths (fieldsIn (headerShape s))
   unfolding headerLength
   whole = rw (header-widths (getD s 10 0) (getD s 9 0)) (omega arith)
 
@@ -226,7 +226,7 @@ module _ (s : List ℕ) where
   by-length : beginsWithHeader s ≡ isNone (headerFault s)
   unfolding beginsWithHeader
   by-length =
-      rw (none-is 0 s 0 (fieldsOf (headerShape s)) (omega arith), ← whole)
+      rw (none-is 0 s 0 (fieldsIn (headerShape s)) (omega arith), ← whole)
       (le-or-lt (headerLength s) (length s)
       (λ h. let long : 11 ≤ length s = omega (arith, length-least) in
       rw (le-leb 11 (length s) long, le-leb (headerLength s) (length s) h, and-true (sameBytes (take 5 s) lettersAndVersion)) (fields-passed (omega arith)))

@@ -12,7 +12,7 @@ use Rattle.arith.proofs.Tests.{and-left}
 use Rattle.rules.specs.declared.field.Field.{Field}
 use Rattle.rules.specs.declared.field.Field.the-variants.{Holiday, Limit}
 use Rattle.listing_words.specs.declared.field.Shape.the-variants.{Header}
-use Rattle.listing_words.specs.Fields.{fixedFields, fieldsOf, headerShape, isNone, headerFault}
+use Rattle.listing_words.specs.Fields.{fixedFields, fieldsIn, headerShape, isNone, headerFault}
 use Rattle.rules.specs.Fields.{widths}
 use Rattle.listing.proofs.Faults.{inRanges, none-is}
 
@@ -31,14 +31,14 @@ unfolding widths
 widths-limits zero = refl
 widths-limits (suc n) = rw (widths-limits n) (omega arith)
 
-pub header-widths : (holidays members : ℕ) → widths (fieldsOf (Header holidays members)) ≡ 11 + (2 * holidays + 4 * members)
-unfolding fieldsOf widths
+pub header-widths : (holidays members : ℕ) → widths (fieldsIn (Header holidays members)) ≡ 11 + (2 * holidays + 4 * members)
+unfolding fieldsIn widths
 header-widths holidays members =
     widths-append fixedFields (replicate holidays Holiday ++ replicate members Limit)
     ∙ rw (widths-append (replicate holidays Holiday) (replicate members Limit), widths-holidays holidays, widths-limits members) refl
 
 pub header-fits : (s : List ℕ) → isNone (headerFault s) ≡ true → 11 + (2 * getD s 10 0 + 4 * getD s 9 0) ≤ length s
 header-fits s e =
-    let fields = fieldsOf (headerShape s) in
+    let fields = fieldsIn (headerShape s) in
     let held = leb-true (0 + widths fields) (length s) (and-left (leb (0 + widths fields) (length s)) (inRanges 0 s 0 fields) (sym (none-is 0 s 0 fields (omega arith)) ∙ e)) in
     omega (arith, held, header-widths (getD s 10 0) (getD s 9 0))

@@ -23,7 +23,7 @@ use Rattle.rules.specs.Records.{recordLength, frontLength, timeSound, contractS
 use Rattle.rules.specs.Records.{legPlace, submissionOf, submitOf, cancellationOf, newDayLimitsOf, closeOutOf, recordNumbers, fieldsByKind, fieldsOf as readFields, legsOf, eventSound, ifSound, readOf}
 use Rattle.listing.specs.Exact.{isSound, RecordExact}
 use Rattle.rules.specs.Fields.{widths, legFields, timesOver, fieldsOfKind, numberAt, numbersAt}
-use Rattle.listing_words.specs.Fields.{fieldsOf, range, within, recordShape, isNone, faultOf}
+use Rattle.listing_words.specs.Fields.{fieldsIn, range, within, recordShape, isNone, faultOf}
 use Rattle.listing.proofs.Faults.{inRanges, none-is, from-zero, last-before}
 
 -- ---- tests in another order
@@ -90,10 +90,10 @@ module _ (n : ℕ) (s : List ℕ) (some : 1 ≤ n) where
   member-range m = last-before m n some
 
   Ranges : ℕ → List Leg → Reading → Type 0
-  Ranges kind legs r = getD s 0 0 ≡ kind → isSound (ifSound n legs r) ≡ inRanges n s 0 (fieldsOf (recordShape s))
+  Ranges kind legs r = getD s 0 0 ≡ kind → isSound (ifSound n legs r) ≡ inRanges n s 0 (fieldsIn (recordShape s))
 
   submit-ranges : Ranges 1 [] (submitOf (recordNumbers 1 s))
-  unfolding Ranges recordNumbers fieldsOf fieldsOfKind inRanges within numberAt eventSound
+  unfolding Ranges recordNumbers fieldsIn fieldsOfKind inRanges within numberAt eventSound
   submit-ranges e =
       rw e
       (simp (from-zero, member-range)
@@ -102,17 +102,17 @@ module _ (n : ℕ) (s : List ℕ) (some : 1 ≤ n) where
       (lotsSound (u16At s 13))))
 
   cancel-ranges : Ranges 2 [] (Sound (Cancel (cancellationOf (recordNumbers 2 s))))
-  unfolding Ranges recordNumbers fieldsOf fieldsOfKind inRanges within numberAt eventSound
+  unfolding Ranges recordNumbers fieldsIn fieldsOfKind inRanges within numberAt eventSound
   cancel-ranges e =
       rw e
       (simp (from-zero, member-range, order-range) (sound-event n [] (Cancel (cancellationOf (recordNumbers 2 s))) ∙ simp and-assoc))
 
   limits-ranges : Ranges 3 [] (Sound (DayLimits (newDayLimitsOf (recordNumbers 3 s))))
-  unfolding Ranges recordNumbers fieldsOf fieldsOfKind inRanges within numberAt eventSound
+  unfolding Ranges recordNumbers fieldsIn fieldsOfKind inRanges within numberAt eventSound
   limits-ranges e = rw e (simp from-zero (sound-event n [] (DayLimits (newDayLimitsOf (recordNumbers 3 s))) ∙ limits-order (contractSound (getD s 1 0)) (u32At s 2) (u32At s 6)))
 
   proposal-ranges : Ranges 4 (map (λ j. legAt s (legPlace j)) (from 0 (getD s 1 0))) (Sound (Proposal (getD s 1 0)))
-  unfolding Ranges recordNumbers fieldsOf fieldsOfKind inRanges within numberAt eventSound
+  unfolding Ranges recordNumbers fieldsIn fieldsOfKind inRanges within numberAt eventSound
   proposal-ranges e =
       let k = getD s 1 0 in
       let legs = map (λ j. legAt s (legPlace j)) (from 0 k) in
@@ -122,15 +122,15 @@ module _ (n : ℕ) (s : List ℕ) (some : 1 ≤ n) where
       ∙ rw (mapped-length (λ j. legAt s (legPlace j)) 0 k, eq-eqb k k refl) (rw (and-true (leb leastLegs k && leb k mostLegs)) refl)))
 
   default-ranges : Ranges 5 [] (Sound (Default (getD s 1 0)))
-  unfolding Ranges recordNumbers fieldsOf fieldsOfKind inRanges within numberAt eventSound
+  unfolding Ranges recordNumbers fieldsIn fieldsOfKind inRanges within numberAt eventSound
   default-ranges e = rw e (simp (from-zero, member-range) (sound-event n [] (Default (getD s 1 0)) ∙ simp and-assoc))
 
   close-out-ranges : Ranges 6 [] (Sound (CloseOut (closeOutOf (recordNumbers 6 s))))
-  unfolding Ranges recordNumbers fieldsOf fieldsOfKind inRanges within numberAt eventSound
+  unfolding Ranges recordNumbers fieldsIn fieldsOfKind inRanges within numberAt eventSound
   close-out-ranges e = rw e (simp from-zero (sound-event n [] (CloseOut (closeOutOf (recordNumbers 6 s))) ∙ simp and-assoc))
 
   close-ranges : Ranges 7 [] (Sound (CloseOfDay (u32At s 1)))
-  unfolding Ranges recordNumbers fieldsOf fieldsOfKind inRanges within numberAt eventSound
+  unfolding Ranges recordNumbers fieldsIn fieldsOfKind inRanges within numberAt eventSound
   close-ranges e = rw e (simp from-zero (sound-event n [] (CloseOfDay (u32At s 1)) ∙ simp and-assoc))
 
   -- ---- whichever kind it is
@@ -139,48 +139,48 @@ module _ (n : ℕ) (s : List ℕ) (some : 1 ≤ n) where
 
   module _ (members : membersSound n ≡ true) where
     of-kind : (kind m : ℕ) (legs : List Leg) (r : Reading) → getD s 0 0 ≡ kind → readFields s ≡ cond (eqb (length s) m) r Unsound → legsOf s ≡ legs
-        → widths (fieldsOf (recordShape s)) ≡ m → frontLength s ≡ m → Ranges kind legs r → Exact
+        → widths (fieldsIn (recordShape s)) ≡ m → frontLength s ≡ m → Ranges kind legs r → Exact
     unfolding Exact readOf Ranges
     of-kind kind m legs r e reads has takes front ranges =
-        rw (members, reads, has, none-is n s 0 (fieldsOf (recordShape s)) (omega arith), takes, zero-add m, front)
-        (of-length (length s) m n legs r (inRanges n s 0 (fieldsOf (recordShape s))) (ranges e))
+        rw (members, reads, has, none-is n s 0 (fieldsIn (recordShape s)) (omega arith), takes, zero-add m, front)
+        (of-length (length s) m n legs r (inRanges n s 0 (fieldsIn (recordShape s))) (ranges e))
 
     submit-exact : getD s 0 0 ≡ 1 → Exact
-    unfolding readFields fieldsByKind recordLength legsOf fieldsOf fieldsOfKind widths
+    unfolding readFields fieldsByKind recordLength legsOf fieldsIn fieldsOfKind widths
     submit-exact e = of-kind 1 15 [] (submitOf (recordNumbers 1 s)) e (rw e refl) (rw e refl) (rw e refl) (rw e refl) submit-ranges
 
     cancel-exact : getD s 0 0 ≡ 2 → Exact
-    unfolding readFields fieldsByKind recordLength legsOf fieldsOf fieldsOfKind widths
+    unfolding readFields fieldsByKind recordLength legsOf fieldsIn fieldsOfKind widths
     cancel-exact e = of-kind 2 10 [] (Sound (Cancel (cancellationOf (recordNumbers 2 s)))) e (rw e refl) (rw e refl) (rw e refl) (rw e refl) cancel-ranges
 
     limits-exact : getD s 0 0 ≡ 3 → Exact
-    unfolding readFields fieldsByKind recordLength legsOf fieldsOf fieldsOfKind widths
+    unfolding readFields fieldsByKind recordLength legsOf fieldsIn fieldsOfKind widths
     limits-exact e = of-kind 3 10 [] (Sound (DayLimits (newDayLimitsOf (recordNumbers 3 s)))) e (rw e refl) (rw e refl) (rw e refl) (rw e refl) limits-ranges
 
     proposal-exact : getD s 0 0 ≡ 4 → Exact
-    unfolding readFields fieldsByKind recordLength legsOf fieldsOf fieldsOfKind widths
+    unfolding readFields fieldsByKind recordLength legsOf fieldsIn fieldsOfKind widths
     proposal-exact e =
         let k = getD s 1 0 in
         of-kind 4 (legPlace k) (map (λ j. legAt s (legPlace j)) (from 0 k)) (Sound (Proposal k)) e (rw e refl) (rw e refl)
         (rw (e, leg-widths k) (omega arith)) (rw e refl) proposal-ranges
 
     default-exact : getD s 0 0 ≡ 5 → Exact
-    unfolding readFields fieldsByKind recordLength legsOf fieldsOf fieldsOfKind widths
+    unfolding readFields fieldsByKind recordLength legsOf fieldsIn fieldsOfKind widths
     default-exact e = of-kind 5 2 [] (Sound (Default (getD s 1 0))) e (rw e refl) (rw e refl) (rw e refl) (rw e refl) default-ranges
 
     close-out-exact : getD s 0 0 ≡ 6 → Exact
-    unfolding readFields fieldsByKind recordLength legsOf fieldsOf fieldsOfKind widths
+    unfolding readFields fieldsByKind recordLength legsOf fieldsIn fieldsOfKind widths
     close-out-exact e = of-kind 6 4 [] (Sound (CloseOut (closeOutOf (recordNumbers 6 s)))) e (rw e refl) (rw e refl) (rw e refl) (rw e refl) close-out-ranges
 
     close-exact : getD s 0 0 ≡ 7 → Exact
-    unfolding readFields fieldsByKind recordLength legsOf fieldsOf fieldsOfKind widths
+    unfolding readFields fieldsByKind recordLength legsOf fieldsIn fieldsOfKind widths
     close-exact e = of-kind 7 5 [] (Sound (CloseOfDay (u32At s 1))) e (rw e refl) (rw e refl) (rw e refl) (rw e refl) close-ranges
 
     -- Of no kind: unsound, and the kind is out of its range.
     unknown-exact : fieldsByKind (getD s 0 0) s ≡ Unsound → within (range 1 7) (getD s 0 0) ≡ false → Exact
-    unfolding Exact readOf readFields fieldsOf inRanges numberAt
+    unfolding Exact readOf readFields fieldsIn inRanges numberAt
     unknown-exact reads out =
-        rw (members, none-is n s 0 (fieldsOf (recordShape s)) (omega arith), out, reads, and-false (leb (0 + widths (fieldsOf (recordShape s))) (length s)))
+        rw (members, none-is n s 0 (fieldsIn (recordShape s)) (omega arith), out, reads, and-false (leb (0 + widths (fieldsIn (recordShape s))) (length s)))
         (true-or (eqb (length s) (frontLength s)) (λ h. rw h refl) (λ h. rw h refl))
 
 above-four : (k : ℕ) → 1 ≤ k → (k ≡ 1 → ⊥) → (k ≡ 2 → ⊥) → (k ≡ 3 → ⊥) → (k ≡ 4 → ⊥) → 4 < k

@@ -6,7 +6,7 @@ use lib.ListN.{length, drop}
 use Rattle.rules.specs.declared.field.Field.{Field}
 use Rattle.listing_words.specs.declared.field.Shape.{Shape}
 use Rattle.listing.specs.declared.lines.Listed.{Listed}
-use Rattle.listing_words.specs.Fields.{fieldsOf, Fault, isNone, faultIn}
+use Rattle.listing_words.specs.Fields.{fieldsIn, Fault, isNone, faultIn}
 use Rattle.listing_numbers.specs.Short.{Short}
 use Rattle.listing_words.specs.Words.{wordsIn}
 
@@ -18,7 +18,7 @@ pub record ListedAs (most start : ℕ) (text : List ℕ) (fault : Fault) (entry 
 -- The fields of a shape, as the bytes have them.
 abbrev pub FieldsListed : ℕ → ℕ → ℕ → ℕ → ℕ → List ℕ → Shape → List ℕ → List ℕ → Listed → Type 0
 FieldsListed count start first base n s shape entry exit r =
-    ListedAs (80 * count + 170) start (wordsIn first base n s 0 (fieldsOf shape)) (faultIn n s 0 (fieldsOf shape)) entry exit r
+    ListedAs (80 * count + 170) start (wordsIn first base n s 0 (fieldsIn shape)) (faultIn n s 0 (fieldsIn shape)) entry exit r
 
 -- The first i fields are written; what is left from here makes the whole.
 pub record Going (first base n : ℕ) (s : List ℕ) (fs : List Field) (entry out : List ℕ) (start i place end : ℕ) : Type 0 where

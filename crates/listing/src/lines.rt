@@ -4,7 +4,7 @@ ghost use mathlib.Core.List.{_∷_, _++_};
 ghost use Prim.Native.Nat.{_+_, _*_, _^_, _≤_, _<_};
 ghost use lib.ListN.{length};
 ghost use Rattle.rules.specs.Text.{space, decimal};
-ghost use Rattle.listing_words.specs.Fields.{fieldsOf, headerFault, faultOf, faultPlace};
+ghost use Rattle.listing_words.specs.Fields.{fieldsIn, headerFault, faultOf, faultPlace};
 ghost use Rattle.listing.specs.Lines.{ListedAs, FieldsListed};
 ghost use Rattle.listing_numbers.specs.Numbers.{priceText, contractText};
 ghost use Rattle.listing_numbers.specs.Short.{Short};
@@ -16,8 +16,8 @@ use crate::ranges::number_at;
 use crate::ranges::other_way_round;
 use crate::ranges::quantity_of;
 use crate::ranges::range_of;
-use crate::ranges::size_of;
 use crate::ranges::verdict_of;
+use crate::ranges::width_of;
 use crate::shapes::FIXED_FIELDS;
 use crate::shapes::count_of_kind;
 use crate::shapes::field_at;
@@ -192,7 +192,7 @@ fn put_fault(
 {
     let verdict = verdict_of(members, bytes, at, field);
     let range = range_of(members, bytes, at, field);
-    let size = size_of(field);
+    let size = width_of(field);
     let number = number_at(bytes, at, size);
     let byte = base + fault_place(bytes, at, verdict);
     put_fault_text(out, place, byte, field, range, size, number, verdict)
@@ -216,7 +216,7 @@ fn put_fields(
     out: &mut [u8],
     start: usize,
 ) -> Listed
-    requires { ⌜ (count ≡ length (fieldsOf shape)) × (start + (80 * count + 170) ≤ length (now out)) × (length (now bytes) ≤ mostBytes) ⌝ }
+    requires { ⌜ (count ≡ length (fieldsIn shape)) × (start + (80 * count + 170) ≤ length (now out)) × (length (now bytes) ≤ mostBytes) ⌝ }
     requires { ⌜ («first_year» ≤ 2 ^ 32) × (base ≤ 2 ^ 62) × (count ≤ 767) ⌝ }
     ensures { λ r. ⌜ FieldsListed count start «first_year» base members (now (bytes .entry)) shape (now (out .entry)) (now (out .exit)) r ⌝ }
 {
@@ -231,7 +231,7 @@ fn put_fields(
                 is_sound: false,
             };
         }
-        let size = size_of(field);
+        let size = width_of(field);
         end = put_quantity(
             &mut *out,
             end,

@@ -52,7 +52,7 @@ const LETTER_R: u64 = b'R' as u64;
 
 const VERSION: u64 = 1;
 
-pub fn size_of(field: Field) -> usize
+pub fn width_of(field: Field) -> usize
     ensures { λ r. ⌜ (r ≡ widthOf field) × (r ≤ 4) ⌝ }
 {
     match field {
@@ -270,7 +270,7 @@ pub fn verdict_of(members: u64, bytes: &[u8], place: usize, field: Field) -> Ver
     requires { ⌜ (place ≤ length (now bytes)) × (length (now bytes) ≤ mostBytes) ⌝ }
     ensures { λ r. ⌜ r ≡ verdictOf members (now (bytes .entry)) place field ⌝ }
 {
-    let size = size_of(field);
+    let size = width_of(field);
     if bytes.len() < place + size {
         return Verdict::Cut;
     }

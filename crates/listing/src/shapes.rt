@@ -5,7 +5,7 @@ ghost use lib.ListN.{length, getD};
 ghost use Rattle.rules.specs.declared.field.Field.the-variants.{Kind as firstField};
 ghost use Rattle.listing_words.specs.declared.field.Shape.the-variants.{Header as HeaderShape};
 ghost use Rattle.rules.specs.Fields.{proposalKind, submitFields, cancelFields, dayLimitsFields, closeOutFields, fieldsOfKind};
-ghost use Rattle.listing_words.specs.Fields.{fixedFields, fieldsOf};
+ghost use Rattle.listing_words.specs.Fields.{fixedFields, fieldsIn};
 use listing_words::Shape;
 use rules::Field;
 use rules::kinds::CANCEL;
@@ -122,7 +122,7 @@ fn fixed_field(i: u64) -> Field
 }
 
 fn header_field(holidays: u64, i: u64) -> Field
-    ensures { λ r. ⌜ ((members : ℕ) → i < length (fieldsOf (HeaderShape holidays members)) → r ≡ getD (fieldsOf (HeaderShape holidays members)) i firstField) ⌝ }
+    ensures { λ r. ⌜ ((members : ℕ) → i < length (fieldsIn (HeaderShape holidays members)) → r ≡ getD (fieldsIn (HeaderShape holidays members)) i firstField) ⌝ }
 {
     if i < FIXED_FIELDS {
         return fixed_field(i);
@@ -134,8 +134,8 @@ fn header_field(holidays: u64, i: u64) -> Field
 }
 
 pub fn field_at(shape: Shape, i: u64) -> Field
-    requires { ⌜ i < length (fieldsOf shape) ⌝ }
-    ensures { λ r. ⌜ r ≡ getD (fieldsOf shape) i firstField ⌝ }
+    requires { ⌜ i < length (fieldsIn shape) ⌝ }
+    ensures { λ r. ⌜ r ≡ getD (fieldsIn shape) i firstField ⌝ }
 {
     match shape {
         Shape::Header { holidays, members } => header_field(holidays, i),

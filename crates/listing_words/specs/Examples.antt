@@ -8,7 +8,7 @@ use Rattle.rules.specs.Text.{decimal, digits}
 use Rattle.listing_numbers.specs.Numbers.{twoDigits, timeText, priceText, quarterText, termName, contractText}
 use Rattle.rules.specs.declared.field.Field.the-variants.{Side, Lots}
 use Rattle.rules.specs.Fields.{fieldsOfKind, numberAt}
-use Rattle.listing_words.specs.Fields.{fieldsOf, within, verdictOf, none, at, faultIn, faultOf}
+use Rattle.listing_words.specs.Fields.{fieldsIn, within, verdictOf, none, at, faultIn, faultOf}
 use Rattle.listing_words.specs.Words.{kindWord, sideWord, orderKindWord, quantityWords, otherWayRound, hint}
 use Rattle.listing_words.specs.Words.{outOfRange, faultText, faultWords, wordsIn, recordLine, headerLine}
 
@@ -17,7 +17,7 @@ abbrev pub submit : ℕ → ℕ → ℕ → List ℕ
 submit side high low = 1 ∷ 0 ∷ 0 ∷ 140 ∷ 170 ∷ 1 ∷ 18 ∷ side ∷ 1 ∷ 0 ∷ 0 ∷ 101 ∷ 149 ∷ high ∷ low ∷ []
 
 pub faults : map (faultOf 2) (submit 0 0 100 ∷ submit 2 0 100 ∷ submit 0 100 0 ∷ []) ≡ none ∷ at 7 Side ∷ at 13 Lots ∷ []
-unfolding fieldsOf fieldsOfKind faultIn verdictOf within numberAt u16At u32At
+unfolding fieldsIn fieldsOfKind faultIn verdictOf within numberAt u16At u32At
 faults = refl
 
 -- "7 submit 10:00:10 member 1 contract 18 (2022 Q1) buy OEYE price 260.05 lots 100"
@@ -45,7 +45,7 @@ lotsLine =
 
 -- As record 7, after 100 bytes, in a ledger of two members from 2021 on.
 pub lines : map (recordLine 2 2021 7 100) (submit 0 0 100 ∷ submit 2 0 100 ∷ submit 0 100 0 ∷ []) ≡ soundLine ∷ sideLine ∷ lotsLine ∷ []
-unfolding recordLine wordsIn quantityWords faultWords faultText fieldsOf fieldsOfKind verdictOf within numberAt u16At u32At kindWord sideWord orderKindWord timeText twoDigits priceText
+unfolding recordLine wordsIn quantityWords faultWords faultText fieldsIn fieldsOfKind verdictOf within numberAt u16At u32At kindWord sideWord orderKindWord timeText twoDigits priceText
     contractText quarterText termName termOf outOfRange hint otherWayRound decimal digits
 lines = refl
 
@@ -58,5 +58,5 @@ turnedLine =
     ∷ 49 ∷ 10 ∷ []
 
 pub turned : headerLine (86 ∷ 74 ∷ 82 ∷ 1 ∷ 0 ∷ 229 ∷ 7 ∷ 113 ∷ 1 ∷ []) ≡ turnedLine
-unfolding headerLine wordsIn quantityWords faultWords faultText fieldsOf verdictOf within numberAt u16At outOfRange hint otherWayRound decimal digits
+unfolding headerLine wordsIn quantityWords faultWords faultText fieldsIn verdictOf within numberAt u16At outOfRange hint otherWayRound decimal digits
 turned = refl

@@ -24,9 +24,9 @@ use Rattle.listing_words.specs.declared.field.Verdict.the-variants.{Pass
 abbrev pub fixedFields : List Field
 fixedFields = LetterV ∷ LetterJ ∷ LetterR ∷ Version ∷ FirstYear ∷ StartDay ∷ Members ∷ HolidayCount ∷ []
 
-unfoldable pub fieldsOf : Shape → List Field
-fieldsOf (Header holidays members) = fixedFields ++ (replicate holidays Holiday ++ replicate members Limit)
-fieldsOf (Record kind legs) = Kind ∷ fieldsOfKind kind legs
+unfoldable pub fieldsIn : Shape → List Field
+fieldsIn (Header holidays members) = fixedFields ++ (replicate holidays Holiday ++ replicate members Limit)
+fieldsIn (Record kind legs) = Kind ∷ fieldsOfKind kind legs
 
 -- What the bytes have, as far as they go: a header's counts are its bytes 9 and 10, a record's kind is its first, its legs its second.
 abbrev pub headerShape : List ℕ → Shape
@@ -170,8 +170,8 @@ faultIn n s place [] = none
 faultIn n s place (f ∷ fs) = let later = faultIn n s (place + widthOf f) fs in cond (passes (verdictOf n s place f)) later (at (faultPlace s place (verdictOf n s place f)) f)
 
 abbrev pub headerFault : List ℕ → Fault
-headerFault s = faultIn 0 s 0 (fieldsOf (headerShape s))
+headerFault s = faultIn 0 s 0 (fieldsIn (headerShape s))
 
 -- Of the record that the bytes begin with, in a ledger of n members.
 abbrev pub faultOf : ℕ → List ℕ → Fault
-faultOf n s = faultIn n s 0 (fieldsOf (recordShape s))
+faultOf n s = faultIn n s 0 (fieldsIn (recordShape s))

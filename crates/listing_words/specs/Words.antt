@@ -16,7 +16,7 @@ use Rattle.listing_words.specs.declared.field.Range.{Range}
 use Rattle.listing_words.specs.declared.field.Verdict.{Verdict}
 use Rattle.listing_words.specs.declared.field.Verdict.the-variants.{Passes, Cut, OutOfRange, NoBusinessDay, OnStartDay}
 use Rattle.rules.specs.Fields.{widthOf, numberAt}
-use Rattle.listing_words.specs.Fields.{fieldsOf, headerShape, recordShape, quantityOf, rangeOf, within, verdictOf, passes, faultPlace}
+use Rattle.listing_words.specs.Fields.{fieldsIn, headerShape, recordShape, quantityOf, rangeOf, within, verdictOf, passes, faultPlace}
 
 -- ---- names
 abbrev pub nameOf : Field → List ℕ
@@ -127,9 +127,9 @@ wordsIn first base n s place (f ∷ fs) =
 
 -- The first line: "VJR version 1 first year 2021 start day 369 members 2 holidays 0 limit 1000 limit 1000".
 unfoldable pub headerLine : List ℕ → List ℕ
-headerLine s = wordsIn 0 0 0 s 0 (fieldsOf (headerShape s)) ++ (newline ∷ [])
+headerLine s = wordsIn 0 0 0 s 0 (fieldsIn (headerShape s)) ++ (newline ∷ [])
 
 -- The line of a record by its number, counted from 1, of which base bytes come before:
 -- "2 submit 10:00:10 member 1 contract 17 (2022) buy OEYE price 261.00 lots 3".
 unfoldable pub recordLine : ℕ → ℕ → ℕ → ℕ → List ℕ → List ℕ
-recordLine n first number base s = decimal number ++ (wordsIn first base n s 0 (fieldsOf (recordShape s)) ++ (newline ∷ []))
+recordLine n first number base s = decimal number ++ (wordsIn first base n s 0 (fieldsIn (recordShape s)) ++ (newline ∷ []))

@@ -180,8 +180,8 @@ module _ (ranks column : List ℕ) (p : Placed ranks column) (few : length ranks
   best-is lows place b f =
       let q = lowest-all column lows b (f .low) (f .lowest) in
       le-or-lt noRank (f .low)
-      (λ k. let at-end : place ≡ length ranks = f .told ∙ rw (le-ltb (f .low) noRank k) in
+      (λ k. let at-end : place ≡ length ranks = f .replyOf ∙ rw (le-ltb (f .low) noRank k) in
       rw at-end (record { most = omega arith; lowest = λ h. absurd (omega arith); none = λ _. none-there (f .low) q k }))
-      (λ k. let there : place ≡ q .place = f .told ∙ rw (lt-ltb (f .low) noRank k) (place-is (f .low) q k) in
+      (λ k. let there : place ≡ q .place = f .replyOf ∙ rw (lt-ltb (f .low) noRank k) (place-is (f .low) q k) in
       let low = lowest-there (f .low) q k in
       rw there (record { most = omega (arith, low .below); lowest = λ _. low; none = λ e. absurd (omega (arith, low .below)) }))

@@ -77,7 +77,7 @@ pub record BlockLows (column lows : List ℕ) : Type 0 where
 pub record BestPlace (lows : List ℕ) (count place : ℕ) : Type 0 where
   pub low : ℕ
   pub lowest : LowestAmong lows 0 blockCount low
-  pub told : place ≡ cond (ltb low noRank) (low % mostOrders) count
+  pub replyOf : place ≡ cond (ltb low noRank) (low % mostOrders) count
 
 -- The lots that cross where so many are left.
 unfoldable pub crossing : Order → List ℕ → List Order → ℕ

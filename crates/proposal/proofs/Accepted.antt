@@ -19,7 +19,7 @@ use Rattle.rules.specs.Synthetic.{namedLegs, legLine, acceptable, proposalLines
 use Rattle.tables.specs.Fit.{ordersIn}
 use Rattle.order_book.specs.Left.{leftOver}
 use Rattle.proposal_check.specs.Columns.{LegsFit, PlacesFit, columnLegs, placesOf}
-use Rattle.proposal.specs.Booking.{linesTo, leftAfter, lotsIn}
+use Rattle.proposal.specs.Booking.{linesTo, leftAfter, orderLots}
 use Rattle.proposal_check.proofs.Named.{found-fit}
 use Rattle.proposal_check.proofs.Checks.{acceptable-not, places-many, places-named}
 use Rattle.proposal.proofs.Printed.{lines-length, lines-run, lines-of}
@@ -50,7 +50,7 @@ pub record Named (t : Tables) (places numbers lots prices : List ℕ) : Type 0 w
   pub lines-are : proposalLines t (columnLegs numbers lots prices) ≡ linesTo (t .book) places lots prices (length places)
   pub run-is : lineRun (proposalLines t (columnLegs numbers lots prices)) ≡ total (λ i. getD lots i 0) (from 0 (length lots))
   pub used : All (λ o. 1 ≤ o .lots .0) (orders t) → distinct (map (λ o. o .number) (orders t)) ≡ true → (k : ℕ) → k ≡ orderCount t
-      → leftOver (leftAfter places lots (length places) (lotsIn k (t .book))) (ordersIn k (t .book)) ≡ usedByLegs (columnLegs numbers lots prices) (orders t)
+      → leftOver (leftAfter places lots (length places) (orderLots k (t .book))) (ordersIn k (t .book)) ≡ usedByLegs (columnLegs numbers lots prices) (orders t)
 
 module _ (t : Tables) (places numbers lots prices : List ℕ) (fit : LegsFit (length numbers) lots prices) (at : places ≡ placesOf (orderCount t) (t .book) numbers)
     (ok : acceptable t (columnLegs numbers lots prices) ≡ true) where
@@ -82,7 +82,7 @@ module _ (t : Tables) (places numbers lots prices : List ℕ) (fit : LegsFit (le
       ∙ ap (λ n. total (λ i. getD lots i 0) (from 0 n)) (many-all ∙ sym (fit .lots-length))
 
   used-all : All (λ o. 1 ≤ o .lots .0) (orders t) → distinct (map (λ o. o .number) (orders t)) ≡ true → (k : ℕ) → k ≡ orderCount t
-      → leftOver (leftAfter places lots (length places) (lotsIn k (t .book))) (ordersIn k (t .book)) ≡ usedByLegs (columnLegs numbers lots prices) (orders t)
+      → leftOver (leftAfter places lots (length places) (orderLots k (t .book))) (ordersIn k (t .book)) ≡ usedByLegs (columnLegs numbers lots prices) (orders t)
   unfolding orders
   used-all each apart k e = rw e (taken-columns (orderCount t) (t .book) numbers lots prices each apart places at there-all)
 

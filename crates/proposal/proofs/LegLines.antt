@@ -19,7 +19,7 @@ use Rattle.rules.proofs.LinesRun.{booked-none}
 use Rattle.deal_lines.proofs.Booked.{booked-more}
 use Rattle.proposal_check.specs.Columns.{LegsFit, PlacesFit}
 use Rattle.deal_lines.specs.Room.{Bookable}
-use Rattle.proposal.specs.Booking.{lineAt, linesTo}
+use Rattle.proposal.specs.Booking.{legLineAt, linesTo}
 use Rattle.deal_lines.proofs.Takes.{takes-line, less-room, line-members}
 use Rattle.proposal.proofs.Printed.{lines-length, lines-more}
 use Rattle.rules.proofs.Sides.{abs-signed}
@@ -60,10 +60,10 @@ module _ (book places lots prices : List ℕ) where
       abbrev order-fit : OrderFit head₀ book (getD places i 0)
       order-fit = b .order-fit (getD places i 0) (there .below i below)
 
-      same-line : lineOf (dealLine o (getD lots i 0) (getD prices i 0)) ≡ lineAt book places lots prices i
+      same-line : lineOf (dealLine o (getD lots i 0) (getD prices i 0)) ≡ legLineAt book places lots prices i
       same-line = ap (λ x. lineOf (dealLine x (getD lots i 0) (getD prices i 0))) at
 
-      sound : LineFit head (lineAt book places lots prices i)
+      sound : LineFit head (legLineAt book places lots prices i)
       sound = record { contract-below = order-fit .contract-below; member-below = rw (done .same-members) (order-fit .member-below); most-price = fit .most-price i below }
 
       pub leg-takes : Bookable (getD lots i 0) head rows value lines × (LineFit head (lineOf (dealLine o (getD lots i 0) (getD prices i 0))) × (i < leastLines))
@@ -74,7 +74,7 @@ module _ (book places lots prices : List ℕ) where
           (withHead head (withRows rows value (withLines lines t))))
           → LegsBooked head₀ rows₀ value₀ lines₀ (i + 1) head′ rows′ value′ lines′
       legs-next head′ rows′ value′ lines′ says =
-          let l = lineAt book places lots prices i in
+          let l = legLineAt book places lots prices i in
           let u = withHead head (withRows rows value (withLines lines zeroTables)) in
           let says-line : (t : Tables) → withHead head′ (withRows rows′ value′ (withLines lines′ t)) ≡ withLine i l (withHead head (withRows rows value (withLines lines t)))
           = λ t. says t ∙ ap (λ x. withLine i x (withHead head (withRows rows value (withLines lines t)))) same-line in

@@ -13,23 +13,23 @@ use Rattle.rules.specs.declared.order.Order.{Order}
 use Rattle.rules.specs.Ledger.{lineRun, orderAt}
 use Rattle.rules.specs.Synthetic.{namedLegs, legLine}
 use Rattle.proposal_check.specs.Columns.{columnLegs, namedAt, namedTo}
-use Rattle.proposal.specs.Booking.{lineAt, linesTo}
+use Rattle.proposal.specs.Booking.{legLineAt, linesTo}
 use Rattle.arith.proofs.Totals.{total-same}
 use Rattle.proposal_check.proofs.Lists.{total-map}
 use Rattle.rules.proofs.Sides.{abs-signed}
 
 module _ (book places lots prices : List ℕ) where
   pub lines-length : (n : ℕ) → length (linesTo book places lots prices n) ≡ n
-  lines-length n = length-map (from 0 n) (lineAt book places lots prices) ∙ from-length 0 n
+  lines-length n = length-map (from 0 n) (legLineAt book places lots prices) ∙ from-length 0 n
 
-  pub lines-more : (n : ℕ) → linesTo book places lots prices n ++ (lineAt book places lots prices n ∷ []) ≡ linesTo book places lots prices (n + 1)
-  lines-more n = sym (rw (add-one n, from-more 0 n, map-append (lineAt book places lots prices) (from 0 n) ((0 + n) ∷ []), zero-add n))
+  pub lines-more : (n : ℕ) → linesTo book places lots prices n ++ (legLineAt book places lots prices n ∷ []) ≡ linesTo book places lots prices (n + 1)
+  lines-more n = sym (rw (add-one n, from-more 0 n, map-append (legLineAt book places lots prices) (from 0 n) ((0 + n) ∷ []), zero-add n))
 
   -- Each line is of its leg's lots.
   pub lines-run : (n : ℕ) → lineRun (linesTo book places lots prices n) ≡ total (λ i. getD lots i 0) (from 0 n)
   unfolding lineRun
   lines-run n =
-      total-map (λ l. natAbs (l .lots)) (lineAt book places lots prices) (from 0 n)
+      total-map (λ l. natAbs (l .lots)) (legLineAt book places lots prices) (from 0 n)
       ∙ total-same _ (λ i. getD lots i 0) 0 n (λ i _ _. abs-signed (orderAt book (getD places i 0) .side) (getD lots i 0))
 
   pub lines-of : (numbers : List ℕ) (os : List Order) → namedLegs os (columnLegs numbers lots prices) ≡ namedTo book places numbers lots prices

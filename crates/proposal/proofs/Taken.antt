@@ -24,7 +24,7 @@ use Rattle.tables.specs.Fit.{ordersIn}
 use Rattle.order_book.specs.Left.{leftOver}
 use Rattle.order_book.proofs.Left.{orders-length}
 use Rattle.proposal_check.specs.Columns.{PlacesFit, columnLeg, columnLegs, placeOf, placesOf}
-use Rattle.proposal.specs.Booking.{leftAfter, lotsIn}
+use Rattle.proposal.specs.Booking.{leftAfter, orderLots}
 use Rattle.proposal_check.proofs.Named.{order-there}
 
 -- Nothing is taken yet.
@@ -94,17 +94,17 @@ legs-more numbers lots prices n = rw (from-more 0 n, map-append (columnLeg numbe
 module _ (count : ℕ) (book numbers lots prices : List ℕ) (each : All (λ o. 1 ≤ o .lots .0) (ordersIn count book)) (apart : distinct (map (λ o. o .number) (ordersIn count book)) ≡ true)
     (places : List ℕ) (at : places ≡ placesOf count book numbers) (fit : PlacesFit count places) where
   taken-to : (n : ℕ) → n ≤ length numbers
-      → leftOver (leftAfter places lots n (lotsIn count book)) (ordersIn count book) ≡ usedByLegs (map (columnLeg numbers lots prices) (from 0 n)) (ordersIn count book)
+      → leftOver (leftAfter places lots n (orderLots count book)) (ordersIn count book) ≡ usedByLegs (map (columnLeg numbers lots prices) (from 0 n)) (ordersIn count book)
   unfolding leftAfter usedByLegs from
   taken-to zero h = left-all (ordersIn count book) each
   taken-to (suc n) h =
       let os = ordersIn count book in
       let q = getD lots n 0 in
-      let left = leftAfter places lots n (lotsIn count book) in
+      let left = leftAfter places lots n (orderLots count book) in
       let number = getD numbers n 0 in
       let place : getD places n 0 ≡ placeOf number os = ap (λ ps. getD ps n 0) at ∙ map-at (λ x. placeOf x os) numbers n 0 0 (omega arith) in
       let many : length places ≡ length numbers = ap length at ∙ length-map numbers (λ x. placeOf x os) in
-      let long : length left ≡ length os = after-length places lots n (lotsIn count book) ∙ length-map os (λ o. o .lots .0) in
+      let long : length left ≡ length os = after-length places lots n (orderLots count book) ∙ length-map os (λ o. o .lots .0) in
       let below = fit .below n (omega arith) in
       let legs = map (columnLeg numbers lots prices) (from 0 n) in
       let step : leftOver (set left (getD places n 0) (getD left (getD places n 0) 0 - q)) os ≡ used number q (leftOver left os)
@@ -113,7 +113,7 @@ module _ (count : ℕ) (book numbers lots prices : List ℕ) (each : All (λ o. 
       ∙ ap (used number q) (taken-to n (omega arith))
       ∙ sym (ap (λ gs. usedByLegs gs os) (legs-more numbers lots prices n) ∙ used-more legs (columnLeg numbers lots prices n) os)
 
-  pub taken-columns : leftOver (leftAfter places lots (length places) (lotsIn count book)) (ordersIn count book) ≡ usedByLegs (columnLegs numbers lots prices) (ordersIn count book)
+  pub taken-columns : leftOver (leftAfter places lots (length places) (orderLots count book)) (ordersIn count book) ≡ usedByLegs (columnLegs numbers lots prices) (ordersIn count book)
   unfolding columnLegs
   taken-columns =
       let many : length places ≡ length numbers = ap length at ∙ length-map numbers (λ x. placeOf x (ordersIn count book)) in
@@ -121,10 +121,10 @@ module _ (count : ℕ) (book numbers lots prices : List ℕ) (each : All (λ o. 
 
 -- ---- the lots of each order
 module _ (n : ℕ) (book : List ℕ) where
-  pub lots-length : length (lotsIn n book) ≡ n
+  pub lots-length : length (orderLots n book) ≡ n
   lots-length = length-map (ordersIn n book) (λ o. o .lots .0) ∙ orders-length book n
 
-  pub lots-at : (i : ℕ) → i < n → getD (lotsIn n book) i 0 ≡ orderAt book i .lots .0
+  pub lots-at : (i : ℕ) → i < n → getD (orderLots n book) i 0 ≡ orderAt book i .lots .0
   lots-at i h = map-at (λ o. o .lots .0) (ordersIn n book) i (orderAt book i) 0 (omega (arith, orders-length book n)) ∙ ap (λ o. o .lots .0) (order-there n book i (orderAt book i) h)
 
 pub after-next : (places lots : List ℕ) (n : ℕ) (left now : List ℕ) (r : ℕ) → now ≡ leftAfter places lots n left → r ≡ getD now (getD places n 0) 0 - getD lots n 0
@@ -133,9 +133,9 @@ unfolding leftAfter
 after-next places lots n left now r e f = rw (f, e, add-one n)
 
 -- the column as it is lent: the first n places of an array
-module _ (places lots : List ℕ) (k n : ℕ) (ys l book : List ℕ) (fits : n ≤ length l) (e : ys ≡ leftAfter places lots k (lotsIn (length (take n l)) book)) where
+module _ (places lots : List ℕ) (k n : ℕ) (ys l book : List ℕ) (fits : n ≤ length l) (e : ys ≡ leftAfter places lots k (orderLots (length (take n l)) book)) where
   as-lent : length ys ≡ length (take n l)
-  as-lent = ap length e ∙ after-length places lots k (lotsIn (length (take n l)) book) ∙ lots-length (length (take n l)) book
+  as-lent = ap length e ∙ after-length places lots k (orderLots (length (take n l)) book) ∙ lots-length (length (take n l)) book
 
   pub left-long : n ≤ length (ys ++ drop n l)
   left-long = again-long n ys l as-lent fits
@@ -143,5 +143,5 @@ module _ (places lots : List ℕ) (k n : ℕ) (ys l book : List ℕ) (fits : n �
   pub left-many : n ≡ length (take n (ys ++ drop n l))
   left-many = again-many n ys l as-lent fits
 
-  pub left-front : take n (ys ++ drop n l) ≡ leftAfter places lots k (lotsIn n book)
-  left-front = again-front n ys l as-lent fits ∙ e ∙ ap (λ m. leftAfter places lots k (lotsIn m book)) (length-take-le n l fits)
+  pub left-front : take n (ys ++ drop n l) ≡ leftAfter places lots k (orderLots n book)
+  left-front = again-front n ys l as-lent fits ∙ e ∙ ap (λ m. leftAfter places lots k (orderLots m book)) (length-take-le n l fits)

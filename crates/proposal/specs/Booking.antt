@@ -9,12 +9,12 @@ use Rattle.tables.specs.Fit.{ordersIn}
 use Rattle.proposal_check.specs.Columns.{namedAt}
 
 -- The line of leg i; the order's number is not printed.
-abbrev pub lineAt : List ℕ → List ℕ → List ℕ → List ℕ → ℕ → Line
-lineAt book places lots prices i = legLine (namedAt book places [] lots prices i)
+abbrev pub legLineAt : List ℕ → List ℕ → List ℕ → List ℕ → ℕ → Line
+legLineAt book places lots prices i = legLine (namedAt book places [] lots prices i)
 
 -- The lines of the first n legs.
 abbrev pub linesTo : List ℕ → List ℕ → List ℕ → List ℕ → ℕ → List Line
-linesTo book places lots prices n = map (lineAt book places lots prices) (from 0 n)
+linesTo book places lots prices n = map (legLineAt book places lots prices) (from 0 n)
 
 -- What is left of each order, in a column of the book's places, once the first n legs have taken their lots.
 unfoldable pub leftAfter : List ℕ → List ℕ → ℕ → List ℕ → List ℕ
@@ -25,5 +25,5 @@ leftAfter places lots (suc n) left =
     set before place (getD before place 0 - getD lots n 0)
 
 -- The lots of each order.
-abbrev pub lotsIn : ℕ → List ℕ → List ℕ
-lotsIn count book = map (λ o. o .lots .0) (ordersIn count book)
+abbrev pub orderLots : ℕ → List ℕ → List ℕ
+orderLots count book = map (λ o. o .lots .0) (ordersIn count book)

@@ -9,7 +9,7 @@ ghost use Rattle.tables.specs.Fit.{BookFit, ordersIn, orderCountIn};
 ghost use Rattle.order_book.specs.Left.{leftOver};
 ghost use Rattle.proposal_check.specs.Columns.{LegsFit, PlacesFit};
 ghost use Rattle.deal_lines.specs.Room.{Bookable};
-ghost use Rattle.proposal.specs.Booking.{linesTo, leftAfter, lotsIn};
+ghost use Rattle.proposal.specs.Booking.{linesTo, leftAfter, orderLots};
 use deal_lines::DealLine;
 use deal_lines::book_line;
 use order_book::keep_orders;
@@ -79,7 +79,7 @@ fn left_after(left: u64, lots: u64) -> u64
 // Writes the lots of each order.
 fn write_lots(book: &[u64], left: &mut [u64])
     requires { ⌜ (length (now left) ≤ mostOrders) × (bookLength ≤ length (now book)) ⌝ }
-    ensures { λ _. ⌜ now (left .exit) ≡ lotsIn (length (now (left .entry))) (now (book .entry)) ⌝ }
+    ensures { λ _. ⌜ now (left .exit) ≡ orderLots (length (now (left .entry))) (now (book .entry)) ⌝ }
 {
     let mut i: usize = 0;
     while i < left.len() {
@@ -105,7 +105,7 @@ fn take_lots(left: &mut [u64], places: &[usize], lots: &[u64])
 // Writes what the legs leave of each order.
 fn write_left(book: &[u64], left: &mut [u64], places: &[usize], lots: &[u64])
     requires { ⌜ (length (now left) ≤ mostOrders) × (bookLength ≤ length (now book)) × PlacesFit (length (now left)) (now places) × (length (now lots) ≡ length (now places)) ⌝ }
-    ensures { λ _. ⌜ now (left .exit) ≡ leftAfter (now (places .entry)) (now (lots .entry)) (length (now (places .entry))) (lotsIn (length (now (left .entry))) (now (book .entry))) ⌝ }
+    ensures { λ _. ⌜ now (left .exit) ≡ leftAfter (now (places .entry)) (now (lots .entry)) (length (now (places .entry))) (orderLots (length (now (left .entry))) (now (book .entry))) ⌝ }
 {
     write_lots(book, &mut *left);
     take_lots(&mut *left, places, lots);
@@ -116,7 +116,7 @@ pub fn use_orders(head: &mut [u64], book: &mut [u64], places: &[usize], lots: &[
     requires { ⌜ (headLength ≤ length (now head)) × (orderCountIn (now head) ≤ mostOrders) × (bookLength ≤ length (now book))
         × PlacesFit (orderCountIn (now head)) (now places) × (length (now lots) ≡ length (now places)) × ((i : ℕ) → i < orderCountIn (now head) → sideAt (now book) i ≤ 1) ⌝ }
     ensures { λ _. ⌜ ((t : Tables) → withHead (now (head .exit)) (withBook (now (book .exit)) t)
-        ≡ withOrders (leftOver (leftAfter (now (places .entry)) (now (lots .entry)) (length (now (places .entry))) (lotsIn (orderCountIn (now (head .entry))) (now (book .entry))))
+        ≡ withOrders (leftOver (leftAfter (now (places .entry)) (now (lots .entry)) (length (now (places .entry))) (orderLots (orderCountIn (now (head .entry))) (now (book .entry))))
         (ordersIn (orderCountIn (now (head .entry))) (now (book .entry))))
         (withHead (now (head .entry)) (withBook (now (book .entry)) t))) ⌝ }
 {

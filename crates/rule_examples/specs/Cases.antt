@@ -11,7 +11,7 @@ use Rattle.rules.specs.declared.order.Side.{Side}
 use Rattle.rules.specs.declared.order.Side.the-variants.{Buy, Sell}
 use Rattle.rules.specs.declared.units.Day.{Day}
 use Rattle.rules.specs.declared.units.Day.the-variants.{On, NoDay}
-use Rattle.rules.specs.Answers.{told}
+use Rattle.rules.specs.Answers.{replyOf}
 use Rattle.rules.specs.Contracts.{thresholdOf, termOf, termClosingDay}
 use Rattle.rules.specs.Ledger.{Tables, lotsAt, valueAt}
 use Rattle.rules.specs.CloseOfDay.{priceOfDay}
@@ -57,7 +57,7 @@ cascadeAfter n = after ((sell 1 17 30000 4 ∷ buy 0 17 30000 4 ∷ buy 1 18 310
 -- A proposal of one lot of each order, at these prices.
 proposalNumber : ℕ → ℕ → ℕ → ℕ → ℕ
 proposalNumber a b c d =
-    told
+    replyOf
     (applySpec
     (after (buy 0 18 31000 1 ∷ sell 1 22 31000 1 ∷ sell 1 23 30500 1 ∷ sell 1 24 30000 1 ∷ []))
     (proposal ((0, 1, a) ∷ (1, 1, b) ∷ (2, 1, c) ∷ (3, 1, d) ∷ []))

@@ -5,57 +5,57 @@ use lib.IntN.{pos, negsuc}
 use Rattle.rules.specs.Ledger.{dayLots}
 use Rattle.rules.specs.Refusals.{applySpec}
 use Rattle.rules.specs.Computed.{computed}
-use Rattle.rules.specs.ExampleRecords.{buy, sell, default, closeOut, close, monday, marked, held, line, bought, accepted, refused, Prints}
+use Rattle.rules.specs.ExampleRecords.{buy, sell, default, closeOut, close, monday, withDefaulted, held, line, bought, accepted, refused, Prints}
 use Rattle.rules.specs.CloseOutExamples.{lent, closedOut, two}
 
 -- At 501 members 1 and 2 weigh one each, their lots here, and the lower number comes first.
 ratio-missed : closedOut (0 ∷ 3 ∷ 4 ∷ []) two 501 ≡ accepted (line 0 17 (negsuc 0) 26000 ∷ line 1 17 (pos 1) 26000 ∷ [])
-unfolding computed closedOut lent held marked
+unfolding computed closedOut lent held withDefaulted
 ratio-missed = refl
 
 -- Days count: 10 lots of a month, 310, weigh less than one of a year, 365. January 2021, which has closed, and the year
 -- 2026, which is not open yet, weigh nothing.
 days-of-open-contracts : closedOut (0 ∷ []) ((0, 17, pos 1) ∷ (1, 22, pos 10) ∷ (1, 5, pos 100) ∷ (1, 85, pos 100) ∷ (2, 17, negsuc 0) ∷ []) 1000
     ≡ accepted (line 0 17 (negsuc 0) 26000 ∷ line 2 17 (pos 1) 26000 ∷ [])
-unfolding computed closedOut lent held marked
+unfolding computed closedOut lent held withDefaulted
 days-of-open-contracts = refl
 
 -- L = 4 by lots here, 1, 5 and 1: minimums 1, 3 and 1; received, one lot each in turn, 1, 2 and 1.
 in-turns : closedOut (0 ∷ []) ((0, 17, pos 4) ∷ (1, 17, negsuc 0) ∷ (2, 17, negsuc 4) ∷ (3, 17, pos 1) ∷ []) 1000
     ≡ accepted (line 0 17 (negsuc 3) 26000 ∷ line 1 17 (pos 1) 26000 ∷ line 2 17 (pos 2) 26000 ∷ line 3 17 (pos 1) 26000 ∷ [])
-unfolding computed closedOut lent held marked
+unfolding computed closedOut lent held withDefaulted
 in-turns = refl
 
 -- Nobody else has lots in it: who has other open lots takes them. Nobody has: 16.
 taker-from-elsewhere : closedOut (0 ∷ []) ((0, 17, negsuc 1) ∷ (4, 22, pos 1) ∷ []) 1000
     ≡ accepted (line 0 17 (pos 2) 26000 ∷ line 4 17 (negsuc 1) 26000 ∷ [])
-unfolding computed closedOut lent held marked
+unfolding computed closedOut lent held withDefaulted
 taker-from-elsewhere = refl
 
 no-taker : closedOut (0 ∷ 4 ∷ []) ((0, 17, negsuc 1) ∷ (4, 22, pos 1) ∷ (1, 5, pos 1) ∷ []) 1000 ≡ refused 16
-unfolding computed closedOut lent held marked
+unfolding computed closedOut lent held withDefaulted
 no-taker = refl
 
 -- As in netting, with a short left over.
 netting-of-shorts : closedOut (0 ∷ 1 ∷ 2 ∷ []) ((0, 17, negsuc 2) ∷ (1, 17, negsuc 2) ∷ (2, 17, pos 4) ∷ (4, 17, negsuc 6) ∷ []) 1000
     ≡ accepted
     (line 0 17 (pos 3) 26000 ∷ line 1 17 (pos 1) 26000 ∷ line 2 17 (negsuc 3) 26000 ∷ line 1 17 (pos 2) 26000 ∷ line 4 17 (negsuc 1) 26000 ∷ [])
-unfolding computed closedOut lent held marked
+unfolding computed closedOut lent held withDefaulted
 netting-of-shorts = refl
 
 -- Defaulted lots that net to zero are no 15: step 1 alone, though there is no taker. Lots elsewhere are 15.
 netting-to-zero : closedOut (0 ∷ 1 ∷ []) ((0, 17, pos 5) ∷ (1, 17, negsuc 4) ∷ []) 1000
     ≡ accepted (line 0 17 (negsuc 4) 26000 ∷ line 1 17 (pos 5) 26000 ∷ [])
-unfolding computed closedOut lent held marked
+unfolding computed closedOut lent held withDefaulted
 netting-to-zero = refl
 
 no-defaulted-lots : closedOut (0 ∷ []) ((0, 18, pos 5) ∷ (1, 17, negsuc 4) ∷ []) 1000 ≡ refused 15
-unfolding computed closedOut lent held marked
+unfolding computed closedOut lent held withDefaulted
 no-defaulted-lots = refl
 
 -- The lots of a close-out do not count in M: it stays 10.
 default-lots : dayLots (applySpec (lent (0 ∷ []) two) (closeOut 17 500) .after) 17 ≡ 10
-unfolding computed lent held marked
+unfolding computed lent held withDefaulted
 default-lots = refl
 
 -- ---- from the deals, at 26000 and 28000, to the close-out: the price is the day's GGF

@@ -7,22 +7,22 @@ use lib.IntN.{pos, negsuc}
 use Rattle.arith.specs.Lists.{from}
 use Rattle.rules.specs.declared.event.OrderKind.the-variants.{Oeye, Teye}
 use Rattle.rules.specs.declared.order.Side.the-variants.{Buy}
-use Rattle.rules.specs.Answers.{Told, told}
+use Rattle.rules.specs.Answers.{Reply, replyOf}
 use Rattle.rules.specs.Header.{headerBytes}
 use Rattle.rules.specs.Ledger.{Tables, lineWidth, withHead, withTime, withAcceptedSubmits, withLotsRun, withGgf, withDayLimits, withLines, zeroTables}
 use Rattle.rules.specs.Refusals.{applySpec, makeSpec}
 use Rattle.rules.specs.Computed.{tablesAfter, computed}
-use Rattle.rules.specs.ExampleRecords.{submit, buy, sell, cancel, limits, proposal, default, closeOut, close, made, monday, inHead, inPrices, marked, held}
+use Rattle.rules.specs.ExampleRecords.{submit, buy, sell, cancel, limits, proposal, default, closeOut, close, made, monday, inHead, inPrices, withDefaulted, held}
 
 -- A refusal; one with a member or contract; an acceptance with its line count.
-abbrev no : ℕ → Told
-no n = record { number = n; value = 0 }
+abbrev no : ℕ → Reply
+no n = record { number = n; detail = 0 }
 
-abbrev noOf : ℕ → ℕ → Told
-noOf n v = record { number = n; value = v }
+abbrev noOf : ℕ → ℕ → Reply
+noOf n v = record { number = n; detail = v }
 
-abbrev lines : ℕ → Told
-lines n = record { number = 0; value = n }
+abbrev lines : ℕ → Reply
+lines n = record { number = 0; detail = n }
 
 -- ---- tables
 -- Monday, 369, after these records.
@@ -31,14 +31,14 @@ after rs = tablesAfter monday rs
 
 -- Member 0 has defaulted with 5 lots of contract 17, which has a GGF; the lots run is this.
 abbrev oneDefaulted : ℕ → Tables
-oneDefaulted run = held ((0, 17, pos 5) ∷ []) (marked (0 ∷ []) (inPrices (withGgf 17 26000) (inHead (withLotsRun run) monday)))
+oneDefaulted run = held ((0, 17, pos 5) ∷ []) (withDefaulted (0 ∷ []) (inPrices (withGgf 17 26000) (inHead (withLotsRun run) monday)))
 
 -- So many legs, of orders 0, 1 and so on.
 abbrev legs : ℕ → List ℕ
 legs n = proposal (map (λ i. (i, 1, 1)) (from 0 n))
 
 -- ---- the answers: tables, a record, and its answer
-answers : List (Tables × List ℕ × Told)
+answers : List (Tables × List ℕ × Reply)
 answers =
     -- 1: 199 places for lines; time 86,400
     (withLines (replicate (199 * lineWidth) (pos 0)) monday, buy 0 17 26000 1, no 1)
@@ -78,9 +78,9 @@ answers =
     ∷ (inHead (withTime 36001) monday, close 36000, no 4)
     ∷ (inHead (withTime 36000) monday, close 36000, lines 0)
     -- 5, with the member: submit, default
-    ∷ (marked (2 ∷ []) monday, buy 2 17 26000 1, noOf 5 2)
-    ∷ (marked (2 ∷ []) monday, default 2, noOf 5 2)
-    ∷ (marked (2 ∷ []) monday, default 1, lines 0)
+    ∷ (withDefaulted (2 ∷ []) monday, buy 2 17 26000 1, noOf 5 2)
+    ∷ (withDefaulted (2 ∷ []) monday, default 2, noOf 5 2)
+    ∷ (withDefaulted (2 ∷ []) monday, default 1, lines 0)
     -- 6, with the contract: January 2021 has closed; four years, eight quarters and fifteen months are open
     ∷ (monday, buy 0 5 26000 1, noOf 6 5)
     ∷ (monday, buy 0 6 26000 1, lines 0)
@@ -108,7 +108,7 @@ answers =
     ∷ (after (buy 0 17 26000 1 ∷ []), cancel 36000 1 0, no 12)
     -- 14; 15; 16
     ∷ (inPrices (withGgf 17 0) (oneDefaulted 5), closeOut 17 1000, no 14)
-    ∷ (inPrices (withGgf 17 26000) (marked (0 ∷ []) monday), closeOut 17 1000, no 15)
+    ∷ (inPrices (withGgf 17 26000) (withDefaulted (0 ∷ []) monday), closeOut 17 1000, no 15)
     ∷ (oneDefaulted 5, closeOut 17 1000, no 16)
     -- 17: the two lines of a deal would make 5,000,001; so would those of a close-out
     ∷ (inHead (withLotsRun 4999999) (after (sell 1 17 26000 1 ∷ [])), buy 0 17 26000 1, no 17)
@@ -122,18 +122,18 @@ answers =
     ∷ (made 2020 2190 [] (5 ∷ []), close 0, lines 0)
     ∷ []
 
-numbers : map (λ x. told (applySpec (x .0) (x .1) .answer)) answers ≡ map (λ x. x .2) answers
-unfolding computed held marked answers
+numbers : map (λ x. replyOf (applySpec (x .0) (x .1) .answer)) answers ≡ map (λ x. x .2) answers
+unfolding computed held withDefaulted answers
 numbers = refl
 
 -- ---- lower number wins: records with two causes that follow each other
-twoCauses : List (Tables × List ℕ × Told)
+twoCauses : List (Tables × List ℕ × Reply)
 twoCauses =
     -- 1 and 3
     (inHead (withTime 86400) monday, 8 ∷ 1 ∷ [], no 1)
     -- submit: 4 and 5, 5 and 6, 6 and 7, 7 and 8, 8 and 9, 9 and 10, 10 and 17
-    ∷ (marked (0 ∷ []) (inHead (withTime 36001) monday), buy 0 17 26000 1, no 4)
-    ∷ (marked (1 ∷ []) monday, buy 1 5 26000 1, noOf 5 1)
+    ∷ (withDefaulted (0 ∷ []) (inHead (withTime 36001) monday), buy 0 17 26000 1, no 4)
+    ∷ (withDefaulted (1 ∷ []) monday, buy 1 5 26000 1, noOf 5 1)
     ∷ (inPrices (withDayLimits 5 1 25999) monday, buy 0 5 26000 1, noOf 6 5)
     ∷ (after (limits 17 1 26000 ∷ map (λ i. buy 0 17 26000 1) (from 0 5)), buy 0 17 26001 1, no 7)
     ∷ (tablesAfter (made 2021 369 [] (5 ∷ [])) (map (λ i. buy 0 17 26000 1) (from 0 5)), buy 0 17 26000 1, no 8)
@@ -149,17 +149,17 @@ twoCauses =
     ∷ (inHead (withTime 36001) (made 2020 2191 [] (5 ∷ [])), close 36000, no 4)
     ∷ []
 
-lower-number-wins : map (λ x. told (applySpec (x .0) (x .1) .answer)) twoCauses ≡ map (λ x. x .2) twoCauses
-unfolding computed held marked twoCauses
+lower-number-wins : map (λ x. replyOf (applySpec (x .0) (x .1) .answer)) twoCauses ≡ map (λ x. x .2) twoCauses
+unfolding computed held withDefaulted twoCauses
 lower-number-wins = refl
 
 -- ---- making a ledger: 2 without a member; 1, before 2, with a head of 223 places
 header : ℕ → List ℕ
 header n = headerBytes (record { firstYear = 2021; startDay = 369; members = n; holidays = []; limits = 5 ∷ [] })
 
-makings : List (Tables × List ℕ × Told)
+makings : List (Tables × List ℕ × Reply)
 makings = (zeroTables, header 1, lines 0) ∷ (zeroTables, header 0, no 2) ∷ (withHead (replicate 223 0) zeroTables, header 0, no 1) ∷ []
 
-made-numbers : map (λ x. told (makeSpec (x .0) (x .1) .answer)) makings ≡ map (λ x. x .2) makings
+made-numbers : map (λ x. replyOf (makeSpec (x .0) (x .1) .answer)) makings ≡ map (λ x. x .2) makings
 unfolding computed header makings
 made-numbers = refl

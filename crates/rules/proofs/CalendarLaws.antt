@@ -21,7 +21,7 @@ use Rattle.rules.specs.Ranges.{termCount}
 use Rattle.rules.specs.Days.{Calendar, leapYear, monthDays, yearStart, monthLength, monthStart, businessDay, dayAfterSpan, firstBusinessDay, nextBusinessDay, businessDayBefore}
 use Rattle.rules.specs.Contracts.{openCount, closingDistance, monthsIn, sameKind, hasTerm, termOf, kindOf, contractsOf, childrenOf, termFirstDay, termDayAfter, holdsDay, holdsHour}
 use Rattle.rules.specs.Contracts.{termClosingDay, notBefore, isOn, isBefore, stillToClose, openOfKind, openContracts, openOn}
-use Rattle.rules.specs.OtherForms.{nth, firstMonthOf, numberOf, sizeOf, ahead, openByCount}
+use Rattle.rules.specs.OtherForms.{nth, firstMonthOf, contractOf, contractsIn, ahead, openByCount}
 
 -- ---- months
 least-days : (a b c : Bool) → 28 ≤ cond a (cond b 29 28) (cond c 30 31)
@@ -135,23 +135,23 @@ month-of c m h g l =
     let r : (firstMonthOf c + m) % 17 ≡ 5 + 3 * (c % 17 - 1) + m = omega arith in
     term-month (firstMonthOf c + m) (omega arith) ∙ ap (nth Month) (omega arith)
 
-pub contracts-of : (s : ContractKind) → contractsOf s ≡ map (numberOf s) (from 0 (sizeOf s))
+pub contracts-of : (s : ContractKind) → contractsOf s ≡ map (contractOf s) (from 0 (contractsIn s))
 unfolding contractsOf kept from termOf
 contracts-of Year = refl
 contracts-of Quarter = refl
 contracts-of Month = refl
 
 -- A contract's number says its term, and its term its number.
-pub term-number : (s : ContractKind) (i : ℕ) → termOf (numberOf s i) ≡ nth s i
+pub term-number : (s : ContractKind) (i : ℕ) → termOf (contractOf s i) ≡ nth s i
 term-number Year i = term-year (17 * i) (omega arith) ∙ ap (nth Year) (omega arith)
 term-number Quarter i = quarter-of (17 * (i / 4)) (i % 4) (omega arith) (omega arith) ∙ ap (nth Quarter) (omega arith)
 term-number Month i =
-    let c = numberOf Month i in
+    let c = contractOf Month i in
     let y : c / 17 ≡ i / 12 = omega arith in
     let r : c % 17 ≡ 5 + i % 12 = omega arith in
     term-month c (omega arith) ∙ ap (nth Month) (omega arith)
 
-pub number-term : (c : ℕ) → (numberOf (termOf c .kind) (termOf c .index) ≡ c) × (termOf c .index < sizeOf (termOf c .kind) → c < termCount) × (c < termCount → termOf c .index < sizeOf (termOf c .kind))
+pub number-term : (c : ℕ) → (contractOf (termOf c .kind) (termOf c .index) ≡ c) × (termOf c .index < contractsIn (termOf c .kind) → c < termCount) × (c < termCount → termOf c .index < contractsIn (termOf c .kind))
 number-term c =
     same-or (c % 17) 0 (λ z. rw (term-year c z) (omega arith))
     (λ z. le-or-lt (c % 17) 4 (λ l. rw (term-quarter c (omega arith) l) (omega arith)) (λ l. rw (term-month c l) (omega arith)))
@@ -330,11 +330,11 @@ module _ (k : Calendar) where
 
   -- Which contracts of a kind are open, by counting.
   any-open : (d : ℕ) (s : ContractKind) (c : ℕ)
-      → any (λ x. eqb x c) (openOfKind k d s) ≡ ltb (termOf c .index) (sizeOf s) && (openByCount k d (nth s (termOf c .index)) && eqb (numberOf s (termOf c .index)) c)
+      → any (λ x. eqb x c) (openOfKind k d s) ≡ ltb (termOf c .index) (contractsIn s) && (openByCount k d (nth s (termOf c .index)) && eqb (contractOf s (termOf c .index)) c)
   unfolding openOfKind openByCount ahead
   any-open d s c =
-      let only : (j : ℕ) → eqb (numberOf s j) c ≡ true → j ≡ termOf c .index = λ j e. ap (λ (t : Term). t .index) (sym (term-number s j) ∙ ap termOf (eqb-true (numberOf s j) c e)) in
-      rw (contracts-of s) (picked (numberOf s) (λ x. stillToClose k d (termOf x)) c (termOf c .index) only (sizeOf s) (openCount s) ∙ simp term-number)
+      let only : (j : ℕ) → eqb (contractOf s j) c ≡ true → j ≡ termOf c .index = λ j e. ap (λ (t : Term). t .index) (sym (term-number s j) ∙ ap termOf (eqb-true (contractOf s j) c e)) in
+      rw (contracts-of s) (picked (contractOf s) (λ x. stillToClose k d (termOf x)) c (termOf c .index) only (contractsIn s) (openCount s) ∙ simp term-number)
 
   -- Which of all numbers are open, by counting.
   open-counted : (d c : ℕ) → openOn k d c ≡ hasTerm c && openByCount k d (termOf c)
@@ -373,7 +373,7 @@ module _ (k : Calendar) where
 
   -- The open contracts are those that are open.
   other-kind : {z : ContractKind} (d : ℕ) (s : ContractKind) (c : ℕ) → termOf c .kind ≡ z → sameKind z s ≡ false → any (λ x. eqb x c) (openOfKind k d s) ≡ false
-  other-kind d s c h e = any-open d s c ∙ rw (ne-eqb (numberOf s (termOf c .index)) c (λ n. never (rw (← h, ← n, term-number, same-kind) at e))) (simp and-false)
+  other-kind d s c h e = any-open d s c ∙ rw (ne-eqb (contractOf s (termOf c .index)) c (λ n. never (rw (← h, ← n, term-number, same-kind) at e))) (simp and-false)
 
   pub open-listed : (d c : ℕ) → any (λ x. eqb x c) (openContracts k d) ≡ openOn k d c
   unfolding openContracts openOn

@@ -11,7 +11,7 @@ use Rattle.rules.specs.declared.event.Reading.{Reading}
 use Rattle.rules.specs.declared.event.Reading.the-variants.{Sound, Unsound}
 use Rattle.rules.specs.declared.units.Day.{Day}
 use Rattle.rules.specs.declared.units.Day.the-variants.{On, NoDay}
-use Rattle.rules.specs.Answers.{Outcome, told}
+use Rattle.rules.specs.Answers.{Outcome, replyOf}
 use Rattle.rules.specs.Ranges.{contractCount}
 use Rattle.rules.specs.Days.{Calendar, spanStart, dayAfterSpan, nextBusinessDay}
 use Rattle.rules.specs.Contracts.{holdsHour, hasCascaded}
@@ -36,12 +36,12 @@ after t (call ∷ calls) = after (callSpec t call .after) calls
 
 -- An accepted record has number 0.
 abbrev pub isAccepted : Answer → Bool
-isAccepted a = eqb (told a .number) 0
+isAccepted a = eqb (replyOf a .number) 0
 
 -- The lines of an accepted record: the first places of the line table, as many as the answer says.
 -- A refused record gives nothing.
 abbrev pub linesOf : Answer → List ℤ → List Line
-linesOf a l = cond (isAccepted a) (firstLines (told a .value) l) []
+linesOf a l = cond (isAccepted a) (firstLines (replyOf a .detail) l) []
 
 -- All lines of the list's accepted records, in printed order.
 unfoldable pub log : Tables → List Call → List Line

@@ -12,35 +12,35 @@ use Rattle.rules.specs.declared.units.Day.the-variants.{On, NoDay}
 
 -- An answer as the paper gives it: the number of the cause and, with 5, the member, with 6, the contract.
 -- An accepted record has number 0 and returns its line count.
-pub record Told : Type 0 where
+pub record Reply : Type 0 where
   pub number : ℕ
-  pub value : ℕ
+  pub detail : ℕ
 
-abbrev pub told : Answer → Told
-told (Accepted n) = record { number = 0; value = n }
-told TableUnsound = record { number = 1; value = 0 }
-told HeaderUnsound = record { number = 2; value = 0 }
-told RecordUnsound = record { number = 3; value = 0 }
-told TimeBelowLedger = record { number = 4; value = 0 }
-told (MemberDefaulted m) = record { number = 5; value = m }
-told (ContractNotOpen c) = record { number = 6; value = c }
-told PriceOutsideLimits = record { number = 7; value = 0 }
-told SixthSubmit = record { number = 8; value = 0 }
-told AboveLimit = record { number = 9; value = 0 }
-told CannotMatchInFull = record { number = 10; value = 0 }
-told BookFull = record { number = 11; value = 0 }
-told NoSuchOrder = record { number = 12; value = 0 }
-told NotAcceptable = record { number = 13; value = 0 }
-told NoReferencePrice = record { number = 14; value = 0 }
-told NoDefaultedLots = record { number = 15; value = 0 }
-told NoTaker = record { number = 16; value = 0 }
-told TotalPassed = record { number = 17; value = 0 }
-told NoLaterDay = record { number = 18; value = 0 }
+abbrev pub replyOf : Answer → Reply
+replyOf (Accepted n) = record { number = 0; detail = n }
+replyOf TableUnsound = record { number = 1; detail = 0 }
+replyOf HeaderUnsound = record { number = 2; detail = 0 }
+replyOf RecordUnsound = record { number = 3; detail = 0 }
+replyOf TimeBelowLedger = record { number = 4; detail = 0 }
+replyOf (MemberDefaulted m) = record { number = 5; detail = m }
+replyOf (ContractNotOpen c) = record { number = 6; detail = c }
+replyOf PriceOutsideLimits = record { number = 7; detail = 0 }
+replyOf SixthSubmit = record { number = 8; detail = 0 }
+replyOf AboveLimit = record { number = 9; detail = 0 }
+replyOf CannotMatchInFull = record { number = 10; detail = 0 }
+replyOf BookFull = record { number = 11; detail = 0 }
+replyOf NoSuchOrder = record { number = 12; detail = 0 }
+replyOf NotAcceptable = record { number = 13; detail = 0 }
+replyOf NoReferencePrice = record { number = 14; detail = 0 }
+replyOf NoDefaultedLots = record { number = 15; detail = 0 }
+replyOf NoTaker = record { number = 16; detail = 0 }
+replyOf TotalPassed = record { number = 17; detail = 0 }
+replyOf NoLaterDay = record { number = 18; detail = 0 }
 
 -- The paper's number for the next business day, with the day: that there is no later one in the span is 18.
-abbrev pub toldNextDay : Day → Told
-toldNextDay (On d) = record { number = 0; value = d .0 }
-toldNextDay NoDay = told NoLaterDay
+abbrev pub replyOfNextDay : Day → Reply
+replyOfNextDay (On d) = record { number = 0; detail = d .0 }
+replyOfNextDay NoDay = replyOf NoLaterDay
 
 -- What a call answers, and what it leaves.
 pub record Outcome (S : Type 0) : Type 0 where
@@ -63,7 +63,7 @@ unfoldable pub rankOf : ℕ → ℕ
 rankOf n = placeFrom 1 ranking n
 
 abbrev pub rank : Answer → ℕ
-rank a = rankOf (told a .number)
+rank a = rankOf (replyOf a .number)
 
 -- A cause: whether it holds, and its answer.
 abbrev pub Cause : Type 0

@@ -3,7 +3,7 @@ use Prim.Native.Nat.{ℕ}
 use mathlib.Core.List.{List, [], _∷_, flatMap, zipWith}
 use Rattle.arith.specs.Ints.{up, dn}
 use Rattle.arith.specs.Lists.{every, any, kept, howMany, total, over, everyBlock, inEachBlock, allOf, from, count}
-use Rattle.rules.specs.Answers.{Outcome, Told, told}
+use Rattle.rules.specs.Answers.{Outcome, Reply, replyOf}
 use Rattle.rules.specs.Days.{leapYear, monthDays, yearStart, monthLength, monthStart, businessDay, spanStart, dayAfterSpan, inSpan, firstBusinessDay, nextBusinessDay, businessDayBefore}
 use Rattle.rules.specs.Contracts.{termOf, contractsOf, childrenOf, termFirstDay, termDayAfter, daysOf, holdsDay, holdsHour, termClosingDay, stillToClose, openOfKind}
 use Rattle.rules.specs.Contracts.{openContracts, openOn, hasCascaded}
@@ -25,11 +25,11 @@ use Rattle.rules.specs.Accounts.{linesOf}
 
 -- What a call prints: its answer and the deal lines.
 pub record Printed : Type 0 where
-  pub answer : Told
+  pub answer : Reply
   pub lines : List Line
 
 unfoldable pub printed : Outcome Tables → Printed
-printed o = record { answer = told (o .answer); lines = linesOf (o .answer) (o .after .lines) }
+printed o = record { answer = replyOf (o .answer); lines = linesOf (o .answer) (o .after .lines) }
 
 unfoldable pub allPrinted : Tables → List (List ℕ) → List Printed
 allPrinted t [] = []

@@ -70,9 +70,9 @@ abbrev pub inPrices : (List ℕ → List ℕ) → Tables → Tables
 inPrices f t = withPrices (f (t .prices)) t
 
 -- These members have defaulted.
-unfoldable pub marked : List ℕ → Tables → Tables
-marked [] t = t
-marked (m ∷ ms) t = inHead (withMark m) (marked ms t)
+unfoldable pub withDefaulted : List ℕ → Tables → Tables
+withDefaulted [] t = t
+withDefaulted (m ∷ ms) t = inHead (withMark m) (withDefaulted ms t)
 
 -- Lots of a member in a contract.
 unfoldable pub held : List (ℕ × ℕ × ℤ) → Tables → Tables
@@ -97,13 +97,13 @@ sold m r c q p = line m c (negℤ (pos q)) p ∷ line r c (pos q) p ∷ []
 
 -- Accepted, with these lines; refused, with this number, 5 with the member and 6 with the contract.
 abbrev pub accepted : List Line → Printed
-accepted ls = record { answer = record { number = 0; value = length ls }; lines = ls }
+accepted ls = record { answer = record { number = 0; detail = length ls }; lines = ls }
 
 abbrev pub refused : ℕ → Printed
-refused n = record { answer = record { number = n; value = 0 }; lines = [] }
+refused n = record { answer = record { number = n; detail = 0 }; lines = [] }
 
 abbrev pub refusedOf : ℕ → ℕ → Printed
-refusedOf n v = record { answer = record { number = n; value = v }; lines = [] }
+refusedOf n v = record { answer = record { number = n; detail = v }; lines = [] }
 
 -- A function of each of these has the value beside it.
 abbrev pub Each : {A B : Type 0} → (A → B) → List (A × B) → Type 0

@@ -8,7 +8,7 @@ use Rattle.rules.specs.declared.answer.Answer.{Answer}
 use Rattle.rules.specs.declared.answer.Answer.the-variants.{RecordUnsound}
 use Rattle.rules.specs.declared.event.Front.{Front}
 use Rattle.rules.specs.declared.event.Front.the-variants.{Whole, Cut, UnknownKind}
-use Rattle.rules.specs.Answers.{Outcome, told}
+use Rattle.rules.specs.Answers.{Outcome, replyOf}
 use Rattle.rules.specs.Header.{headerLength}
 use Rattle.rules.specs.Ledger.{Tables, Line, firstYear, day, members, lotsRun, zeroTables}
 use Rattle.rules.specs.Records.{frontOf}
@@ -57,11 +57,11 @@ nextLength s = lengthByFront (length s) (frontOf s)
 
 -- An accepted record prints its lines, and nothing if it has none; a refused one prints R.
 unfoldable pub answerText : ℕ → Outcome Tables → List ℕ
-answerText n o = cond (isAccepted (o .answer)) (flatMap dealText (linesOf (o .answer) (o .after .lines))) (refusalText n (told (o .answer) .number))
+answerText n o = cond (isAccepted (o .answer)) (flatMap dealText (linesOf (o .answer) (o .after .lines))) (refusalText n (replyOf (o .answer) .number))
 
 -- After number 3 it stops reading.
 abbrev pub stops : Answer → Bool
-stops a = eqb (told a .number) (told RecordUnsound .number)
+stops a = eqb (replyOf a .number) (replyOf RecordUnsound .number)
 
 abbrev pub acceptedBy : Answer → ℕ
 acceptedBy a = cond (isAccepted a) 1 0
@@ -85,7 +85,7 @@ recordsText counted accepted t s = recordsWithin (length s) counted accepted t s
 unfoldable pub journalTextOn : Tables → List ℕ → List ℕ
 journalTextOn t s =
     let o = makeSpec t s in
-    cond (isAccepted (o .answer)) (headText (o .after) ++ recordsText 0 0 (o .after) (drop (headerLength s) s)) (refusalText 0 (told (o .answer) .number))
+    cond (isAccepted (o .answer)) (headText (o .after) ++ recordsText 0 0 (o .after) (drop (headerLength s) s)) (refusalText 0 (replyOf (o .answer) .number))
 
 -- The program's own tables are zero.
 abbrev pub journalText : List ℕ → List ℕ

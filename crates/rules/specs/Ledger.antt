@@ -119,8 +119,8 @@ abbrev pub limit : Tables → ℕ → ℕ
 limit t m = getD (t .head) (limitsFrom + m) 0
 
 -- What a member's mark is once it has defaulted.
-abbrev pub marked : ℕ
-marked = 1
+abbrev pub defaultMark : ℕ
+defaultMark = 1
 
 -- A member's default mark.
 abbrev pub mark : Tables → ℕ → ℕ
@@ -134,7 +134,7 @@ abbrev pub calendar : Tables → Calendar
 calendar t = record { firstYear = firstYear t; holidays = holidays t }
 
 abbrev pub defaulted : Tables → ℕ → Bool
-defaulted t m = eqb (mark t m) marked
+defaulted t m = eqb (mark t m) defaultMark
 
 -- The contract is open on the ledger's day.
 unfoldable pub isOpen : Tables → ℕ → Bool
@@ -157,7 +157,7 @@ abbrev pub withOrderCount : ℕ → List ℕ → List ℕ
 withOrderCount n head = set head orderCountPlace n
 
 abbrev pub withMark : ℕ → List ℕ → List ℕ
-withMark m head = set head (marksFrom + m) marked
+withMark m head = set head (marksFrom + m) defaultMark
 
 abbrev pub withSubmitsThisSecond : ℕ → ℕ → List ℕ → List ℕ
 withSubmitsThisSecond m n head = set head (submitsFrom + m) n

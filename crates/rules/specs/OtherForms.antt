@@ -21,15 +21,15 @@ abbrev pub firstMonthOf : ℕ → ℕ
 firstMonthOf c = contractsInYear * (c / contractsInYear) + january + monthsInQuarter * (c % contractsInYear - firstQuarter)
 
 -- The number of a kind's ith contract by delivery, and how many of the kind a ledger has.
-abbrev pub numberOf : ContractKind → ℕ → ℕ
-numberOf Year i = contractsInYear * i
-numberOf Quarter i = contractsInYear * (i / quartersInYear) + firstQuarter + i % quartersInYear
-numberOf Month i = contractsInYear * (i / monthsInYear) + january + i % monthsInYear
+abbrev pub contractOf : ContractKind → ℕ → ℕ
+contractOf Year i = contractsInYear * i
+contractOf Quarter i = contractsInYear * (i / quartersInYear) + firstQuarter + i % quartersInYear
+contractOf Month i = contractsInYear * (i / monthsInYear) + january + i % monthsInYear
 
-abbrev pub sizeOf : ContractKind → ℕ
-sizeOf Year = yearsInSpan
-sizeOf Quarter = quartersInSpan
-sizeOf Month = monthsInSpan
+abbrev pub contractsIn : ContractKind → ℕ
+contractsIn Year = yearsInSpan
+contractsIn Quarter = quartersInSpan
+contractsIn Month = monthsInSpan
 
 -- Open on a day, the same by counting those before it: how many of the kind deliver before its ith and are still to close; fewer than
 -- the open count must be.

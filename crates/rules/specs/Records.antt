@@ -25,7 +25,7 @@ use Rattle.rules.specs.declared.field.Field.the-variants.{Kind}
 use Rattle.rules.specs.declared.order.Side.the-variants.{Sell}
 use Rattle.rules.specs.Ranges.{contractCount, lastSecond, mostPrice, mostLots, leastLegs, mostLegs, orderNumbersEnd, mostRatio}
 use Rattle.rules.specs.Sides.{sideNumber, sideOf}
-use Rattle.rules.specs.Answers.{Outcome, decide, Told, told}
+use Rattle.rules.specs.Answers.{Outcome, decide, Reply, replyOf}
 use Rattle.rules.specs.Header.{membersSound}
 use Rattle.rules.specs.Fields.{submitKind, cancelKind, dayLimitsKind, proposalKind, defaultKind, closeOutKind, closeOfDayKind, hasLegs, widths, legFields}
 use Rattle.rules.specs.Fields.{kindFields, numbersAt, bytesBy}
@@ -270,9 +270,9 @@ unfoldable pub readOf : ℕ → List ℕ → Reading
 readOf n s = cond (membersSound n) (ifSound n (legsOf s) (fieldsOf s)) Unsound
 
 -- The paper's number for what a reader answers: a record that is unsound is 3.
-abbrev pub toldReading : Reading → Told
-toldReading (Sound e) = record { number = 0; value = 0 }
-toldReading Unsound = told RecordUnsound
+abbrev pub replyOfReading : Reading → Reply
+replyOfReading (Sound e) = record { number = 0; detail = 0 }
+replyOfReading Unsound = replyOf RecordUnsound
 
 -- ---- records one after the other
 -- The record at the front: its length follows from its kind and, of a proposal, its number of legs.
@@ -283,7 +283,7 @@ frontOf s =
     (cond (leb (frontLength s) (length s)) (Whole (frontLength s)) Cut))
 
 -- The paper's number for it, with a whole record's length: cut and of unknown kind are both 3.
-abbrev pub toldFront : Front → Told
-toldFront (Whole n) = record { number = 0; value = n }
-toldFront Cut = told RecordUnsound
-toldFront UnknownKind = told RecordUnsound
+abbrev pub replyOfFront : Front → Reply
+replyOfFront (Whole n) = record { number = 0; detail = n }
+replyOfFront Cut = replyOf RecordUnsound
+replyOfFront UnknownKind = replyOf RecordUnsound

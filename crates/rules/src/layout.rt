@@ -57,7 +57,7 @@ pub const MARKS: usize = LIMITS + MEMBER_PLACES;
 pub const SUBMITS: usize = MARKS + MEMBER_PLACES;
 
 // A member's mark once it has defaulted.
-pub const MARKED: u64 = 1;
+pub const DEFAULT_MARK: u64 = 1;
 
 pub const HEAD_LENGTH: usize = SUBMITS + MEMBER_PLACES;
 

@@ -62,14 +62,14 @@ module _ (t : Tables) (e : Submission) (h : HeadFit (t .head)) (b : BookFit (t .
     unfolding orders
     own-same = own-is ∙ ap (λ y. ownIn y (ordersIn (orderCountIn (t .head)) (t .book))) same
 
-    told : (x : Outcome Tables) → outcome second t x ≡ decide (measuredCauses (ownIn (incoming t e) (orders t)) (crossingIn (incoming t e) (orders t)) t e) t x
-    told x = l x ∙ ap (λ n. decide (measuredCauses n crossing t e) t x) own-same ∙ ap (λ n. decide (measuredCauses (ownIn (incoming t e) (orders t)) n t e) t x) crossing-same
+    replyOf : (x : Outcome Tables) → outcome second t x ≡ decide (measuredCauses (ownIn (incoming t e) (orders t)) (crossingIn (incoming t e) (orders t)) t e) t x
+    replyOf x = l x ∙ ap (λ n. decide (measuredCauses n crossing t e) t x) own-same ∙ ap (λ n. decide (measuredCauses (ownIn (incoming t e) (orders t)) n t e) t x) crossing-same
 
     pub judged-both : Judged t e first second crossing
     judged-both =
         record {
-          verdict = judged t e ranked numbers has-lots (f .least-lots) many (h .most-orders) first second k told;
-          accepts = λ s r. subst (Acceptable t e) (sym crossing-same) (acceptable t e ranked numbers has-lots (f .least-lots) many (h .most-orders) first second k told s r);
+          verdict = judged t e ranked numbers has-lots (f .least-lots) many (h .most-orders) first second k replyOf;
+          accepts = λ s r. subst (Acceptable t e) (sym crossing-same) (acceptable t e ranked numbers has-lots (f .least-lots) many (h .most-orders) first second k replyOf s r);
         }
 
 module _ {t : Tables} {e : Submission} {first second : Verdict} {crossing : ℕ} (j : Judged t e first second crossing) (s : first ≡ Sound) where

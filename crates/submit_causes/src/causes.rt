@@ -19,11 +19,11 @@ use rules::Answer;
 use rules::OrderKind;
 use rules::Submission;
 use rules::layout::ACCEPTED_SUBMITS;
+use rules::layout::DEFAULT_MARK;
 use rules::layout::HIGH;
 use rules::layout::LIMITS;
 use rules::layout::LOTS_RUN;
 use rules::layout::LOW;
-use rules::layout::MARKED;
 use rules::layout::MARKS;
 use rules::layout::ORDER_COUNT;
 use rules::layout::PRICE_WIDTH;
@@ -90,7 +90,7 @@ pub fn first_cause(head: &[u64], prices: &[u64], e: Submission) -> Verdict
     if time < head[TIME] {
         return Verdict::Refused(Answer::TimeBelowLedger);
     }
-    if head[MARKS + member as usize] == MARKED {
+    if head[MARKS + member as usize] == DEFAULT_MARK {
         return Verdict::Refused(Answer::MemberDefaulted(member));
     }
     if !tables::is_contract_open(head, contract) {

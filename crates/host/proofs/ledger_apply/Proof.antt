@@ -4,7 +4,7 @@ use Rattle.host.proofs.ledger_apply.Statement.{statement}
 use Rattle.host.proofs.ledger_apply.Tie as tie
 
 returns : tie.Need-returns
-returns c = answered _ (c .before .before .before .before .before .before .before .before .before .before .apply .ensures) (c .told-of .ensures .0) (c .told-of .ensures .1)
+returns c = answered _ (c .before .before .before .before .before .before .before .before .before .before .apply .ensures) (c .reply-of .ensures .0) (c .reply-of .ensures .1)
 
 pub ledger-apply-spec : {M : Type 1} → statement M
 ledger-apply-spec =

@@ -8,8 +8,8 @@ returns : tie.Need-returns
 returns c =
     let a = c .before .before .before .before .before .before .before .before .before .before .before .before .before .before .before .before .args in
     let make = c .before .before .before .before .before .before .before .make in
-    λ n. made (lent (a .head .now) (a .prices .now) (a .lots .now) (a .value .now) (a .book .now) n) _ (a .header .now) (make .result) (c .told-of .result .number)
-    (make .ensures n) (c .told-of .ensures .0)
+    λ n. made (lent (a .head .now) (a .prices .now) (a .lots .now) (a .value .now) (a .book .now) n) _ (a .header .now) (make .result) (c .reply-of .result .number)
+    (make .ensures n) (c .reply-of .ensures .0)
 
 pub ledger-make-spec : {M : Type 1} → statement M
 ledger-make-spec =

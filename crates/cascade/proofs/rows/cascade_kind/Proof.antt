@@ -5,7 +5,7 @@ use Prim.Native.Nat.{_*_, _-_, _<_}
 use native.Mathlib.Omega.{arith}
 use lib.ListN.{length}
 use Rattle.arith.specs.Lists.{kept}
-use Rattle.rules.specs.OtherForms.{sizeOf}
+use Rattle.rules.specs.OtherForms.{contractsIn}
 use Rattle.rules.specs.Contracts.{contractsOf}
 use Rattle.rules.specs.CloseOfDay.{allCascaded}
 use Rattle.contract_phases.specs.Phases.{closes}
@@ -48,7 +48,7 @@ cascade-closing-requires : tie.Need-cascade-closing-requires Inv-loop μ-loop
 cascade-closing-requires c κs =
     let s = c .before .before .before .before .before .before .before .args .kind in
     let l = c .before .before .before .before .loop in
-    let h : l .i < sizeOf s = omega (arith, c .before .before .before .before .before .contracts-in .ensures) in
+    let h : l .i < contractsIn s = omega (arith, c .before .before .before .before .before .contracts-in .ensures) in
     rw (c .before .before .contract-of .ensures)
     ((record { long = l .inv .fit .long; within = λ x m u k. omega (arith, l .inv .fit .within x m u k) }, omega arith), (number-below s (l .i) h, number-parent s (l .i) (omega arith)))
 

@@ -17,10 +17,10 @@ shl-result c = omega (arith, digits (c .args .bound) (c .pre) .0)
 returns : tie.Need-returns
 returns c =
     let b = c .args .bound in
-    let told = digits b (c .pre) in
-    let small : 2 ^ (64 - leadingZeros 64 b) ≤ 2 ^ 62 = pow-mono (told .0) in
+    let replyOf = digits b (c .pre) in
+    let small : 2 ^ (64 - leadingZeros 64 b) ≤ 2 ^ 62 = pow-mono (replyOf .0) in
     let whole : (1 * 2 ^ (64 - leadingZeros 64 b)) % 2 ^ 64 ≡ 2 ^ (64 - leadingZeros 64 b) = omega arith in
-    (64 - leadingZeros 64 b, (told .0, whole), rw whole (told .1))
+    (64 - leadingZeros 64 b, (replyOf .0, whole), rw whole (replyOf .1))
 
 pub width-within-spec : {M : Type 1} → statement M
 width-within-spec =

@@ -4,7 +4,7 @@ use Rattle.host.proofs.bytes.ledger_read_record.Statement.{statement}
 use Rattle.host.proofs.bytes.ledger_read_record.Tie as tie
 
 returns : tie.Need-returns
-returns c = answered _ (c .before .before .before .read-record-fields .ensures) (c .told-of .ensures .0) (c .told-of .ensures .1)
+returns c = answered _ (c .before .before .before .read-record-fields .ensures) (c .reply-of .ensures .0) (c .reply-of .ensures .1)
 
 pub ledger-read-record-spec : {M : Type 1} → statement M
 ledger-read-record-spec =

@@ -20,7 +20,7 @@ returns c =
       ← (c .before .before .before .before .before .before .before .before .verdict-of .ensures),
       ← (c .before .before .before .before .before .before .before .range-of .ensures),
       ←
-          (c .before .before .before .before .before .before .size-of .ensures .0),
+          (c .before .before .before .before .before .before .width-of .ensures .0),
       ← (c .before .before .before .before .before .number-at .ensures .0),
       ←
           (c .before .before .before .before .fault-place .ensures),

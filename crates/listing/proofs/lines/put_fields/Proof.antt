@@ -2,14 +2,14 @@ use borrow.Author.Needs.{needs}
 use native.Mathlib.Omega.{arith}
 use Prim.Native.Nat.{_-_}
 use Rattle.arith.proofs.Tests.{asked-true, asked-false}
-use Rattle.listing_words.specs.Fields.{fieldsOf}
+use Rattle.listing_words.specs.Fields.{fieldsIn}
 use Rattle.listing.specs.Lines.{Going}
 use Rattle.listing.proofs.Goings.{going-start, going-next, going-fault, going-end}
 use Rattle.listing.proofs.lines.put_fields.Statement.{statement}
 use Rattle.listing.proofs.lines.put_fields.Tie as tie
 
 abbrev Inv-loop : tie.InvT-loop
-Inv-loop shape count members first-year base bytes out₀ start place₀ end₀ i₀ out place end i = Going first-year base members bytes (fieldsOf shape) out₀ out start i place end
+Inv-loop shape count members first-year base bytes out₀ start place₀ end₀ i₀ out place end i = Going first-year base members bytes (fieldsIn shape) out₀ out start i place end
 
 abbrev μ-loop : tie.MeasureT-loop
 μ-loop shape count members first-year base bytes out₀ start place₀ end₀ i₀ out place end i = count - i
@@ -55,7 +55,7 @@ put-quantity-requires c κs = (
 add-place : tie.Need-add-place Inv-loop μ-loop
 add-place c = omega (
   arith,
-  c .before .before .before .before .before .size-of .ensures .1,
+  c .before .before .before .before .before .width-of .ensures .1,
   c .before .before .before .before .before .before .before .before .before .before .before .loop .inv .inside,
 )
 
@@ -63,10 +63,10 @@ loop-again : tie.Need-loop-again Inv-loop μ-loop
 loop-again c =
     let e = rw (c .before .before .before .before .before .before .before .before .verdict-of .ensures) at
     (asked-true (c .before .before .before .before .before .before .before .does-pass .ensures) (c .before .before .before .before .before .before .if1 .left)) in
-    rw (c .before .before .before .before .before .size-of .ensures .0)
+    rw (c .before .before .before .before .before .width-of .ensures .0)
     (going-next _ _ _ _ _ (c .before .before .before .before .before .before .before .before .before .before .before .loop .inv) _ (omega arith)
     (c .before .before .before .before .before .before .before .before .before .field-at .ensures) e (omega arith) (omega (arith, c .before .before .put-quantity .kept .0))
-    (rw (c .before .before .before .number-at .ensures .0, c .before .before .before .before .before .size-of .ensures .0) at (c .before .before .put-quantity .ensures)))
+    (rw (c .before .before .before .number-at .ensures .0, c .before .before .before .before .before .width-of .ensures .0) at (c .before .before .put-quantity .ensures)))
 
 same-length-2 : tie.Need-same-length-2 Inv-loop μ-loop
 same-length-2 c = c .before .loop .inv .same

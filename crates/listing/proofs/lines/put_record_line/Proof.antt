@@ -2,7 +2,7 @@ use mathlib.Core.Path.{refl}
 use native.Mathlib.Omega.{arith}
 use Rattle.listing_numbers.proofs.Writers.{next, exactly, digits, decimal-room, within-room}
 use mathlib.Core.List.{append-assoc}
-use Rattle.listing_words.specs.Fields.{fieldsOf}
+use Rattle.listing_words.specs.Fields.{fieldsIn}
 use Rattle.listing_words.specs.Words.{recordLine}
 use borrow.Author.Needs.{needs}
 use Rattle.listing.proofs.lines.put_record_line.Statement.{statement}
@@ -12,7 +12,7 @@ put-decimal-requires : tie.Need-put-decimal-requires
 put-decimal-requires c κs = decimal-room _ _ _ (c .before .before .before .before .before .before .fits .number .fits) (omega arith)
 
 put-fields-requires : tie.Need-put-fields-requires
-unfolding fieldsOf
+unfolding fieldsIn
 put-fields-requires c κs =
     let w = digits _ (c .before .before .before .before .before .before .before .before .before .before .fits .number .fits) (c .before .before .before .put-decimal .ensures) in
     ((rw (c .before .before .before .before .before .count-of-kind .ensures .0) (omega arith), omega (arith, w .short), omega arith), (omega arith, omega arith, omega arith))

@@ -7,12 +7,12 @@ use Rattle.listing.proofs.ranges.verdict_of.Tie as tie
 
 returns : tie.Need-returns
 unfolding verdictOf
-returns c = rw (← (c .before .size-of .ensures .0), lt-ltb _ _ (c .if1 .taken)) refl
+returns c = rw (← (c .before .width-of .ensures .0), lt-ltb _ _ (c .if1 .taken)) refl
 
 returns-2 : tie.Need-returns-2
 unfolding verdictOf
 returns-2 c = rw (
-  ← (c .before .before .before .before .before .before .before .size-of .ensures .0),
+  ← (c .before .before .before .before .before .before .before .width-of .ensures .0),
   le-ltb _ _ (c .before .before .before .before .before .before .if1 .left),
   ←
       (c .before .before .before .before .before .number-at .ensures .0),
@@ -26,7 +26,7 @@ returns-2 c = rw (
 returns-3 : tie.Need-returns-3
 unfolding verdictOf
 returns-3 c = rw (
-  ← (c .before .before .before .before .before .size-of .ensures .0),
+  ← (c .before .before .before .before .before .width-of .ensures .0),
   le-ltb _ _ (c .before .before .before .before .if1 .left),
   ←
       (c .before .before .before .number-at .ensures .0),

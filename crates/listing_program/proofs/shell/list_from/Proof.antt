@@ -12,12 +12,12 @@ use Rattle.listing_program.proofs.shell.list_from.Tie as tie
 list-records-requires : tie.Need-list-records-requires
 unfolding headerLength
 list-records-requires c κs =
-    let told = c .before .before .before in
-    let listed = told .before .before .before .before .before .before .before in
+    let replyOf = c .before .before .before in
+    let listed = replyOf .before .before .before .before .before .before .before in
     let start = listed .before .before .before .before .before .before in
     let part = part-length (start .args .window) (start .args .input .now) in
-    let fits = header-fits _ (asked-true (listed .put-header-line .ensures .sound) (told .before .before .before .if1 .left)) in
-    let l = told .ledger-of .ensures in (
+    let fits = header-fits _ (asked-true (listed .put-header-line .ensures .sound) (replyOf .before .before .before .if1 .left)) in
+    let l = replyOf .ledger-of .ensures in (
       first-stands (start .args .window) _ _ (start .pre .0) (omega (arith, part, fits, l .size))
           (omega (arith, listed .put-header-line .ensures .written .short)),
       refl,

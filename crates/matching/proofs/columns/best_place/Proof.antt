@@ -5,10 +5,10 @@ use Rattle.matching.proofs.columns.best_place.Statement.{statement}
 use Rattle.matching.proofs.columns.best_place.Tie as tie
 
 returns : tie.Need-returns
-returns c = record { low = c .before .lowest-of-block .result; lowest = c .before .lowest-of-block .ensures; told = rw (lt-ltb _ noRank (c .if1 .taken)) }
+returns c = record { low = c .before .lowest-of-block .result; lowest = c .before .lowest-of-block .ensures; replyOf = rw (lt-ltb _ noRank (c .if1 .taken)) }
 
 returns-2 : tie.Need-returns-2
-returns-2 c = record { low = c .before .lowest-of-block .result; lowest = c .before .lowest-of-block .ensures; told = rw (le-ltb _ noRank (c .if1 .left)) }
+returns-2 c = record { low = c .before .lowest-of-block .result; lowest = c .before .lowest-of-block .ensures; replyOf = rw (le-ltb _ noRank (c .if1 .left)) }
 
 pub best-place-spec : {M : Type 1} → statement M
 best-place-spec =

@@ -11,7 +11,7 @@ use lib.Seq.{take-nil}
 use Prim.Native.Nat.{_<_}
 use Rattle.arith.specs.Lists.{from, kept}
 use Rattle.arith.proofs.Scans.{from-next, from-end}
-use Rattle.rules.specs.OtherForms.{numberOf, sizeOf}
+use Rattle.rules.specs.OtherForms.{contractOf, contractsIn}
 use Rattle.rules.proofs.CalendarLaws.{contracts-of}
 use Rattle.contract_phases.specs.Phases.{waits, openIn}
 use Rattle.reference_price.specs.Columns.{DealsFit, ggfFrom, ggfsFrom}
@@ -21,8 +21,8 @@ use Rattle.reference_price.proofs.prices.write_kind_ggfs.Statement.{sta
 use Rattle.reference_price.proofs.prices.write_kind_ggfs.Tie as tie
 
 abbrev Inv-loop : tie.InvT-loop
-Inv-loop prices₀ column buys sells kind count more₀ i₀ prices more i = DealsFit prices × (length prices ≡ length prices₀) × (i ≤ sizeOf kind)
-    × (ggfsFrom buys sells (take more (kept (waits column) (map (numberOf kind) (from i (sizeOf kind - i))))) prices ≡ ggfsFrom buys sells (openIn column kind) prices₀)
+Inv-loop prices₀ column buys sells kind count more₀ i₀ prices more i = DealsFit prices × (length prices ≡ length prices₀) × (i ≤ contractsIn kind)
+    × (ggfsFrom buys sells (take more (kept (waits column) (map (contractOf kind) (from i (contractsIn kind - i))))) prices ≡ ggfsFrom buys sells (openIn column kind) prices₀)
 
 abbrev μ-loop : tie.MeasureT-loop
 μ-loop prices₀ column buys sells kind count more₀ i₀ prices more i = count - i
@@ -31,7 +31,7 @@ loop-holds : tie.Need-loop-holds Inv-loop μ-loop
 unfolding openIn
 loop-holds c =
     let kind = c .before .before .before .before .before .before .args .kind in
-    (c .before .before .before .before .before .before .pre .0, refl, omega arith, rw (c .open-count .ensures, contracts-of kind, sub-zero (sizeOf kind)))
+    (c .before .before .before .before .before .before .pre .0, refl, omega arith, rw (c .open-count .ensures, contracts-of kind, sub-zero (contractsIn kind)))
 
 contract-of-requires : tie.Need-contract-of-requires Inv-loop μ-loop
 contract-of-requires c κs = omega (arith, c .before .before .before .contracts-in .ensures)
@@ -68,10 +68,10 @@ loop-again c =
     let l = c .before .before .before .before .before .before .before .loop in
     let contract-of = c .before .before .before .before .before .contract-of in
     let write-if-open = c .before .before .write-if-open in
-    let size = sizeOf (a .kind) in
+    let size = contractsIn (a .kind) in
     let h : l .i < size = omega (arith, contracts-in .ensures) in
-    let x = numberOf (a .kind) (l .i) in
-    let rest = map (numberOf (a .kind)) (from (l .i + 1) (size - (l .i + 1))) in
+    let x = contractOf (a .kind) (l .i) in
+    let rest = map (contractOf (a .kind)) (from (l .i + 1) (size - (l .i + 1))) in
     let known = rw (from-next (l .i) size h) at (l .inv .3) in
     let v = ggfFrom (a .buys .now) (a .sells .now) (l .prices) x in (
       rw (write-if-open .ensures .1, contract-of .ensures) (deals-if (waits (a .column .now) x && ltb 0 (l .more)) (l .prices) x v (l .inv .0)),
@@ -89,7 +89,7 @@ unfolding ggfsFrom kept
 returns c =
     let a = c .before .before .before .before .before .before .before .before .args in
     let l = c .before .loop in
-    let size = sizeOf (a .kind) in
+    let size = contractsIn (a .kind) in
     rw (take-nil (l .more)) at (rw (from-end (l .i) size (omega (arith, c .before .before .before .contracts-in .ensures))) at (l .inv .3))
 
 pub write-kind-ggfs-spec : {M : Type 1} → statement M

@@ -1,0 +1,121 @@
+use Prim.Native.Nat.{_-_, _≤_}
+use mathlib.Core.Path.{_≡_, refl}
+use native.Mathlib.Omega.{arith}
+use lib.ListN.{length}
+use Rattle.journal_program.specs.Places.{mostTurns, Stands}
+use Rattle.journal_program.proofs.Turning.{going-stands}
+use borrow.Author.Needs.{needs}
+use Rattle.journal_program.proofs.shell.run_turns.Statement.{statement}
+use Rattle.journal_program.proofs.shell.run_turns.Tie as tie
+
+abbrev Inv-loop : tie.InvT-loop
+Inv-loop input₀ output₀ head₀ prices₀ lots₀ value₀ book₀ lines₀ place₀ turns₀ t13 input output head prices lots value book lines place turns =
+    Stands place × (place .turns ≡ turns) × (turns ≤ mostTurns)
+    × (length input ≡ length input₀)
+    × (length output ≡ length output₀)
+    × (length head ≡ length head₀)
+    × (length prices ≡ length prices₀)
+    × (length lots ≡ length lots₀)
+    × (length value ≡ length value₀)
+    × (length book ≡ length book₀)
+    × (length lines ≡ length lines₀)
+
+abbrev μ-loop : tie.MeasureT-loop
+μ-loop input₀ output₀ head₀ prices₀ lots₀ value₀ book₀ lines₀ place₀ turns₀ t13 input output head prices lots value book lines place turns =
+    mostTurns - turns
+
+-- The loop in which a turn was taken.
+abbrev before-turn : tie.After-turn Inv-loop μ-loop → tie.In-loop Inv-loop μ-loop
+before-turn c = c .before .before .before .before .before .before .before .before .before
+
+loop-holds : tie.Need-loop-holds Inv-loop μ-loop
+loop-holds c = (c .first-place .ensures .0, omega (arith, c .first-place .ensures .1), omega arith, refl, refl, refl, refl, refl, refl, refl, refl)
+
+turn-requires : tie.Need-turn-requires Inv-loop μ-loop
+turn-requires c κs =
+    let l = c .before .before .before .before .before .before .before .before .before .loop in
+    let pre = c .before .before .before .before .before .before .before .before .before .before .before .before .before .before .before .before .pre in (
+      l .inv .0,
+      omega (arith, l .inv .1, c .before .before .before .before .before .before .before .before .loop-test .taken),
+      omega (arith, l .inv .3, pre .0),
+      omega (arith, l .inv .4, pre .1),
+      omega (arith, l .inv .5, pre .2),
+      omega (arith, l .inv .10, pre .3),
+    )
+
+same-length : tie.Need-same-length Inv-loop μ-loop
+same-length c =
+    let t = c .before .before .before .before .before .before .before .before .before .before .before .before .before .before .before .before in
+    omega (arith, t .turn .kept .1 .0, before-turn t .before .loop .inv .3)
+
+same-length-2 : tie.Need-same-length-2 Inv-loop μ-loop
+same-length-2 c =
+    let t = c .before .before .before .before .before .before .before .before .before .before .before .before .before .before .before .before in
+    omega (arith, t .turn .kept .1 .1 .0, before-turn t .before .loop .inv .4)
+
+same-length-3 : tie.Need-same-length-3 Inv-loop μ-loop
+same-length-3 c =
+    let t = c .before .before .before .before .before .before .before .before .before .before .before .before .before .before .before .before in
+    omega (arith, t .turn .kept .1 .1 .1 .0, before-turn t .before .loop .inv .5)
+
+same-length-4 : tie.Need-same-length-4 Inv-loop μ-loop
+same-length-4 c =
+    let t = c .before .before .before .before .before .before .before .before .before .before .before .before .before .before .before .before in
+    omega (arith, t .turn .kept .1 .1 .1 .1 .0, before-turn t .before .loop .inv .6)
+
+same-length-5 : tie.Need-same-length-5 Inv-loop μ-loop
+same-length-5 c =
+    let t = c .before .before .before .before .before .before .before .before .before .before .before .before .before .before .before .before in
+    omega (arith, t .turn .kept .1 .1 .1 .1 .1 .0, before-turn t .before .loop .inv .7)
+
+same-length-6 : tie.Need-same-length-6 Inv-loop μ-loop
+same-length-6 c =
+    let t = c .before .before .before .before .before .before .before .before .before .before .before .before .before .before .before .before in
+    omega (arith, t .turn .kept .1 .1 .1 .1 .1 .1 .0, before-turn t .before .loop .inv .8)
+
+same-length-7 : tie.Need-same-length-7 Inv-loop μ-loop
+same-length-7 c =
+    let t = c .before .before .before .before .before .before .before .before .before .before .before .before .before .before .before .before in
+    omega (arith, t .turn .kept .1 .1 .1 .1 .1 .1 .1 .0, before-turn t .before .loop .inv .9)
+
+same-length-8 : tie.Need-same-length-8 Inv-loop μ-loop
+same-length-8 c =
+    let t = c .before .before .before .before .before .before .before .before .before .before .before .before .before .before .before .before in
+    omega (arith, t .turn .kept .1 .1 .1 .1 .1 .1 .1 .1 .0, before-turn t .before .loop .inv .10)
+
+loop-less : tie.Need-loop-less Inv-loop μ-loop
+loop-less c = omega (arith, before-turn (c .before .before .before .before .before .before .before .before .before .before .before .before .before .before .before .before) .loop-test .taken)
+
+loop-again : tie.Need-loop-again Inv-loop μ-loop
+loop-again c =
+    let t = c .before .before .before .before .before .before .before .before .before .before .before .before .before .before .before .before in
+    let g = going-stands _ _ _ (t .turn .ensures) (c .before .next .given .1) in
+    let k = t .turn .kept in
+    let w = before-turn t .before .loop .inv in (
+      g .0,
+      omega (arith, g .1, w .1),
+      omega (arith, before-turn t .loop-test .taken),
+      omega (arith, k .1 .0, w .3),
+      omega (arith, k .1 .1 .0, w .4),
+      omega (arith, k .1 .1 .1 .0, w .5),
+      omega (arith, k .1 .1 .1 .1 .0, w .6),
+      omega (arith, k .1 .1 .1 .1 .1 .0, w .7),
+      omega (arith, k .1 .1 .1 .1 .1 .1 .0, w .8),
+      omega (arith, k .1 .1 .1 .1 .1 .1 .1 .0, w .9),
+      omega (arith, k .1 .1 .1 .1 .1 .1 .1 .1 .0, w .10),
+    )
+
+pub run-turns-spec : {M : Type 1} → statement M
+run-turns-spec =
+    tie.close
+    (tie.spec Inv-loop μ-loop (λ c κs. search needs) loop-holds turn-requires (λ c. search needs) (λ c. search needs)
+    same-length same-length-2 same-length-3 same-length-4 same-length-5 same-length-6 same-length-7 same-length-8
+    (λ c. search needs) (λ c. omega arith) loop-less loop-again (λ c. search needs) (λ c κs. search needs)
+    (λ c. omega (arith, c .before .before .before .loop .inv .3))
+    (λ c. omega (arith, c .before .before .before .loop .inv .4))
+    (λ c. omega (arith, c .before .before .before .loop .inv .5))
+    (λ c. omega (arith, c .before .before .before .loop .inv .6))
+    (λ c. omega (arith, c .before .before .before .loop .inv .7))
+    (λ c. omega (arith, c .before .before .before .loop .inv .8))
+    (λ c. omega (arith, c .before .before .before .loop .inv .9))
+    (λ c. omega (arith, c .before .before .before .loop .inv .10)) (λ c. search needs))

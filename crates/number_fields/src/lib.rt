@@ -1,0 +1,11 @@
+// Headers and records as rows of numbers, for a host that knows no event.
+mod event;
+mod headers;
+mod numbers;
+mod places;
+mod records;
+
+pub use headers::read_header_fields;
+pub use headers::write_header_fields;
+pub use journal::read_record_fields;
+pub use journal::write_record_fields;
