@@ -61,7 +61,9 @@ FIELD = re.compile(r"^\s*(?:pub\s+)?([A-Z]\w*(?=\s*[,({=])|[a-z]\w*(?=:\s))", re
 FUNCTION = re.compile(r"^[a-z][\w *]*\b(\w+)\(", re.M)
 DEF = re.compile(r"^\s*def (\w+)", re.M)
 WORD = re.compile(r"\w+")
-DEFINES = {".antt": (SIGNATURE,), ".rt": (ITEM, FIELD), ".rs": (ITEM,), ".c": (FUNCTION,), ".py": (DEF,)}
+# A slip of a must-fail edit.
+SLIP = re.compile(r"^slip: (\S+)$", re.M)
+DEFINES = {".edit": (SLIP,), ".antt": (SIGNATURE,), ".rt": (ITEM, FIELD), ".rs": (ITEM,), ".c": (FUNCTION,), ".py": (DEF,)}
 
 
 def text_of(path):
