@@ -1,5 +1,6 @@
 // What a program holds of its input and output.
 ghost use mathlib.Core.Path.{_≡_};
+ghost use mathlib.Core.Bool.{false};
 ghost use Prim.Native.Nat.{_≤_};
 ghost use lib.ListN.{length, take};
 ghost use Rattle.streams.specs.Windows.{Within, filledTo, readMore, wroteOut, finished};
@@ -65,8 +66,9 @@ fn flush(output: &[u8], filled: usize) -> bool
     false
 }
 
+// Before the first read.
 pub fn first_window(progress: Progress) -> Window
-    ensures { λ r. ⌜ (r .from ≡ 0) × (r .end ≡ 0) × (r .filled ≡ 0) ⌝ }
+    ensures { λ r. ⌜ (r .from ≡ 0) × (r .end ≡ 0) × (r .«is_last» ≡ false) × (r .filled ≡ 0) × (r .progress ≡ progress) ⌝ }
 {
     Window {
         from: 0,
