@@ -7,5 +7,5 @@ mod records;
 
 pub use headers::read_header_fields;
 pub use headers::write_header_fields;
-pub use journal::read_record_fields;
-pub use journal::write_record_fields;
+pub use records::read_record_fields;
+pub use records::write_record_fields;
