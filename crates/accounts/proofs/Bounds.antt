@@ -18,7 +18,7 @@ use Rattle.arith.specs.Ints.{when}
 use Rattle.arith.proofs.Sizes.{abs-plus, abs-times, abs-when}
 use Rattle.arith.proofs.Tests.{le-or-lt, same-or, and-left, and-right}
 use Rattle.rules.specs.Ledger.{headLength, rowsLength}
-use Rattle.rules.specs.Ranges.{contractCount, termCount, mostPrice}
+use Rattle.rules.specs.Ranges.{contractCount, termCount, mostPrice, contractsInYear, lastQuarter, firstQuarter, january, mostMembers, monthsInYear, monthsInQuarter}
 use Rattle.rules.specs.Contracts.{childrenOf}
 use Rattle.rules.specs.OtherForms.{yearOf, quarterOf, monthOf}
 use Rattle.rules.proofs.HourLaws.{cascading}
@@ -46,13 +46,13 @@ pub record Bounded (n bound : ℕ) (R : ℕ → ℕ → ℤ) : Type 0 where
 pub bounded-row : {n b : ℕ} {R : ℕ → ℕ → ℤ} → Bounded n b R → (c m : ℕ) → c < contractCount → m < n → natAbs (R c m) ≤ b
 bounded-row {R = R} a c m l q =
     let size : ℕ → ℕ = λ d. natAbs (R d m) in
-    let first = 12 * (c / 17) in
+    let first = monthsInYear * (c / contractsInYear) in
     le-or-lt termCount c (λ w. a .apart c m q w l)
-    (λ w. same-or (c % 17) 0
+    (λ w. same-or (c % contractsInYear) 0
     (λ z. let e : yearOf first ≡ c = omega arith in omega (arith, a .within m first q (omega arith), ap size e))
-    (λ z. le-or-lt (c % 17) 4
-    (λ k. let i = first + 3 * (c % 17 - 1) in let e : quarterOf i ≡ c = omega arith in omega (arith, a .within m i q (omega arith), ap size e))
-    (λ k. let i = first + (c % 17 - 5) in let e : monthOf i ≡ c = omega arith in omega (arith, a .within m i q (omega arith), ap size e))))
+    (λ z. le-or-lt (c % contractsInYear) lastQuarter
+    (λ k. let i = first + monthsInQuarter * (c % contractsInYear - firstQuarter) in let e : quarterOf i ≡ c = omega arith in omega (arith, a .within m i q (omega arith), ap size e))
+    (λ k. let i = first + (c % contractsInYear - january) in let e : monthOf i ≡ c = omega arith in omega (arith, a .within m i q (omega arith), ap size e))))
 
 -- the rows may be told by other words
 pub bounded-same : {n b : ℕ} {R R′ : ℕ → ℕ → ℤ} → ((c m : ℕ) → c < contractCount → m < n → R′ c m ≡ R c m) → Bounded n b R → Bounded n b R′
@@ -134,7 +134,7 @@ to-next false true x y z w e f g = rw (f refl) (omega (arith, abs-plus x (pos 0)
 to-next false false x y z w e f g = omega (arith, abs-plus x (pos 0), abs-plus y (pos 0), abs-plus z (pos 0))
 
 -- R′ are the rows after a cascade of the year or quarter c, R those before it.
-pub bounded-cascaded : {n b : ℕ} (c : ℕ) (R R′ : ℕ → ℕ → ℤ) → c < termCount → c % 17 < 5
+pub bounded-cascaded : {n b : ℕ} (c : ℕ) (R R′ : ℕ → ℕ → ℤ) → c < termCount → c % contractsInYear < january
     → ((d m : ℕ) → m < n → R′ d m ≡ cond (eqb c d) (pos 0) (R d m +ℤ when (any (λ x. eqb x d) (childrenOf c)) (R c m)))
     → Bounded n b R → Bounded n b R′
 bounded-cascaded c R R′ t h after a = record {
@@ -152,9 +152,9 @@ bounded-cascaded c R R′ t h after a = record {
 abbrev rowsIn : List ℤ → ℕ → ℕ → ℤ
 rowsIn l c m = getD l (rowPlace c m) (pos 0)
 
-column-cascaded : {b : ℕ} (n c : ℕ) (l : List ℤ) → c < termCount → n ≤ 32 → rowsLength ≤ length l → Bounded n b (rowsIn l) → Bounded n b (rowsIn (cascaded n c l))
+column-cascaded : {b : ℕ} (n c : ℕ) (l : List ℤ) → c < termCount → n ≤ mostMembers → rowsLength ≤ length l → Bounded n b (rowsIn l) → Bounded n b (rowsIn (cascaded n c l))
 column-cascaded n c l k q s a =
-    le-or-lt 5 (c % 17) (λ h. rw (cascaded-month n c l h) a)
+    le-or-lt january (c % contractsInYear) (λ h. rw (cascaded-month n c l h) a)
     (λ h. bounded-cascaded c (rowsIn l) (rowsIn (cascaded n c l)) k h (λ d m p. cascaded-row n c l s k q d m h p) a)
 
 -- tables with rows for their n members
@@ -163,7 +163,7 @@ pub record Roomy (n : ℕ) (t : Tables) : Type 0 where
   pub lots-long : rowsLength ≤ length (t .lots)
   pub value-long : rowsLength ≤ length (t .value)
 
-module _ (n : ℕ) (few : n ≤ 32) where
+module _ (n : ℕ) (few : n ≤ mostMembers) where
   columns-cascaded : {b : ℕ} (cs : List ℕ) (l : List ℤ) → All (λ c. c < termCount) cs → rowsLength ≤ length l → Bounded n b (rowsIn l) → Bounded n b (rowsIn (allCascaded n cs l))
   unfolding allCascaded
   columns-cascaded [] l h r a = a
@@ -207,7 +207,7 @@ pub rows-sound : (t : Tables) → RowsWithin t → rowsSound t ≡ true
 unfolding rowsSound
 rows-sound t a = rw (column-sound (members t) (lotsRun t) (t .lots) (rw (one-mul (lotsRun t)) at (a lots)), column-sound (members t) (mostPrice * lotsRun t) (t .value) (a value))
 
-pub rows-give : (t : Tables) → members t ≤ 32 → rowsLength ≤ length (t .lots) → rowsLength ≤ length (t .value) → rowsSound t ≡ true → RowsWithin t
+pub rows-give : (t : Tables) → members t ≤ mostMembers → rowsLength ≤ length (t .lots) → rowsLength ≤ length (t .value) → rowsSound t ≡ true → RowsWithin t
 unfolding rowsSound
 rows-give t few l v e =
     let n = members t in

@@ -12,7 +12,7 @@ use Rattle.arith.proofs.Tests.{le-or-lt}
 use Rattle.arith.proofs.Among.{not-among, among-if}
 use Rattle.arith.proofs.Sums.{sorted, sum-ext}
 use Rattle.arith.proofs.Terms.{sum-three}
-use Rattle.rules.specs.Ranges.{contractCount, termCount}
+use Rattle.rules.specs.Ranges.{contractCount, termCount, contractsInYear, firstQuarter, january, quartersInYear, monthsInYear, monthsInQuarter}
 use Rattle.rules.specs.Days.{Calendar}
 use Rattle.rules.specs.Contracts.{childrenOf}
 use Rattle.rules.specs.Accounts.{engineAccount, DeliveryHour}
@@ -32,17 +32,17 @@ one-to-next false false x y z w e f g = simp sorted
 -- Of the three, the quarter alone is a child of the year, and the month alone one of the quarter.
 module _ (c i : ℕ) where
   pub year-no-child : Cascading c → isChild c (yearOf i) ≡ false
-  year-no-child (year z e) = rw e (not-among (c + 1) 4 (yearOf i) (omega arith))
-  year-no-child (quarter z y e) = rw e (not-among (firstMonthOf c) 3 (yearOf i) (λ h k. le-or-lt (i / 12) (c / 17) (omega arith) (omega arith)))
+  year-no-child (year z e) = rw e (not-among (c + firstQuarter) quartersInYear (yearOf i) (omega arith))
+  year-no-child (quarter z y e) = rw e (not-among (firstMonthOf c) monthsInQuarter (yearOf i) (λ h k. le-or-lt (i / monthsInYear) (c / contractsInYear) (omega arith) (omega arith)))
 
   pub quarter-child : Cascading c → isChild c (quarterOf i) ≡ eqb c (yearOf i)
-  quarter-child (year z e) = rw e (among-if (c + 1) 4 (quarterOf i) c (yearOf i) (omega arith) (omega arith))
-  quarter-child (quarter z y e) = rw e (among-if (firstMonthOf c) 3 (quarterOf i) c (yearOf i) (λ h k. le-or-lt (i / 12) (c / 17) (omega arith) (omega arith)) (omega arith))
+  quarter-child (year z e) = rw e (among-if (c + firstQuarter) quartersInYear (quarterOf i) c (yearOf i) (omega arith) (omega arith))
+  quarter-child (quarter z y e) = rw e (among-if (firstMonthOf c) monthsInQuarter (quarterOf i) c (yearOf i) (λ h k. le-or-lt (i / monthsInYear) (c / contractsInYear) (omega arith) (omega arith)) (omega arith))
 
   pub month-child : Cascading c → isChild c (monthOf i) ≡ eqb c (quarterOf i)
-  month-child (year z e) = rw e (among-if (c + 1) 4 (monthOf i) c (quarterOf i) (λ h k. le-or-lt (c / 17) (i / 12) (omega arith) (omega arith)) (omega arith))
+  month-child (year z e) = rw e (among-if (c + firstQuarter) quartersInYear (monthOf i) c (quarterOf i) (λ h k. le-or-lt (c / contractsInYear) (i / monthsInYear) (omega arith) (omega arith)) (omega arith))
   month-child (quarter z y e) =
-      rw e (among-if (firstMonthOf c) 3 (monthOf i) c (quarterOf i) (λ h k. let same : c / 17 ≡ i / 12 = omega arith in omega arith) (omega arith))
+      rw e (among-if (firstMonthOf c) monthsInQuarter (monthOf i) c (quarterOf i) (λ h k. let same : c / contractsInYear ≡ i / monthsInYear = omega arith in omega arith) (omega arith))
 
   -- A contract without a term is no child.
   pub no-term-child : Cascading c → c < termCount → termCount ≤ i → isChild c i ≡ false
@@ -50,7 +50,7 @@ module _ (c i : ℕ) where
   no-term-child (quarter z y e) l u = rw e (not-among (firstMonthOf c) 3 i (omega arith))
 
   -- So c's row goes from one of them to the next, and their sum stays.
-  moved : c < termCount → c % 17 < 5 → (r : ℕ → ℤ) → let r′ : ℕ → ℤ = λ d. cond (eqb c d) (pos 0) (r d +ℤ when (isChild c d) (r c)) in
+  moved : c < termCount → c % contractsInYear < january → (r : ℕ → ℤ) → let r′ : ℕ → ℤ = λ d. cond (eqb c d) (pos 0) (r d +ℤ when (isChild c d) (r c)) in
       r′ (yearOf i) +ℤ (r′ (quarterOf i) +ℤ r′ (monthOf i)) ≡ r (yearOf i) +ℤ (r (quarterOf i) +ℤ r (monthOf i))
   moved w h r =
       let k = cascading c w h in
@@ -67,7 +67,7 @@ account-three k R m h i lies =
     ∙ sum-three contractCount (λ c. R c m) (yearOf i) (quarterOf i) (monthOf i) (omega arith) (omega arith) (omega arith)
 
 -- R′ are the rows after a cascade of the year or quarter c, R those before it.
-pub cascade-keeps : (k : Calendar) (R R′ : ℕ → ℕ → ℤ) (c m h : ℕ) → c < termCount → c % 17 < 5
+pub cascade-keeps : (k : Calendar) (R R′ : ℕ → ℕ → ℤ) (c m h : ℕ) → c < termCount → c % contractsInYear < january
     → ((d : ℕ) → d < contractCount → R′ d m ≡ cond (eqb c d) (pos 0) (R d m +ℤ when (any (λ x. eqb x d) (childrenOf c)) (R c m)))
     → DeliveryHour k h → engineAccount k R′ m h ≡ engineAccount k R m h
 cascade-keeps k R R′ c m h w q after hour =

@@ -16,7 +16,7 @@ use Rattle.arith.specs.Ints.{when}
 use Rattle.arith.proofs.Overs.{over-outside}
 use Rattle.arith.proofs.Tests.{never, by-eqb, le-or-lt, true-or, and-left, and-right, passed}
 use Rattle.rules.specs.Ledger.{headLength, rowWidth, rowsLength}
-use Rattle.rules.specs.Ranges.{contractCount, termCount}
+use Rattle.rules.specs.Ranges.{contractCount, termCount, contractsInYear, lastQuarter, firstQuarter, january, mostMembers, quartersInYear, monthsInQuarter}
 use Rattle.rules.specs.declared.contract.ContractKind.the-variants.{Year, Quarter, Month}
 use Rattle.rules.specs.declared.order.Order.{Order}
 use Rattle.rules.specs.declared.units.Day.{Day}
@@ -44,7 +44,7 @@ childOf c e = any (λ x. eqb x e) (childrenOf c)
 
 -- ---- one cascade
 -- the accounts stay, and the parent's rows are empty; none of its children had been emptied
-holds-cascaded : (h : Header) (c : ℕ) (R R′ : Rows) (log : List Line) (K : ℕ → Bool) → c < termCount → c % 17 < 5 → ((e : ℕ) → childOf c e ≡ true → K e ≡ false)
+holds-cascaded : (h : Header) (c : ℕ) (R R′ : Rows) (log : List Line) (K : ℕ → Bool) → c < termCount → c % contractsInYear < january → ((e : ℕ) → childOf c e ≡ true → K e ≡ false)
     → ((x : Column) (e m : ℕ) → m < h .members → R′ x e m ≡ cond (eqb c e) (pos 0) (R x e m +ℤ when (childOf c e) (R x c m)))
     → Holds h R log K → Holds h R′ log (λ e. eqb c e || K e)
 holds-cascaded h c R R′ log K w b clear moved a = record {
@@ -70,14 +70,14 @@ before-closed d NoDay e = refl
 module _ (k : Calendar) (d : ℕ) where
   -- only years and quarters that have closed are emptied
   abbrev Closed : (ℕ → Bool) → Type 0
-  Closed K = (e : ℕ) → K e ≡ true → (e % 17 < 5) × (stillToClose k (suc d) (termOf e) ≡ false)
+  Closed K = (e : ℕ) → K e ≡ true → (e % contractsInYear < january) × (stillToClose k (suc d) (termOf e) ≡ false)
 
   -- what 'has cascaded' says of a contract
-  cascaded-parent : (e : ℕ) → hasCascaded k d e ≡ true → (e < termCount) × (leb (e % 17) 4 ≡ true)
+  cascaded-parent : (e : ℕ) → hasCascaded k d e ≡ true → (e < termCount) × (leb (e % contractsInYear) lastQuarter ≡ true)
   unfolding hasCascaded
   cascaded-parent e t =
       let parent = and-left (isParent e) (closesBefore k e d) t in
-      (ltb-true e termCount (and-left (hasTerm e) (leb (e % 17) 4) parent), and-right (hasTerm e) (leb (e % 17) 4) parent)
+      (ltb-true e termCount (and-left (hasTerm e) (leb (e % contractsInYear) lastQuarter) parent), and-right (hasTerm e) (leb (e % contractsInYear) lastQuarter) parent)
 
   cascaded-closed : (e : ℕ) → hasCascaded k d e ≡ true → isBefore (termClosingDay k (termOf e)) d ≡ true
   unfolding hasCascaded
@@ -85,37 +85,37 @@ module _ (k : Calendar) (d : ℕ) where
 
   closed-before : Closed (hasCascaded k d)
   unfolding stillToClose
-  closed-before e t = (omega (arith, leb-true (e % 17) 4 (cascaded-parent e t .1)), before-closed d (termClosingDay k (termOf e)) (cascaded-closed e t))
+  closed-before e t = (omega (arith, leb-true (e % contractsInYear) lastQuarter (cascaded-parent e t .1)), before-closed d (termClosingDay k (termOf e)) (cascaded-closed e t))
 
   -- so no child of a contract that closes this evening is
-  children-clear : (K : ℕ → Bool) (c : ℕ) → c < termCount → Closed K → isOn (termClosingDay k (termOf c)) d ≡ true → c % 17 < 5 → (e : ℕ) → childOf c e ≡ true → K e ≡ false
+  children-clear : (K : ℕ → Bool) (c : ℕ) → c < termCount → Closed K → isOn (termClosingDay k (termOf c)) d ≡ true → c % contractsInYear < january → (e : ℕ) → childOf c e ≡ true → K e ≡ false
   children-clear K c w z o b e v = true-or (K e) (λ t. never (absurd (go (cascading c w b) (z e t)))) (λ t. t)
     where
-      go : Cascading c → (e % 17 < 5) × (stillToClose k (suc d) (termOf e) ≡ false) → ⊥
+      go : Cascading c → (e % contractsInYear < january) × (stillToClose k (suc d) (termOf e) ≡ false) → ⊥
       go (year y is) f =
           let today = closes-today k d (termOf c) o in
-          by-among (λ q. q ≡ true → ⊥) (c + 1) 4 e (λ l u _. never (sym (quarter-later-by-number k d c e y (omega arith) (omega arith) today) ∙ f .1)) (λ _ q. never (sym q)) (rw is at v)
+          by-among (λ q. q ≡ true → ⊥) (c + firstQuarter) quartersInYear e (λ l u _. never (sym (quarter-later-by-number k d c e y (omega arith) (omega arith) today) ∙ f .1)) (λ _ q. never (sym q)) (rw is at v)
       go (quarter p q is) f =
-          by-among (λ w. w ≡ true → ⊥) (firstMonthOf c) 3 e (λ l u _. let same : e / 17 ≡ c / 17 = omega arith in omega (arith, f .0)) (λ _ w. never (sym w)) (rw is at v)
+          by-among (λ w. w ≡ true → ⊥) (firstMonthOf c) monthsInQuarter e (λ l u _. let same : e / contractsInYear ≡ c / contractsInYear = omega arith in omega (arith, f .0)) (λ _ w. never (sym w)) (rw is at v)
 
 -- ---- all contracts that close this evening
 -- the contracts emptied by the end of a list
 unfoldable closedBy : List ℕ → (ℕ → Bool) → ℕ → Bool
 closedBy [] K = K
-closedBy (c ∷ cs) K = closedBy cs (λ e. (eqb c e && leb (c % 17) 4) || K e)
+closedBy (c ∷ cs) K = closedBy cs (λ e. (eqb c e && leb (c % contractsInYear) lastQuarter) || K e)
 
 closed-keeps : (cs : List ℕ) (K : ℕ → Bool) (e : ℕ) → K e ≡ true → closedBy cs K e ≡ true
 unfolding closedBy
 closed-keeps [] K e t = t
-closed-keeps (c ∷ cs) K e t = closed-keeps cs _ e (rw t (or-true (eqb c e && leb (c % 17) 4)))
+closed-keeps (c ∷ cs) K e t = closed-keeps cs _ e (rw t (or-true (eqb c e && leb (c % contractsInYear) lastQuarter)))
 
-closed-has : (cs : List ℕ) (K : ℕ → Bool) (e : ℕ) → any (λ x. eqb x e) cs ≡ true → e % 17 < 5 → closedBy cs K e ≡ true
+closed-has : (cs : List ℕ) (K : ℕ → Bool) (e : ℕ) → any (λ x. eqb x e) cs ≡ true → e % contractsInYear < january → closedBy cs K e ≡ true
 unfolding closedBy any
 closed-has [] K e t b = never (sym t)
 closed-has (c ∷ cs) K e t b =
-    by-eqb (λ q. q || any (λ x. eqb x e) cs ≡ true → closedBy cs (λ e. (eqb c e && leb (c % 17) 4) || K e) e ≡ true) c e
-    (λ q _. closed-keeps cs (λ e. (eqb c e && leb (c % 17) 4) || K e) e (rw (eq-eqb c e q, q, le-leb (e % 17) 4 (omega arith))))
-    (λ _ u. closed-has cs (λ e. (eqb c e && leb (c % 17) 4) || K e) e u b) t
+    by-eqb (λ q. q || any (λ x. eqb x e) cs ≡ true → closedBy cs (λ e. (eqb c e && leb (c % contractsInYear) lastQuarter) || K e) e ≡ true) c e
+    (λ q _. closed-keeps cs (λ e. (eqb c e && leb (c % contractsInYear) lastQuarter) || K e) e (rw (eq-eqb c e q, q, le-leb (e % contractsInYear) lastQuarter (omega arith))))
+    (λ _ u. closed-has cs (λ e. (eqb c e && leb (c % contractsInYear) lastQuarter) || K e) e u b) t
 
 either : (a b q : Bool) → (a && b) || q ≡ true → a || q ≡ true
 either true b q e = refl
@@ -157,21 +157,21 @@ module _ (h : Header) (d : ℕ) (t : Tables) (r : Runs h d t) (s : Sound t) (log
     holds : Holds h (rowsOf u) log K
     closed : Closed k d K
 
-  few : h .members ≤ 32
+  few : h .members ≤ mostMembers
   few = rw (r .size) at (s .few-members)
 
   evening-next : (c : ℕ) (u : Tables) (K : ℕ → Bool) → c < termCount → isOn (termClosingDay k (termOf c)) d ≡ true → Evening u K
-      → Evening (rowsCascaded c u) (λ e. (eqb c e && leb (c % 17) 4) || K e)
+      → Evening (rowsCascaded c u) (λ e. (eqb c e && leb (c % contractsInYear) lastQuarter) || K e)
   unfolding stillToClose
   evening-next c u K b o v = record {
     header = v .header;
     lots-long = omega (arith, cascaded-length (members u) c (u .lots) (v .lots-long) b same32);
     value-long = omega (arith, cascaded-length (members u) c (u .value) (v .value-long) b same32);
-    holds = le-or-lt 5 (c % 17)
-        (λ l. holds-fewer h _ log K _ (λ e _ q. only (eqb c e) (leb (c % 17) 4) (K e) (lt-leb (c % 17) 4 l) q) (holds-same h (rowsOf u) _ log K (λ x e m _ _. stays x e m l) (v .holds)))
-        (λ l. holds-fewer h _ log (λ e. eqb c e || K e) _ (λ e _ q. either (eqb c e) (leb (c % 17) 4) (K e) q)
+    holds = le-or-lt january (c % contractsInYear)
+        (λ l. holds-fewer h _ log K _ (λ e _ q. only (eqb c e) (leb (c % contractsInYear) lastQuarter) (K e) (lt-leb (c % contractsInYear) lastQuarter l) q) (holds-same h (rowsOf u) _ log K (λ x e m _ _. stays x e m l) (v .holds)))
+        (λ l. holds-fewer h _ log (λ e. eqb c e || K e) _ (λ e _ q. either (eqb c e) (leb (c % contractsInYear) lastQuarter) (K e) q)
         (holds-cascaded h c (rowsOf u) _ log K b l (children-clear k d K c b (v .closed) o l) (λ x e m q. moved x e m q l) (v .holds)));
-    closed = λ e q. true-or (K e) (λ w. v .closed e w) (λ w. new e (first (eqb c e && leb (c % 17) 4) (K e) w q));
+    closed = λ e q. true-or (K e) (λ w. v .closed e w) (λ w. new e (first (eqb c e && leb (c % contractsInYear) lastQuarter) (K e) w q));
   }
     where
       size : members u ≡ h .members
@@ -180,16 +180,16 @@ module _ (h : Header) (d : ℕ) (t : Tables) (r : Runs h d t) (s : Sound t) (log
       same32 : members u ≤ 32
       same32 = omega (arith, few, size)
 
-      new : (e : ℕ) → eqb c e && leb (c % 17) 4 ≡ true → (e % 17 < 5) × (stillToClose k (suc d) (termOf e) ≡ false)
+      new : (e : ℕ) → eqb c e && leb (c % contractsInYear) lastQuarter ≡ true → (e % contractsInYear < january) × (stillToClose k (suc d) (termOf e) ≡ false)
       new e q =
-          let same = eqb-true c e (and-left (eqb c e) (leb (c % 17) 4) q) in
-          rw (← same) (omega (arith, leb-true (c % 17) 4 (and-right (eqb c e) (leb (c % 17) 4) q)), on-closed d (termClosingDay k (termOf c)) o)
+          let same = eqb-true c e (and-left (eqb c e) (leb (c % contractsInYear) lastQuarter) q) in
+          rw (← same) (omega (arith, leb-true (c % contractsInYear) lastQuarter (and-right (eqb c e) (leb (c % contractsInYear) lastQuarter) q)), on-closed d (termClosingDay k (termOf c)) o)
 
-      stays : (x : Column) (e m : ℕ) → 5 ≤ c % 17 → row x (rowsCascaded c u) e m ≡ row x u e m
+      stays : (x : Column) (e m : ℕ) → january ≤ c % contractsInYear → row x (rowsCascaded c u) e m ≡ row x u e m
       stays lots e m l = ap (λ z. getD z (e * rowWidth + m) (pos 0)) (cascaded-month (members u) c (u .lots) l)
       stays value e m l = ap (λ z. getD z (e * rowWidth + m) (pos 0)) (cascaded-month (members u) c (u .value) l)
 
-      moved : (x : Column) (e m : ℕ) → m < h .members → c % 17 < 5 → row x (rowsCascaded c u) e m ≡ cond (eqb c e) (pos 0) (row x u e m +ℤ when (childOf c e) (row x u c m))
+      moved : (x : Column) (e m : ℕ) → m < h .members → c % contractsInYear < january → row x (rowsCascaded c u) e m ≡ cond (eqb c e) (pos 0) (row x u e m +ℤ when (childOf c e) (row x u c m))
       moved lots e m q l = cascaded-row (members u) c (u .lots) (v .lots-long) b same32 e m l (omega (arith, size))
       moved value e m q l = cascaded-row (members u) c (u .value) (v .value-long) b same32 e m l (omega (arith, size))
 
@@ -311,7 +311,7 @@ module _ (h : Header) (d : ℕ) (t : Tables) (r : Runs h d t) (s : Sound t) (n :
         let parent = cascaded-parent (calendarOf h) (x .0) e q in
         let past = sym (closed-by-next (calendarOf h) d x (termOf e) next) ∙ cascaded-closed (calendarOf h) (x .0) e q in
         true-or (isBefore z d) (λ p. closed-keeps (closingContracts t) (hasCascaded (calendarOf h) d) e (rw (lt-ltb e termCount (parent .0), parent .1, p)))
-        (λ p. closed-has (closingContracts t) (hasCascaded (calendarOf h) d) e (closing-listed e (parent .0) (rw p at past)) (omega (arith, leb-true (e % 17) 4 (parent .1))))
+        (λ p. closed-has (closingContracts t) (hasCascaded (calendarOf h) d) e (closing-listed e (parent .0) (rw p at past)) (omega (arith, leb-true (e % contractsInYear) lastQuarter (parent .1))))
 
     -- an order that is left is of a contract that is open on the next day
     open-next : (o : Order) → InOpen h d o → isOfAny (closingContracts t) o ≡ false → InOpen h (x .0) o
