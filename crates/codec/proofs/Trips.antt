@@ -1,15 +1,14 @@
 -- Records written and read back, and read and written again. Assumes nothing.
-use Prim.Native.Nat.{ℕ, _+_, _*_, _≤_, _<_}
+use Prim.Native.Nat.{ℕ, _+_, _≤_, _<_}
 use mathlib.Core.Bool.{true, false, cond, _&&_}
-use mathlib.Core.List.{List, [], _∷_, _++_, flatMap, append-assoc, append-nil}
+use mathlib.Core.List.{List, [], _∷_, _++_, flatMap, append-nil}
 use mathlib.Core.Path.{_≡_, refl, sym, ap, _∙_}
 use native.Mathlib.Omega.{arith}
-use borrow.Author.Tests.{lt-leb, le-leb, le-ltb, eq-eqb, ne-eqb}
+use borrow.Author.Tests.{lt-leb, le-leb, le-ltb, ne-eqb}
 use lib.Dec.{T, eqb, leb, ltb}
 use lib.ListN.{length, getD, take, drop, length-append, List·getD-append}
 use Rattle.arith.specs.Lists.{All, every, over}
 use Rattle.arith.proofs.Alls.{every-all}
-use Rattle.arith.proofs.Appends.{flat-length}
 use Rattle.arith.proofs.Beside.{take-over}
 use Rattle.arith.proofs.Tests.{never, same-or, and-left, and-right, and-false}
 use Rattle.rules.specs.declared.answer.Answer.the-variants.{RecordUnsound}

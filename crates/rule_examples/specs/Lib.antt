@@ -1,4 +1,5 @@
 pub mod Cases
+pub mod NamedFields
 pub mod Numbers
 pub mod JournalExample
 pub mod MoreProposalExamples

@@ -41,7 +41,7 @@ unfoldable pub recordLength : ℕ → ℕ → ℕ
 unfolding kindFields widths
 recordLength kind legs = lengthWith (kindFields kind) (cond (hasLegs kind) (widths legFields * legs) 0)
 
--- What code names. `lengths` and `leg-lengths` below say that they are the description's (Fields).
+-- What code names. `lengths` and `leg-lengths` below say that they follow from Fields.
 abbrev pub kindByte : ℕ
 kindByte = 0
 
@@ -89,7 +89,7 @@ leg-lengths : (legs : ℕ) → recordLength proposalKind legs ≡ legPlace legs
 unfolding recordLength
 leg-lengths legs = refl
 
--- The same of the record that bytes begin with: its second byte is a proposal's number of legs.
+-- The length of the record that bytes begin with: its second byte is a proposal's number of legs.
 abbrev pub frontLength : List ℕ → ℕ
 frontLength s = recordLength (getD s kindByte 0) (getD s proposalLegsByte 0)
 
