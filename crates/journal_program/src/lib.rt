@@ -1,4 +1,4 @@
-// The journal program, for the C main in programs/durskafn.c: standard input is read, run by crate records, and what it prints
+// The journal program, for the C main in programs/durskafn.c: standard input is read, run by crate journal, and what it prints
 // written to standard output.
 mod shell;
 
