@@ -1,4 +1,4 @@
--- An outcome as a host gets it: the paper's number and value, and what it lent.
+-- An outcome as a host gets it: the paper's number, its detail, and what it lent.
 use Prim.Native.Nat.{ℕ}
 use mathlib.Core.Bool.{cond}
 use Rattle.rules.specs.Answers.{Outcome, replyOf}
@@ -7,7 +7,7 @@ use Rattle.rules.specs.Refusals.{unsound}
 
 pub record Sent (S : Type 0) : Type 0 where
   pub number : ℕ
-  pub value : ℕ
+  pub detail : ℕ
   pub after : S
 
 abbrev pub sent : {S : Type 0} → Outcome S → Sent S
