@@ -72,7 +72,7 @@ pub extern "C" fn ledger_apply(
 ) -> u64
     ensures { λ r. ⌜ record {
       number = r;
-      value = now (detail .exit);
+      detail = now (detail .exit);
       after = lent (now (head .exit)) (now (prices .exit)) (now (lots .exit)) (now (value .exit)) (now (book .exit)) (now (lines .exit));
     }
         ≡ sent (applySpec (lent (now (head .entry)) (now (prices .entry)) (now (lots .entry)) (now (value .entry)) (now (book .entry)) (now (lines .entry))) (now (bytes .entry))) ⌝ }
