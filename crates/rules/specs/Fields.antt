@@ -1,5 +1,5 @@
--- Document 01, "Records": the fields of each kind of record, in the order of their bytes, and the width of each. The lengths of
--- records, reading and writing (Records), rows of numbers (`number_fields`) and the listing take kinds, lengths and places from here.
+-- Document 01, "Records": the fields of each kind of record, in the order of their bytes, and the width of each, with those of a header
+-- for the listing. The lengths of records, reading and writing (Records) and the listing follow from here.
 use Prim.Native.Nat.{ℕ, zero, suc, _+_}
 use mathlib.Core.Bool.{Bool, cond}
 use mathlib.Core.List.{List, [], _∷_, _++_}

@@ -41,7 +41,7 @@ unfoldable pub recordLength : ℕ → ℕ → ℕ
 unfolding kindFields widths
 recordLength kind legs = lengthWith (kindFields kind) (cond (hasLegs kind) (widths legFields * legs) 0)
 
--- What code names. `lengths` and `leg-lengths` below say that they follow from Fields.
+-- What code names. `lengths` and `leg-lengths` below say that the lengths follow from Fields.
 abbrev pub kindByte : ℕ
 kindByte = 0
 
