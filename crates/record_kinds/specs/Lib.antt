@@ -1,1 +1,1 @@
-pub mod LegCount
+pub mod Numbers

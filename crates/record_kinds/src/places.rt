@@ -1,31 +1,9 @@
-// Where each field of a record begins, in bytes, by the record's kind.
+// Where a record's kind, a proposal's count and its legs stand, in bytes, and where each number of an event stands.
+
+// ---- in bytes
 pub const KIND_BYTE: usize = 0;
 
-pub const SUBMIT_TIME_BYTE: usize = 1;
-
-pub const SUBMIT_MEMBER_BYTE: usize = 5;
-
-pub const SUBMIT_CONTRACT_BYTE: usize = 6;
-
-pub const SUBMIT_SIDE_BYTE: usize = 7;
-
-pub const SUBMIT_ORDER_KIND_BYTE: usize = 8;
-
-pub const SUBMIT_PRICE_BYTE: usize = 9;
-
-pub const SUBMIT_LOTS_BYTE: usize = 13;
-
-pub const CANCEL_TIME_BYTE: usize = 1;
-
-pub const CANCEL_MEMBER_BYTE: usize = 5;
-
-pub const CANCEL_ORDER_BYTE: usize = 6;
-
-pub const DAY_LIMITS_CONTRACT_BYTE: usize = 1;
-
-pub const DAY_LIMITS_LOW_BYTE: usize = 2;
-
-pub const DAY_LIMITS_HIGH_BYTE: usize = 6;
+pub const FIRST_FIELD_BYTE: usize = 1;
 
 pub const PROPOSAL_LEGS_BYTE: usize = 1;
 
@@ -36,25 +14,48 @@ pub const LEG_LOTS_BYTE: usize = 4;
 
 pub const LEG_PRICE_BYTE: usize = 6;
 
-pub const DEFAULT_MEMBER_BYTE: usize = 1;
-
-pub const CLOSE_OUT_CONTRACT_BYTE: usize = 1;
-
-pub const CLOSE_OUT_RATIO_BYTE: usize = 2;
-
-pub const CLOSE_OF_DAY_TIME_BYTE: usize = 1;
-
-// How many bytes a record of each kind takes, and a leg; a proposal takes FIRST_LEG_BYTE and its legs.
-pub const SUBMIT_LENGTH: u64 = 15;
-
-pub const CANCEL_LENGTH: u64 = 10;
-
-pub const DAY_LIMITS_LENGTH: u64 = 10;
-
-pub const DEFAULT_LENGTH: u64 = 2;
-
-pub const CLOSE_OUT_LENGTH: u64 = 4;
-
-pub const CLOSE_OF_DAY_LENGTH: u64 = 5;
-
 pub const LEG_LENGTH: usize = 10;
+
+// ---- in the numbers of an event: its kind, then its fields in their order
+// How many numbers an event has at most, its legs aside.
+pub const MOST_NUMBERS: usize = 8;
+
+pub const KIND_NUMBER: usize = 0;
+
+pub const FIRST_FIELD_NUMBER: usize = 1;
+
+pub const SUBMIT_TIME: usize = 1;
+
+pub const SUBMIT_MEMBER: usize = 2;
+
+pub const SUBMIT_CONTRACT: usize = 3;
+
+pub const SUBMIT_SIDE: usize = 4;
+
+pub const SUBMIT_ORDER_KIND: usize = 5;
+
+pub const SUBMIT_PRICE: usize = 6;
+
+pub const SUBMIT_LOTS: usize = 7;
+
+pub const CANCEL_TIME: usize = 1;
+
+pub const CANCEL_MEMBER: usize = 2;
+
+pub const CANCEL_ORDER: usize = 3;
+
+pub const DAY_LIMITS_CONTRACT: usize = 1;
+
+pub const DAY_LIMITS_LOW: usize = 2;
+
+pub const DAY_LIMITS_HIGH: usize = 3;
+
+pub const PROPOSAL_LEGS: usize = 1;
+
+pub const DEFAULT_MEMBER: usize = 1;
+
+pub const CLOSE_OUT_CONTRACT: usize = 1;
+
+pub const CLOSE_OUT_RATIO: usize = 2;
+
+pub const CLOSE_OF_DAY_TIME: usize = 1;
