@@ -48,7 +48,7 @@ pub record SameTerms (t t′ : Tables) : Type 0 where
   pub size : members t′ ≡ members t
   pub days : calendar t′ ≡ calendar t
 
--- so it is after a record whose head kept the header; with f = 3 the day is another one
+-- the terms stay after a record whose head kept the header; with f = 3 the day is another one
 pub header-terms : {f : ℕ} (t t′ : Tables) → dayPlace ≤ f → Sound t → SameHeader f (t .head) (t′ .head) → acceptedSubmits t ≤ acceptedSubmits t′ → SameTerms t t′
 header-terms {f} t t′ q s a b =
     let year = a .places firstYearPlace (field (omega arith)) in
@@ -111,7 +111,7 @@ sound-book t s a d f = record {
   few = omega (arith, orders-count t);
 }
 
--- and a sound book shows each
+-- a sound book's sides are sound
 book-sides : (t : Tables) → bookSound t ≡ true → sidesSound t ≡ true
 book-sides t e = book-gives t e .sides
 

@@ -92,7 +92,7 @@ module _ (amount : Line → ℤ) (w : ℕ) where
         mul-add w (natAbs (l .lots)) (lineRun ls),
       )
 
-  -- and to one row
+  -- what lines add to one row is at most their run times w
   pub lines-one : (ls : List Line) (c m : ℕ) → All Weighs ls → natAbs (rowTotal amount c m ls) ≤ w * lineRun ls
   unfolding rowTotal lineRun total
   lines-one [] c m h = omega arith

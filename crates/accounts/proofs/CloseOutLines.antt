@@ -19,8 +19,8 @@ use Rattle.rules.specs.declared.event.CloseOutTerms.{CloseOutTerms}
 use Rattle.rules.specs.Days.{Calendar}
 use Rattle.rules.specs.Ledger.{Tables, Line, members, defaulted, ggf, lotsAt}
 use Rattle.rules.specs.Accounts.{Column, amount}
-use Rattle.rules.specs.Default.{byMember, sumOf, defaultedLongs, defaultedShorts, givenUp, less, changeLines, smallerTotal, nettedLongs, nettedShorts, nettingChanges, longsLeft}
-use Rattle.rules.specs.Default.{shortsLeft, lotsLeft, othersLots, openWeight, weights, taken, defaultedChanges, takerChanges, closeOutLines}
+use Rattle.rules.specs.Default.{byMember, sumOf, defaultedLongs, defaultedShorts, givenUp, less, changeLines, smallerTotal, nettedLongs, nettedShorts, nettingChanges, longsRemaining}
+use Rattle.rules.specs.Default.{shortsRemaining, lotsRemaining, othersLots, openWeight, weights, taken, defaultedChanges, takerChanges, closeOutLines}
 use Rattle.accounts.proofs.Lines.{Fits, hourTotal}
 use Rattle.accounts.proofs.OnePrice.{netLots, net-append, balanced-at-price}
 use Rattle.accounts.proofs.DealtOut.{dealt-length, dealt-none, all-dealt}
@@ -111,10 +111,10 @@ taken-net true [] = refl
 taken-net false [] = refl
 taken-net b (q ∷ qs) = ap (λ z. signed b q +ℤ z) (taken-net b qs) ∙ signed-add b q (sumOf qs)
 
-left-sum : (q : ℕ) (xs : List ℕ) → sumOf (less xs (givenUp q xs)) + sumOf (givenUp q xs) ≡ sumOf xs
+remaining-sum : (q : ℕ) (xs : List ℕ) → sumOf (less xs (givenUp q xs)) + sumOf (givenUp q xs) ≡ sumOf xs
 unfolding givenUp sumOf total zipWith
-left-sum q [] = omega arith
-left-sum q (x ∷ xs) = omega (arith, left-sum (q - min q x) xs)
+remaining-sum q [] = omega arith
+remaining-sum q (x ∷ xs) = omega (arith, remaining-sum (q - min q x) xs)
 
 member-length : {A : Type 0} (t : Tables) (f : ℕ → A) → length (byMember t f) ≡ members t
 member-length t f = length-map (from 0 (members t)) f ∙ from-length 0 (members t)
@@ -146,8 +146,8 @@ module _ (t : Tables) (c : ℕ) where
   pub netted-length : (xs : List ℕ) → length xs ≡ members t → length (givenUp (smallerTotal t c) xs) ≡ members t
   netted-length xs e = given-length (smallerTotal t c) xs ∙ e
 
-  pub left-length : (xs : List ℕ) → length xs ≡ members t → length (less xs (givenUp (smallerTotal t c) xs)) ≡ members t
-  left-length xs e = zip-length _ xs _ (e ∙ sym (netted-length xs e)) ∙ e
+  pub remaining-length : (xs : List ℕ) → length xs ≡ members t → length (less xs (givenUp (smallerTotal t c) xs)) ≡ members t
+  remaining-length xs e = zip-length _ xs _ (e ∙ sym (netted-length xs e)) ∙ e
 
   netting-length : length (nettingChanges t c) ≡ members t
   unfolding nettingChanges nettedLongs nettedShorts
@@ -167,23 +167,23 @@ module _ (t : Tables) (c : ℕ) where
       ∙ +ℤ-invr (pos q)
 
   -- step 2: what remains is on one side
-  one-side : 0 < sumOf (longsLeft t c) → sumOf (shortsLeft t c) ≡ 0
-  unfolding longsLeft shortsLeft nettedLongs nettedShorts smallerTotal
+  one-side : 0 < sumOf (longsRemaining t c) → sumOf (shortsRemaining t c) ≡ 0
+  unfolding longsRemaining shortsRemaining nettedLongs nettedShorts smallerTotal
   one-side h =
       let q = smallerTotal t c in
       let ls = defaultedLongs t c in
       let ss = defaultedShorts t c in
-      omega (arith, given-sum q ls, given-sum q ss, left-sum q ls, left-sum q ss)
+      omega (arith, given-sum q ls, given-sum q ss, remaining-sum q ls, remaining-sum q ss)
 
   remaining-length : length (defaultedChanges t c) ≡ members t
-  unfolding defaultedChanges longsLeft shortsLeft nettedLongs nettedShorts
+  unfolding defaultedChanges longsRemaining shortsRemaining nettedLongs nettedShorts
   remaining-length =
-      let shorts = left-length _ shorts-length in
-      zip-length _ (shortsLeft t c) (longsLeft t c) (shorts ∙ sym (left-length _ longs-length)) ∙ shorts
+      let shorts = remaining-length _ shorts-length in
+      zip-length _ (shortsRemaining t c) (longsRemaining t c) (shorts ∙ sym (remaining-length _ longs-length)) ∙ shorts
 
-  remaining-net : netOf (defaultedChanges t c) ≡ pos (sumOf (shortsLeft t c)) -ℤ pos (sumOf (longsLeft t c))
-  unfolding defaultedChanges longsLeft shortsLeft nettedLongs nettedShorts
-  remaining-net = back-less-given (shortsLeft t c) (longsLeft t c) (left-length _ shorts-length ∙ sym (left-length _ longs-length))
+  remaining-net : netOf (defaultedChanges t c) ≡ pos (sumOf (shortsRemaining t c)) -ℤ pos (sumOf (longsRemaining t c))
+  unfolding defaultedChanges longsRemaining shortsRemaining nettedLongs nettedShorts
+  remaining-net = back-less-given (shortsRemaining t c) (longsRemaining t c) (remaining-length _ shorts-length ∙ sym (remaining-length _ longs-length))
 
 -- ---- the laws
 module _ (t : Tables) (e : CloseOutTerms) where
@@ -193,20 +193,20 @@ module _ (t : Tables) (e : CloseOutTerms) where
   by-weights P f =
       let c = e .contract in
       by-bool (λ b. P (cond b (byMember t (λ m. cond (defaulted t m) 0 (openWeight t m))) (othersLots t c)))
-      (leb (e .ratio * sumOf (othersLots t c)) (1000 * lotsLeft t c)) (λ _. f (openWeight t)) (λ _. f (λ m. natAbs (lotsAt t c m)))
+      (leb (e .ratio * sumOf (othersLots t c)) (1000 * lotsRemaining t c)) (λ _. f (openWeight t)) (λ _. f (λ m. natAbs (lotsAt t c m)))
 
   weights-length : length (weights t e) ≡ members t
   weights-length = by-weights (λ ws. length ws ≡ members t) (λ f. member-length t _)
 
   pub taken-length : length (takerChanges t e) ≡ members t
   unfolding takerChanges taken
-  taken-length = length-map (taken t e) _ ∙ dealt-length (lotsLeft t (e .contract)) (weights t e) ∙ weights-length
+  taken-length = length-map (taken t e) _ ∙ dealt-length (lotsRemaining t (e .contract)) (weights t e) ∙ weights-length
 
-  takers-net : (ltb 0 (lotsLeft t (e .contract)) && eqb (sumOf (weights t e)) 0) ≡ false → netOf (takerChanges t e) ≡ signed (ltb 0 (sumOf (longsLeft t (e .contract)))) (lotsLeft t (e .contract))
+  takers-net : (ltb 0 (lotsRemaining t (e .contract)) && eqb (sumOf (weights t e)) 0) ≡ false → netOf (takerChanges t e) ≡ signed (ltb 0 (sumOf (longsRemaining t (e .contract)))) (lotsRemaining t (e .contract))
   unfolding takerChanges taken
   takers-net h =
-      let b = ltb 0 (sumOf (longsLeft t (e .contract))) in
-      taken-net b (taken t e) ∙ ap (signed b) (all-dealt (lotsLeft t (e .contract)) (weights t e) h)
+      let b = ltb 0 (sumOf (longsRemaining t (e .contract))) in
+      taken-net b (taken t e) ∙ ap (signed b) (all-dealt (lotsRemaining t (e .contract)) (weights t e) h)
 
   -- what holds of any member's line in the contract at its GGF holds of all lines
   close-out-all : (P : Line → Type 0) → ((m : ℕ) (z : ℤ) → m < members t → P (change (e .contract) (ggf t (e .contract)) m z)) → All P (closeOutLines t e)
@@ -232,19 +232,19 @@ module _ (t : Tables) (e : CloseOutTerms) where
       omega (arith, steps-few c (ggf t c) (nettingChanges t c) (defaultedChanges t c) (takerChanges t e), netting-length t c, remaining-length t c, taken-length)
 
   -- their lots sum to nothing, if the takers have any weight or nothing remains for them
-  pub close-out-net : (ltb 0 (lotsLeft t (e .contract)) && eqb (sumOf (weights t e)) 0) ≡ false → netLots (closeOutLines t e) ≡ pos 0
-  unfolding closeOutLines lotsLeft
+  pub close-out-net : (ltb 0 (lotsRemaining t (e .contract)) && eqb (sumOf (weights t e)) 0) ≡ false → netLots (closeOutLines t e) ≡ pos 0
+  unfolding closeOutLines lotsRemaining
   close-out-net h =
       let c = e .contract in
       steps-net c (ggf t c) (nettingChanges t c) (defaultedChanges t c) (takerChanges t e)
-      ∙ ap₂ (λ x y. x +ℤ y) (netting-net t c) (ap₂ (λ x y. x +ℤ y) (remaining-net t c) (takers-net h) ∙ remainder-net (sumOf (longsLeft t c)) (sumOf (shortsLeft t c)) (one-side t c))
+      ∙ ap₂ (λ x y. x +ℤ y) (netting-net t c) (ap₂ (λ x y. x +ℤ y) (remaining-net t c) (takers-net h) ∙ remainder-net (sumOf (longsRemaining t c)) (sumOf (shortsRemaining t c)) (one-side t c))
 
-  -- so do lots and value in every hour
-  pub close-out-balanced : (ltb 0 (lotsLeft t (e .contract)) && eqb (sumOf (weights t e)) 0) ≡ false → (k : Calendar) (x : Column) (h : ℕ) → hourTotal k (amount x) h (closeOutLines t e) ≡ pos 0
+  -- a close-out's lots and value add up to nothing in every hour
+  pub close-out-balanced : (ltb 0 (lotsRemaining t (e .contract)) && eqb (sumOf (weights t e)) 0) ≡ false → (k : Calendar) (x : Column) (h : ℕ) → hourTotal k (amount x) h (closeOutLines t e) ≡ pos 0
   close-out-balanced w k x h = balanced-at-price k x h (e .contract) (ggf t (e .contract)) (closeOutLines t e) close-out-contract close-out-price (close-out-net w)
 
   -- a defaulted member takes nothing
   pub defaulted-take-none : (m : ℕ) → defaulted t m ≡ true → getD (taken t e) m 0 ≡ 0
   unfolding taken
   defaulted-take-none m d =
-      dealt-none (lotsLeft t (e .contract)) (weights t e) m (by-weights (λ ws. getD ws m 0 ≡ 0) (λ f. none-at _ 0 (members t) m (rw (zero-add m, d))))
+      dealt-none (lotsRemaining t (e .contract)) (weights t e) m (by-weights (λ ws. getD ws m 0 ≡ 0) (λ f. none-at _ 0 (members t) m (rw (zero-add m, d))))

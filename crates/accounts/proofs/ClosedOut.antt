@@ -1,4 +1,4 @@
--- A defaulted member's lines of a close-out are the opposite of its row: what it gives up in the first step and what is left of it in the
+-- A defaulted member's lines of a close-out are the opposite of its row: what it gives up in the first step and what remains of it in the
 -- second are its lots, and it takes none.
 use Prim.Native.Nat.{ℕ, zero, suc, _+_, _-_, _<_, min}
 use mathlib.Core.Path.{_≡_, refl, sym, ap, ap₂, _∙_}
@@ -19,7 +19,7 @@ use Rattle.rules.specs.declared.event.CloseOutTerms.{CloseOutTerms}
 use Rattle.rules.specs.declared.event.Event.the-variants.{CloseOut}
 use Rattle.rules.specs.Ledger.{Tables, Line, members, mark, defaulted, ggf, lotsAt, lineLots, booked}
 use Rattle.rules.specs.Records.{legsOf}
-use Rattle.rules.specs.Default.{sumOf, defaultedLongs, defaultedShorts, givenUp, less, changeLines, smallerTotal, nettedLongs, nettedShorts, nettingChanges, longsLeft, shortsLeft}
+use Rattle.rules.specs.Default.{sumOf, defaultedLongs, defaultedShorts, givenUp, less, changeLines, smallerTotal, nettedLongs, nettedShorts, nettingChanges, longsRemaining, shortsRemaining}
 use Rattle.rules.specs.Default.{taken, defaultedChanges, takerChanges, closeOutLines, closeOutBooked}
 use Rattle.rules.specs.Refusals.{applySpec}
 use Rattle.rules.specs.Accounts.{lots}
@@ -29,7 +29,7 @@ use Rattle.accounts.proofs.Runs.{sound-of}
 use Rattle.accounts.proofs.Lines.{rowTotal}
 use Rattle.accounts.proofs.Calls.{booked-row}
 use Rattle.accounts.proofs.Books.{booked-place}
-use Rattle.accounts.proofs.CloseOutLines.{no-change, longs-length, shorts-length, netted-length, left-length, close-out-fits, defaulted-take-none, regroup}
+use Rattle.accounts.proofs.CloseOutLines.{no-change, longs-length, shorts-length, netted-length, remaining-length, close-out-fits, defaulted-take-none, regroup}
 use Rattle.accounts.proofs.EachKind.{accepted-call}
 
 -- ---- what the lines of changes add to a row
@@ -51,7 +51,7 @@ module _ (c p : ℕ) where
       (λ _. before-first (suc a) m zs (omega arith))
       (λ _. rw (eq-eqb c c refl, ne-eqb a m (omega arith), before-first (suc a) m zs (omega arith)))
 
-  -- and to each its change
+  -- the lines of changes add to each member's row its change
   change-row : (a i : ℕ) (zs : List ℤ) → rowTotal lineLots c (a + i) (changeLines c p a zs) ≡ getD zs i (pos 0)
   unfolding rowTotal changeLines
   change-row a i [] = refl
@@ -77,11 +77,11 @@ back-less-given-at (s ∷ ss) [] i e = absurd (omega arith)
 back-less-given-at (s ∷ ss) (l ∷ ls) zero e = refl
 back-less-given-at (s ∷ ss) (l ∷ ls) (suc i) e = back-less-given-at ss ls i (omega arith)
 
-left-at : (q : ℕ) (xs : List ℕ) (i : ℕ) → getD (less xs (givenUp q xs)) i 0 + getD (givenUp q xs) i 0 ≡ getD xs i 0
+remaining-at : (q : ℕ) (xs : List ℕ) (i : ℕ) → getD (less xs (givenUp q xs)) i 0 + getD (givenUp q xs) i 0 ≡ getD xs i 0
 unfolding givenUp zipWith
-left-at q [] i = omega arith
-left-at q (x ∷ xs) zero = omega arith
-left-at q (x ∷ xs) (suc i) = left-at (q - min q x) xs i
+remaining-at q [] i = omega arith
+remaining-at q (x ∷ xs) zero = omega arith
+remaining-at q (x ∷ xs) (suc i) = remaining-at (q - min q x) xs i
 
 member-at : {A : Type 0} (f : ℕ → A) (z : A) (a n i : ℕ) → i < n → getD (map f (from a n)) i z ≡ f (a + i)
 unfolding from
@@ -116,24 +116,24 @@ module _ (t : Tables) (e : CloseOutTerms) (m : ℕ) (member< : m < members t) (d
   unfolding nettingChanges nettedShorts nettedLongs
   netting = back-less-given-at (nettedShorts t c) (nettedLongs t c) m (netted-length t c _ (shorts-length t c) ∙ sym (netted-length t c _ (longs-length t c)))
 
-  remaining : getD (defaultedChanges t c) m (pos 0) ≡ pos (getD (shortsLeft t c) m 0) -ℤ pos (getD (longsLeft t c) m 0)
-  unfolding defaultedChanges shortsLeft longsLeft nettedShorts nettedLongs
-  remaining = back-less-given-at (shortsLeft t c) (longsLeft t c) m (left-length t c _ (shorts-length t c) ∙ sym (left-length t c _ (longs-length t c)))
+  remaining : getD (defaultedChanges t c) m (pos 0) ≡ pos (getD (shortsRemaining t c) m 0) -ℤ pos (getD (longsRemaining t c) m 0)
+  unfolding defaultedChanges shortsRemaining longsRemaining nettedShorts nettedLongs
+  remaining = back-less-given-at (shortsRemaining t c) (longsRemaining t c) m (remaining-length t c _ (shorts-length t c) ∙ sym (remaining-length t c _ (longs-length t c)))
 
   -- both steps together
   given-up : getD (nettingChanges t c) m (pos 0) +ℤ getD (defaultedChanges t c) m (pos 0) ≡ pos (dn (lotsAt t c m)) -ℤ pos (up (lotsAt t c m))
-  unfolding shortsLeft longsLeft nettedShorts nettedLongs
+  unfolding shortsRemaining longsRemaining nettedShorts nettedLongs
   given-up =
       let q = smallerTotal t c in
-      let ss : getD (nettedShorts t c) m 0 + getD (shortsLeft t c) m 0 ≡ dn (lotsAt t c m) = omega (arith, left-at q (defaultedShorts t c) m, shorts) in
-      let ls : getD (nettedLongs t c) m 0 + getD (longsLeft t c) m 0 ≡ up (lotsAt t c m) = omega (arith, left-at q (defaultedLongs t c) m, longs) in
-      ap₂ _+ℤ_ netting remaining ∙ two-steps (getD (nettedShorts t c) m 0) (getD (nettedLongs t c) m 0) (getD (shortsLeft t c) m 0) (getD (longsLeft t c) m 0)
+      let ss : getD (nettedShorts t c) m 0 + getD (shortsRemaining t c) m 0 ≡ dn (lotsAt t c m) = omega (arith, remaining-at q (defaultedShorts t c) m, shorts) in
+      let ls : getD (nettedLongs t c) m 0 + getD (longsRemaining t c) m 0 ≡ up (lotsAt t c m) = omega (arith, remaining-at q (defaultedLongs t c) m, longs) in
+      ap₂ _+ℤ_ netting remaining ∙ two-steps (getD (nettedShorts t c) m 0) (getD (nettedLongs t c) m 0) (getD (shortsRemaining t c) m 0) (getD (longsRemaining t c) m 0)
       ∙ ap₂ (λ s l. pos s -ℤ pos l) ss ls
 
   takes-none : getD (takerChanges t e) m (pos 0) ≡ pos 0
   unfolding takerChanges
   takes-none =
-      let b = ltb 0 (sumOf (longsLeft t c)) in
+      let b = ltb 0 (sumOf (longsRemaining t c)) in
       let f : ℕ → ℤ = λ q. cond b (pos q) (negℤ (pos q)) in
       let nothing : f 0 ≡ pos 0 = by-bool (λ b. cond b (pos 0) (negℤ (pos 0)) ≡ pos 0) b (λ _. refl) (λ _. refl) in
       ap (getD (map f (taken t e)) m) (sym nothing) ∙ List·getD-map f (taken t e) m 0 ∙ ap f (defaulted-take-none t e m d) ∙ nothing

@@ -87,7 +87,7 @@ module _ (k : Calendar) (d : ℕ) where
   unfolding stillToClose
   closed-before e t = (omega (arith, leb-true (e % contractsInYear) lastQuarter (cascaded-parent e t .1)), before-closed d (termClosingDay k (termOf e)) (cascaded-closed e t))
 
-  -- so no child of a contract that closes this evening is
+  -- no child of a contract that closes this evening has closed before
   children-clear : (K : ℕ → Bool) (c : ℕ) → c < termCount → Closed K → isOn (termClosingDay k (termOf c)) d ≡ true → c % contractsInYear < january → (e : ℕ) → childOf c e ≡ true → K e ≡ false
   children-clear K c w z o b e v = true-or (K e) (λ t. never (absurd (go (cascading c w b) (z e t)))) (λ t. t)
     where

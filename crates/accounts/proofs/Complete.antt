@@ -98,7 +98,7 @@ module _ (o r : Order) (os : List Order) (is : best (opposes o) os ≡ some r) w
   there : List·Memᴰ r os
   there = best-all (λ x. List·Memᴰ x os) (opposes o) os (all-map (λ x. List·Memᴰ x os) (λ x. opposes o x ≡ true → List·Memᴰ x os) os (λ x m _. m) (all-there os)) r is
 
-  -- and so is each that is left of them
+  -- what is left of orders that are no better is no better
   worse-left : (os′ : List Order) → Remain os os′ → All Worse os′
   unfolding opposes
   worse-left os′ x = remain-all Worse Worse (λ b q u v f. f) x worse

@@ -55,17 +55,17 @@ none-received (suc n) (suc i) = none-received n i
 
 -- ---- what holds at every turn
 module _ (mins : List ℕ) where
-  -- of l lots, each is received or left, and nobody has more than its minimum
+  -- of l lots, each is received or not dealt out, and nobody has more than its minimum
   record Dealt (l : ℕ) (s : Dealing) : Type 0 where
     pub long : length (s .received) ≡ length mins
-    pub whole : sumOf (s .received) + s .left ≡ l
+    pub whole : sumOf (s .received) + s .undealt ≡ l
     pub below : (i : ℕ) → getD (s .received) i 0 ≤ getD mins i 0
 
   -- one lot to i
   abbrev given : ℕ → Dealing → Dealing
-  given i s = record { received = set (s .received) i (getD (s .received) i 0 + 1); left = s .left - 1 }
+  given i s = record { received = set (s .received) i (getD (s .received) i 0 + 1); undealt = s .undealt - 1 }
 
-  given-dealt : (l i : ℕ) (s : Dealing) → 0 < s .left → getD (s .received) i 0 < getD mins i 0 → Dealt l s → Dealt l (given i s)
+  given-dealt : (l i : ℕ) (s : Dealing) → 0 < s .undealt → getD (s .received) i 0 < getD mins i 0 → Dealt l s → Dealt l (given i s)
   given-dealt l i s p q d =
       let r = s .received in
       let h : i < length r = le-or-lt (length r) i (λ k. absurd (let z = List·getD-eq-default mins 0 {n = i} (omega (arith, d .long)) in omega arith)) (λ k. k) in
@@ -77,13 +77,13 @@ module _ (mins : List ℕ) where
 
   -- i has its turn: there are lots, and it has less than its minimum
   abbrev due : ℕ → Dealing → Bool
-  due i s = ltb 0 (s .left) && ltb (getD (s .received) i 0) (getD mins i 0)
+  due i s = ltb 0 (s .undealt) && ltb (getD (s .received) i 0) (getD mins i 0)
 
   turn-dealt : (l i : ℕ) (s : Dealing) → Dealt l s → Dealt l (turn mins i s)
   unfolding turn
   turn-dealt l i s d =
       by-bool (λ c. Dealt l (cond c (given i s) s)) (due i s)
-      (λ e. given-dealt l i s (ltb-true _ _ (and-left (ltb 0 (s .left)) _ e)) (ltb-true _ _ (and-right (ltb 0 (s .left)) _ e)) d) (λ e. d)
+      (λ e. given-dealt l i s (ltb-true _ _ (and-left (ltb 0 (s .undealt)) _ e)) (ltb-true _ _ (and-right (ltb 0 (s .undealt)) _ e)) d) (λ e. d)
 
   round-dealt : (l : ℕ) (is : List ℕ) (s : Dealing) → Dealt l s → Dealt l (round mins is s)
   unfolding round
@@ -96,39 +96,39 @@ module _ (mins : List ℕ) where
   rounds-dealt l (suc n) is s d = rounds-dealt l n is (round mins is s) (round-dealt l is s d)
 
   -- ---- a round deals one lot at least, to one that has less than its minimum
-  turn-left : (i : ℕ) (s : Dealing) → turn mins i s .left ≤ s .left
+  turn-undealt : (i : ℕ) (s : Dealing) → turn mins i s .undealt ≤ s .undealt
   unfolding turn
-  turn-left i s = by-bool (λ c. cond c (given i s) s .left ≤ s .left) (due i s) (λ e. omega arith) (λ e. omega arith)
+  turn-undealt i s = by-bool (λ c. cond c (given i s) s .undealt ≤ s .undealt) (due i s) (λ e. omega arith) (λ e. omega arith)
 
-  round-left : (is : List ℕ) (s : Dealing) → round mins is s .left ≤ s .left
+  round-undealt : (is : List ℕ) (s : Dealing) → round mins is s .undealt ≤ s .undealt
   unfolding round
-  round-left [] s = omega arith
-  round-left (i ∷ is) s = omega (arith, round-left is (turn mins i s), turn-left i s)
+  round-undealt [] s = omega arith
+  round-undealt (i ∷ is) s = omega (arith, round-undealt is (turn mins i s), turn-undealt i s)
 
-  round-deals : (x : ℕ) (is : List ℕ) (s : Dealing) → 0 < s .left → getD (s .received) x 0 < getD mins x 0 → 0 < howMany (eqb x) is → round mins is s .left < s .left
+  round-deals : (x : ℕ) (is : List ℕ) (s : Dealing) → 0 < s .undealt → getD (s .received) x 0 < getD mins x 0 → 0 < howMany (eqb x) is → round mins is s .undealt < s .undealt
   unfolding round turn howMany
   round-deals x [] s p q h = absurd (omega arith)
   round-deals x (i ∷ is) s p q h =
-      by-bool (λ c. round mins is (cond c (given i s) s) .left < s .left) (due i s)
-      (λ e. omega (arith, round-left is (given i s)))
+      by-bool (λ c. round mins is (cond c (given i s) s) .undealt < s .undealt) (due i s)
+      (λ e. omega (arith, round-undealt is (given i s)))
       (λ e. same-or x i
-      (λ o. never (sym (rw (← o, lt-ltb 0 (s .left) p, lt-ltb (getD (s .received) x 0) (getD mins x 0) q) refl) ∙ e))
+      (λ o. never (sym (rw (← o, lt-ltb 0 (s .undealt) p, lt-ltb (getD (s .received) x 0) (getD mins x 0) q) refl) ∙ e))
       (λ o. round-deals x is s p q (let k = rw (ne-eqb x i o) at h in omega arith)))
 
   module _ (l : ℕ) (is : List ℕ) (enough : l ≤ sumOf mins) (all-in : (i : ℕ) → i < length mins → 0 < howMany (eqb i) is) where
-    round-fewer : (s : Dealing) → Dealt l s → round mins is s .left ≤ s .left - 1
+    round-fewer : (s : Dealing) → Dealt l s → round mins is s .undealt ≤ s .undealt - 1
     round-fewer s d =
-        le-or-lt (s .left) 0 (λ z. omega (arith, round-left is s))
+        le-or-lt (s .undealt) 0 (λ z. omega (arith, round-undealt is s))
         (λ z. one-less (s .received) mins (d .long) (omega (arith, d .whole)) (λ i p q. omega (arith, round-deals i is s z q (all-in i p))))
 
     -- n rounds deal n lots, or all
-    rounds-deal : (n : ℕ) (s : Dealing) → Dealt l s → rounds n mins is s .left ≤ s .left - n
+    rounds-deal : (n : ℕ) (s : Dealing) → Dealt l s → rounds n mins is s .undealt ≤ s .undealt - n
     unfolding rounds
     rounds-deal zero s d = omega arith
     rounds-deal (suc n) s d = omega (arith, round-fewer s d, rounds-deal n (round mins is s) (round-dealt l is s d))
 
   -- before the first turn
-  start : (l : ℕ) → Dealt l (record { received = replicate (length mins) 0; left = l })
+  start : (l : ℕ) → Dealt l (record { received = replicate (length mins) 0; undealt = l })
   start l = record { long = length-replicate (length mins) 0; whole = rw (sum-zeros (length mins)) (omega arith); below = λ i. rw (none-received (length mins) i) (omega arith) }
 
 -- ---- the laws
@@ -145,7 +145,7 @@ module _ (l : ℕ) (ws : List ℕ) where
   all-in-turn i h = rw (order-in (comesFirst (minimums l ws) ws) i (from 0 (length ws))) (from-in i 0 (length ws) (omega arith) (omega arith))
 
   dealing : Dealing
-  dealing = rounds l (minimums l ws) in-turn (record { received = replicate (length ws) 0; left = l })
+  dealing = rounds l (minimums l ws) in-turn (record { received = replicate (length ws) 0; undealt = l })
 
   dealing-dealt : Dealt (minimums l ws) l dealing
   unfolding dealing
@@ -163,7 +163,7 @@ module _ (l : ℕ) (ws : List ℕ) where
   pub dealt-below : (i : ℕ) → getD (dealtOut l ws) i 0 ≤ getD (minimums l ws) i 0
   dealt-below i = rw dealing-received (dealing-dealt .below i)
 
-  -- nor anything without weight
+  -- nobody without weight receives anything
   pub dealt-none : (i : ℕ) → getD ws i 0 ≡ 0 → getD (dealtOut l ws) i 0 ≡ 0
   unfolding minimums
   dealt-none i e =

@@ -230,7 +230,7 @@ module _ (t : Tables) (sound : headSound t ≡ true) (long : headLength ≤ leng
   unfolding booked
   run-booked ls t′ w = getD-set-same (t′ .head) lotsRunPlace (lotsRun t′ + lineRun ls) 0 (omega (arith, w .header .longer)) ∙ ap (λ n. n + lineRun ls) (w .run)
 
-  -- and one without
+  -- a record without lines keeps a sound head
   head-without : (t′ : Tables) → Stays timePlace (members t) (t .head) (t′ .head) → headSound (booked [] t′ .after) ≡ true
   unfolding lineRun total most
   head-without t′ w = head-booked [] t′ w (omega (arith, bounds lotsRunPlace (ofRun refl)))

@@ -59,7 +59,7 @@ over-other f l xs a q b s = record {
       List·getD-append (take a l) (xs ++ drop (a + length xs) l) 0 i (simp length-take (omega arith)) ∙ getD-take a l i 0 (omega arith);
 }
 
--- so the holidays are the same
+-- where the header's places are the same the holidays are
 pub same-holidays : (f : ℕ) (l l′ : List ℕ) (n : ℕ) → SameHeader f l l′ → headLength ≤ length l → n ≤ mostHolidays → take n (drop holidaysFrom l′) ≡ take n (drop holidaysFrom l)
 same-holidays f l l′ n a s b =
     ext-getD 0 (take n (drop holidaysFrom l′)) (take n (drop holidaysFrom l)) (simp (length-take, length-drop) (omega (arith, a .longer)))

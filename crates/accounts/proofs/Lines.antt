@@ -19,7 +19,7 @@ unfoldable pub hourTotal : Calendar → (Line → ℤ) → ℕ → List Line →
 hourTotal k amount h [] = pos 0
 hourTotal k amount h (l ∷ ls) = when (holdsHour k (l .contract) h) (amount l) +ℤ hourTotal k amount h ls
 
--- and for one member
+-- what the lines add up to in an hour, for one member
 unfoldable pub memberTotal : Calendar → (Line → ℤ) → ℕ → ℕ → List Line → ℤ
 memberTotal k amount m h [] = pos 0
 memberTotal k amount m h (l ∷ ls) = when (eqb (l .member) m) (when (holdsHour k (l .contract) h) (amount l)) +ℤ memberTotal k amount m h ls

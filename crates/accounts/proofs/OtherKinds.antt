@@ -15,7 +15,7 @@ use Rattle.rules.specs.declared.order.Order.{Order}
 use Rattle.rules.specs.Contracts.{hasCascaded}
 use Rattle.rules.specs.Header.{Header, calendarOf}
 use Rattle.rules.specs.Ledger.{Tables, isOpen, withHead, withPrices, orders, withOrders, timed, booked}
-use Rattle.rules.specs.Default.{sumOf, lotsLeft, weights, closeOutLines, closeOutBooked, defaultBooked}
+use Rattle.rules.specs.Default.{sumOf, lotsRemaining, weights, closeOutLines, closeOutBooked, defaultBooked}
 use Rattle.accounts.proofs.Lines.{Fits, hourTotal}
 use Rattle.accounts.proofs.Heads.{SameHeader, changing, ofMember, same-header, then-same, set-other}
 use Rattle.accounts.proofs.Holds.{Fair}
@@ -55,7 +55,7 @@ module _ (h : Header) (d : ℕ) (t : Tables) (r : Runs h d t) (s : Sound t) wher
       (no-lines h (hasCascaded (calendarOf h) d))
 
   pub close-out-does : (e : CloseOutTerms) → isOpen t (e .contract) ≡ true → e .contract < contractCount
-      → (ltb 0 (lotsLeft t (e .contract)) && eqb (sumOf (weights t e)) 0) ≡ false → Does h d d t (closeOutBooked t e)
+      → (ltb 0 (lotsRemaining t (e .contract)) && eqb (sumOf (weights t e)) 0) ≡ false → Does h d d t (closeOutBooked t e)
   unfolding closeOutBooked
   close-out-does e o c< w =
       booked-does h d (closeOutLines t e) t t r s (same-header timePlace (t .head)) (r .resting) refl refl

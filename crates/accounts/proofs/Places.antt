@@ -51,7 +51,7 @@ module _ (t : Tables) (u : Undamaged t) where
       let few : members (withClosed (closingContracts t) (priced n t)) ≤ mostMembers = omega (arith, w .places membersPlace (field (omega arith)), u .head .members-range .to) in
       day-place (nextDay t) (withClosed (closingContracts t) (priced n t)) i (omega (arith, w .longer, u .long .head)) few l h
 
-  -- and what closes, the count of orders
+  -- a close moves no place of the head between time and submits but the count of orders
   pub close-place : (n i : ℕ) → timePlace < i → (i ≡ orderCountPlace → ⊥) → i < submitsFrom → place (closeBooked t n .after) i ≡ place t i
   unfolding priced withClosed
   close-place n i l d h = evening-place n i l h ∙ written-place (kept (λ o. not (isOfAny (closingContracts t) o)) (orders (priced n t))) (priced n t) i d

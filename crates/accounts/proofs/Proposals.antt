@@ -118,7 +118,7 @@ legs-difference k x h (n ∷ ns) =
     rw (legs-difference k x h ns, leg-amount x n, hour-step k (legAmount x) Buy h n ns, hour-step k (legAmount x) Sell h n ns)
     (one-leg (n .order .side) (holdsHour k (n .order .contract) h) (legAmount x n) (inHour k (legAmount x) Buy h ns) (inHour k (legAmount x) Sell h ns))
 
--- so what balances in an hour adds up to nothing
+-- legs that balance in an hour add up to nothing in it
 hour-nothing : (k : Calendar) (x : Column) (h : ℕ) (ns : List Named) → balancedInHour k ns h ≡ true → hourTotal k (amount x) h (map legLine ns) ≡ pos 0
 unfolding balancedInHour legAmount
 hour-nothing k x h ns e =

@@ -148,7 +148,7 @@ legs-priced os (g ∷ gs) h = go (numbered (g .order) os) refl (legs-priced os g
     go none e ih = rw (e, namedLegs) ih
     go (some o) e ih = rw (e, namedLegs) (price-most (g .price .0) (and-right (numberSound (g .order) && lotsSound (g .lots .0)) (priceSound (g .price .0)) (h .0)), ih)
 
--- and GGFs, if the prices are sound
+-- a GGF of sound prices is at most the most price
 ggf-most : (t : Tables) (c : ℕ) → pricesSound t ≡ true → c < contractCount → ggf t c ≤ mostPrice
 unfolding pricesSound contractPricesSound
 ggf-most t c e h =

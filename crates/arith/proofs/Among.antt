@@ -47,7 +47,7 @@ every-from p a (suc n) t i h k =
     let b = both (p a) (every p (from (suc a) n)) t in
     same-or i a (λ e. rw e (b .0)) (λ e. every-from p (suc a) n (b .1) i (omega arith) (omega arith))
 
--- and back
+-- a test that each number from a on passes holds of them all
 pub from-every : (p : ℕ → Bool) (a n : ℕ) → ((i : ℕ) → a ≤ i → i < a + n → T (p i)) → T (every p (from a n))
 unfolding every from
 from-every p a zero f = tt

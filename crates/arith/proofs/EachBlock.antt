@@ -63,7 +63,7 @@ module _ {A : Type 0} (w : ℕ) where
       ∙ ap (block (c - 1)) (drop-at (f (take w l)) (inEachBlock w f n (drop w l)) w (g (take w l) (length-take-le w l long)))
       ∙ in-each-block f g n (drop w l) (simp length-drop (omega (arith, suc-mul n w))) (c - 1) (omega arith) ∙ ap f (sym (next-block (c - 1) l))))
 
-  -- and the list is as long as it was
+  -- changed block by block, a list is as long as it was
   pub in-each-length : (f : List A → List A) → ((b : List A) → length b ≡ w → length (f b) ≡ w) → (n : ℕ) (l : List A) → n * w ≤ length l → length (inEachBlock w f n l) ≡ length l
   unfolding inEachBlock
   in-each-length f g zero l s = refl

@@ -62,14 +62,14 @@ pub fn business_day_before(holidays: &[u64], n: u64, day: DayNo) -> Day
     ensures { λ r. ⌜ ((y : ℕ) → r ≡ businessDayBefore (record { firstYear = y; holidays = now (holidays .entry) }) n (day .0)) ⌝ }
 {
     let mut x = day.0;
-    let mut left = n;
+    let mut to_count = n;
     while 0 < x {
         x -= 1;
         if is_business_day(holidays, DayNo(x)) {
-            if left <= 1 {
+            if to_count <= 1 {
                 return Day::On(DayNo(x));
             }
-            left -= 1;
+            to_count -= 1;
         }
     }
     Day::NoDay

@@ -50,11 +50,11 @@ module _ (c p i : ℕ) (gains losses : List ℕ) (start : Tables → Tables) whe
       still : Takes (sumOf (drop (m + 1) gains) + sumOf (drop (m + 1) losses)) (put head′ lots′ value′ lines′ blank)
       still =
           let t = put head lots value lines blank in
-          let left = sumOf (drop (m + 1) gains) + sumOf (drop (m + 1) losses) in
-          let fits : Takes (natAbs change + left) t =
+          let rest = sumOf (drop (m + 1) gains) + sumOf (drop (m + 1) losses) in
+          let fits : Takes (natAbs change + rest) t =
           less-room _ _ (omega (arith, minus-size (getD gains m 0) (getD losses m 0), sum-next gains m more, sum-next losses m (omega arith))) (now .takes) in
-          subst (λ (s : Tables). Takes left s) (sym (after blank))
-          (takes-change left at c p m change t (omega (arith, now .few)) (record { contract-below = c<; member-below = omega (arith, now .members); most-price = p≤ }) fits)
+          subst (λ (s : Tables). Takes rest s) (sym (after blank))
+          (takes-change rest at c p m change t (omega (arith, now .few)) (record { contract-below = c<; member-below = omega (arith, now .members); most-price = p≤ }) fits)
 
       pub running-next : Running head′ lots′ value′ lines′ at′ (m + 1)
       running-next =

@@ -22,7 +22,7 @@ use Rattle.deal_lines.proofs.Takes.{Takes}
 use Rattle.close_out.proofs.Takes.{takes-change, each-members}
 use Rattle.arith.proofs.Sizes.{abs-neg}
 
--- ---- what is left
+-- ---- what remains
 less-sum : (xs ys : List ℕ) → length ys ≡ length xs → ((i : ℕ) → getD ys i 0 ≤ getD xs i 0) → sumOf (less xs ys) + sumOf ys ≡ sumOf xs
 unfolding zipWith
 less-sum [] [] e f = omega (arith, sum-none)
@@ -30,8 +30,8 @@ less-sum [] (y ∷ ys) e f = absurd (omega arith)
 less-sum (x ∷ xs) [] e f = absurd (omega arith)
 less-sum (x ∷ xs) (y ∷ ys) e f = rw (sum-cons (x - y) (less xs ys), sum-cons x xs, sum-cons y ys) (omega (arith, f 0, less-sum xs ys (omega arith) (λ i. f (suc i))))
 
-pub left-sum : (q : ℕ) (held : List ℕ) → sumOf (less held (givenUp q held)) ≡ sumOf held - min q (sumOf held)
-left-sum q held = omega (arith, less-sum held (givenUp q held) (given-length q held) (given-le q held), given-sum q held)
+pub remaining-sum : (q : ℕ) (held : List ℕ) → sumOf (less held (givenUp q held)) ≡ sumOf held - min q (sumOf held)
+remaining-sum q held = omega (arith, less-sum held (givenUp q held) (given-length q held) (given-le q held), given-sum q held)
 
 -- ---- lots run
 pub change-run : (c p m : ℕ) (zs : List ℤ) → lineRun (changeLines c p m zs) ≡ total natAbs zs

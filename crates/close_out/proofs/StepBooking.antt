@@ -35,12 +35,12 @@ less-le (x ∷ xs) [] i = omega arith
 less-le (x ∷ xs) (y ∷ ys) zero = omega arith
 less-le (x ∷ xs) (y ∷ ys) (suc i) = less-le xs ys i
 
-pub left-length : (q : ℕ) (held : List ℕ) → length (less held (givenUp q held)) ≡ length held
-left-length q held = less-length held (givenUp q held) (given-length q held)
+pub remaining-length : (q : ℕ) (held : List ℕ) → length (less held (givenUp q held)) ≡ length held
+remaining-length q held = less-length held (givenUp q held) (given-length q held)
 
-pub left-column : (q : ℕ) (held left : List ℕ) → left ≡ less held (givenUp q held) → MemberColumn mostWeight held → MemberColumn mostWeight left
-left-column q held left e f =
-    record { few = omega (arith, ap length e, left-length q held, f .few); each = λ i. rw e (omega (arith, less-le held (givenUp q held) i, f .each i)) }
+pub remaining-column : (q : ℕ) (held remaining : List ℕ) → remaining ≡ less held (givenUp q held) → MemberColumn mostWeight held → MemberColumn mostWeight remaining
+remaining-column q held remaining e f =
+    record { few = omega (arith, ap length e, remaining-length q held, f .few); each = λ i. rw e (omega (arith, less-le held (givenUp q held) i, f .each i)) }
 
 -- ---- tables after lines
 module _ (head head′ : List ℕ) (lots lots′ value value′ lines lines′ : List ℤ) (i : ℕ) (ls : List Line)
@@ -96,13 +96,13 @@ module _ (c p q l : ℕ) (longs shorts ws : List ℕ) (hc : c < contractCount) (
     members1 = members-same head head1 lots lots1 value value1 lines lines1 0 (nettingLines c p q longs shorts) same1
 
     sums1 : sumOf shorts1 + sumOf longs1 ≡ l
-    sums1 = omega (arith, ap sumOf el, ap sumOf es, d .left)
+    sums1 = omega (arith, ap sumOf el, ap sumOf es, d .remaining)
 
     shorts-wide : length shorts1 ≡ membersIn head1
-    shorts-wide = ap length es ∙ left-length q shorts ∙ d .shorts-length ∙ sym members1
+    shorts-wide = ap length es ∙ remaining-length q shorts ∙ d .shorts-length ∙ sym members1
 
     longs-wide : length longs1 ≡ length shorts1
-    longs-wide = ap length el ∙ left-length q longs ∙ d .longs-length ∙ sym members1 ∙ sym shorts-wide
+    longs-wide = ap length el ∙ remaining-length q longs ∙ d .longs-length ∙ sym members1 ∙ sym shorts-wide
 
     first-few : first + length shorts1 ≤ leastLines
     first-few = omega (arith, count1, netting-few, few, shorts-wide, members1)

@@ -15,7 +15,7 @@ use Rattle.rules.proofs.Netting.{given-sum, given-length, given-le}
 use Rattle.close_out_weights.proofs.Still.{still-at}
 use Rattle.close_out.specs.Booking.{withEach, changes, nettingLines, takerLines}
 
--- ---- what is left, in place
+-- ---- what remains, in place
 less-next : (xs ys : List ℕ) (i : ℕ) → i < length xs → i < length ys → less (drop i xs) (drop i ys) ≡ (getD xs i 0 - getD ys i 0) ∷ less (drop (i + 1) xs) (drop (i + 1) ys)
 unfolding zipWith
 less-next xs ys i h k = rw (add-one, drop-cons xs i 0 h, drop-cons ys i 0 k)
@@ -26,8 +26,8 @@ less-end xs ys i h = rw (drop-of-length-le xs h)
 
 -- xs from place i on as it was at first
 module _ (xs first : List ℕ) (i : ℕ) (known : drop i xs ≡ drop i first) where
-  pub left-next : (ys : List ℕ) → i < length first → i < length ys → less (drop i first) (drop i ys) ≡ (getD xs i 0 - getD ys i 0) ∷ less (drop (i + 1) first) (drop (i + 1) ys)
-  left-next ys h k = less-next first ys i h k ∙ ap (λ x. (x - getD ys i 0) ∷ less (drop (i + 1) first) (drop (i + 1) ys)) (sym (still-at xs first i known))
+  pub remaining-next : (ys : List ℕ) → i < length first → i < length ys → less (drop i first) (drop i ys) ≡ (getD xs i 0 - getD ys i 0) ∷ less (drop (i + 1) first) (drop (i + 1) ys)
+  remaining-next ys h k = less-next first ys i h k ∙ ap (λ x. (x - getD ys i 0) ∷ less (drop (i + 1) first) (drop (i + 1) ys)) (sym (still-at xs first i known))
 
 -- ---- takers
 bought : (xs : List ℕ) → map (λ n. pos n) xs ≡ changes xs (replicate (length xs) 0)
@@ -64,8 +64,8 @@ module _ (c p q : ℕ) (longs shorts gl gs : List ℕ) (el : gl ≡ givenUp q lo
   pub netting-room : sumOf gs + sumOf gl ≤ q + q
   netting-room = omega (arith, ap sumOf el, ap sumOf es, given-sum q longs, given-sum q shorts)
 
-pub left-is : (q : ℕ) (held given left : List ℕ) → given ≡ givenUp q held → left ≡ less held given → left ≡ less held (givenUp q held)
-left-is q held given left e f = f ∙ ap (less held) e
+pub remaining-is : (q : ℕ) (held given remaining : List ℕ) → given ≡ givenUp q held → remaining ≡ less held given → remaining ≡ less held (givenUp q held)
+remaining-is q held given remaining e f = f ∙ ap (less held) e
 
 pub given-fits : (q : ℕ) (held given : List ℕ) → given ≡ givenUp q held → (length given ≡ length held) × ((i : ℕ) → getD given i 0 ≤ getD held i 0)
 given-fits q held given e = (ap length e ∙ given-length q held, λ i. rw e (given-le q held i))

@@ -13,7 +13,7 @@ use Rattle.arith.specs.Lists.{from}
 use Rattle.arith.proofs.Tests.{le-or-lt, never}
 use Rattle.rules.specs.declared.answer.Answer.the-variants.{Accepted, ContractNotOpen, NoReferencePrice, NoDefaultedLots, NoTaker, TotalPassed}
 use Rattle.rules.specs.declared.event.CloseOutTerms.{CloseOutTerms}
-use Rattle.rules.specs.Default.{sumOf, givenUp, less, defaultedLongs, defaultedShorts, smallerTotal, nettedLongs, nettedShorts, nettingChanges, longsLeft, shortsLeft, lotsLeft}
+use Rattle.rules.specs.Default.{sumOf, givenUp, less, defaultedLongs, defaultedShorts, smallerTotal, nettedLongs, nettedShorts, nettingChanges, longsRemaining, shortsRemaining, lotsRemaining}
 use Rattle.rules.specs.Default.{weights, taken, defaultedChanges, takerChanges, closeOutLines, closeOutBooked}
 use Rattle.rules.specs.Ledger.{Tables, members, lotsRun, defaulted, lotsAt, isOpen, ggf, lineRun, booked, withHead, withRows, withLines}
 use Rattle.rules.specs.Ranges.{contractCount, mostMembers, mostLotsRun}
@@ -29,8 +29,8 @@ use Rattle.close_out.specs.Booking.{withEach, changes, nettingLines, def
 use Rattle.close_out.proofs.Changes.{each-booked}
 use Rattle.deal_lines.proofs.Takes.{rows-wider}
 use Rattle.close_out.proofs.Running.{put, blank}
-use Rattle.close_out.proofs.Runs.{left-sum, change-run, Apart, apart-run, takers-run}
-use Rattle.close_out.proofs.StepBooking.{left-length, less-le}
+use Rattle.close_out.proofs.Runs.{remaining-sum, change-run, Apart, apart-run, takers-run}
+use Rattle.close_out.proofs.StepBooking.{remaining-length, less-le}
 use Rattle.close_out_weights.proofs.ColumnFits.{column-length, column-fits, column-sum}
 use Rattle.rules.proofs.LinesRun.{run-append}
 
@@ -80,12 +80,12 @@ module _ (head : List ℕ) (lots : List ℤ) (c : ℕ) (longs shorts : List ℕ)
   unfolding smallerTotal
   netted-of t v = rw (longs-of t v, shorts-of t v, ← nl, ← ns) (sym nq)
 
-  left-of : (t : Tables) (v : List ℤ) → lotsLeft (put-in t v) c ≡ (long - q) + (short - q)
-  unfolding lotsLeft longsLeft shortsLeft nettedLongs nettedShorts
-  left-of t v = rw (netted-of t v, longs-of t v, shorts-of t v) (rw (left-sum q longs, left-sum q shorts, ← nl, ← ns) (less-smaller q long short nq))
+  remaining-of : (t : Tables) (v : List ℤ) → lotsRemaining (put-in t v) c ≡ (long - q) + (short - q)
+  unfolding lotsRemaining longsRemaining shortsRemaining nettedLongs nettedShorts
+  remaining-of t v = rw (netted-of t v, longs-of t v, shorts-of t v) (rw (remaining-sum q longs, remaining-sum q shorts, ← nl, ← ns) (less-smaller q long short nq))
 
   pub defaulted-found : Defaulted head lots c q ((long - q) + (short - q)) longs shorts
-  defaulted-found = record { longs-are = longs-of; shorts-are = shorts-of; netted = netted-of; left = left-of }
+  defaulted-found = record { longs-are = longs-of; shorts-are = shorts-of; netted = netted-of; remaining = remaining-of }
 
 -- ---- longs and shorts apart
 up-or-dn : (z : ℤ) → min (dn z) (up z) ≡ 0
@@ -112,8 +112,8 @@ apart-less xs ys xs′ ys′ f g a i = omega (arith, f i, g i, a i)
 
 -- ---- the lines in the code's terms
 spec-lines : (t : Tables) (e : CloseOutTerms) → closeOutLines t e
-    ≡ stepLines (e .contract) (ggf t (e .contract)) (smallerTotal t (e .contract)) (lotsLeft t (e .contract)) (defaultedLongs t (e .contract)) (defaultedShorts t (e .contract)) (weights t e)
-unfolding closeOutLines nettingChanges defaultedChanges takerChanges taken nettedLongs nettedShorts longsLeft shortsLeft stepLines nettingLines defaultedLines takerLines
+    ≡ stepLines (e .contract) (ggf t (e .contract)) (smallerTotal t (e .contract)) (lotsRemaining t (e .contract)) (defaultedLongs t (e .contract)) (defaultedShorts t (e .contract)) (weights t e)
+unfolding closeOutLines nettingChanges defaultedChanges takerChanges taken nettedLongs nettedShorts longsRemaining shortsRemaining stepLines nettingLines defaultedLines takerLines
 spec-lines t e = refl
 
 module _ (head : List ℕ) (lots value lines : List ℤ) (f : Bookable 0 head lots value lines) (e : CloseOutTerms) (below : e .contract < contractCount)
@@ -134,18 +134,18 @@ module _ (head : List ℕ) (lots value lines : List ℤ) (f : Bookable 0 head lo
   unfolding smallerTotal
   netted-is = rw (d .longs-are blank [], d .shorts-are blank []) at (d .netted blank [])
 
-  left-is : sumOf (less longs (givenUp q longs)) + sumOf (less shorts (givenUp q shorts)) ≡ l
-  unfolding lotsLeft longsLeft shortsLeft nettedLongs nettedShorts
-  left-is = rw (d .netted blank [], d .longs-are blank [], d .shorts-are blank []) at (d .left blank [])
+  remaining-is : sumOf (less longs (givenUp q longs)) + sumOf (less shorts (givenUp q shorts)) ≡ l
+  unfolding lotsRemaining longsRemaining shortsRemaining nettedLongs nettedShorts
+  remaining-is = rw (d .netted blank [], d .longs-are blank [], d .shorts-are blank []) at (d .remaining blank [])
 
   all-lots : sumOf longs + sumOf shorts ≡ (q + q) + l
-  all-lots = omega (arith, left-is, left-sum q longs, left-sum q shorts, netted-is)
+  all-lots = omega (arith, remaining-is, remaining-sum q longs, remaining-sum q shorts, netted-is)
 
   pub most-netted : q ≤ mostMembers * mostLotsRun
   most-netted = omega (arith, netted-is, longs-read .most)
 
-  pub most-left : l ≤ mostMembers * mostLotsRun
-  most-left = omega (arith, all-lots, netted-is, longs-read .most, shorts-read .most)
+  pub most-remaining : l ≤ mostMembers * mostLotsRun
+  most-remaining = omega (arith, all-lots, netted-is, longs-read .most, shorts-read .most)
 
   apart : Apart shorts longs
   apart = rw (d .longs-are blank [], d .shorts-are blank []) at (columns-apart here c)
@@ -168,9 +168,9 @@ module _ (head : List ℕ) (lots value lines : List ℤ) (f : Bookable 0 head lo
       let ls = less shorts (givenUp q shorts) in
       let ll = less longs (givenUp q longs) in
       change-run c p 0 (changes ls ll)
-      ∙ apart-run ls ll (left-length q shorts ∙ wide ∙ sym (left-length q longs))
+      ∙ apart-run ls ll (remaining-length q shorts ∙ wide ∙ sym (remaining-length q longs))
       (apart-less shorts longs ls ll (less-le shorts (givenUp q shorts)) (less-le longs (givenUp q longs)) apart)
-      ∙ omega (arith, left-is)
+      ∙ omega (arith, remaining-is)
 
   takers-there : (ws : List ℕ) (sum : ℕ) → sum ≡ sumOf ws → ltb 0 l && eqb sum 0 ≡ false → 0 < l → 0 < sumOf ws
   takers-there ws sum e h k = le-or-lt 1 (sumOf ws) (λ p. p) (λ p. never (rw (lt-ltb 0 l k, eq-eqb sum 0 (omega arith)) at h))
@@ -183,7 +183,7 @@ module _ (head : List ℕ) (lots value lines : List ℤ) (f : Bookable 0 head lo
         weights-length = long;
         longs-column = longs-read .fits;
         weights-column = g;
-        left = sym left-is;
+        remaining = sym remaining-is;
         takers = takers-there ws sum e h;
       }
 
@@ -198,8 +198,8 @@ module _ (head : List ℕ) (lots value lines : List ℤ) (f : Bookable 0 head lo
     shorts-here : defaultedShorts lent c ≡ shorts
     shorts-here = d .shorts-are (withLines lines t) value
 
-    left-here : lotsLeft lent c ≡ l
-    left-here = d .left (withLines lines t) value
+    remaining-here : lotsRemaining lent c ≡ l
+    remaining-here = d .remaining (withLines lines t) value
 
     no-price : eqb (ggf lent c) 0 ≡ false
     no-price = rw priced (ne-eqb price 0 (λ z. omega arith))
@@ -210,19 +210,19 @@ module _ (head : List ℕ) (lots value lines : List ℤ) (f : Bookable 0 head lo
 
     -- there are lots of the defaulted, and ws are the weights
     module _ (there : q + l ≡ 0 → ⊥) (ws : List ℕ) (sum : ℕ) (summed : sum ≡ sumOf ws)
-        (weighed : (s : Tables) (v : List ℤ) → lotsLeft (withHead head (withRows lots v s)) (e .contract) ≡ l → ws ≡ weights (withHead head (withRows lots v s)) e) where
+        (weighed : (s : Tables) (v : List ℤ) → lotsRemaining (withHead head (withRows lots v s)) (e .contract) ≡ l → ws ≡ weights (withHead head (withRows lots v s)) e) where
       weights-here : weights lent e ≡ ws
-      weights-here = sym (weighed (withLines lines t) value left-here)
+      weights-here = sym (weighed (withLines lines t) value remaining-here)
 
       some-lots : eqb (sumOf longs + sumOf shorts) 0 ≡ false
       some-lots = ne-eqb (sumOf longs + sumOf shorts) 0 (λ z. there (omega (arith, all-lots)))
 
       lines-are : closeOutLines lent e ≡ stepLines c price q l longs shorts ws
-      lines-are = spec-lines lent e ∙ rw (priced, d .netted (withLines lines t) value, left-here, longs-here, shorts-here, weights-here)
+      lines-are = spec-lines lent e ∙ rw (priced, d .netted (withLines lines t) value, remaining-here, longs-here, shorts-here, weights-here)
 
       pub no-taker : ltb 0 l && eqb sum 0 ≡ true → record { answer = NoTaker; after = lent } ≡ closeOutSpec lent e
       unfolding closeOutSpec
-      no-taker h = rw (opened, no-price, longs-here, shorts-here, some-lots, left-here, weights-here, ← summed, h)
+      no-taker h = rw (opened, no-price, longs-here, shorts-here, some-lots, remaining-here, weights-here, ← summed, h)
 
       module _ (taker : ltb 0 l && eqb sum 0 ≡ false) where
         run-is : lineRun (closeOutLines lent e) ≡ (q + q) + (l + l)
@@ -237,14 +237,14 @@ module _ (head : List ℕ) (lots value lines : List ℤ) (f : Bookable 0 head lo
 
         pub passed : mostLotsRun < lotsRun lent + ((q + q) + (l + l)) → record { answer = TotalPassed; after = lent } ≡ closeOutSpec lent e
         unfolding closeOutSpec
-        passed k = rw (opened, no-price, longs-here, shorts-here, some-lots, left-here, weights-here, ← summed, taker, run-is, lt-ltb mostLotsRun (lotsRun lent + ((q + q) + (l + l))) k)
+        passed k = rw (opened, no-price, longs-here, shorts-here, some-lots, remaining-here, weights-here, ← summed, taker, run-is, lt-ltb mostLotsRun (lotsRun lent + ((q + q) + (l + l))) k)
 
         pub booked-so : lotsRun lent + ((q + q) + (l + l)) ≤ mostLotsRun → (n : ℕ) (t′ : Tables) → n ≡ length (stepLines c price q l longs shorts ws)
             → t′ ≡ withEach 0 (stepLines c price q l longs shorts ws) lent → record { answer = Accepted n; after = t′ } ≡ closeOutSpec lent e
         unfolding closeOutSpec closeOutBooked booked
         booked-so k n t′ en et =
             rw (en, et, each-booked (stepLines c price q l longs shorts ws) lent (omega (arith, f .long)), ← lines-are)
-            (rw (opened, no-price, longs-here, shorts-here, some-lots, left-here, weights-here, ← summed, taker, run-is, le-ltb mostLotsRun (lotsRun lent + ((q + q) + (l + l))) k))
+            (rw (opened, no-price, longs-here, shorts-here, some-lots, remaining-here, weights-here, ← summed, taker, run-is, le-ltb mostLotsRun (lotsRun lent + ((q + q) + (l + l))) k))
 
 -- ---- the causes that need no lots
 pub not-open : (t : Tables) (e : CloseOutTerms) → isOpen t (e .contract) ≡ false → record { answer = ContractNotOpen (e .contract); after = t } ≡ closeOutSpec t e

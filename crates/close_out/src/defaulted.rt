@@ -13,7 +13,7 @@ use numbers::smaller;
 // Lots netted among the defaulted, and L, the lots that remain on one side.
 pub struct Netting {
     pub netted: u64,
-    pub left: u64,
+    pub remaining: u64,
 }
 
 // Finds the longs and shorts of the defaulted, by member; the lots netted are the smaller total.
@@ -26,13 +26,13 @@ pub fn find_defaulted(
 ) -> Netting
     requires { ⌜ HeadFit (now head) × RowsFit (membersIn (now head)) mostLotsRun (now lots) × (contract < contractCount) ⌝ }
     requires { ⌜ (length (now longs) ≡ membersIn (now head)) × (length (now shorts) ≡ membersIn (now head)) ⌝ }
-    ensures { λ r. ⌜ Defaulted (now (head .entry)) (now (lots .entry)) contract (r .netted) (r .left) (now (longs .exit)) (now (shorts .exit)) ⌝ }
+    ensures { λ r. ⌜ Defaulted (now (head .entry)) (now (lots .entry)) contract (r .netted) (r .remaining) (now (longs .exit)) (now (shorts .exit)) ⌝ }
 {
     read_column(Part::DefaultedLongs, head, lots, contract, &mut *longs);
     read_column(Part::DefaultedShorts, head, lots, contract, &mut *shorts);
     let long = sum_of(&longs[..]);
     let short = sum_of(&shorts[..]);
     let netted = smaller(long, short);
-    let left = (long - netted) + (short - netted);
-    Netting { netted, left }
+    let remaining = (long - netted) + (short - netted);
+    Netting { netted, remaining }
 }

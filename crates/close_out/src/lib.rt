@@ -30,7 +30,7 @@ use rules::ranges::MOST_LOTS_RUN;
 use steps::book_steps;
 use weights::find_weights;
 
-// The causes that need the lots, then the lines. Netted lots and lots left each run twice, given up and taken.
+// The causes that need the lots, then the lines. Netted lots and lots remaining each run twice, given up and taken.
 fn close_out_lots(
     head: &mut [u64],
     lots: &mut [i64],
@@ -53,15 +53,15 @@ fn close_out_lots(
     let contract = e.contract;
     let found = find_defaulted(&head[..], &lots[..], contract, &mut *longs, &mut *shorts);
     let netted = found.netted;
-    let left = found.left;
-    if netted + left == 0 {
+    let remaining = found.remaining;
+    if netted + remaining == 0 {
         return Answer::NoDefaultedLots;
     }
-    find_weights(&head[..], &lots[..], e, left, &mut *weights);
-    if (0 < left) & (sum_of(&weights[..]) == 0) {
+    find_weights(&head[..], &lots[..], e, remaining, &mut *weights);
+    if (0 < remaining) & (sum_of(&weights[..]) == 0) {
         return Answer::NoTaker;
     }
-    if MOST_LOTS_RUN < head[LOTS_RUN] + ((netted + netted) + (left + left)) {
+    if MOST_LOTS_RUN < head[LOTS_RUN] + ((netted + netted) + (remaining + remaining)) {
         return Answer::TotalPassed;
     }
     let count = book_steps(
@@ -72,7 +72,7 @@ fn close_out_lots(
         contract,
         price,
         netted,
-        left,
+        remaining,
         longs,
         shorts,
         &weights[..],

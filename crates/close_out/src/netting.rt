@@ -13,15 +13,15 @@ use dealing::give_up;
 use rules::Kurus;
 use rules::layout::ROW_WIDTH;
 
-// What each has left after what it gave up.
+// What each has remaining after what it gave up.
 fn subtract(held: &mut [u64], given: &[u64])
     requires { ⌜ (length (now given) ≡ length (now held)) × ((i : ℕ) → getD (now given) i 0 ≤ getD (now held) i 0) ⌝ }
     ensures { λ _. ⌜ now (held .exit) ≡ less (now (held .entry)) (now (given .entry)) ⌝ }
 {
     let mut i: usize = 0;
     while i < held.len() {
-        let left = held[i] - given[i];
-        held[i] = left;
+        let remaining = held[i] - given[i];
+        held[i] = remaining;
         i += 1;
     }
 }

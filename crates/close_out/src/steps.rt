@@ -14,7 +14,7 @@ use crate::takers::book_takers;
 use dealing::sum_of;
 use rules::Kurus;
 
-// Books step 1, then of step 2 what the defaulted have left, then the takers. The answer is the number of lines.
+// Books step 1, then of step 2 what the defaulted have remaining, then the takers. The answer is the number of lines.
 pub fn book_steps(
     head: &mut [u64],
     lots: &mut [i64],
@@ -23,18 +23,18 @@ pub fn book_steps(
     contract: u64,
     price: Kurus,
     netted: u64,
-    left: u64,
+    remaining: u64,
     longs: &mut [u64],
     shorts: &mut [u64],
     weights: &[u64],
 ) -> usize
-    requires { ⌜ Bookable ((netted + netted) + (left + left)) (now head) (now lots) (now value) (now lines) × (contract < contractCount) × (price .0 ≤ mostPrice) ⌝ }
-    requires { ⌜ Dealable netted left (membersIn (now head)) (now longs) (now shorts) (now weights) ⌝ }
-    ensures { λ r. ⌜ r ≡ length (stepLines contract (price .0) netted left (now (longs .entry)) (now (shorts .entry)) (now (weights .entry))) ⌝ }
+    requires { ⌜ Bookable ((netted + netted) + (remaining + remaining)) (now head) (now lots) (now value) (now lines) × (contract < contractCount) × (price .0 ≤ mostPrice) ⌝ }
+    requires { ⌜ Dealable netted remaining (membersIn (now head)) (now longs) (now shorts) (now weights) ⌝ }
+    ensures { λ r. ⌜ r ≡ length (stepLines contract (price .0) netted remaining (now (longs .entry)) (now (shorts .entry)) (now (weights .entry))) ⌝ }
     ensures { λ _. ⌜ now (longs .exit) ≡ less (now (longs .entry)) (givenUp netted (now (longs .entry))) ⌝ }
     ensures { λ _. ⌜ now (shorts .exit) ≡ less (now (shorts .entry)) (givenUp netted (now (shorts .entry))) ⌝ }
     ensures { λ _. ⌜ ((t : Tables) → withHead (now (head .exit)) (withRows (now (lots .exit)) (now (value .exit)) (withLines (now (lines .exit)) t))
-        ≡ withEach 0 (stepLines contract (price .0) netted left (now (longs .entry)) (now (shorts .entry)) (now (weights .entry)))
+        ≡ withEach 0 (stepLines contract (price .0) netted remaining (now (longs .entry)) (now (shorts .entry)) (now (weights .entry)))
         (withHead (now (head .entry)) (withRows (now (lots .entry)) (now (value .entry)) (withLines (now (lines .entry)) t)))) ⌝ }
 {
     let first = book_netting(
@@ -59,7 +59,7 @@ pub fn book_steps(
         &shorts[..],
         &longs[..],
     );
-    if left == 0 {
+    if remaining == 0 {
         return second;
     }
     let long = sum_of(&longs[..]);
@@ -72,7 +72,7 @@ pub fn book_steps(
         contract,
         price,
         long,
-        left,
+        remaining,
         weights,
     )
 }

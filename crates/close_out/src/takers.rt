@@ -1,4 +1,4 @@
-// Step 2, the takers: the lots left are dealt out to the members that are not defaulted.
+// Step 2, the takers: the lots remaining are dealt out to the members that are not defaulted.
 ghost use mathlib.Core.Path.{_≡_};
 ghost use Prim.Native.Nat.{_+_, _≤_, _<_};
 ghost use lib.ListN.{length, replicate};
@@ -23,20 +23,20 @@ fn deal_columns(
     contract: u64,
     price: Kurus,
     long: u64,
-    left: u64,
+    remaining: u64,
     weights: &[u64],
     taken: &mut [u64],
     nothing: &[u64],
 ) -> usize
-    requires { ⌜ Bookable left (now head) (now lots) (now value) (now lines) × MemberColumn mostWeight (now weights) × (0 < sumOf (now weights)) ⌝ }
+    requires { ⌜ Bookable remaining (now head) (now lots) (now value) (now lines) × MemberColumn mostWeight (now weights) × (0 < sumOf (now weights)) ⌝ }
     requires { ⌜ (contract < contractCount) × (price .0 ≤ mostPrice) × (i + length (now weights) ≤ leastLines) × (length (now weights) ≡ membersIn (now head)) ⌝ }
     requires { ⌜ (length (now taken) ≡ membersIn (now head)) × (now nothing ≡ replicate (membersIn (now head)) 0) ⌝ }
-    ensures { λ r. ⌜ r ≡ i + length (takerLines contract (price .0) long left (now (weights .entry))) ⌝ }
+    ensures { λ r. ⌜ r ≡ i + length (takerLines contract (price .0) long remaining (now (weights .entry))) ⌝ }
     ensures { λ _. ⌜ ((t : Tables) → withHead (now (head .exit)) (withRows (now (lots .exit)) (now (value .exit)) (withLines (now (lines .exit)) t))
-        ≡ withEach i (takerLines contract (price .0) long left (now (weights .entry)))
+        ≡ withEach i (takerLines contract (price .0) long remaining (now (weights .entry)))
         (withHead (now (head .entry)) (withRows (now (lots .entry)) (now (value .entry)) (withLines (now (lines .entry)) t)))) ⌝ }
 {
-    deal_out(left, weights, &mut *taken);
+    deal_out(remaining, weights, &mut *taken);
     if 0 < long {
         return book_changes(
             head,
@@ -73,14 +73,14 @@ pub fn book_takers(
     contract: u64,
     price: Kurus,
     long: u64,
-    left: u64,
+    remaining: u64,
     weights: &[u64],
 ) -> usize
-    requires { ⌜ Bookable left (now head) (now lots) (now value) (now lines) × MemberColumn mostWeight (now weights) × (0 < sumOf (now weights)) ⌝ }
+    requires { ⌜ Bookable remaining (now head) (now lots) (now value) (now lines) × MemberColumn mostWeight (now weights) × (0 < sumOf (now weights)) ⌝ }
     requires { ⌜ (contract < contractCount) × (price .0 ≤ mostPrice) × (i + length (now weights) ≤ leastLines) × (length (now weights) ≡ membersIn (now head)) ⌝ }
-    ensures { λ r. ⌜ r ≡ i + length (takerLines contract (price .0) long left (now (weights .entry))) ⌝ }
+    ensures { λ r. ⌜ r ≡ i + length (takerLines contract (price .0) long remaining (now (weights .entry))) ⌝ }
     ensures { λ _. ⌜ ((t : Tables) → withHead (now (head .exit)) (withRows (now (lots .exit)) (now (value .exit)) (withLines (now (lines .exit)) t))
-        ≡ withEach i (takerLines contract (price .0) long left (now (weights .entry)))
+        ≡ withEach i (takerLines contract (price .0) long remaining (now (weights .entry)))
         (withHead (now (head .entry)) (withRows (now (lots .entry)) (now (value .entry)) (withLines (now (lines .entry)) t)))) ⌝ }
 {
     let members = weights.len();
@@ -95,7 +95,7 @@ pub fn book_takers(
         contract,
         price,
         long,
-        left,
+        remaining,
         weights,
         &mut taken[..members],
         &nothing[..members],

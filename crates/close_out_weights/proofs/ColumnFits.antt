@@ -14,7 +14,7 @@ use Rattle.arith.specs.Lists.{from}
 use Rattle.arith.proofs.Tests.{le-or-lt}
 use Rattle.arith.proofs.Totals.{total-most}
 use Rattle.rules.specs.declared.event.CloseOutTerms.{CloseOutTerms}
-use Rattle.rules.specs.Default.{sumOf, othersLots, lotsLeft, weights, openWeight}
+use Rattle.rules.specs.Default.{sumOf, othersLots, lotsRemaining, weights, openWeight}
 use Rattle.rules.specs.Ledger.{Tables, members, defaulted, lotsAt, calendar, day, rowPlace}
 use Rattle.rules.specs.Ranges.{contractCount, termCount, mostMembers, mostLotsRun}
 use Rattle.rules.proofs.Netting.{sum-most}
@@ -92,17 +92,17 @@ module _ (t : Tables) (few : members t ≤ mostMembers) (fit : RowsFit (members 
       record { few = omega (arith, mapped-length f 0 (members t)); each = mapped-most f (members t) mostWeight (λ m k. or-none (defaulted t m) (openWeight t m) mostWeight (day-weight-most m k)) }
 
 -- ---- which weights
-module _ (t : Tables) (e : CloseOutTerms) (left : ℕ) (known : lotsLeft t (e .contract) ≡ left) where
+module _ (t : Tables) (e : CloseOutTerms) (remaining : ℕ) (known : lotsRemaining t (e .contract) ≡ remaining) where
   abbrev here : List ℕ
   here = columnOf Others t (e .contract)
 
-  pub weights-here : 1000 * left < e .ratio * sumOf here → here ≡ weights t e
+  pub weights-here : 1000 * remaining < e .ratio * sumOf here → here ≡ weights t e
   unfolding weights othersLots columnOf
-  weights-here h = rw (known, lt-leb (e .ratio * sumOf here) (1000 * left) h)
+  weights-here h = rw (known, lt-leb (e .ratio * sumOf here) (1000 * remaining) h)
 
-  pub weights-days : e .ratio * sumOf here ≤ 1000 * left → daysWeights t ≡ weights t e
+  pub weights-days : e .ratio * sumOf here ≤ 1000 * remaining → daysWeights t ≡ weights t e
   unfolding weights othersLots columnOf daysWeights
-  weights-days h = rw (known, le-leb (e .ratio * sumOf here) (1000 * left) h)
+  weights-days h = rw (known, le-leb (e .ratio * sumOf here) (1000 * remaining) h)
 
 pub sum-fits : (ns : List ℕ) → MemberColumn mostWeight ns → sumOf ns ≤ mostMembers * mostWeight
 sum-fits ns f = omega (arith, sum-most ns mostWeight (f .each), f .few)

@@ -31,9 +31,9 @@ module _ (k : Calendar) (d : ℕ) where
   unfolding between count
   one-more x l = rw (add-one, le-leb d x l)
 
-  -- While some of n are left to count up to day x, what delivers from x or earlier has closed.
-  pub closed-up-to : (n x left f : ℕ) → between k d x + left ≡ n → 0 < left → f ≤ x → notBefore (businessDayBefore k n f) d ≡ false
-  closed-up-to n x left f e p h = closes-by-count k d n f (omega arith) ∙ lt-leb n _ (omega (arith, between-up k d f x h))
+  -- While some of n are still to count up to day x, what delivers from x or earlier has closed.
+  pub closed-up-to : (n x to-count f : ℕ) → between k d x + to-count ≡ n → 0 < to-count → f ≤ x → notBefore (businessDayBefore k n f) d ≡ false
+  closed-up-to n x to-count f e p h = closes-by-count k d n f (omega arith) ∙ lt-leb n _ (omega (arith, between-up k d f x h))
 
   -- Where x is the last of the n, what delivers later is still to close.
   pub last-counted : (n x f : ℕ) → d ≤ x → between k d x + 1 ≡ n → businessDay k x ≡ true → notBefore (businessDayBefore k n f) d ≡ leb (x + 1) f
@@ -44,9 +44,9 @@ module _ (k : Calendar) (d : ℕ) where
 
 -- ---- the least first delivery day
 module _ (k : Calendar) (none : ℕ) where
-  pub none-left : (m n x : ℕ) → m ≡ 0 → dayAfterNth k none m n x ≡ none
+  pub none-to-count : (m n x : ℕ) → m ≡ 0 → dayAfterNth k none m n x ≡ none
   unfolding dayAfterNth
-  none-left m n x e = rw e
+  none-to-count m n x e = rw e
 
   module _ (end n x : ℕ) (h : x < end) where
     pub idle-day : businessDay k x ≡ false → dayAfterNth k none (end - x) n x ≡ dayAfterNth k none (end - (x + 1)) n (x + 1)
@@ -62,7 +62,7 @@ module _ (k : Calendar) (none : ℕ) where
     nth-day b l = let e : end - x ≡ suc (end - (x + 1)) = omega arith in rw (e, b, le-leb n 1 l)
 
 module _ (k : Calendar) (d all end f : ℕ) (h : f ≤ end) where
-  -- Of `all` business days from day d on n are left to count from day x on.
+  -- Of `all` business days from day d on n are still to count from day x on.
   decides : (m n x : ℕ) → end ≤ x + m → d ≤ x → between k d x + n ≡ all → 0 < n → notBefore (businessDayBefore k all f) d ≡ leb (dayAfterNth k (end + 1) m n x) f
   unfolding dayAfterNth
   decides zero n x l p e g = closed-up-to k d all x n f e g (omega arith) ∙ sym (lt-leb (end + 1) f (omega arith))

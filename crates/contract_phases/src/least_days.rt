@@ -33,13 +33,13 @@ fn least_first_day(holidays: &[u64], day: DayNo, n: u64, end: DayNo) -> DayNo
     ensures { λ r. ⌜ ((y : ℕ) → r .0 ≡ leastFirstDay (record { firstYear = y; holidays = now (holidays .entry) }) (day .0) n (end .0)) ⌝ }
 {
     let mut x = day.0;
-    let mut left = n;
+    let mut to_count = n;
     while x < end.0 {
         if is_business_day(holidays, DayNo(x)) {
-            if left <= 1 {
+            if to_count <= 1 {
                 return DayNo(x + 1);
             }
-            left -= 1;
+            to_count -= 1;
         }
         x += 1;
     }

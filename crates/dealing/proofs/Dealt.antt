@@ -26,18 +26,18 @@ module _ (l : ℕ) (ws : List ℕ) (some : 0 < sumOf ws) where
   there = rw (minimums-length l ws) (some-members ws some)
 
   after : (r : ℕ) → Highest l mins r
-      → (rounds l mins order (record { received = replicate (length ws) 0; left = l }) ≡ round mins order (dealtTo l mins r)) × (round mins order (dealtTo l mins r) .left ≡ 0)
+      → (rounds l mins order (record { received = replicate (length ws) 0; undealt = l }) ≡ round mins order (dealtTo l mins r)) × (round mins order (dealtTo l mins r) .undealt ≡ 0)
   after r h = rw (minimums-length l ws) at (last-round l mins (comesFirst mins ws) there r h (minimums-suffice l ws some))
 
-  pub dealt-from-level : (r : ℕ) → Highest l mins r → dealtOut l ws ≡ round mins order (record { received = atLevel r mins; left = l - sumOf (atLevel r mins) }) .received
+  pub dealt-from-level : (r : ℕ) → Highest l mins r → dealtOut l ws ≡ round mins order (record { received = atLevel r mins; undealt = l - sumOf (atLevel r mins) }) .received
   unfolding dealtOut dealtTo
   dealt-from-level r h = ap (λ s. s .received) (after r h .0)
 
-  -- as the code deals it out
+  -- one round from the highest level, as the code does it, deals all out
   pub dealt-by-round : (m is d : List ℕ) (r k : ℕ) (s : Dealing) → m ≡ mins → is ≡ inOrder (comesFirst m ws) (from 0 (length ws)) → Highest l m r
-      → d ≡ atLevel r m → k ≡ l - sumOf (atLevel r m) → s ≡ round m is (record { received = d; left = k }) → s .received ≡ dealtOut l ws
+      → d ≡ atLevel r m → k ≡ l - sumOf (atLevel r m) → s ≡ round m is (record { received = d; undealt = k }) → s .received ≡ dealtOut l ws
   dealt-by-round m is d r k s em ei h ed ek es =
-      let e : s ≡ round m (inOrder (comesFirst m ws) (from 0 (length ws))) (record { received = atLevel r m; left = l - sumOf (atLevel r m) }) = rw (ei, ed, ek) at es in
+      let e : s ≡ round m (inOrder (comesFirst m ws) (from 0 (length ws))) (record { received = atLevel r m; undealt = l - sumOf (atLevel r m) }) = rw (ei, ed, ek) at es in
       ap (λ (x : Dealing). x .received) (rw em at e) ∙ sym (dealt-from-level r (rw em at h))
 
   pub all-dealt : sumOf (dealtOut l ws) ≡ l

@@ -58,13 +58,13 @@ level-least r (x ∷ m) = rw (sum-cons x m, sum-cons (min r x) (atLevel r m)) (o
 
 -- l lots dealt to level r
 unfoldable pub dealtTo : ℕ → List ℕ → ℕ → Dealing
-dealtTo l m r = record { received = atLevel r m; left = l - sumOf (atLevel r m) }
+dealtTo l m r = record { received = atLevel r m; undealt = l - sumOf (atLevel r m) }
 
 -- ---- a round
 module _ (l : ℕ) (m : List ℕ) (r : ℕ) where
-  -- the lots suffice for the next level, or some are left after the round
+  -- the lots suffice for the next level, or some are undealt after the round
   abbrev Ample : List ℕ → Dealing → Type 0
-  Ample is s = (sumOf (atLevel (suc r) m) ≤ l) ⊎ (0 < round m is s .left)
+  Ample is s = (sumOf (atLevel (suc r) m) ≤ l) ⊎ (0 < round m is s .undealt)
 
   ample-next : (i : ℕ) (is : List ℕ) (s s′ : Dealing) → turn m i s ≡ s′ → Ample (i ∷ is) s → Ample is s′
   unfolding round
@@ -72,8 +72,8 @@ module _ (l : ℕ) (m : List ℕ) (r : ℕ) where
 
   -- Part of a round: those who still have their turn stand at level r, the others at r + 1.
   lift : (is d : List ℕ) (k : ℕ) → length d ≡ length m → ((j : ℕ) → getD is j 0 < length m) → ((j : ℕ) → times j is ≤ 1)
-      → ((j : ℕ) → getD d j 0 ≡ min (suc r - times j is) (getD m j 0)) → sumOf d + k ≡ l → Ample is (record { received = d; left = k })
-      → round m is (record { received = d; left = k }) ≡ dealtTo l m (suc r)
+      → ((j : ℕ) → getD d j 0 ≡ min (suc r - times j is) (getD m j 0)) → sumOf d + k ≡ l → Ample is (record { received = d; undealt = k })
+      → round m is (record { received = d; undealt = k }) ≡ dealtTo l m (suc r)
   unfolding round dealtTo times
   lift [] d k n b u f s a =
       let e : d ≡ atLevel (suc r) m = ext-getD 0 d (atLevel (suc r) m) (n ∙ sym (level-length (suc r) m)) (λ j h. rw (level-at (suc r) m j) (omega (arith, f j))) in
@@ -107,7 +107,7 @@ module _ (l : ℕ) (m : List ℕ) (first : ℕ → ℕ → Bool) (some : 0 < len
   order = inOrder first (from 0 (length m))
 
   abbrev start : Dealing
-  start = record { received = replicate (length m) 0; left = l }
+  start = record { received = replicate (length m) 0; undealt = l }
 
   times-most : (j : ℕ) → times j order ≤ 1
   times-most j = le-or-lt (length m) j (λ k. omega (arith, times-none first j 0 (length m) (omega arith))) (λ k. omega (arith, times-once first j 0 (length m) (omega arith) (omega arith)))
@@ -134,15 +134,15 @@ module _ (l : ℕ) (m : List ℕ) (first : ℕ → ℕ → Bool) (some : 0 < len
   abbrev last : ℕ → Dealing
   last r = round m order (dealtTo l m r)
 
-  pub last-whole : (r : ℕ) → sumOf (atLevel r m) ≤ l → sumOf (last r .received) + last r .left ≡ l
+  pub last-whole : (r : ℕ) → sumOf (atLevel r m) ≤ l → sumOf (last r .received) + last r .undealt ≡ l
   unfolding dealtTo
   last-whole r h = omega (arith, round-keeps m order (atLevel r m) (l - sumOf (atLevel r m)) (λ j. rw (level-length r m) (order-below first (length m) 0 (length m) some (omega arith) j)) .whole)
 
-  -- Lots left after it would suffice for one level more.
-  last-spent : (r : ℕ) → Highest l m r → r < l → last r .left ≡ 0
+  -- Lots undealt after it would suffice for one level more.
+  last-spent : (r : ℕ) → Highest l m r → r < l → last r .undealt ≡ 0
   unfolding dealtTo
   last-spent r h k =
-      le-or-lt 1 (last r .left)
+      le-or-lt 1 (last r .undealt)
       (λ p. let e = next-level r (h .enough) (inr p) in
       let whole = rw e at (last-whole r (h .enough)) in
       absurd (omega (arith, rw (add-one r) at (h .short k), whole)))
@@ -151,7 +151,7 @@ module _ (l : ℕ) (m : List ℕ) (first : ℕ → ℕ → Bool) (some : 0 < len
   full : (r : ℕ) → Highest l m r → l ≤ sumOf m → l ≤ r → l - sumOf (atLevel r m) ≡ 0
   full r h c k = let e : r ≡ l = omega (arith, h .within) in rw e (omega (arith, level-least l m))
 
-  pub last-round : (r : ℕ) → Highest l m r → l ≤ sumOf m → (rounds l m order start ≡ last r) × (last r .left ≡ 0)
+  pub last-round : (r : ℕ) → Highest l m r → l ≤ sumOf m → (rounds l m order start ≡ last r) × (last r .undealt ≡ 0)
   unfolding rounds dealtTo
   last-round r h c =
       let jump : rounds l m order start ≡ rounds (l - r) m order (dealtTo l m r) =
@@ -159,10 +159,10 @@ module _ (l : ℕ) (m : List ℕ) (first : ℕ → ℕ → Bool) (some : 0 < len
       le-or-lt l r
       (λ k. let z : l - r ≡ zero = omega arith in
       let e = round-none m order (atLevel r m) (l - sumOf (atLevel r m)) (omega (arith, full r h c k)) in
-      (jump ∙ rw z (sym e), ap (λ s. s .left) e ∙ full r h c k))
+      (jump ∙ rw z (sym e), ap (λ s. s .undealt) e ∙ full r h c k))
       (λ k. let z : l - r ≡ suc (l - r - 1) = omega arith in
       let e = last-spent r h k in
-      (jump ∙ rw z (rounds-none (l - r - 1) m order (last r .received) (last r .left) (omega arith)), e))
+      (jump ∙ rw z (rounds-none (l - r - 1) m order (last r .received) (last r .undealt) (omega arith)), e))
 
 -- there is a highest level
 pub highest : {P : Type 0} (l : ℕ) (m : List ℕ) (n r : ℕ) → r + n ≡ l → sumOf (atLevel r m) ≤ l → ((s : ℕ) → Highest l m s → P) → P

@@ -23,12 +23,12 @@ pub fn give_up(lots: u64, held: &[u64], given: &mut [u64])
     requires { ⌜ length (now given) ≡ length (now held) ⌝ }
     ensures { λ _. ⌜ now (given .exit) ≡ givenUp lots (now (held .entry)) ⌝ }
 {
-    let mut left = lots;
+    let mut remaining = lots;
     let mut i: usize = 0;
     while i < held.len() {
-        let share = smaller(left, held[i]);
+        let share = smaller(remaining, held[i]);
         given[i] = share;
-        left -= share;
+        remaining -= share;
         i += 1;
     }
 }

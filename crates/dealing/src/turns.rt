@@ -16,20 +16,20 @@ use rules::layout::ROW_WIDTH;
 fn take_turns(minima: &[u64], order: &[usize], received: &mut [u64], lots: u64) -> u64
     requires { ⌜ (length (now order) ≡ length (now minima)) × (length (now received) ≡ length (now minima)) ⌝ }
     requires { ⌜ ((i : ℕ) → getD (now order) i 0 < length (now minima)) ⌝ }
-    ensures { λ r. ⌜ record { received = now (received .exit); left = r } ≡ round (now (minima .entry)) (now (order .entry)) (record { received = now (received .entry); left = lots }) ⌝ }
+    ensures { λ r. ⌜ record { received = now (received .exit); undealt = r } ≡ round (now (minima .entry)) (now (order .entry)) (record { received = now (received .entry); undealt = lots }) ⌝ }
 {
-    let mut left = lots;
+    let mut undealt = lots;
     let mut i: usize = 0;
     while i < order.len() {
         let member = order[i];
         let has = received[member];
-        if (0 < left) & (has < minima[member]) {
+        if (0 < undealt) & (has < minima[member]) {
             received[member] = has + 1;
-            left -= 1;
+            undealt -= 1;
         }
         i += 1;
     }
-    left
+    undealt
 }
 
 // Whole rounds are taken at once: up to the highest level that the lots suffice for; one round deals the rest.
@@ -42,9 +42,9 @@ fn deal_by_minimums(lots: u64, weights: &[u64], minima: &[u64], received: &mut [
     let members = weights.len();
     put_in_order(minima, weights, &mut order[..members]);
     let level = highest_level(lots, minima);
-    let left = lots - lots_at_level(level, minima);
+    let undealt = lots - lots_at_level(level, minima);
     fill_to_level(level, minima, &mut *received);
-    take_turns(minima, &order[..members], &mut *received, left);
+    take_turns(minima, &order[..members], &mut *received, undealt);
 }
 
 // Lots dealt out to the members by weight.

@@ -28,7 +28,7 @@ pub rank-below : (r : Order) → Ranked r → rankOf r < noRank
 unfolding rankOf
 rank-below r f = omega (arith, price-below r f)
 
--- and leaves room for a place
+-- a rank leaves room for a place beside it
 pub rank-room : (r : Order) → Ranked r → rankOf r * mostOrders + mostOrders ≤ noRank
 unfolding rankOf
 rank-room r f = omega (arith, price-below r f)
@@ -143,7 +143,7 @@ module _ (o : Order) where
   none-opposes [] h = refl
   none-opposes (y ∷ os) h = true-or (opposes o y) (λ e. absurd (omega (arith, h .0 e .0, rank-below y (h .0 e .1)))) (λ e. rw e (none-opposes os (h .1)))
 
-  -- and where no rank is left there is none
+  -- where no order has a rank there is no best
   pub best-none : (left : List ℕ) (os : List Order) → length left ≡ length os → All Ranked os → ((j : ℕ) → j < length os → noRank ≤ getD (ranksOf o left os) j 0)
       → best (opposes o) (leftOver left os) ≡ none
   best-none left os e h f = none-opposes (leftOver left os) (all-above noRank left os e h f)

@@ -129,7 +129,7 @@ module _ (t : Tables) (count : ℕ) (book places numbers lots prices : List ℕ)
     unfolding columnLegs
     all-named = length-map (from 0 (length numbers)) (namedAt book places numbers lots prices) ∙ sym (length-map (from 0 (length numbers)) (columnLeg numbers lots prices))
 
-    -- and where each does, exactly if the other tests pass.
+    -- Where each leg names an order, a proposal is acceptable exactly if the other tests pass.
     pub acceptable-found : (member contract within months kept : Bool) → member ≡ twoOccur (λ n. n .order .member) (namedTo book places numbers lots prices)
         → contract ≡ twoOccur (λ n. n .order .contract) (namedTo book places numbers lots prices)
         → within ≡ every (λ n. hasLots n && priceAllowed t n) (namedTo book places numbers lots prices)

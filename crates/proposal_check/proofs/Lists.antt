@@ -20,7 +20,7 @@ unfolding from
 map-from f g a zero e = refl
 map-from f g a (suc n) e = rw (e a (omega arith) (omega arith), map-from f g (suc a) n (λ i l u. e i (omega arith) (omega arith)))
 
--- and two tests of them the same
+-- two tests that agree on each of the numbers from a on agree on all
 pub every-same-from : (p q : ℕ → Bool) (a n : ℕ) → ((i : ℕ) → i < a + n → p i ≡ q i) → every p (from a n) ≡ every q (from a n)
 unfolding every from
 every-same-from p q a zero e = refl

@@ -68,7 +68,7 @@ module _ (n p : ℕ) (hp : p < contractCount) (hn : n ≤ 32) where
         ∙ rw (rows-at n c l s hc hn m hm, rows-at n p l s hp hn m hm, q))
         (λ q. simp sorted)
 
-  -- and to those of k later contracts that follow each other
+  -- a contract's rows added to those of k later contracts that follow each other
   pub added-length : (k a : ℕ) (l : List ℤ) → rowsLength ≤ length l → a + k ≤ contractCount → p < a → length (addedTo n p (from a k) l) ≡ length l
   unfolding addedTo from
   added-length zero a l s ha hl = refl

@@ -110,7 +110,7 @@ balanced-every-hour k ns b h l u =
     simp (same-month k i h (24 * monthStart (firstMonth k + i)) (m .lies) (first-hour k i (m .lies .month<)))
     (every-from (λ i. balancedInHour k ns (24 * monthStart (firstMonth k + i))) 0 72 b i (omega arith) (omega (arith, m .lies .month<)))
 
--- and one that is balanced in every hour of the six years is balanced
+-- a proposal that is balanced in every hour of the six years is balanced
 pub every-hour-balanced : (k : Calendar) (ns : List Named) → ((h : ℕ) → 24 * spanStart k ≤ h → h < 24 * dayAfterSpan k → T (balancedInHour k ns h)) → T (balanced k ns)
 unfolding balanced spanStart dayAfterSpan
 every-hour-balanced k ns f =

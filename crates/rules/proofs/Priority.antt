@@ -19,7 +19,7 @@ use Rattle.rules.specs.Matching.{betterPrice, precedes, better, best}
 abbrev ahead : Side → ℕ → ℕ → ℕ → ℕ → Bool
 ahead s p n q m = betterPrice s p q || eqb p q && ltb n m
 
--- or they do not: the price is worse, or the same and the number no lower
+-- price p and number n do not go before q and m: the price is worse, or the same and the number no lower
 pub data Behind : Side → ℕ → ℕ → ℕ → ℕ → Type 0 where
   lower : {p n q m : ℕ} → p < q → Behind Buy p n q m
   higher : {p n q m : ℕ} → q < p → Behind Sell p n q m

@@ -16,31 +16,31 @@ use Rattle.rules.proofs.Netting.{sum-set}
 
 -- ---- a turn
 module _ (mins : List ℕ) (i : ℕ) (d : List ℕ) (k : ℕ) where
-  pub turn-deals : 0 < k → getD d i 0 < getD mins i 0 → turn mins i (record { received = d; left = k }) ≡ record { received = set d i (getD d i 0 + 1); left = k - 1 }
+  pub turn-deals : 0 < k → getD d i 0 < getD mins i 0 → turn mins i (record { received = d; undealt = k }) ≡ record { received = set d i (getD d i 0 + 1); undealt = k - 1 }
   unfolding turn
   turn-deals p q = rw (lt-ltb 0 k p, lt-ltb (getD d i 0) (getD mins i 0) q)
 
-  pub turn-full : getD mins i 0 ≤ getD d i 0 → turn mins i (record { received = d; left = k }) ≡ record { received = d; left = k }
+  pub turn-full : getD mins i 0 ≤ getD d i 0 → turn mins i (record { received = d; undealt = k }) ≡ record { received = d; undealt = k }
   unfolding turn
   turn-full q = rw (le-ltb (getD d i 0) (getD mins i 0) q, and-false (ltb 0 k))
 
-  pub turn-none : k ≤ 0 → turn mins i (record { received = d; left = k }) ≡ record { received = d; left = k }
+  pub turn-none : k ≤ 0 → turn mins i (record { received = d; undealt = k }) ≡ record { received = d; undealt = k }
   unfolding turn
   turn-none q = rw (le-ltb 0 k q)
 
 -- ---- a round
-pub round-none : (mins is d : List ℕ) (k : ℕ) → k ≤ 0 → round mins is (record { received = d; left = k }) ≡ record { received = d; left = k }
+pub round-none : (mins is d : List ℕ) (k : ℕ) → k ≤ 0 → round mins is (record { received = d; undealt = k }) ≡ record { received = d; undealt = k }
 unfolding round
 round-none mins [] d k h = refl
 round-none mins (i ∷ is) d k h = rw (turn-none mins i d k h) (round-none mins is d k h)
 
--- What a round keeps: the number of members, and the lots received and left together.
+-- What a round keeps: the number of members, and the lots received and undealt together.
 pub record Keeps (d : List ℕ) (k : ℕ) (s : Dealing) : Type 0 where
   pub long : length (s .received) ≡ length d
-  pub whole : sumOf (s .received) + s .left ≡ sumOf d + k
-  pub less : s .left ≤ k
+  pub whole : sumOf (s .received) + s .undealt ≡ sumOf d + k
+  pub less : s .undealt ≤ k
 
-pub round-keeps : (mins is d : List ℕ) (k : ℕ) → ((j : ℕ) → getD is j 0 < length d) → Keeps d k (round mins is (record { received = d; left = k }))
+pub round-keeps : (mins is d : List ℕ) (k : ℕ) → ((j : ℕ) → getD is j 0 < length d) → Keeps d k (round mins is (record { received = d; undealt = k }))
 unfolding round
 round-keeps mins [] d k b = record { long = refl; whole = refl; less = omega arith }
 round-keeps mins (i ∷ is) d k b =
@@ -59,11 +59,11 @@ module _ (mins is d : List ℕ) (k i : ℕ) (within : i < length is) where
   deals = ltb 0 k && ltb (getD d (getD is i 0) 0) (getD mins (getD is i 0) 0)
 
   pub round-deals : deals ≡ true
-      → round mins (drop (i + 1) is) (record { received = set d (getD is i 0) (getD d (getD is i 0) 0 + 1); left = k - 1 }) ≡ round mins (drop i is) (record { received = d; left = k })
+      → round mins (drop (i + 1) is) (record { received = set d (getD is i 0) (getD d (getD is i 0) 0 + 1); undealt = k - 1 }) ≡ round mins (drop i is) (record { received = d; undealt = k })
   unfolding round turn
   round-deals e = rw (drop-cons is i 0 within, round, turn, e, add-one)
 
-  pub round-passes : deals ≡ false → round mins (drop (i + 1) is) (record { received = d; left = k }) ≡ round mins (drop i is) (record { received = d; left = k })
+  pub round-passes : deals ≡ false → round mins (drop (i + 1) is) (record { received = d; undealt = k }) ≡ round mins (drop i is) (record { received = d; undealt = k })
   unfolding round turn
   round-passes e = rw (drop-cons is i 0 within, round, turn, e, add-one)
 
@@ -72,7 +72,7 @@ unfolding round
 round-end mins is s i h = rw (drop-of-length-le is h)
 
 -- ---- several rounds
-pub rounds-none : (n : ℕ) (mins is d : List ℕ) (k : ℕ) → k ≤ 0 → rounds n mins is (record { received = d; left = k }) ≡ record { received = d; left = k }
+pub rounds-none : (n : ℕ) (mins is d : List ℕ) (k : ℕ) → k ≤ 0 → rounds n mins is (record { received = d; undealt = k }) ≡ record { received = d; undealt = k }
 unfolding rounds
 rounds-none zero mins is d k h = refl
 rounds-none (suc n) mins is d k h = rw (round-none mins is d k h) (rounds-none n mins is d k h)

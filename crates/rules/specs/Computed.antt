@@ -17,7 +17,7 @@ use Rattle.rules.specs.Synthetic.{numbered, namedLegs, priceAllowed, two
 use Rattle.rules.specs.CloseOfDay.{enteredBefore, quotes, bestQuote, ggfAtClose, withGgfs, withoutDeals, priced, addedTo, zeroRows, cascaded, closingContracts, allCascaded}
 use Rattle.rules.specs.CloseOfDay.{isOfAny, withClosed, hasNextDay, nextDay, onDay, closeBooked}
 use Rattle.rules.specs.Default.{defaultBooked, sumOf, defaultedLongs, defaultedShorts, givenUp, changeLines, smallerTotal, nettedLongs, nettedShorts, nettingChanges}
-use Rattle.rules.specs.Default.{longsLeft, shortsLeft, lotsLeft, othersLots, openWeight, weights, minimum, minimums, comesFirst, placed, inOrder, turn, round, rounds}
+use Rattle.rules.specs.Default.{longsRemaining, shortsRemaining, lotsRemaining, othersLots, openWeight, weights, minimum, minimums, comesFirst, placed, inOrder, turn, round, rounds}
 use Rattle.rules.specs.Default.{dealtOut, taken, defaultedChanges, takerChanges, closeOutLines, closeOutBooked}
 use Rattle.rules.specs.Refusals.{everyRow, rowsSound, contractPricesSound, pricesSound, memberSound, headSound, orderSound, distinct, sidesSound, bookSound, damaged, ledgerUnsound, unsound}
 use Rattle.rules.specs.Refusals.{submitSpec, cancelSpec, dayLimitsSpec, proposalSpec, defaultSpec, closeOutSpec, closeSpec, eventSpec, readingSpec, applySpec, makeSpec}
@@ -53,8 +53,8 @@ unfolding up dn every any kept howMany total over everyBlock inEachBlock allOf f
     twoOccur inHour balancedInHour balanced inFull priorityKept acceptable proposalLines usedByLegs proposalBooked
     enteredBefore quotes bestQuote ggfAtClose withGgfs withoutDeals priced addedTo zeroRows cascaded closingContracts
     allCascaded isOfAny withClosed hasNextDay nextDay onDay closeBooked defaultBooked sumOf defaultedLongs
-    defaultedShorts givenUp changeLines smallerTotal nettedLongs nettedShorts nettingChanges longsLeft shortsLeft
-    lotsLeft othersLots openWeight weights minimum minimums comesFirst placed inOrder turn round rounds dealtOut taken
+    defaultedShorts givenUp changeLines smallerTotal nettedLongs nettedShorts nettingChanges longsRemaining shortsRemaining
+    lotsRemaining othersLots openWeight weights minimum minimums comesFirst placed inOrder turn round rounds dealtOut taken
     defaultedChanges takerChanges closeOutLines closeOutBooked everyRow rowsSound contractPricesSound pricesSound
     memberSound headSound orderSound distinct sidesSound bookSound damaged ledgerUnsound unsound submitSpec cancelSpec dayLimitsSpec
     proposalSpec defaultSpec closeOutSpec closeSpec eventSpec readingSpec applySpec makeSpec printed allPrinted

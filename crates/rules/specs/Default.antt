@@ -62,14 +62,14 @@ unfoldable pub nettingChanges : Tables → ℕ → List ℤ
 nettingChanges t c = zipWith (λ s l. pos s -ℤ pos l) (nettedShorts t c) (nettedLongs t c)
 
 -- Step 2: L lots remain on one side; what each defaulted member has left of them.
-unfoldable pub longsLeft : Tables → ℕ → List ℕ
-longsLeft t c = less (defaultedLongs t c) (nettedLongs t c)
+unfoldable pub longsRemaining : Tables → ℕ → List ℕ
+longsRemaining t c = less (defaultedLongs t c) (nettedLongs t c)
 
-unfoldable pub shortsLeft : Tables → ℕ → List ℕ
-shortsLeft t c = less (defaultedShorts t c) (nettedShorts t c)
+unfoldable pub shortsRemaining : Tables → ℕ → List ℕ
+shortsRemaining t c = less (defaultedShorts t c) (nettedShorts t c)
 
-unfoldable pub lotsLeft : Tables → ℕ → ℕ
-lotsLeft t c = sumOf (longsLeft t c) + sumOf (shortsLeft t c)
+unfoldable pub lotsRemaining : Tables → ℕ → ℕ
+lotsRemaining t c = sumOf (longsRemaining t c) + sumOf (shortsRemaining t c)
 
 -- The other members, those not defaulted: their absolute lots in the contract.
 unfoldable pub othersLots : Tables → ℕ → List ℕ
@@ -83,7 +83,7 @@ openWeight t m = total (λ c. daysOf (calendar t) c * natAbs (lotsAt t c m)) (op
 unfoldable pub weights : Tables → CloseOutTerms → List ℕ
 weights t e =
     let here = othersLots t (e .contract) in
-    cond (leb (e .ratio * sumOf here) (1000 * lotsLeft t (e .contract))) (byMember t (λ m. cond (defaulted t m) 0 (openWeight t m))) here
+    cond (leb (e .ratio * sumOf here) (1000 * lotsRemaining t (e .contract))) (byMember t (λ m. cond (defaulted t m) 0 (openWeight t m))) here
 
 -- A member's minimum: L times its weight x / total weight w, rounded up (article 27). With w = 0 nothing is dealt out.
 unfoldable pub minimum : ℕ → ℕ → ℕ → ℕ
@@ -110,13 +110,13 @@ inOrder first (i ∷ is) = placed first i (inOrder first is)
 -- What each member has received, and the lots that are not dealt out yet.
 pub record Dealing : Type 0 where
   pub received : List ℕ
-  pub left : ℕ
+  pub undealt : ℕ
 
 -- A member's turn: one lot, never past its minimum, while there are any (article 30).
 unfoldable pub turn : List ℕ → ℕ → Dealing → Dealing
 turn mins i s =
-    cond (ltb 0 (s .left) && ltb (getD (s .received) i 0) (getD mins i 0))
-    (record { received = set (s .received) i (getD (s .received) i 0 + 1); left = s .left - 1 })
+    cond (ltb 0 (s .undealt) && ltb (getD (s .received) i 0) (getD mins i 0))
+    (record { received = set (s .received) i (getD (s .received) i 0 + 1); undealt = s .undealt - 1 })
     s
 
 unfoldable pub round : List ℕ → List ℕ → Dealing → Dealing
@@ -131,17 +131,17 @@ rounds (suc n) mins is s = rounds n mins is (round mins is s)
 unfoldable pub dealtOut : ℕ → List ℕ → List ℕ
 dealtOut l ws =
     let mins = minimums l ws in
-    rounds l mins (inOrder (comesFirst mins ws) (from 0 (length ws))) (record { received = replicate (length ws) 0; left = l }) .received
+    rounds l mins (inOrder (comesFirst mins ws) (from 0 (length ws))) (record { received = replicate (length ws) 0; undealt = l }) .received
 
 unfoldable pub taken : Tables → CloseOutTerms → List ℕ
-taken t e = dealtOut (lotsLeft t (e .contract)) (weights t e)
+taken t e = dealtOut (lotsRemaining t (e .contract)) (weights t e)
 
 -- Long lots go from the defaulted to the takers; short lots come back to the defaulted from them.
 unfoldable pub defaultedChanges : Tables → ℕ → List ℤ
-defaultedChanges t c = zipWith (λ s l. pos s -ℤ pos l) (shortsLeft t c) (longsLeft t c)
+defaultedChanges t c = zipWith (λ s l. pos s -ℤ pos l) (shortsRemaining t c) (longsRemaining t c)
 
 unfoldable pub takerChanges : Tables → CloseOutTerms → List ℤ
-takerChanges t e = map (λ q. cond (ltb 0 (sumOf (longsLeft t (e .contract)))) (pos q) (negℤ (pos q))) (taken t e)
+takerChanges t e = map (λ q. cond (ltb 0 (sumOf (longsRemaining t (e .contract)))) (pos q) (negℤ (pos q))) (taken t e)
 
 -- Step 1 rising; step 2 defaulted rising, then takers rising; all at the contract's GGF.
 unfoldable pub closeOutLines : Tables → CloseOutTerms → List Line

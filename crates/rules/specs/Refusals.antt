@@ -30,7 +30,7 @@ use Rattle.rules.specs.Records.{timeSound, sideSound, contractSound, pri
 use Rattle.rules.specs.Matching.{submitMatched, submitLines, isTeye, wouldRest, submitsAt, aboveLimit, submitBooked}
 use Rattle.rules.specs.Synthetic.{acceptable, proposalLines, proposalBooked}
 use Rattle.rules.specs.CloseOfDay.{hasNextDay, closeBooked}
-use Rattle.rules.specs.Default.{defaultBooked, sumOf, defaultedLongs, defaultedShorts, lotsLeft, weights, closeOutLines, closeOutBooked}
+use Rattle.rules.specs.Default.{defaultBooked, sumOf, defaultedLongs, defaultedShorts, lotsRemaining, weights, closeOutLines, closeOutBooked}
 
 -- ---- damage (1)
 -- Every row of the members of every contract.
@@ -153,7 +153,7 @@ closeOutCauses t e =
     (not (isOpen t c), ContractNotOpen c)
     ∷ (eqb (ggf t c) 0, NoReferencePrice)
     ∷ (eqb (sumOf (defaultedLongs t c) + sumOf (defaultedShorts t c)) 0, NoDefaultedLots)
-    ∷ (ltb 0 (lotsLeft t c) && eqb (sumOf (weights t e)) 0, NoTaker)
+    ∷ (ltb 0 (lotsRemaining t c) && eqb (sumOf (weights t e)) 0, NoTaker)
     ∷ (runWouldPass t (closeOutLines t e), TotalPassed)
     ∷ []
 

@@ -3,7 +3,7 @@ use mathlib.Core.Path.{_∙_}
 use native.Mathlib.Omega.{arith}
 use Rattle.rules.specs.Ranges.{mostMembers, mostLotsRun}
 use Rattle.deal_lines.proofs.Takes.{with-room}
-use Rattle.close_out.proofs.Verdicts.{rows-fit, most-netted, most-left, no-lots, no-taker, passed, booked-so, dealable}
+use Rattle.close_out.proofs.Verdicts.{rows-fit, most-netted, most-remaining, no-lots, no-taker, passed, booked-so, dealable}
 use borrow.Author.Needs.{needs}
 use Rattle.close_out.proofs.close_out_lots.Statement.{statement}
 use Rattle.close_out.proofs.close_out_lots.Tie as tie
@@ -24,12 +24,12 @@ weighed c = c .before .before .before .before .before
 abbrev dealt : tie.After-book-steps → tie.Else2
 dealt c = c .before .before .before .before .before .before .before .before .before .before
 
-most : (c : tie.After-find-defaulted) → (c .find-defaulted .result .netted ≤ mostMembers * mostLotsRun) × (c .find-defaulted .result .left ≤ mostMembers * mostLotsRun)
+most : (c : tie.After-find-defaulted) → (c .find-defaulted .result .netted ≤ mostMembers * mostLotsRun) × (c .find-defaulted .result .remaining ≤ mostMembers * mostLotsRun)
 most c =
     let pre = start c .pre in
     let e = start c .args .e in
     let d = c .find-defaulted .ensures in
-    (most-netted _ _ _ _ (pre .0 .1) e (pre .1 .0 .0) _ _ _ _ d, most-left _ _ _ _ (pre .0 .1) e (pre .1 .0 .0) _ _ _ _ d)
+    (most-netted _ _ _ _ (pre .0 .1) e (pre .1 .0 .0) _ _ _ _ d, most-remaining _ _ _ _ (pre .0 .1) e (pre .1 .0 .0) _ _ _ _ d)
 
 find-defaulted-requires : tie.Need-find-defaulted-requires
 find-defaulted-requires c κs =

@@ -8,11 +8,11 @@ use Rattle.calendar.proofs.days.business_day_before.Statement.{statemen
 use Rattle.calendar.proofs.days.business_day_before.Tie as tie
 
 abbrev Inv-loop : tie.InvT-loop
-Inv-loop holidays n x₀ left₀ x left = (x ≤ x₀) × (left ≤ n)
-    × ((y : ℕ) → businessDayBefore (record { firstYear = y; holidays = holidays }) left x ≡ businessDayBefore (record { firstYear = y; holidays = holidays }) n x₀)
+Inv-loop holidays n x₀ to-count₀ x to-count = (x ≤ x₀) × (to-count ≤ n)
+    × ((y : ℕ) → businessDayBefore (record { firstYear = y; holidays = holidays }) to-count x ≡ businessDayBefore (record { firstYear = y; holidays = holidays }) n x₀)
 
 abbrev μ-loop : tie.MeasureT-loop
-μ-loop holidays n x₀ left₀ x left = x
+μ-loop holidays n x₀ to-count₀ x to-count = x
 
 loop-holds : tie.Need-loop-holds Inv-loop μ-loop
 loop-holds c = (omega arith, omega arith, λ y. refl)

@@ -1,7 +1,7 @@
 use mathlib.Core.Path.{sym, _∙_}
 use native.Mathlib.Omega.{arith}
 use borrow.Author.Needs.{needs}
-use Rattle.close_out.proofs.StepColumns.{netting-count, netting-tables, netting-room, left-is, given-fits}
+use Rattle.close_out.proofs.StepColumns.{netting-count, netting-tables, netting-room, remaining-is, given-fits}
 use Rattle.deal_lines.proofs.Takes.{less-room}
 use Rattle.close_out.proofs.netting.net_columns.Statement.{statement}
 use Rattle.close_out.proofs.netting.net_columns.Tie as tie
@@ -52,8 +52,8 @@ returns c =
     let gs = give-up2 .ensures in (
       netting-count (a .contract) (a .price .0) _ _ _ _ _ gl gs _ (book-changes .ensures .0),
       (
-        left-is _ _ _ _ gl (subtract .ensures),
-        (left-is _ _ _ _ gs (subtract2 .ensures), λ t. netting-tables (a .contract) (a .price .0) _ _ _ _ _ gl gs _ _ (book-changes .ensures .1 t)),
+        remaining-is _ _ _ _ gl (subtract .ensures),
+        (remaining-is _ _ _ _ gs (subtract2 .ensures), λ t. netting-tables (a .contract) (a .price .0) _ _ _ _ _ gl gs _ _ (book-changes .ensures .1 t)),
       ),
     )
 

@@ -7,7 +7,7 @@ use borrow.Author.Needs.{needs}
 use Rattle.arith.proofs.Columns.{written-next, written-end}
 use Rattle.rules.specs.Default.{less}
 use Rattle.close_out_weights.proofs.Still.{still-at, still-after}
-use Rattle.close_out.proofs.StepColumns.{less-end, left-next}
+use Rattle.close_out.proofs.StepColumns.{less-end, remaining-next}
 use Rattle.close_out.proofs.netting.subtract.Statement.{statement}
 use Rattle.close_out.proofs.netting.subtract.Tie as tie
 
@@ -20,8 +20,8 @@ abbrev μ-loop : tie.MeasureT-loop
 loop-holds : tie.Need-loop-holds Inv-loop μ-loop
 loop-holds c = (omega arith, refl, refl, refl)
 
-sub-left : tie.Need-sub-left Inv-loop μ-loop
-sub-left c =
+sub-remaining : tie.Need-sub-remaining Inv-loop μ-loop
+sub-remaining c =
     let pre = c .before .before .before .before .pre in
     let args = c .before .before .before .before .args in
     let l = c .before .before .before .loop in
@@ -36,7 +36,7 @@ loop-again c =
       simp length-set (l .inv .1),
       still-after (l .held) (a .held .now) (l .i) (l .inv .2) _,
       written-next (l .held) (l .i) _ _ _ (omega arith)
-          (rw (left-next (l .held) (a .held .now) (l .i) (l .inv .2) (a .given .now) (omega arith) (omega (arith, pre .0))) at (l .inv .3)),
+          (rw (remaining-next (l .held) (a .held .now) (l .i) (l .inv .2) (a .given .now) (omega arith) (omega (arith, pre .0))) at (l .inv .3)),
     )
 
 returns : tie.Need-returns Inv-loop μ-loop
@@ -46,5 +46,5 @@ pub subtract-spec : {M : Type 1} → statement M
 subtract-spec =
     tie.close
     (tie.spec Inv-loop μ-loop loop-holds (λ c. search needs) (λ c. search needs) (λ c. search needs)
-    (λ c. search needs) sub-left (λ c. search needs) (λ c. search needs) (λ c. search needs) (λ c. search needs)
+    (λ c. search needs) sub-remaining (λ c. search needs) (λ c. search needs) (λ c. search needs) (λ c. search needs)
     loop-again (λ c. omega arith) returns)

@@ -1,7 +1,7 @@
 use native.Mathlib.Omega.{arith}
 use borrow.Author.Needs.{needs}
 use Rattle.deal_lines.proofs.Takes.{less-room}
-use Rattle.close_out.proofs.StepBooking.{left-column, second-requires, takers-requires, finish, done}
+use Rattle.close_out.proofs.StepBooking.{remaining-column, second-requires, takers-requires, finish, done}
 use Rattle.close_out.proofs.steps.book_steps.Statement.{statement}
 use Rattle.close_out.proofs.steps.book_steps.Tie as tie
 
@@ -19,7 +19,7 @@ book-changes-requires c κs =
     let a = earlier-still .before .before .before .before .before .before .args in
     let book-netting = earlier .before .before .before .before .before .book-netting in
     let n = book-netting .ensures in
-    second-requires (a .contract) (a .price .0) (a .netted) (a .left) (a .longs .now) (a .shorts .now) (a .weights .now) (pre .0 .1) (pre .0 .2) _ _ _ _ (pre .0 .0) (pre .1)
+    second-requires (a .contract) (a .price .0) (a .netted) (a .remaining) (a .longs .now) (a .shorts .now) (a .weights .now) (pre .0 .1) (pre .0 .2) _ _ _ _ (pre .0 .0) (pre .1)
     _ _ _ _ _ _ _ (n .0) (n .1 .0) (n .1 .1 .0) (n .1 .1 .1)
 
 returns : tie.Need-returns
@@ -34,7 +34,7 @@ returns c =
     let n = book-netting .ensures in
     let b = book-changes .ensures in
     let all =
-    done (a .contract) (a .price .0) (a .netted) (a .left) (a .longs .now) (a .shorts .now) (a .weights .now) (pre .0 .1) (pre .0 .2) _ _ _ _ (pre .0 .0) (pre .1)
+    done (a .contract) (a .price .0) (a .netted) (a .remaining) (a .longs .now) (a .shorts .now) (a .weights .now) (pre .0 .1) (pre .0 .2) _ _ _ _ (pre .0 .0) (pre .1)
     _ _ _ _ _ _ _ (n .0) (n .1 .0) (n .1 .1 .0) (n .1 .1 .1) _ _ _ _ _ (b .0) (b .1) (c .if1 .taken) in
     (all .0, (n .1 .0, (n .1 .1 .0, all .1)))
 
@@ -45,7 +45,7 @@ sum-of-requires c κs =
     let long-before = earlier-still .before .before .before .before .before .before .before .before .before .before in
     let pre = long-before .before .before .before .before .pre in
     let book-netting = earlier-still .before .before .before .book-netting in
-    left-column _ _ _ (book-netting .ensures .1 .0) (pre .1 .longs-column)
+    remaining-column _ _ _ (book-netting .ensures .1 .0) (pre .1 .longs-column)
 
 book-takers-requires : tie.Need-book-takers-requires
 book-takers-requires c κs =
@@ -59,7 +59,7 @@ book-takers-requires c κs =
     let if1 = c .before .before .before .before .before .before .if1 in
     let n = book-netting .ensures in
     let b = book-changes .ensures in
-    takers-requires (a .contract) (a .price .0) (a .netted) (a .left) (a .longs .now) (a .shorts .now) (a .weights .now) (pre .0 .1) (pre .0 .2) _ _ _ _ (pre .0 .0) (pre .1)
+    takers-requires (a .contract) (a .price .0) (a .netted) (a .remaining) (a .longs .now) (a .shorts .now) (a .weights .now) (pre .0 .1) (pre .0 .2) _ _ _ _ (pre .0 .0) (pre .1)
     _ _ _ _ _ _ _ (n .0) (n .1 .0) (n .1 .1 .0) (n .1 .1 .1) _ _ _ _ _ (b .0) (b .1) (omega (arith, if1 .left))
 
 returns-2 : tie.Need-returns-2
@@ -78,7 +78,7 @@ returns-2 c =
     let b = book-changes .ensures in
     let k = book-takers .ensures in
     let all =
-    finish (a .contract) (a .price .0) (a .netted) (a .left) (a .longs .now) (a .shorts .now) (a .weights .now) (pre .0 .1) (pre .0 .2) _ _ _ _ (pre .0 .0) (pre .1)
+    finish (a .contract) (a .price .0) (a .netted) (a .remaining) (a .longs .now) (a .shorts .now) (a .weights .now) (pre .0 .1) (pre .0 .2) _ _ _ _ (pre .0 .0) (pre .1)
     _ _ _ _ _ _ _ (n .0) (n .1 .0) (n .1 .1 .0) (n .1 .1 .1) _ _ _ _ _ (b .0) (b .1) _ (sum-of .ensures) _ _ _ _ _ (k .0) (k .1) in
     (all .0, (n .1 .0, (n .1 .1 .0, all .1)))
 

@@ -21,7 +21,7 @@ book-changes-requires c κs =
     let pre = c .before .before .before .before .before .before .before .before .before .before .before .before .before .before .pre in
     let a = c .before .before .before .before .before .before .before .before .before .before .before .before .before .before .args in
     let deal-out = c .before .before .before .before .before .before .before .before .deal-out in
-    let d = ap sumOf (deal-out .ensures) ∙ all-dealt (a .left) (a .weights .now) (pre .0 .2) in
+    let d = ap sumOf (deal-out .ensures) ∙ all-dealt (a .remaining) (a .weights .now) (pre .0 .2) in
     let n = membersIn (a .head .now) in
     let z : sumOf (a .nothing .now) ≡ 0 = ap sumOf (pre .1 .1 .1) ∙ sum-zeros n in
     let wide = deal-out .kept .1 .1 .0 ∙ pre .1 .1 .0 in
@@ -36,7 +36,7 @@ returns c =
     let if1 = c .before .before .before .before .before .before .before .before .before .before .before .if1 in
     let book-changes = c .before .before .before .before .before .book-changes in
     let wide = deal-out .kept .1 .1 .0 ∙ pre .1 .1 .0 in
-    let e = takers-buy (a .contract) (a .price .0) (a .long) (a .left) (a .weights .now) _ _ _ (deal-out .ensures) (pre .1 .1 .1) wide (if1 .taken) in
+    let e = takers-buy (a .contract) (a .price .0) (a .long) (a .remaining) (a .weights .now) _ _ _ (deal-out .ensures) (pre .1 .1 .1) wide (if1 .taken) in
     (rw (← e) (book-changes .ensures .0), λ t. rw (← e) (book-changes .ensures .1 t))
 
 book-changes-requires-2 : tie.Need-book-changes-requires-2
@@ -44,7 +44,7 @@ book-changes-requires-2 c κs =
     let pre = c .before .before .before .before .before .before .before .before .before .before .before .before .before .before .pre in
     let a = c .before .before .before .before .before .before .before .before .before .before .before .before .before .before .args in
     let deal-out = c .before .before .before .before .before .before .before .before .deal-out in
-    let d = ap sumOf (deal-out .ensures) ∙ all-dealt (a .left) (a .weights .now) (pre .0 .2) in
+    let d = ap sumOf (deal-out .ensures) ∙ all-dealt (a .remaining) (a .weights .now) (pre .0 .2) in
     let n = membersIn (a .head .now) in
     let z : sumOf (a .nothing .now) ≡ 0 = ap sumOf (pre .1 .1 .1) ∙ sum-zeros n in
     let wide = deal-out .kept .1 .1 .0 ∙ pre .1 .1 .0 in
@@ -59,7 +59,7 @@ returns-2 c =
     let if1 = c .before .before .before .before .before .before .before .before .before .before .before .if1 in
     let book-changes2 = c .before .before .before .before .before .book-changes2 in
     let wide = deal-out .kept .1 .1 .0 ∙ pre .1 .1 .0 in
-    let e = takers-sell (a .contract) (a .price .0) (a .long) (a .left) (a .weights .now) _ _ _ (deal-out .ensures) (pre .1 .1 .1) wide (if1 .left) in
+    let e = takers-sell (a .contract) (a .price .0) (a .long) (a .remaining) (a .weights .now) _ _ _ (deal-out .ensures) (pre .1 .1 .1) wide (if1 .left) in
     (rw (← e) (book-changes2 .ensures .0), λ t. rw (← e) (book-changes2 .ensures .1 t))
 
 pub deal-columns-spec : {M : Type 1} → statement M

@@ -39,7 +39,7 @@ returns c =
     let r = read-column .ensures in
     let s = withHead (a .head .now) (withRows (a .lots .now) [] blank) in (
       λ t v k. let u = withHead (a .head .now) (withRows (a .lots .now) v t) in
-          r t v ∙ weights-here u (a .e) (a .left) k (rw (← r t v, ← c .before .sum-of .ensures) (c .if1 .taken)),
+          r t v ∙ weights-here u (a .e) (a .remaining) k (rw (← r t v, ← c .before .sum-of .ensures) (c .if1 .taken)),
       rw (r blank []) (column-fits s (pre .0 .0 .most-members) (pre .0 .1) Others (a .e .contract) (pre .1 .0)),
     )
 
@@ -55,7 +55,7 @@ returns-2 c =
     let w = weigh-by-days .ensures in
     let s = withHead (a .head .now) (withRows (a .lots .now) [] blank) in (
       λ t v k. let u = withHead (a .head .now) (withRows (a .lots .now) v t) in
-          w t v ∙ weights-days u (a .e) (a .left) k (rw (← r t v, ← sum-of .ensures) (if1 .left)),
+          w t v ∙ weights-days u (a .e) (a .remaining) k (rw (← r t v, ← sum-of .ensures) (if1 .left)),
       rw (w blank []) (days-column s (pre .0 .0 .most-members) (pre .0 .1)),
     )
 

@@ -27,8 +27,8 @@ lots-at-level-requires c κs =
     let start = c .before .before .before .before .before .before .before in
     (omega (arith, c .highest-level .ensures .within), omega (arith, ap length (start .pre .1 .1), minimums-length (start .args .lots) (start .args .weights .now)))
 
-sub-left : tie.Need-sub-left
-sub-left c = omega (arith, c .lots-at-level .ensures, c .before .highest-level .ensures .enough)
+sub-undealt : tie.Need-sub-undealt
+sub-undealt c = omega (arith, c .lots-at-level .ensures, c .before .highest-level .ensures .enough)
 
 fill-to-level-requires : tie.Need-fill-to-level-requires
 fill-to-level-requires c κs =
@@ -82,5 +82,5 @@ pub deal-by-minimums-spec : {M : Type 1} → statement M
 deal-by-minimums-spec =
     tie.close
     (tie.spec (λ c. search needs) slice-aggregate-put-in-order put-in-order-requires highest-level-requires
-    lots-at-level-requires sub-left fill-to-level-requires array-share-prefix-order slice-aggregate-take-turns
+    lots-at-level-requires sub-undealt fill-to-level-requires array-share-prefix-order slice-aggregate-take-turns
     take-turns-requires (λ c. search needs) returns)

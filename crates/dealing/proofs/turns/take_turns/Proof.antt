@@ -13,11 +13,11 @@ use Rattle.dealing.proofs.turns.take_turns.Statement.{statement}
 use Rattle.dealing.proofs.turns.take_turns.Tie as tie
 
 abbrev Inv-loop : tie.InvT-loop
-Inv-loop minima order received₀ lots left₀ i₀ received left i = (i ≤ length order) × (length received ≡ length minima)
-    × (round minima (drop i order) (record { received = received; left = left }) ≡ round minima order (record { received = received₀; left = lots }))
+Inv-loop minima order received₀ lots undealt₀ i₀ received undealt i = (i ≤ length order) × (length received ≡ length minima)
+    × (round minima (drop i order) (record { received = received; undealt = undealt }) ≡ round minima order (record { received = received₀; undealt = lots }))
 
 abbrev μ-loop : tie.MeasureT-loop
-μ-loop minima order received₀ lots left₀ i₀ received left i = length order - i
+μ-loop minima order received₀ lots undealt₀ i₀ received undealt i = length order - i
 
 loop-holds : tie.Need-loop-holds Inv-loop μ-loop
 loop-holds c = (omega arith, omega arith, refl)
@@ -38,7 +38,7 @@ add-received : tie.Need-add-received Inv-loop μ-loop
 add-received c = let l = c .before .before .before .before .before .loop in
     let a = c .before .before .before .before .before .before .args in
     let m = getD (a .order .now) (l .i) 0 in
-    let less : getD (l .received) m 0 < getD (a .minima .now) m 0 = ltb-true _ _ (and-right (ltb 0 (l .left)) _ (c .if1 .taken)) in
+    let less : getD (l .received) m 0 < getD (a .minima .now) m 0 = ltb-true _ _ (and-right (ltb 0 (l .undealt)) _ (c .if1 .taken)) in
     omega (arith, c .before .shared-slice-known2 .given m)
 
 mul-received : tie.Need-mul-received Inv-loop μ-loop
@@ -47,14 +47,14 @@ mul-received c = omega (arith, c .before .before .before .before .before .before
 slice-write-received : tie.Need-slice-write-received Inv-loop μ-loop
 slice-write-received c = omega (arith, c .before .before .before .before .before .before .pre .1 (c .before .before .before .before .before .loop .i))
 
-sub-left : tie.Need-sub-left Inv-loop μ-loop
-sub-left c = let some : 0 < c .before .before .before .before .before .loop .left = ltb-true _ _ (and-left _ _ (c .if1 .taken)) in omega arith
+sub-undealt : tie.Need-sub-undealt Inv-loop μ-loop
+sub-undealt c = let some : 0 < c .before .before .before .before .before .loop .undealt = ltb-true _ _ (and-left _ _ (c .if1 .taken)) in omega arith
 
 loop-again : tie.Need-loop-again Inv-loop μ-loop
 loop-again c = let l = c .before .before .before .before .before .loop in
     ⊎-elim
-    (λ w. rw (w .1, w .2) (omega arith, simp length-set (l .inv .1), round-deals _ _ (l .received) (l .left) (l .i) (c .before .before .before .before .loop-test .taken) (w .0 .taken) ∙ l .inv .2))
-    (λ w. rw (w .1, w .2) (omega arith, l .inv .1, round-passes _ _ (l .received) (l .left) (l .i) (c .before .before .before .before .loop-test .taken) (w .0 .left) ∙ l .inv .2)) (c .if1 .came)
+    (λ w. rw (w .1, w .2) (omega arith, simp length-set (l .inv .1), round-deals _ _ (l .received) (l .undealt) (l .i) (c .before .before .before .before .loop-test .taken) (w .0 .taken) ∙ l .inv .2))
+    (λ w. rw (w .1, w .2) (omega arith, l .inv .1, round-passes _ _ (l .received) (l .undealt) (l .i) (c .before .before .before .before .loop-test .taken) (w .0 .left) ∙ l .inv .2)) (c .if1 .came)
 
 returns : tie.Need-returns Inv-loop μ-loop
 returns c = sym (round-end _ _ _ (c .before .loop .i) (c .loop-test .left)) ∙ c .before .loop .inv .2
@@ -63,5 +63,5 @@ pub take-turns-spec : {M : Type 1} → statement M
 take-turns-spec =
     tie.close
     (tie.spec Inv-loop μ-loop loop-holds (λ c. search needs) (λ c. search needs) mul-has slice-read-has mul-if1
-    shared-slice-read-if1 add-received mul-received slice-write-received sub-left (λ c. search needs)
+    shared-slice-read-if1 add-received mul-received slice-write-received sub-undealt (λ c. search needs)
     (λ c. search needs) loop-again (λ c. omega arith) returns)
