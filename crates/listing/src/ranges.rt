@@ -5,7 +5,7 @@ ghost use Prim.Native.Nat.{_+_, _-_, _^_, _≤_, _<_};
 ghost use lib.ListN.{length};
 ghost use Rattle.rules.specs.Days.{saturday, sunday};
 ghost use Rattle.rules.specs.Header.{u16At, u32At};
-ghost use Rattle.rules.specs.Fields.{widthOf, numberAt};
+ghost use Rattle.rules.specs.Fields.{numberAt};
 ghost use Rattle.listing_words.specs.Fields.{quantityOf, range as rangeFrom, spanRange, holidayRange, rangeOf, within, dayVerdict, verdictOf, passes};
 ghost use Rattle.listing.specs.Sizes.{mostBytes};
 ghost use Rattle.listing_words.specs.Words.{otherWayRound};
