@@ -17,7 +17,7 @@ use Rattle.rules.specs.declared.event.Leg.{Leg}
 use Rattle.rules.specs.declared.event.Reading.the-variants.{Sound}
 use Rattle.rules.specs.Ranges.{leastLegs, mostLegs}
 use Rattle.rules.specs.Records.{legPlace, legAt, legsOf, legSound, eventSound, kindNumber, fieldsOf}
-use Rattle.record_kinds.specs.LegCount.{legCount}
+use Rattle.record_kinds.specs.Numbers.{legCount}
 use Rattle.codec.specs.Columns.{legRow, legRows, legColumns, heldLegs, legsTo, Held}
 use Rattle.codec.specs.declared.legs.Legs.{Legs}
 use Rattle.codec.proofs.Fields.{Says, submits, cancels, limits, proposes, defaults, closes-out, closes, says}

@@ -28,7 +28,7 @@ use Rattle.rules.specs.Records.{legPlace, recordLength, frontLength, sideSound,
 use Rattle.rules.specs.Records.{legBytes, fieldBytes, bytesOf, writeSpec, recordNumbers, fieldsByKind, fieldsOf, legAt, legsOf, readOf, frontOf}
 use Rattle.rules.proofs.Writing.{written, not-refused}
 use Rattle.big_endian.proofs.Numbers.{bytes-small, all-back, u8-first, none-past, all-again}
-use Rattle.record_kinds.specs.LegCount.{legCount}
+use Rattle.record_kinds.specs.Numbers.{legCount}
 use Rattle.codec.specs.Columns.{legRows, OneByteFields}
 use Rattle.codec.specs.Trips.{WrittenIsRead, ReadIsWritten, SoundStandsWhole}
 use Rattle.codec.proofs.Fields.{Says, submits, cancels, limits, proposes, defaults, closes-out, closes, says, said, fields-of-kind}

@@ -19,7 +19,7 @@ use Rattle.rules.specs.Ranges.{contractCount, mostMembers, lastSecond, leastLeg
 use Rattle.rules.specs.Fields.{bytesBy}
 use Rattle.rules.specs.Header.{u16Bytes, u32Bytes, membersSound}
 use Rattle.rules.specs.Records.{recordLength, eventSound, legBytes, kindNumber, fieldBytes, bytesOf, writeSpec}
-use Rattle.record_kinds.specs.LegCount.{legCount}
+use Rattle.record_kinds.specs.Numbers.{legCount}
 use Rattle.codec.specs.Columns.{OneByteFields}
 
 pub leg-wide : (g : Leg) → length (legBytes g) ≡ 10

@@ -1,7 +1,7 @@
 use mathlib.Core.Path.{sym, _∙_}
 use native.Mathlib.Omega.{arith}
 use Rattle.arith.proofs.Tests.{asked-true, asked-false}
-use Rattle.record_kinds.specs.LegCount.{legCount}
+use Rattle.record_kinds.specs.Numbers.{legCount}
 use Rattle.codec.specs.Columns.{legRows}
 use Rattle.codec.proofs.LegColumns.{length-rows}
 use Rattle.codec.proofs.Written.{length-record, one-byte, few-legs-beside, some-bytes, record-put, write-few, write-unsound, write-short, write-whole}
