@@ -69,8 +69,13 @@ pub fn leg_count(event: Event) -> u64
     ensures { λ r. ⌜ r ≡ legCount event ⌝ }
 {
     match event {
+        Event::Submit(_) => 0,
+        Event::Cancel(_) => 0,
+        Event::DayLimits(_) => 0,
         Event::Proposal(count) => count,
-        _ => 0,
+        Event::Default(_) => 0,
+        Event::CloseOut(_) => 0,
+        Event::CloseOfDay(_) => 0,
     }
 }
 
