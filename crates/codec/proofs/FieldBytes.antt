@@ -50,6 +50,11 @@ some-width f = go (width f)
     go two = omega arith
     go four = omega arith
 
+pub some-widths : (fs : List Field) → 0 < length fs → 1 ≤ widths fs
+unfolding widths
+some-widths [] h = absurd (omega arith)
+some-widths (f ∷ fs) h = omega (arith, some-width f)
+
 number-wide : {w : ℕ} → Width w → (v : ℕ) → length (numberBytes w v) ≡ w
 unfolding numberBytes
 number-wide one v = refl
@@ -94,6 +99,13 @@ length-bytes [] ns h = refl
 length-bytes (f ∷ fs) [] h = absurd (omega arith)
 length-bytes (f ∷ fs) (n ∷ ns) h =
     length-append (numberBytes (widthOf f) n) (bytesBy fs ns) ∙ (λ j. number-wide (width f) n j + length-bytes fs ns (omega arith) j)
+
+-- Numbers past the last field are not written.
+pub bytes-enough : (fs : List Field) (ns rest : List ℕ) → length fs ≤ length ns → bytesBy fs (ns ++ rest) ≡ bytesBy fs ns
+unfolding bytesBy
+bytes-enough [] ns rest h = refl
+bytes-enough (f ∷ fs) [] rest h = absurd (omega arith)
+bytes-enough (f ∷ fs) (n ∷ ns) rest h = ap (λ x. numberBytes (widthOf f) n ++ x) (bytes-enough fs ns rest (omega arith))
 
 pub numbers-back : (fs : List Field) (ns p q : List ℕ) (i : ℕ) → Fits fs ns → i ≡ length p → numbersAt (p ++ (bytesBy fs ns ++ q)) i fs ≡ ns
 unfolding Fits numbersAt bytesBy

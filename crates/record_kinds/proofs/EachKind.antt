@@ -41,10 +41,10 @@ order-kind-again b h = same-or b 0 (λ e. rw e refl) (λ n. same-or b 1 (λ e. r
 
 -- ---- an event's numbers: one for each field of its kind, and they give the event, whatever stands past them
 pub record Described (e : Event) : Type 0 where
-  counted : length (eventNumbers e) ≡ length (kindFields (kindNumber e))
-  some : 0 < length (kindFields (kindNumber e))
-  few : length (kindFields (kindNumber e)) ≤ mostFields
-  back : (rest : List ℕ) → eventByKind (kindNumber e) (kindNumber e ∷ eventNumbers e ++ rest) ≡ Sound e
+  pub counted : length (eventNumbers e) ≡ length (kindFields (kindNumber e))
+  pub some : 0 < length (kindFields (kindNumber e))
+  pub few : length (kindFields (kindNumber e)) ≤ mostFields
+  pub back : (rest : List ℕ) → eventByKind (kindNumber e) (kindNumber e ∷ eventNumbers e ++ rest) ≡ Sound e
 
 pub described : (e : Event) → Described e
 unfolding kindFields eventByKind
