@@ -17,7 +17,7 @@ use Rattle.codec.specs.Columns.{legRows, legColumns, heldLegs}
 use Rattle.codec.specs.declared.legs.Legs.{Legs}
 use Rattle.codec.proofs.Fields.{said}
 use Rattle.codec.proofs.LegColumns.{rows-of-columns, rows-said}
-use Rattle.codec.proofs.Written.{one-byte, few-legs-beside}
+use Rattle.codec.proofs.Written.{sound-event}
 use Rattle.number_fields.specs.RecordFields.{recordFields, legField, eventIn, firstLegs, legsIn, withNumbers, withReading, readFields, writeReading, writeFields}
 use Rattle.number_fields.proofs.Given.{given, legs-given}
 
@@ -45,7 +45,7 @@ module _ (n : ℕ) (s row : List ℕ) where
       read = sym q ∙ u
 
       pub few-read : legCount e ≤ mostLegs
-      few-read = let known = said n s read in few-legs-beside e (one-byte n (known .0) e (legsOf s) (known .2))
+      few-read = let known = said n s read in sound-event n (known .0) (legsOf s) e (known .2) .few
 
       pub rows-read : legRows (legCount e) (legColumns (heldLegs s)) ≡ legsOf s
       rows-read = let known = said n s read in rows-said n s e (known .1) (known .2)

@@ -33,7 +33,7 @@ use Rattle.codec.proofs.Trips as codec
 use Rattle.number_fields.specs.RecordFields.{recordFields, kindField, proposalLegsField, legField, rowEvent, eventIn, firstLegs, legsIn, readFields, writeFields}
 use Rattle.number_fields.specs.Trips.{NumbersGiveEvent, EventGivesNumbers, ReadIsWritten, WrittenIsRead}
 use Rattle.number_fields.proofs.Given.{Given, given, legs-given}
-use Rattle.number_fields.proofs.Rows.{no-legs, numbers-joined, most-numbers}
+use Rattle.number_fields.proofs.Rows.{numbers-joined, most-numbers}
 use Rattle.number_fields.proofs.RecordOutcomes.{length-legs, read-short, read-by, few-read, rows-read, write-short, write-by}
 
 -- ---- an event's numbers give the event
@@ -78,7 +78,7 @@ module _ (e : Event) (few : legCount e ≤ mostLegs) (f rest : List ℕ) (shape 
       (λ four one. let shaped : f ≡ kindNumber e ∷ legCount e ∷ flatMap legNumbers legs ++ past =
       shape ∙ (ap (λ x. kindNumber e ∷ x ++ rest) (numbers four one) ∙ ap (λ x. kindNumber e ∷ legCount e ∷ x) r) in
       rw (row-kind, eq-eqb (kindNumber e) proposalKind four, row-count four one) (ap (λ x. firstLegs x (legCount e)) shaped ∙ legs-back (kindNumber e) (legCount e) legs past l))
-      (λ no none. rw (row-kind, no) (sym (no-legs legs (l ∙ none))))
+      (λ no none. rw (row-kind, no) (codec.none legs (l ∙ none)))
     where
       numbers : kindNumber e ≡ proposalKind → length (eventNumbers e) ≡ 1 → eventNumbers e ≡ legCount e ∷ []
       numbers four one = one-number (eventNumbers e) one ∙ ap (λ x. x ∷ []) (let k : legCount e ≡ getD (eventNumbers e) 0 0 = rw (eq-eqb (kindNumber e) proposalKind four) refl in sym k)

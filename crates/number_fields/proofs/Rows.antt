@@ -1,7 +1,7 @@
 -- The numbers of an event put in a row. Assumes nothing.
 use Prim.Native.Nat.{ℕ, _+_, _*_, _≤_}
 use mathlib.Core.List.{List, [], _∷_, _++_, flatMap, append-assoc, append-nil}
-use mathlib.Core.Path.{_≡_, refl, _∙_}
+use mathlib.Core.Path.{_≡_, refl, sym, _∙_}
 use native.Mathlib.Nat.{add-zero}
 use native.Mathlib.Omega.{arith}
 use borrow.Author.Tests.{eq-eqb}
@@ -21,11 +21,8 @@ use Rattle.record_kinds.proofs.EachKind.{described, legs-or-none}
 use Rattle.codec.specs.Columns.{legRows}
 use Rattle.codec.specs.declared.legs.Legs.{Legs}
 use Rattle.codec.proofs.LegColumns.{length-rows}
+use Rattle.codec.proofs.Trips as codec
 use Rattle.number_fields.specs.RecordFields.{recordFields, firstLegField, withNumbers}
-
-pub no-legs : (legs : List Leg) → length legs ≡ 0 → legs ≡ []
-no-legs [] l = refl
-no-legs (g ∷ legs) l = absurd (omega arith)
 
 over-none : (a : ℕ) (row : List ℕ) → over a [] row ≡ row
 unfolding over
@@ -37,7 +34,7 @@ module _ (e : Event) (legs : List Leg) (counted : length legs ≡ legCount e) wh
   unfolding numbersOf flatMap
   numbers-joined =
       legs-or-none e (λ four one. rw (eq-eqb (kindNumber e) proposalKind four) refl)
-      (λ no none. rw (no, no-legs legs (counted ∙ none)) refl)
+      (λ no none. rw (no, sym (codec.none legs (counted ∙ none))) refl)
 
   numbers-count : 1 + length (kindFields (kindNumber e)) + 3 * legCount e ≡ length (numbersOf e legs)
   numbers-count =
@@ -55,7 +52,7 @@ module _ (e : Event) (legs : List Leg) (counted : length legs ≡ legCount e) wh
       let whole : after ≡ over 0 (numbersOf e legs) row =
       rw numbers-joined (legs-or-none e
       (λ four one. over-then firstLegField (kindNumber e ∷ eventNumbers e) (flatMap legNumbers legs) row put after p q (omega (arith, one)) (omega arith))
-      (λ no none. alone (kindNumber e ∷ eventNumbers e) put after (no-legs legs (counted ∙ none)) p q)) in
+      (λ no none. alone (kindNumber e ∷ eventNumbers e) put after (sym (codec.none legs (counted ∙ none))) p q)) in
       rw (whole, numbers-count) refl
     where
       alone : (numbers put after : List ℕ) → legs ≡ [] → put ≡ over 0 numbers row → after ≡ over firstLegField (flatMap legNumbers legs) put
