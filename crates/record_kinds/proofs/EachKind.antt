@@ -4,9 +4,8 @@ use mathlib.Core.Bool.{Bool, true, false, cond, _&&_}
 use mathlib.Core.List.{List, [], _∷_, _++_, map}
 use mathlib.Core.Path.{_≡_, refl, sym, ap, _∙_}
 use native.Mathlib.Omega.{arith}
-use borrow.Author.Tests.{leb-true}
-use lib.Dec.{leb}
-use lib.ListN.{length, getD, take, drop, length-drop}
+use borrow.Author.Tests.{leb-true, ne-eqb}
+use lib.ListN.{length, getD, take, drop}
 use lib.Seq.{length-take-le, getD-take}
 use Rattle.arith.specs.Lists.{from}
 use Rattle.arith.proofs.Runs.{run-of}
@@ -19,12 +18,12 @@ use Rattle.rules.specs.declared.event.Reading.the-variants.{Sound, Unsound}
 use Rattle.rules.specs.declared.event.Reading.{Reading}
 use Rattle.rules.specs.declared.order.Side.the-variants.{Buy, Sell}
 use Rattle.rules.specs.declared.order.Side.{Side}
-use Rattle.rules.specs.Fields.{kindFields}
+use Rattle.rules.specs.Fields.{proposalKind, hasLegs, kindFields}
 use Rattle.rules.specs.Sides.{sideNumber, sideOf}
 use Rattle.rules.specs.Records.{sideSound, orderKindNumber, orderKindOf, orderKindSound, kindNumber, eventNumbers, submissionOf, submitOf, eventByKind}
 use Rattle.rules.proofs.Sides.{side-again}
-use Rattle.record_kinds.specs.Numbers.{mostFields}
-use Rattle.record_kinds.proofs.ByKind.{no-kind}
+use Rattle.record_kinds.specs.Numbers.{mostFields, legCount}
+use Rattle.record_kinds.proofs.ByKind.{no-fields, no-kind}
 
 -- ---- a side and an order kind by their numbers
 side-back : (x : Side) → (sideOf (sideNumber x) ≡ x) × (sideSound (sideNumber x) ≡ true)
@@ -56,6 +55,21 @@ described (Proposal k) = record { counted = refl; some = omega arith; few = omeg
 described (Default m) = record { counted = refl; some = omega arith; few = omega arith; back = λ rest. refl }
 described (CloseOut e) = record { counted = refl; some = omega arith; few = omega arith; back = λ rest. refl }
 described (CloseOfDay s) = record { counted = refl; some = omega arith; few = omega arith; back = λ rest. refl }
+
+-- No kind has more fields.
+pub few-fields : (k : ℕ) → length (kindFields k) ≤ mostFields
+unfolding kindFields
+few-fields k =
+    same-or k 1 (λ e. rw e (omega arith)) (λ n₁. same-or k 2 (λ e. rw e (omega arith)) (λ n₂. same-or k 3 (λ e. rw e (omega arith))
+    (λ n₃. same-or k 4 (λ e. rw e (omega arith)) (λ n₄. same-or k 5 (λ e. rw e (omega arith)) (λ n₅. same-or k 6 (λ e. rw e (omega arith))
+    (λ n₆. same-or k 7 (λ e. rw e (omega arith)) (λ n₇. omega (arith, ap length (no-fields k n₁ n₂ n₃ n₄ n₅ n₆ n₇)))))))))
+
+-- A proposal has one number, how many legs stand beside it; no other event has legs.
+pub legs-or-none : {P : Type 0} (e : Event) → (kindNumber e ≡ proposalKind → length (eventNumbers e) ≡ 1 → P) → (hasLegs (kindNumber e) ≡ false → legCount e ≡ 0 → P) → P
+unfolding kindFields
+legs-or-none e some none =
+    same-or (kindNumber e) proposalKind (λ k. some k (described e .counted ∙ rw k refl))
+    (λ n. let no = ne-eqb (kindNumber e) proposalKind n in none no (rw no refl))
 
 -- ---- numbers that give an event are the event's
 pub nothing : {P : Type 0} {e : Event} → Unsound ≡ Sound e → P
