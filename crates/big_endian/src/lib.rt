@@ -1,10 +1,12 @@
 // Big-endian numbers in a slice of bytes.
 ghost use mathlib.Core.Path.{_≡_};
 ghost use mathlib.Core.List.{[], _∷_};
-ghost use Prim.Native.Nat.{_+_, _<_, _≤_};
+ghost use Prim.Native.Nat.{_+_, _^_, _<_, _≤_};
 ghost use lib.ListN.{length, getD};
 ghost use Rattle.arith.specs.Lists.{over};
+ghost use Rattle.rules.specs.Fields.{numberAt, numberBytes};
 ghost use Rattle.rules.specs.Header.{u16At, u32At, u16Bytes, u32Bytes};
+ghost use Rattle.big_endian.specs.Width.{Width};
 
 pub fn wide(x: u8) -> u64
     ensures { λ r. ⌜ (r ≡ x) × (r < 256) ⌝ }
@@ -43,6 +45,18 @@ pub fn u32_at(s: &[u8], at: usize) -> u64
     u16_at(s, at) * 65536 + u16_at(s, at + 2)
 }
 
+// The number of so many bytes, whatever the width.
+pub fn number_at(s: &[u8], at: usize, width: usize) -> u64
+    requires { ⌜ Width width × (at + width ≤ length (now s)) ⌝ }
+    ensures { λ r. ⌜ r ≡ numberAt (now (s .entry)) at width ⌝ }
+{
+    match width {
+        1 => u8_at(s, at),
+        2 => u16_at(s, at),
+        _ => u32_at(s, at),
+    }
+}
+
 pub fn put_u8(out: &mut [u8], at: usize, n: u64)
     requires { ⌜ (at < length (now out)) × (n < 256) ⌝ }
     ensures { λ r. ⌜ now (out .exit) ≡ over at (n ∷ []) (now (out .entry)) ⌝ }
@@ -64,4 +78,15 @@ pub fn put_u32(out: &mut [u8], at: usize, n: u64)
 {
     put_u16(out, at, n / 65536);
     put_u16(out, at + 2, n % 65536);
+}
+
+pub fn put_number(out: &mut [u8], at: usize, width: usize, n: u64)
+    requires { ⌜ Width width × (at + width ≤ length (now out)) × (n < 256 ^ width) ⌝ }
+    ensures { λ r. ⌜ now (out .exit) ≡ over at (numberBytes width n) (now (out .entry)) ⌝ }
+{
+    match width {
+        1 => put_u8(out, at, n),
+        2 => put_u16(out, at, n),
+        _ => put_u32(out, at, n),
+    }
 }

@@ -1,25 +1,23 @@
 -- Numbers written field by field and read back, and read and written again, whatever the fields are. Assumes nothing.
-use Prim.Native.Nat.{ℕ, _+_, _^_, _≤_, _<_}
-use mathlib.Core.List.{List, [], _∷_, _++_, append-assoc}
+use Prim.Native.Nat.{ℕ, zero, suc, _+_, _^_, _≤_, _<_}
+use mathlib.Core.List.{List, [], _∷_, _++_, append-assoc, append-nil}
 use mathlib.Core.Path.{_≡_, refl, sym, ap, _∙_}
-use native.Mathlib.Nat.{add-zero}
+use native.Mathlib.Nat.{zero-add, add-zero, add-assoc}
+use native.Mathlib.Numerals.{add-one}
 use native.Mathlib.Omega.{arith}
-use lib.ListN.{length, getD, drop, length-append}
-use lib.Seq.{getD-append-add}
+use lib.ListN.{length, getD, take, drop, length-append, take-append-drop}
+use lib.Seq.{getD-append-add, take-suc}
 use Rattle.rules.specs.declared.field.Field.{Field}
 use Rattle.rules.specs.declared.field.Field.the-variants.{LetterV, LetterJ, LetterR, Version, FirstYear, StartDay, Members, HolidayCount, Holiday, Limit}
 use Rattle.rules.specs.declared.field.Field.the-variants.{Kind, Time, Member, Contract, Side, OrderKind, Price, Lots, Order, Low, High, Legs, Ratio}
 use Rattle.rules.specs.Fields.{widthOf, widths, numberAt, numberBytes, numbersAt, bytesBy}
+use Rattle.big_endian.specs.Width.{Width, one, two, four}
 use Rattle.big_endian.proofs.Numbers.{u16-wide, u32-wide, u16-back, u32-back, u8-again, u16-again, u32-again}
+use Rattle.codec.specs.Fits.{Fits}
 
 -- ---- one number
 -- A field is as wide as a u8, a u16 or a u32.
-data Width : ℕ → Type 0 where
-  one : Width 1
-  two : Width 2
-  four : Width 4
-
-width : (f : Field) → Width (widthOf f)
+pub width : (f : Field) → Width (widthOf f)
 width LetterV = one
 width LetterJ = one
 width LetterR = one
@@ -52,6 +50,11 @@ some-width f = go (width f)
     go two = omega arith
     go four = omega arith
 
+pub some-widths : (fs : List Field) → 0 < length fs → 1 ≤ widths fs
+unfolding widths
+some-widths [] h = absurd (omega arith)
+some-widths (f ∷ fs) h = omega (arith, some-width f)
+
 number-wide : {w : ℕ} → Width w → (v : ℕ) → length (numberBytes w v) ≡ w
 unfolding numberBytes
 number-wide one v = refl
@@ -71,12 +74,38 @@ number-again two s small i h = u16-again s small i h
 number-again four s small i h = u32-again s small i h
 
 -- ---- one field after the other
--- Each number fits its field.
-unfoldable pub Fits : List Field → List ℕ → Type 0
-Fits [] [] = Unit {0}
-Fits [] (n ∷ ns) = ⊥
-Fits (f ∷ fs) [] = ⊥
-Fits (f ∷ fs) (n ∷ ns) = (n < 256 ^ widthOf f) × Fits fs ns
+pub fits-count : (fs : List Field) (ns : List ℕ) → Fits fs ns → length ns ≡ length fs
+unfolding Fits
+fits-count [] [] h = refl
+fits-count [] (n ∷ ns) h = absurd h
+fits-count (f ∷ fs) [] h = absurd h
+fits-count (f ∷ fs) (n ∷ ns) h = ap suc (fits-count fs ns (h .1))
+
+pub fits-at : (fs : List Field) (ns : List ℕ) → Fits fs ns → (i : ℕ) → i < length fs → getD ns i 0 < 256 ^ widthOf (getD fs i Kind)
+unfolding Fits
+fits-at [] ns h i k = absurd (omega arith)
+fits-at (f ∷ fs) [] h i k = absurd h
+fits-at (f ∷ fs) (n ∷ ns) h zero k = h .0
+fits-at (f ∷ fs) (n ∷ ns) h (suc i) k = fits-at fs ns (h .1) i (omega arith)
+
+pub length-numbers : (s : List ℕ) (i : ℕ) (fs : List Field) → length (numbersAt s i fs) ≡ length fs
+unfolding numbersAt
+length-numbers s i [] = refl
+length-numbers s i (f ∷ fs) = ap suc (length-numbers s (i + widthOf f) fs)
+
+pub length-bytes : (fs : List Field) (ns : List ℕ) → length fs ≤ length ns → length (bytesBy fs ns) ≡ widths fs
+unfolding bytesBy widths
+length-bytes [] ns h = refl
+length-bytes (f ∷ fs) [] h = absurd (omega arith)
+length-bytes (f ∷ fs) (n ∷ ns) h =
+    length-append (numberBytes (widthOf f) n) (bytesBy fs ns) ∙ (λ j. number-wide (width f) n j + length-bytes fs ns (omega arith) j)
+
+-- Numbers past the last field are not written.
+pub bytes-enough : (fs : List Field) (ns rest : List ℕ) → length fs ≤ length ns → bytesBy fs (ns ++ rest) ≡ bytesBy fs ns
+unfolding bytesBy
+bytes-enough [] ns rest h = refl
+bytes-enough (f ∷ fs) [] rest h = absurd (omega arith)
+bytes-enough (f ∷ fs) (n ∷ ns) rest h = ap (λ x. numberBytes (widthOf f) n ++ x) (bytes-enough fs ns rest (omega arith))
 
 pub numbers-back : (fs : List Field) (ns p q : List ℕ) (i : ℕ) → Fits fs ns → i ≡ length p → numbersAt (p ++ (bytesBy fs ns ++ q)) i fs ≡ ns
 unfolding Fits numbersAt bytesBy
@@ -105,3 +134,30 @@ numbers-again s small (f ∷ fs) i h =
     let later : rest ++ drop (i + (w + widths fs)) s ≡ drop (i + w) s =
     ap (λ k. rest ++ drop k s) place ∙ numbers-again s small fs (i + w) (omega arith) in
     append-assoc b rest (drop (i + (w + widths fs)) s) ∙ (ap (λ x. b ++ x) later ∙ number-again (width f) s small i (omega arith))
+
+-- ---- fields and then others
+pub widths-append : (a b : List Field) → widths (a ++ b) ≡ widths a + widths b
+unfolding widths
+widths-append [] b = sym (zero-add (widths b))
+widths-append (f ∷ a) b = ap (λ n. widthOf f + n) (widths-append a b) ∙ sym (add-assoc (widthOf f) (widths a) (widths b))
+
+pub numbers-append : (s : List ℕ) (i : ℕ) (a b : List Field) → numbersAt s i (a ++ b) ≡ numbersAt s i a ++ numbersAt s (i + widths a) b
+unfolding widths numbersAt
+numbers-append s i [] b = ap (λ k. numbersAt s k b) (sym (add-zero i))
+numbers-append s i (f ∷ a) b =
+    ap (λ x. numberAt s i (widthOf f) ∷ x)
+    (numbers-append s (i + widthOf f) a b ∙ ap (λ k. numbersAt s (i + widthOf f) a ++ numbersAt s k b) (add-assoc i (widthOf f) (widths a)))
+
+pub bytes-more : (fs : List Field) (ns : List ℕ) (i : ℕ) → i < length fs → i < length ns → bytesBy (take (suc i) fs) ns ≡ bytesBy (take i fs) ns ++ numberBytes (widthOf (getD fs i Kind)) (getD ns i 0)
+unfolding bytesBy
+bytes-more [] ns i h k = absurd (omega arith)
+bytes-more (f ∷ fs) [] i h k = absurd (omega arith)
+bytes-more (f ∷ fs) (n ∷ ns) zero h k = append-nil (numberBytes (widthOf f) n)
+bytes-more (f ∷ fs) (n ∷ ns) (suc i) h k =
+    let b = numberBytes (widthOf f) n in
+    ap (λ x. b ++ x) (bytes-more fs ns i (omega arith) (omega arith)) ∙ sym (append-assoc b (bytesBy (take i fs) ns) (numberBytes (widthOf (getD fs i Kind)) (getD ns i 0)))
+
+pub widths-first : (fs : List Field) (i : ℕ) → widths (take i fs) ≤ widths fs
+widths-first fs i =
+    let whole : widths fs ≡ widths (take i fs) + widths (drop i fs) = ap widths (sym (take-append-drop i fs)) ∙ widths-append (take i fs) (drop i fs) in
+    omega arith

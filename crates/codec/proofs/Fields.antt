@@ -1,21 +1,50 @@
--- What the fields of a record say, kind by kind. Assumes nothing.
-use Prim.Native.Nat.{ℕ, _+_, _≤_, _<_}
-use mathlib.Core.Bool.{Bool, true, false, cond, _&&_}
-use mathlib.Core.List.{List}
-use mathlib.Core.Path.{_≡_, refl, sym, _∙_}
+-- What the fields of a record say, whatever its kind. Assumes nothing.
+use Prim.Native.Nat.{ℕ, _+_, _*_, _-_, _≤_, _<_}
+use mathlib.Core.Bool.{Bool, true, false, cond}
+use mathlib.Core.List.{List, [], _∷_}
+use mathlib.Core.Path.{_≡_, refl, sym, ap, _∙_}
 use native.Mathlib.Omega.{arith}
-use borrow.Author.Tests.{eq-eqb, ne-eqb, lt-leb, leb-true}
-use lib.Dec.{leb}
-use lib.ListN.{length, getD}
-use Rattle.arith.proofs.Tests.{by-eqb, same-or, and-left, and-right, and-false}
-use Rattle.rules.specs.declared.event.Event.the-variants.{Submit, Cancel, DayLimits, Proposal, Default, CloseOut, CloseOfDay}
+use borrow.Author.Tests.{eq-eqb, ne-eqb}
+use lib.ListN.{length, getD, take, drop}
+use lib.Seq.{take-all}
+use Rattle.arith.specs.Columns.{padded}
+use Rattle.arith.proofs.Tests.{by-eqb}
 use Rattle.rules.specs.declared.event.Event.{Event}
 use Rattle.rules.specs.declared.event.Reading.the-variants.{Sound, Unsound}
 use Rattle.rules.specs.declared.event.Reading.{Reading}
-use Rattle.rules.specs.Fields.{numbersAt}
+use Rattle.rules.specs.declared.field.Field.{Field}
+use Rattle.rules.specs.Fields.{hasLegs, widths, kindFields, numbersAt}
 use Rattle.rules.specs.Header.{u16At, u32At, membersSound}
-use Rattle.rules.specs.Records.{submitLength, cancelLength, dayLimitsLength, defaultLength, closeOutLength, closeOfDayLength, legPlace, recordLength, frontLength, submissionOf}
-use Rattle.rules.specs.Records.{cancellationOf, newDayLimitsOf, closeOutOf, submitOf, recordNumbers, fieldsByKind, fieldsOf, legAt, legsOf, eventSound, ifSound, readOf}
+use Rattle.rules.specs.Records.{lengthWith, legLength, recordLength, frontLength, kindNumber, eventNumbers, eventByKind}
+use Rattle.rules.specs.Records.{recordNumbers, fieldsByKind, fieldsOf, legAt, legsOf, eventSound, ifSound, readOf}
+use Rattle.record_kinds.proofs.EachKind.{nothing, if-true, described, numbers-of-event}
+use Rattle.codec.proofs.FieldBytes.{length-numbers}
+use Rattle.codec.proofs.FieldLoops.{with-zeros}
+
+-- ---- lengths
+with-fields : (fs : List Field) (legs : ℕ) → 0 < length fs → lengthWith fs legs ≡ 1 + widths fs + legs
+unfolding widths
+with-fields [] legs h = absurd (omega arith)
+with-fields (f ∷ fs) legs h = refl
+
+pub record-length : (k legs : ℕ) → 0 < length (kindFields k) → recordLength k legs ≡ 1 + widths (kindFields k) + cond (hasLegs k) (legLength * legs) 0
+unfolding recordLength
+record-length k legs h = with-fields (kindFields k) (cond (hasLegs k) (legLength * legs) 0) h
+
+inside : (fs : List Field) (legs : ℕ) → widths fs ≤ lengthWith fs legs - 1
+unfolding widths
+inside [] legs = omega arith
+inside (f ∷ fs) legs = omega arith
+
+-- The fields of a kind are in each of its records.
+pub fields-inside : (k legs : ℕ) → widths (kindFields k) ≤ recordLength k legs - 1
+unfolding recordLength
+fields-inside k legs = inside (kindFields k) (cond (hasLegs k) (legLength * legs) 0)
+
+-- Only a proposal's length depends on its number of legs.
+pub length-legless : (k a b : ℕ) → (k ≡ 4 → ⊥) → recordLength k a ≡ recordLength k b
+unfolding recordLength
+length-legless k a b h = rw (ne-eqb k 4 h) refl
 
 -- ---- by the kind and the length, as they were read
 module _ (s : List ℕ) {k second n : ℕ} (kind : k ≡ getD s 0 0) (next : second ≡ getD s 1 0) (sized : n ≡ recordLength k second) where
@@ -23,50 +52,42 @@ module _ (s : List ℕ) {k second n : ℕ} (kind : k ≡ getD s 0 0) (next : sec
   unfolding fieldsOf
   fields-cut l = rw (← kind, ← next, ← sized, ne-eqb (length s) n l) refl
 
-  module _ (l : length s ≡ n) (j : ℕ) (key : k ≡ j) where
-    pub length-of-kind : length s ≡ recordLength j (getD s 1 0)
-    length-of-kind = l ∙ rw (← key, ← next) sized
+  pub fields-of-kind : length s ≡ n → fieldsByKind k s ≡ fieldsOf s
+  unfolding fieldsOf
+  fields-of-kind l = rw (← kind, ← next, ← sized, eq-eqb (length s) n l) refl
 
-    pub fields-of-kind : fieldsByKind j s ≡ fieldsOf s
-    unfolding fieldsOf
-    fields-of-kind = rw (← kind, ← next, ← sized, eq-eqb (length s) n l, key) refl
+-- ---- by a record's numbers
+pub by-numbers : (kind : ℕ) (s f : List ℕ) → recordNumbers kind s ≡ f → fieldsByKind kind s ≡ eventByKind kind f
+unfolding fieldsByKind
+by-numbers kind s f h = ap (eventByKind kind) h
 
--- no kind has the number
-module _ (k : ℕ) (a : k ≡ 1 → ⊥) (b : k ≡ 2 → ⊥) (c : k ≡ 3 → ⊥) (d : k ≡ 4 → ⊥) (e : k ≡ 5 → ⊥) (f : k ≡ 6 → ⊥) (g : k ≡ 7 → ⊥) where
-  pub unknown-kind : (s : List ℕ) → fieldsByKind k s ≡ Unsound
-  unfolding fieldsByKind
-  unknown-kind s = simp (ne-eqb _ _ a, ne-eqb _ _ b, ne-eqb _ _ c, ne-eqb _ _ d, ne-eqb _ _ e, ne-eqb _ _ f, ne-eqb _ _ g)
+-- all of them, when each field was read
+pub numbers-read : (s : List ℕ) (k n i : ℕ) {numbers : List ℕ} → k ≡ getD s 0 0 → length (kindFields k) ≤ i → numbers ≡ padded n (k ∷ numbersAt s 1 (take i (kindFields k)))
+    → numbers ≡ padded n (recordNumbers k s)
+unfolding recordNumbers
+numbers-read s k n i e h q = q ∙ ap (padded n) (λ j. e j ∷ numbersAt s 1 (take-all i (kindFields k) h j))
 
-module _ (s : List ℕ) where
-  pub submit-side : 1 < getD s 7 0 → Unsound ≡ submitOf (recordNumbers 1 s)
-  unfolding recordNumbers
-  submit-side h = rw (lt-leb (getD s 7 0) 1 h) refl
+event-with-zeros : (kind n : ℕ) (f : List ℕ) → eventByKind kind (padded n f) ≡ eventByKind kind f
+unfolding eventByKind padded
+event-with-zeros kind n f = simp with-zeros
 
-  pub submit-order-kind : 2 < getD s 8 0 → Unsound ≡ submitOf (recordNumbers 1 s)
-  unfolding recordNumbers
-  submit-order-kind h = rw (lt-leb (getD s 8 0) 2 h, and-false (leb (getD s 7 0) 1)) refl
+pub event-read : (s : List ℕ) (k n : ℕ) {numbers : List ℕ} → k ≡ getD s 0 0 → numbers ≡ padded n (recordNumbers k s) → eventByKind (getD numbers 0 0) numbers ≡ fieldsByKind k s
+unfolding recordNumbers padded
+event-read s k n {numbers} e q =
+    let f = recordNumbers k s in
+    let first : getD numbers 0 0 ≡ k = ap (λ x. getD x 0 0) q ∙ sym e in
+    ap (λ j. eventByKind j numbers) first ∙ (ap (eventByKind k) q ∙ (event-with-zeros k n f ∙ sym (by-numbers k s f refl)))
 
 -- a leg's numbers, where they stand
 pub leg-read : (s : List ℕ) (i : ℕ) → record { order = u32At s i; lots = record { 0 = u16At s (i + 4) }; price = record { 0 = u32At s (i + 6) } } ≡ legAt s i
 unfolding numbersAt
 leg-read s i = let price : i + 4 + 2 ≡ i + 6 = omega arith in rw price refl
 
--- ---- which kind a record has that says an event
-pub data Says (s : List ℕ) : Event → Type 0 where
-  submits : getD s 0 0 ≡ 1 → length s ≡ submitLength → getD s 7 0 ≤ 1 → getD s 8 0 ≤ 2 → Says s (Submit (submissionOf (recordNumbers 1 s)))
-  cancels : getD s 0 0 ≡ 2 → length s ≡ cancelLength → Says s (Cancel (cancellationOf (recordNumbers 2 s)))
-  limits : getD s 0 0 ≡ 3 → length s ≡ dayLimitsLength → Says s (DayLimits (newDayLimitsOf (recordNumbers 3 s)))
-  proposes : getD s 0 0 ≡ 4 → length s ≡ legPlace (getD s 1 0) → Says s (Proposal (getD s 1 0))
-  defaults : getD s 0 0 ≡ 5 → length s ≡ defaultLength → Says s (Default (getD s 1 0))
-  closes-out : getD s 0 0 ≡ 6 → length s ≡ closeOutLength → Says s (CloseOut (closeOutOf (recordNumbers 6 s)))
-  closes : getD s 0 0 ≡ 7 → length s ≡ closeOfDayLength → Says s (CloseOfDay (u32At s 1))
-
-pub nothing : {P : Type 0} {e : Event} → Unsound ≡ Sound e → P
-nothing h = absurd (let z : _≡_ {A = ℕ} 0 1 = cc in omega arith)
-
-pub if-true : (b : Bool) (r : Reading) (e : Event) → cond b r Unsound ≡ Sound e → (b ≡ true) × (r ≡ Sound e)
-if-true true r e h = (refl, h)
-if-true false r e h = nothing h
+-- ---- a record that says an event has its kind, its numbers and its length
+pub record Says (s : List ℕ) (e : Event) : Type 0 where
+  pub kind : kindNumber e ≡ getD s 0 0
+  pub numbers : eventNumbers e ≡ numbersAt s 1 (kindFields (kindNumber e))
+  pub sized : length s ≡ recordLength (kindNumber e) (getD s 1 0)
 
 whole : (s : List ℕ) (e : Event) → fieldsOf s ≡ Sound e → (length s ≡ frontLength s) × (fieldsByKind (getD s 0 0) s ≡ Sound e)
 unfolding fieldsOf
@@ -74,31 +95,24 @@ whole s e =
     by-eqb (λ b. cond b (fieldsByKind (getD s 0 0) s) Unsound ≡ Sound e → (length s ≡ frontLength s) × (fieldsByKind (getD s 0 0) s ≡ Sound e)) (length s) (frontLength s)
     (λ l h. (l, h)) (λ _ h. nothing h)
 
+after-kind : (k : ℕ) (s : List ℕ) → drop 1 (recordNumbers k s) ≡ numbersAt s 1 (kindFields k)
+unfolding recordNumbers
+after-kind k s = refl
+
+count-numbers : (k : ℕ) (s : List ℕ) → length (recordNumbers k s) ≡ 1 + length (kindFields k)
+unfolding recordNumbers
+count-numbers k s = omega (arith, length-numbers s 1 (kindFields k))
+
 pub says : (s : List ℕ) (e : Event) → fieldsOf s ≡ Sound e → Says s e
-unfolding fieldsByKind recordLength
 says s e h =
+    let k = getD s 0 0 in
+    let f = recordNumbers k s in
+    let fields = numbersAt s 1 (kindFields k) in
     let w = whole s e h in
-    same-or kind 1 (λ k. submit k (rw k at (w .0)) (rw k at (w .1)))
-    (λ n₁. same-or kind 2 (λ k. is (rw k at (w .1)) (cancels k (rw k at (w .0))))
-    (λ n₂. same-or kind 3 (λ k. is (rw k at (w .1)) (limits k (rw k at (w .0))))
-    (λ n₃. same-or kind 4 (λ k. is (rw k at (w .1)) (proposes k (rw k at (w .0))))
-    (λ n₄. same-or kind 5 (λ k. is (rw k at (w .1)) (defaults k (rw k at (w .0))))
-    (λ n₅. same-or kind 6 (λ k. is (rw k at (w .1)) (closes-out k (rw k at (w .0))))
-    (λ n₆. same-or kind 7 (λ k. is (rw k at (w .1)) (closes k (rw k at (w .0))))
-    (λ n₇. nothing (sym (unknown-kind kind n₁ n₂ n₃ n₄ n₅ n₆ n₇ s) ∙ w .1))))))))
-  where
-    kind : ℕ
-    kind = getD s 0 0
-
-    is : {x : Event} → Sound x ≡ Sound e → Says s x → Says s e
-    is {x} w y = let same : x ≡ e = cc in rw same at y
-
-    submit : getD s 0 0 ≡ 1 → length s ≡ submitLength → submitOf (recordNumbers 1 s) ≡ Sound e → Says s e
-    submit k l w =
-        let side = leb (getD s 7 0) 1 in
-        let order = leb (getD s 8 0) 2 in
-        let both = if-true (side && order) (Sound (Submit (submissionOf (recordNumbers 1 s)))) e w in
-        is (both .1) (submits k l (leb-true (getD s 7 0) 1 (and-left side order (both .0))) (leb-true (getD s 8 0) 2 (and-right side order (both .0))))
+    let count : length f ≡ 1 + length (kindFields k) = count-numbers k s in
+    let given = numbers-of-event k f e (sym (by-numbers k s f refl) ∙ w .1) (omega arith) in
+    let all : take (length (kindFields k)) (drop 1 f) ≡ fields = rw (after-kind k s) (take-all (length (kindFields k)) fields (omega (arith, length-numbers s 1 (kindFields k)))) in
+    record { kind = given .0; numbers = rw (given .0) (given .1 ∙ all); sized = rw (given .0) (w .0) }
 
 -- ---- reading by what the fields say
 module _ (n : ℕ) (s : List ℕ) where

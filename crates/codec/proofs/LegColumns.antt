@@ -1,8 +1,8 @@
 -- The legs that are read are the record's, in columns. Assumes nothing.
 use Prim.Native.Nat.{ℕ, zero, suc, _≤_, _<_}
 use mathlib.Core.Bool.{Bool, true, false, _&&_}
-use mathlib.Core.List.{List, []}
-use mathlib.Core.Path.{_≡_, refl, sym, ap, _∙_}
+use mathlib.Core.List.{List, [], _∷_, _++_, append-nil}
+use mathlib.Core.Path.{_≡_, refl, sym, ap, subst, _∙_}
 use native.Mathlib.Omega.{arith}
 use borrow.Author.Tests.{le-leb, lt-leb, eq-eqb, ne-eqb}
 use lib.Dec.{eqb, leb}
@@ -10,17 +10,19 @@ use lib.ListN.{length, getD}
 use Rattle.arith.proofs.Padded.{column-at}
 use Rattle.arith.specs.Lists.{from, every}
 use Rattle.arith.proofs.Runs.{length-run, run-of}
-use Rattle.arith.proofs.Tests.{never, le-or-lt, and-false}
-use Rattle.rules.specs.declared.event.Event.the-variants.{Submit, Cancel, DayLimits, Proposal, Default, CloseOut, CloseOfDay}
+use Rattle.arith.proofs.Tests.{never, le-or-lt, same-or, and-false}
+use Rattle.rules.specs.declared.event.Event.the-variants.{Proposal}
 use Rattle.rules.specs.declared.event.Event.{Event}
 use Rattle.rules.specs.declared.event.Leg.{Leg}
 use Rattle.rules.specs.declared.event.Reading.the-variants.{Sound}
 use Rattle.rules.specs.Ranges.{leastLegs, mostLegs}
-use Rattle.rules.specs.Records.{legPlace, legAt, legsOf, legSound, eventSound, kindNumber, fieldsOf}
-use Rattle.record_kinds.specs.LegCount.{legCount}
+use Rattle.rules.specs.Fields.{numbersAt}
+use Rattle.rules.specs.Records.{legPlace, recordLength, legAt, legsOf, legSound, eventSound, kindNumber, eventNumbers, eventByKind, fieldsOf}
+use Rattle.record_kinds.specs.Numbers.{legCount}
+use Rattle.record_kinds.proofs.EachKind.{described}
 use Rattle.codec.specs.Columns.{legRow, legRows, legColumns, heldLegs, legsTo, Held}
 use Rattle.codec.specs.declared.legs.Legs.{Legs}
-use Rattle.codec.proofs.Fields.{Says, submits, cancels, limits, proposes, defaults, closes-out, closes, says}
+use Rattle.codec.proofs.Fields.{Says, says}
 
 abbrev pub noLeg : Leg
 noLeg = record { order = 0; lots = record { 0 = 0 }; price = record { 0 = 0 } }
@@ -46,11 +48,11 @@ pub legs-to : (s : List ℕ) → getD s 0 0 ≡ 4 → legsOf s ≡ legsTo s (get
 unfolding legsOf
 legs-to s k = rw k refl
 
-pub no-legs : (s : List ℕ) (k : ℕ) → getD s 0 0 ≡ k → eqb k 4 ≡ false → legsOf s ≡ []
+no-legs : (s : List ℕ) → (getD s 0 0 ≡ 4 → ⊥) → legsOf s ≡ []
 unfolding legsOf
-no-legs s k e f = rw (e, f) refl
+no-legs s h = rw (ne-eqb (getD s 0 0) 4 h) refl
 
-pub no-rows : (l : Legs) → legRows 0 l ≡ []
+no-rows : (l : Legs) → legRows 0 l ≡ []
 unfolding legRows from
 no-rows l = refl
 
@@ -106,24 +108,21 @@ proposal-judged n k l a b = rw (le-leb leastLegs k a, le-leb k mostLegs b, eq-eq
 pub proposal-many : (n k : ℕ) (l : Legs) → mostLegs < k → eventSound n (Proposal k) (legRows k l) ≡ false
 proposal-many n k l h = many-legs n k (legRows k l) h
 
--- which events have legs beside them
+-- ---- which events have legs beside them
 pub is-proposal : (e : Event) → kindNumber e ≡ 4 → e ≡ Proposal (legCount e)
-is-proposal (Submit e) h = absurd (omega arith)
-is-proposal (Cancel e) h = absurd (omega arith)
-is-proposal (DayLimits e) h = absurd (omega arith)
-is-proposal (Proposal k) h = refl
-is-proposal (Default m) h = absurd (omega arith)
-is-proposal (CloseOut e) h = absurd (omega arith)
-is-proposal (CloseOfDay s) h = absurd (omega arith)
+unfolding eventByKind
+is-proposal e h =
+    let f : List ℕ = kindNumber e ∷ eventNumbers e ++ [] in
+    let back : eventByKind 4 f ≡ Sound e = ap (λ k. eventByKind k f) (sym h) ∙ described e .back [] in
+    let count : legCount e ≡ getD (eventNumbers e) 0 0 = rw (eq-eqb (kindNumber e) 4 h) refl in
+    let same : Proposal (getD (eventNumbers e ++ []) 0 0) ≡ e = cc in
+    sym same ∙ ap Proposal (ap (λ x. getD x 0 0) (append-nil (eventNumbers e)) ∙ sym count)
 
-pub is-legless : (e : Event) (l : Legs) → (kindNumber e ≡ 4 → ⊥) → [] ≡ legRows (legCount e) l
-is-legless (Submit e) l h = sym (no-rows l)
-is-legless (Cancel e) l h = sym (no-rows l)
-is-legless (DayLimits e) l h = sym (no-rows l)
-is-legless (Proposal k) l h = absurd (h refl)
-is-legless (Default m) l h = sym (no-rows l)
-is-legless (CloseOut e) l h = sym (no-rows l)
-is-legless (CloseOfDay s) l h = sym (no-rows l)
+pub none-beside : (e : Event) → (kindNumber e ≡ 4 → ⊥) → legCount e ≡ 0
+none-beside e h = rw (ne-eqb (kindNumber e) 4 h) refl
+
+is-legless : (e : Event) (l : Legs) → (kindNumber e ≡ 4 → ⊥) → [] ≡ legRows (legCount e) l
+is-legless e l h = sym (ap (λ n. legRows n l) (none-beside e h) ∙ no-rows l)
 
 module _ (n : ℕ) (e : Event) (l : Legs) {r : Bool} where
   pub judged-proposal : {count : ℕ} → kindNumber e ≡ 4 → count ≡ legCount e → r ≡ eventSound n (Proposal count) (legRows count l) → r ≡ eventSound n e (legRows (legCount e) l)
@@ -132,58 +131,49 @@ module _ (n : ℕ) (e : Event) (l : Legs) {r : Bool} where
   pub judged-legless : (kindNumber e ≡ 4 → ⊥) → r ≡ eventSound n e [] → r ≡ eventSound n e (legRows (legCount e) l)
   judged-legless k j = j ∙ ap (eventSound n e) (is-legless e l k)
 
+-- ---- the legs of a record that says an event
+module _ (s : List ℕ) (e : Event) (y : Says s e) where
+  -- It is a proposal of as many legs as its second byte says, or has none.
+  pub says-proposal : kindNumber e ≡ 4 → (getD s 0 0 ≡ 4) × (length s ≡ legPlace (getD s 1 0)) × (e ≡ Proposal (getD s 1 0))
+  unfolding recordLength numbersAt
+  says-proposal h =
+      let numbers : eventNumbers e ≡ getD s 1 0 ∷ [] = rw h at (y .numbers) in
+      let count : legCount e ≡ getD s 1 0 = rw (eq-eqb (kindNumber e) 4 h, numbers) refl in
+      (sym (y .kind) ∙ h, rw h at (y .sized), is-proposal e h ∙ ap Proposal count)
+
+  pub says-legless : (kindNumber e ≡ 4 → ⊥) → legsOf s ≡ []
+  says-legless h = no-legs s (λ k. h (y .kind ∙ k))
+
 module _ (n : ℕ) (s : List ℕ) where
   abbrev columns : Legs
   columns = legColumns (heldLegs s)
 
   -- The legs in the columns are in range exactly if the record's are; those of a sound record are the record's.
-  proposed : (k : getD s 0 0 ≡ 4) → length s ≡ legPlace (getD s 1 0)
-      → (eventSound n (Proposal (getD s 1 0)) (legRows (getD s 1 0) columns) ≡ eventSound n (Proposal (getD s 1 0)) (legsOf s))
-      × (eventSound n (Proposal (getD s 1 0)) (legsOf s) ≡ true → legRows (getD s 1 0) columns ≡ legsOf s)
+  abbrev Rows : Event → Type 0
+  Rows e =
+      (eventSound n e (legRows (legCount e) columns) ≡ eventSound n e (legsOf s))
+      × (eventSound n e (legsOf s) ≡ true → legRows (legCount e) columns ≡ legsOf s)
+
+  proposed : (k : getD s 0 0 ≡ 4) → length s ≡ legPlace (getD s 1 0) → Rows (Proposal (getD s 1 0))
   proposed k l =
       let count = getD s 1 0 in
       le-or-lt count mostLegs (λ m. let e = rows-held s k m l in (ap (eventSound n (Proposal count)) e, λ _. e))
       (λ m. let b = many-legs n count (legsOf s) m in (many-legs n count (legRows count columns) m ∙ sym b, λ t. never (sym t ∙ b)))
 
-  pub rows-judged : (e : Event) → fieldsOf s ≡ Sound e → eventSound n e (legRows (legCount e) columns) ≡ eventSound n e (legsOf s)
-  rows-judged e h = go e (says s e h)
-    where
-      none : (e : Event) (k : ℕ) → getD s 0 0 ≡ k → eqb k 4 ≡ false → eventSound n e (legRows 0 columns) ≡ eventSound n e (legsOf s)
-      none e k f g = ap (eventSound n e) (no-rows columns ∙ sym (no-legs s k f g))
+  rows : (e : Event) → Says s e → Rows e
+  rows e y =
+      same-or (kindNumber e) 4 (λ h. let p = says-proposal s e y h in subst Rows (sym (p .2)) (proposed (p .0) (p .1)))
+      (λ h. let none : legRows (legCount e) columns ≡ legsOf s = sym (is-legless e columns h) ∙ sym (says-legless s e y h) in (ap (eventSound n e) none, λ _. none))
 
-      go : (e : Event) → Says s e → eventSound n e (legRows (legCount e) columns) ≡ eventSound n e (legsOf s)
-      go e (submits k l a b) = none _ 1 k refl
-      go e (cancels k l) = none _ 2 k refl
-      go e (limits k l) = none _ 3 k refl
-      go e (proposes k l) = proposed k l .0
-      go e (defaults k l) = none _ 5 k refl
-      go e (closes-out k l) = none _ 6 k refl
-      go e (closes k l) = none _ 7 k refl
+  pub rows-judged : (e : Event) → fieldsOf s ≡ Sound e → eventSound n e (legRows (legCount e) columns) ≡ eventSound n e (legsOf s)
+  rows-judged e h = rows e (says s e h) .0
 
   pub rows-said : (e : Event) → fieldsOf s ≡ Sound e → eventSound n e (legsOf s) ≡ true → legRows (legCount e) columns ≡ legsOf s
-  rows-said e h t = go e (says s e h) t
-    where
-      none : (k : ℕ) → getD s 0 0 ≡ k → eqb k 4 ≡ false → legRows 0 columns ≡ legsOf s
-      none k f g = no-rows columns ∙ sym (no-legs s k f g)
-
-      go : (e : Event) → Says s e → eventSound n e (legsOf s) ≡ true → legRows (legCount e) columns ≡ legsOf s
-      go e (submits k l a b) t = none 1 k refl
-      go e (cancels k l) t = none 2 k refl
-      go e (limits k l) t = none 3 k refl
-      go e (proposes k l) t = proposed k l .1 t
-      go e (defaults k l) t = none 5 k refl
-      go e (closes-out k l) t = none 6 k refl
-      go e (closes k l) t = none 7 k refl
+  rows-said e h t = rows e (says s e h) .1 t
 
   -- The columns that read_legs fills of a sound proposal hold its legs.
   pub legs-said : (k : ℕ) → fieldsOf s ≡ Sound (Proposal k) → eventSound n (Proposal k) (legsOf s) ≡ true → heldLegs s ≡ legsOf s
-  legs-said k h t = go (Proposal k) (says s (Proposal k) h) refl t
-    where
-      go : (e : Event) → Says s e → e ≡ Proposal k → eventSound n e (legsOf s) ≡ true → heldLegs s ≡ legsOf s
-      go e (submits f l a b) i t = absurd (let z : _≡_ {A = ℕ} 0 1 = cc in omega arith)
-      go e (cancels f l) i t = absurd (let z : _≡_ {A = ℕ} 0 1 = cc in omega arith)
-      go e (limits f l) i t = absurd (let z : _≡_ {A = ℕ} 0 1 = cc in omega arith)
-      go e (proposes f l) i t = le-or-lt (getD s 1 0) mostLegs (λ m. held-all s f m l) (λ m. never (sym t ∙ many-legs n (getD s 1 0) (legsOf s) m))
-      go e (defaults f l) i t = absurd (let z : _≡_ {A = ℕ} 0 1 = cc in omega arith)
-      go e (closes-out f l) i t = absurd (let z : _≡_ {A = ℕ} 0 1 = cc in omega arith)
-      go e (closes f l) i t = absurd (let z : _≡_ {A = ℕ} 0 1 = cc in omega arith)
+  legs-said k h t =
+      let p = says-proposal s (Proposal k) (says s (Proposal k) h) refl in
+      let count : k ≡ getD s 1 0 = let q = p .2 in cc in
+      le-or-lt (getD s 1 0) mostLegs (λ m. held-all s (p .0) m (p .1)) (λ m. never (sym t ∙ many-legs n k (legsOf s) (rw count m)))

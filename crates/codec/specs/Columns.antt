@@ -1,5 +1,5 @@
 -- A proposal's legs as columns, and what a record's columns hold.
-use Prim.Native.Nat.{ℕ, _*_, _-_, _≤_, _<_}
+use Prim.Native.Nat.{ℕ, _*_, _-_, _≤_}
 use mathlib.Core.Bool.{cond, _&&_}
 use mathlib.Core.List.{List, [], map}
 use mathlib.Core.Path.{_≡_}
@@ -7,8 +7,6 @@ use lib.Dec.{eqb, leb}
 use lib.ListN.{length, getD}
 use Rattle.arith.specs.Columns.{padded}
 use Rattle.arith.specs.Lists.{from}
-use Rattle.rules.specs.declared.event.Event.the-variants.{Submit, Cancel, DayLimits, Proposal, Default, CloseOut, CloseOfDay}
-use Rattle.rules.specs.declared.event.Event.{Event}
 use Rattle.rules.specs.declared.event.Leg.{Leg}
 use Rattle.rules.specs.Ranges.{mostLegs}
 use Rattle.rules.specs.Fields.{proposalKind}
@@ -22,16 +20,6 @@ legRow l i = record { order = getD (l .orders) i 0; lots = record { 0 = getD (l 
 -- The first n legs of the columns.
 unfoldable pub legRows : ℕ → Legs → List Leg
 legRows n l = map (legRow l) (from 0 n)
-
--- The fields of one byte fit it.
-abbrev pub OneByteFields : Event → Type 0
-OneByteFields (Submit e) = (e .member < 256) × (e .contract < 256)
-OneByteFields (Cancel e) = e .member < 256
-OneByteFields (DayLimits e) = e .contract < 256
-OneByteFields (Proposal k) = k ≤ mostLegs
-OneByteFields (Default m) = m < 256
-OneByteFields (CloseOut e) = e .contract < 256
-OneByteFields (CloseOfDay s) = Unit {0}
 
 -- Legs as columns of 12 places.
 unfoldable pub legColumns : List Leg → Legs

@@ -10,7 +10,7 @@ use Rattle.rules.specs.declared.event.Event.{Event}
 use Rattle.rules.specs.declared.event.Front.the-variants.{Whole}
 use Rattle.rules.specs.declared.event.Reading.the-variants.{Sound}
 use Rattle.rules.specs.Records.{writeSpec, readOf, frontOf}
-use Rattle.record_kinds.specs.LegCount.{legCount}
+use Rattle.record_kinds.specs.Numbers.{legCount}
 use Rattle.codec.specs.Columns.{legRows, legColumns, heldLegs}
 use Rattle.codec.specs.declared.legs.Legs.{Legs}
 

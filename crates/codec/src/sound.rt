@@ -6,7 +6,7 @@ ghost use Rattle.arith.specs.Lists.{every};
 ghost use Rattle.rules.specs.Ranges.{mostLegs};
 ghost use Rattle.rules.specs.Records.{priceSound, lotsSound, legSound, eventSound};
 ghost use Rattle.rules.specs.declared.event.Event.the-variants.{Submit, Cancel, DayLimits, Proposal, Default, CloseOut};
-ghost use Rattle.record_kinds.specs.LegCount.{legCount};
+ghost use Rattle.record_kinds.specs.Numbers.{legCount};
 ghost use Rattle.codec.specs.Columns.{legRows};
 use crate::legs::Legs;
 use crate::legs::leg_of;

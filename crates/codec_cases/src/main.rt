@@ -1,17 +1,15 @@
 // Records and headers from literal bytes, every field at its ends and one past them. What it prints must be the file stdout: 3
-// for an unsound record, 2 for an unsound header, else the fields, and whether writing them gives the bytes again.
+// for an unsound record, 2 for an unsound header, else the fields as numbers, and whether writing them gives the bytes again.
 ghost use mathlib.Core.Path.{_≡_};
 ghost use Rattle.rules.specs.Records.{replyOfReading, replyOfFront};
 use codec::Legs;
 use header::JournalHeader;
 use libc::STDOUT_FILENO;
+use record_kinds::places::MOST_NUMBERS;
 use rules::Answer;
 use rules::Event;
 use rules::Front;
-use rules::OrderKind;
 use rules::Reading;
-use rules::Side;
-use rules::Submission;
 
 fn text(s: &[u8]) {
     io::write_all(STDOUT_FILENO, s);
@@ -60,58 +58,14 @@ fn front_number(front: Front) -> u64
     }
 }
 
-fn show_submission(e: Submission) {
-    text(b"submit");
-    number(e.time);
-    number(e.member);
-    number(e.contract);
-    let side = e.side;
-    match side {
-        Side::Buy => text(b" buy"),
-        Side::Sell => text(b" sell"),
-    }
-    let kind = e.kind;
-    match kind {
-        OrderKind::Resting => text(b" resting"),
-        OrderKind::Oeye => text(b" oeye"),
-        OrderKind::Teye => text(b" teye"),
-    }
-    number(e.price.0);
-    number(e.lots.0);
-}
-
+// The number of an event's kind, then those of its fields.
 fn show_event(event: Event) {
-    match event {
-        Event::Submit(e) => show_submission(e),
-        Event::Cancel(e) => {
-            text(b"cancel");
-            number(e.time);
-            number(e.member);
-            number(e.order);
-        }
-        Event::DayLimits(e) => {
-            text(b"limits");
-            number(e.contract);
-            number(e.low.0);
-            number(e.high.0);
-        }
-        Event::Proposal(count) => {
-            text(b"proposal");
-            number(count);
-        }
-        Event::Default(member) => {
-            text(b"default");
-            number(member);
-        }
-        Event::CloseOut(e) => {
-            text(b"close-out");
-            number(e.contract);
-            number(e.ratio);
-        }
-        Event::CloseOfDay(time) => {
-            text(b"close");
-            number(time);
-        }
+    let mut numbers = [0u64; MOST_NUMBERS];
+    record_kinds::put_numbers(&mut numbers, event);
+    let count = record_kinds::field_count(record_kinds::kind_number(event));
+    text(b"kind");
+    for i in 0..=count {
+        number(numbers[i]);
     }
 }
 

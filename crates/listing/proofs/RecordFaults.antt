@@ -1,7 +1,7 @@
 -- A record is sound exactly if no field is at fault and no bytes are past its fields. Assumes nothing.
 use Prim.Native.Nat.{ℕ, zero, suc, _+_, _*_, _-_, _≤_, _<_}
 use mathlib.Core.Bool.{Bool, true, false, cond, _&&_, and-assoc}
-use mathlib.Core.List.{List, [], map}
+use mathlib.Core.List.{List, [], _∷_, map}
 use mathlib.Core.Path.{_≡_, refl, sym, _∙_}
 use native.Mathlib.Nat.{zero-add}
 use native.Mathlib.Omega.{arith}
@@ -11,7 +11,6 @@ use lib.ListN.{length, getD}
 use Rattle.arith.specs.Lists.{from, every}
 use Rattle.arith.proofs.Columns.{mapped-length}
 use Rattle.arith.proofs.Tests.{same-or, le-or-lt, true-or, and-false, and-true, and-left}
-use Rattle.codec.proofs.Fields.{unknown-kind}
 use Rattle.rules.specs.declared.event.Event.{Event}
 use Rattle.rules.specs.declared.event.Event.the-variants.{Submit, Cancel, DayLimits, Proposal, Default, CloseOut, CloseOfDay}
 use Rattle.rules.specs.declared.event.Leg.{Leg}
@@ -20,9 +19,13 @@ use Rattle.rules.specs.declared.event.Reading.the-variants.{Sound, Unsound}
 use Rattle.rules.specs.Ranges.{mostMembers, mostPrice, leastLegs, mostLegs}
 use Rattle.rules.specs.Header.{u16At, u32At, membersSound}
 use Rattle.rules.specs.Records.{recordLength, frontLength, timeSound, contractSound, sideSound, orderKindSound, priceSound, lotsSound, dayLimitsSound, numberSound, legSound, legAt}
-use Rattle.rules.specs.Records.{legPlace, submissionOf, submitOf, cancellationOf, newDayLimitsOf, closeOutOf, recordNumbers, fieldsByKind, fieldsOf as readFields, legsOf, eventSound, ifSound, readOf}
+use Rattle.rules.specs.Records.{legPlace, submissionOf, cancellationOf, newDayLimitsOf, closeOutOf, recordNumbers, fieldsByKind, fieldsOf as readFields, legsOf, eventSound, ifSound, readOf}
 use Rattle.listing.specs.Exact.{isSound, RecordExact}
-use Rattle.rules.specs.Fields.{widths, legFields, timesOver, fieldsOfKind, numberAt, numbersAt}
+use Rattle.record_kinds.proofs.ByKind.{no-kind}
+use Rattle.codec.proofs.FieldBytes.{widths-append}
+use Rattle.codec.proofs.Fields.{record-length}
+use Rattle.rules.specs.declared.field.Field.the-variants.{Kind}
+use Rattle.rules.specs.Fields.{hasLegs, widths, legFields, kindFields, timesOver, fieldsOfKind, numberAt, numbersAt}
 use Rattle.listing_words.specs.Fields.{fieldsIn, range, within, recordShape, isNone, faultOf}
 use Rattle.listing.proofs.Faults.{inRanges, none-is, from-zero, last-before}
 
@@ -85,15 +88,25 @@ unfolding widths timesOver
 leg-widths zero = refl
 leg-widths (suc k) = rw (leg-widths k) (omega arith)
 
+-- The widths of a kind's fields are its length.
+shape-widths : (kind legs : ℕ) → 0 < length (kindFields kind) → widths (Kind ∷ fieldsOfKind kind legs) ≡ recordLength kind legs
+unfolding widths fieldsOfKind
+shape-widths kind legs h =
+    rw (record-length kind legs h, widths-append (kindFields kind) (cond (hasLegs kind) (timesOver legs legFields) []), go (hasLegs kind)) (omega arith)
+  where
+    go : (t : Bool) → widths (cond t (timesOver legs legFields) []) ≡ cond t (10 * legs) 0
+    go true = leg-widths legs
+    go false = refl
+
 module _ (n : ℕ) (s : List ℕ) (some : 1 ≤ n) where
   member-range : (m : ℕ) → leb m (n - 1) ≡ ltb m n
   member-range m = last-before m n some
 
-  Ranges : ℕ → List Leg → Reading → Type 0
-  Ranges kind legs r = getD s 0 0 ≡ kind → isSound (ifSound n legs r) ≡ inRanges n s 0 (fieldsIn (recordShape s))
+  Ranges : ℕ → Type 0
+  Ranges kind = getD s 0 0 ≡ kind → isSound (ifSound n (legsOf s) (fieldsByKind (getD s 0 0) s)) ≡ inRanges n s 0 (fieldsIn (recordShape s))
 
-  submit-ranges : Ranges 1 [] (submitOf (recordNumbers 1 s))
-  unfolding Ranges recordNumbers fieldsIn fieldsOfKind inRanges within numberAt eventSound
+  submit-ranges : Ranges 1
+  unfolding Ranges legsOf fieldsByKind fieldsIn fieldsOfKind inRanges within numberAt eventSound
   submit-ranges e =
       rw e
       (simp (from-zero, member-range)
@@ -101,18 +114,18 @@ module _ (n : ℕ) (s : List ℕ) (some : 1 ≤ n) where
       ∙ submit-order (timeSound (u32At s 1)) (ltb (getD s 5 0) n) (contractSound (getD s 6 0)) (sideSound (getD s 7 0)) (orderKindSound (getD s 8 0)) (priceSound (u32At s 9))
       (lotsSound (u16At s 13))))
 
-  cancel-ranges : Ranges 2 [] (Sound (Cancel (cancellationOf (recordNumbers 2 s))))
-  unfolding Ranges recordNumbers fieldsIn fieldsOfKind inRanges within numberAt eventSound
+  cancel-ranges : Ranges 2
+  unfolding Ranges legsOf fieldsByKind fieldsIn fieldsOfKind inRanges within numberAt eventSound
   cancel-ranges e =
       rw e
       (simp (from-zero, member-range, order-range) (sound-event n [] (Cancel (cancellationOf (recordNumbers 2 s))) ∙ simp and-assoc))
 
-  limits-ranges : Ranges 3 [] (Sound (DayLimits (newDayLimitsOf (recordNumbers 3 s))))
-  unfolding Ranges recordNumbers fieldsIn fieldsOfKind inRanges within numberAt eventSound
+  limits-ranges : Ranges 3
+  unfolding Ranges legsOf fieldsByKind fieldsIn fieldsOfKind inRanges within numberAt eventSound
   limits-ranges e = rw e (simp from-zero (sound-event n [] (DayLimits (newDayLimitsOf (recordNumbers 3 s))) ∙ limits-order (contractSound (getD s 1 0)) (u32At s 2) (u32At s 6)))
 
-  proposal-ranges : Ranges 4 (map (λ j. legAt s (legPlace j)) (from 0 (getD s 1 0))) (Sound (Proposal (getD s 1 0)))
-  unfolding Ranges recordNumbers fieldsIn fieldsOfKind inRanges within numberAt eventSound
+  proposal-ranges : Ranges 4
+  unfolding Ranges legsOf fieldsByKind fieldsIn fieldsOfKind inRanges within numberAt eventSound
   proposal-ranges e =
       let k = getD s 1 0 in
       let legs = map (λ j. legAt s (legPlace j)) (from 0 k) in
@@ -121,16 +134,16 @@ module _ (n : ℕ) (s : List ℕ) (some : 1 ≤ n) where
       (sound-event n legs (Proposal k)
       ∙ rw (mapped-length (λ j. legAt s (legPlace j)) 0 k, eq-eqb k k refl) (rw (and-true (leb leastLegs k && leb k mostLegs)) refl)))
 
-  default-ranges : Ranges 5 [] (Sound (Default (getD s 1 0)))
-  unfolding Ranges recordNumbers fieldsIn fieldsOfKind inRanges within numberAt eventSound
+  default-ranges : Ranges 5
+  unfolding Ranges legsOf fieldsByKind fieldsIn fieldsOfKind inRanges within numberAt eventSound
   default-ranges e = rw e (simp (from-zero, member-range) (sound-event n [] (Default (getD s 1 0)) ∙ simp and-assoc))
 
-  close-out-ranges : Ranges 6 [] (Sound (CloseOut (closeOutOf (recordNumbers 6 s))))
-  unfolding Ranges recordNumbers fieldsIn fieldsOfKind inRanges within numberAt eventSound
+  close-out-ranges : Ranges 6
+  unfolding Ranges legsOf fieldsByKind fieldsIn fieldsOfKind inRanges within numberAt eventSound
   close-out-ranges e = rw e (simp from-zero (sound-event n [] (CloseOut (closeOutOf (recordNumbers 6 s))) ∙ simp and-assoc))
 
-  close-ranges : Ranges 7 [] (Sound (CloseOfDay (u32At s 1)))
-  unfolding Ranges recordNumbers fieldsIn fieldsOfKind inRanges within numberAt eventSound
+  close-ranges : Ranges 7
+  unfolding Ranges legsOf fieldsByKind fieldsIn fieldsOfKind inRanges within numberAt eventSound
   close-ranges e = rw e (simp from-zero (sound-event n [] (CloseOfDay (u32At s 1)) ∙ simp and-assoc))
 
   -- ---- whichever kind it is
@@ -138,43 +151,12 @@ module _ (n : ℕ) (s : List ℕ) (some : 1 ≤ n) where
   Exact = isSound (readOf n s) ≡ isNone (faultOf n s) && leb (length s) (frontLength s)
 
   module _ (members : membersSound n ≡ true) where
-    of-kind : (kind m : ℕ) (legs : List Leg) (r : Reading) → getD s 0 0 ≡ kind → readFields s ≡ cond (eqb (length s) m) r Unsound → legsOf s ≡ legs
-        → widths (fieldsIn (recordShape s)) ≡ m → frontLength s ≡ m → Ranges kind legs r → Exact
-    unfolding Exact readOf Ranges
-    of-kind kind m legs r e reads has takes front ranges =
-        rw (members, reads, has, none-is n s 0 (fieldsIn (recordShape s)) (omega arith), takes, zero-add m, front)
-        (of-length (length s) m n legs r (inRanges n s 0 (fieldsIn (recordShape s))) (ranges e))
-
-    submit-exact : getD s 0 0 ≡ 1 → Exact
-    unfolding readFields fieldsByKind recordLength legsOf fieldsIn fieldsOfKind widths
-    submit-exact e = of-kind 1 15 [] (submitOf (recordNumbers 1 s)) e (rw e refl) (rw e refl) (rw e refl) (rw e refl) submit-ranges
-
-    cancel-exact : getD s 0 0 ≡ 2 → Exact
-    unfolding readFields fieldsByKind recordLength legsOf fieldsIn fieldsOfKind widths
-    cancel-exact e = of-kind 2 10 [] (Sound (Cancel (cancellationOf (recordNumbers 2 s)))) e (rw e refl) (rw e refl) (rw e refl) (rw e refl) cancel-ranges
-
-    limits-exact : getD s 0 0 ≡ 3 → Exact
-    unfolding readFields fieldsByKind recordLength legsOf fieldsIn fieldsOfKind widths
-    limits-exact e = of-kind 3 10 [] (Sound (DayLimits (newDayLimitsOf (recordNumbers 3 s)))) e (rw e refl) (rw e refl) (rw e refl) (rw e refl) limits-ranges
-
-    proposal-exact : getD s 0 0 ≡ 4 → Exact
-    unfolding readFields fieldsByKind recordLength legsOf fieldsIn fieldsOfKind widths
-    proposal-exact e =
-        let k = getD s 1 0 in
-        of-kind 4 (legPlace k) (map (λ j. legAt s (legPlace j)) (from 0 k)) (Sound (Proposal k)) e (rw e refl) (rw e refl)
-        (rw (e, leg-widths k) (omega arith)) (rw e refl) proposal-ranges
-
-    default-exact : getD s 0 0 ≡ 5 → Exact
-    unfolding readFields fieldsByKind recordLength legsOf fieldsIn fieldsOfKind widths
-    default-exact e = of-kind 5 2 [] (Sound (Default (getD s 1 0))) e (rw e refl) (rw e refl) (rw e refl) (rw e refl) default-ranges
-
-    close-out-exact : getD s 0 0 ≡ 6 → Exact
-    unfolding readFields fieldsByKind recordLength legsOf fieldsIn fieldsOfKind widths
-    close-out-exact e = of-kind 6 4 [] (Sound (CloseOut (closeOutOf (recordNumbers 6 s)))) e (rw e refl) (rw e refl) (rw e refl) (rw e refl) close-out-ranges
-
-    close-exact : getD s 0 0 ≡ 7 → Exact
-    unfolding readFields fieldsByKind recordLength legsOf fieldsIn fieldsOfKind widths
-    close-exact e = of-kind 7 5 [] (Sound (CloseOfDay (u32At s 1))) e (rw e refl) (rw e refl) (rw e refl) (rw e refl) close-ranges
+    exact : (kind : ℕ) → 0 < length (kindFields kind) → Ranges kind → getD s 0 0 ≡ kind → Exact
+    unfolding Exact readOf readFields fieldsIn Ranges
+    exact kind fields ranges e =
+        let takes = shape-widths (getD s 0 0) (getD s 1 0) (rw e fields) in
+        rw (members, none-is n s 0 (fieldsIn (recordShape s)) (omega arith), zero-add (widths (fieldsIn (recordShape s))), takes)
+        (of-length (length s) (frontLength s) n (legsOf s) (fieldsByKind (getD s 0 0) s) (inRanges n s 0 (fieldsIn (recordShape s))) (ranges e))
 
     -- Of no kind: unsound, and the kind is out of its range.
     unknown-exact : fieldsByKind (getD s 0 0) s ≡ Unsound → within (range 1 7) (getD s 0 0) ≡ false → Exact
@@ -189,20 +171,20 @@ above-four k h a b c d = omega arith
 above-seven : (k : ℕ) → 4 < k → (k ≡ 5 → ⊥) → (k ≡ 6 → ⊥) → (k ≡ 7 → ⊥) → 7 < k
 above-seven k h e f g = omega arith
 
-no-kind : (k : ℕ) → (k ≡ 1 → ⊥) → (k ≡ 2 → ⊥) → (k ≡ 3 → ⊥) → (k ≡ 4 → ⊥) → (k ≡ 5 → ⊥) → (k ≡ 6 → ⊥) → (k ≡ 7 → ⊥) → within (range 1 7) k ≡ false
+kind-out : (k : ℕ) → (k ≡ 1 → ⊥) → (k ≡ 2 → ⊥) → (k ≡ 3 → ⊥) → (k ≡ 4 → ⊥) → (k ≡ 5 → ⊥) → (k ≡ 6 → ⊥) → (k ≡ 7 → ⊥) → within (range 1 7) k ≡ false
 unfolding within
-no-kind k a b c d e f g = le-or-lt 1 k (λ h. rw (le-leb 1 k h, lt-leb k 7 (above-seven k (above-four k h a b c d) e f g)) refl) (λ h. rw (lt-leb 1 k h) refl)
+kind-out k a b c d e f g = le-or-lt 1 k (λ h. rw (le-leb 1 k h, lt-leb k 7 (above-seven k (above-four k h a b c d) e f g)) refl) (λ h. rw (lt-leb 1 k h) refl)
 
 pub record-exact : RecordExact
-unfolding Exact
+unfolding Exact fieldsByKind kindFields
 record-exact n s members =
     let some : 1 ≤ n = leb-true 1 n (and-left (leb 1 n) (leb n mostMembers) members) in
     let k = getD s 0 0 in
-    same-or k 1 (submit-exact n s some members)
-    (λ a. same-or k 2 (cancel-exact n s some members)
-    (λ b. same-or k 3 (limits-exact n s some members)
-    (λ c. same-or k 4 (proposal-exact n s some members)
-    (λ d. same-or k 5 (default-exact n s some members)
-    (λ e. same-or k 6 (close-out-exact n s some members)
-    (λ f. same-or k 7 (close-exact n s some members)
-    (λ g. unknown-exact n s some members (unknown-kind k a b c d e f g s) (no-kind k a b c d e f g))))))))
+    same-or k 1 (exact n s some members 1 (omega arith) (submit-ranges n s some))
+    (λ a. same-or k 2 (exact n s some members 2 (omega arith) (cancel-ranges n s some))
+    (λ b. same-or k 3 (exact n s some members 3 (omega arith) (limits-ranges n s some))
+    (λ c. same-or k 4 (exact n s some members 4 (omega arith) (proposal-ranges n s some))
+    (λ d. same-or k 5 (exact n s some members 5 (omega arith) (default-ranges n s some))
+    (λ e. same-or k 6 (exact n s some members 6 (omega arith) (close-out-ranges n s some))
+    (λ f. same-or k 7 (exact n s some members 7 (omega arith) (close-ranges n s some))
+    (λ g. unknown-exact n s some members (sym (no-kind (recordNumbers k s) k a b c d e f g)) (kind-out k a b c d e f g))))))))

@@ -1,11 +1,11 @@
-// The size, the number and the range of a field, and what is found of it.
+// The number and the range of a field, and what is found of it.
 ghost use mathlib.Core.Path.{_≡_};
 ghost use mathlib.Core.Bool.{_||_};
 ghost use Prim.Native.Nat.{_+_, _-_, _^_, _≤_, _<_};
 ghost use lib.ListN.{length};
 ghost use Rattle.rules.specs.Days.{saturday, sunday};
 ghost use Rattle.rules.specs.Header.{u16At, u32At};
-ghost use Rattle.rules.specs.Fields.{widthOf, numberAt};
+ghost use Rattle.rules.specs.Fields.{numberAt};
 ghost use Rattle.listing_words.specs.Fields.{quantityOf, range as rangeFrom, spanRange, holidayRange, rangeOf, within, dayVerdict, verdictOf, passes};
 ghost use Rattle.listing.specs.Sizes.{mostBytes};
 ghost use Rattle.listing_words.specs.Words.{otherWayRound};
@@ -21,7 +21,8 @@ use listing_words::Quantity;
 use listing_words::Range;
 use listing_words::Verdict;
 use months::span_of;
-use record_kinds::places::DAY_LIMITS_LOW_BYTE;
+use record_kinds::places::FIRST_FIELD_BYTE;
+use record_kinds::width_of;
 use rules::Field;
 use rules::kinds::CLOSE_OF_DAY;
 use rules::kinds::SUBMIT;
@@ -52,35 +53,8 @@ const LETTER_R: u64 = b'R' as u64;
 
 const VERSION: u64 = 1;
 
-pub fn width_of(field: Field) -> usize
-    ensures { λ r. ⌜ (r ≡ widthOf field) × (r ≤ 4) ⌝ }
-{
-    match field {
-        Field::LetterV => 1,
-        Field::LetterJ => 1,
-        Field::LetterR => 1,
-        Field::Version => 2,
-        Field::FirstYear => 2,
-        Field::StartDay => 2,
-        Field::Members => 1,
-        Field::HolidayCount => 1,
-        Field::Holiday => 2,
-        Field::Limit => 4,
-        Field::Kind => 1,
-        Field::Time => 4,
-        Field::Member => 1,
-        Field::Contract => 1,
-        Field::Side => 1,
-        Field::OrderKind => 1,
-        Field::Price => 4,
-        Field::Lots => 2,
-        Field::Order => 4,
-        Field::Low => 4,
-        Field::High => 4,
-        Field::Legs => 1,
-        Field::Ratio => 2,
-    }
-}
+// A day limits record's low comes after its contract, which takes a byte.
+const DAY_LIMITS_LOW_BYTE: usize = FIRST_FIELD_BYTE + 1;
 
 pub fn quantity_of(field: Field) -> Quantity
     ensures { λ r. ⌜ r ≡ quantityOf field ⌝ }

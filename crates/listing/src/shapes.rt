@@ -4,101 +4,30 @@ ghost use Prim.Native.Nat.{ℕ, _<_, _≤_};
 ghost use lib.ListN.{length, getD};
 ghost use Rattle.rules.specs.declared.field.Field.the-variants.{Kind as firstField};
 ghost use Rattle.listing_words.specs.declared.field.Shape.the-variants.{Header as HeaderShape};
-ghost use Rattle.rules.specs.Fields.{proposalKind, submitFields, cancelFields, dayLimitsFields, closeOutFields, fieldsOfKind};
+ghost use Rattle.rules.specs.Fields.{fieldsOfKind};
 ghost use Rattle.listing_words.specs.Fields.{fixedFields, fieldsIn};
 use listing_words::Shape;
+use record_kinds::LEG_FIELDS;
+use record_kinds::field_count;
+use record_kinds::field_of;
+use record_kinds::leg_field;
 use rules::Field;
-use rules::kinds::CANCEL;
-use rules::kinds::CLOSE_OF_DAY;
-use rules::kinds::CLOSE_OUT;
-use rules::kinds::DAY_LIMITS;
-use rules::kinds::DEFAULT;
 use rules::kinds::PROPOSAL;
-use rules::kinds::SUBMIT;
 
 // How many fields a header has before its holidays.
 pub const FIXED_FIELDS: u64 = 8;
 
-const LEG_FIELDS: u64 = 3;
-
-fn submit_field(i: u64) -> Field
-    requires { ⌜ i < length submitFields ⌝ }
-    ensures { λ r. ⌜ r ≡ getD submitFields i firstField ⌝ }
-{
-    if i < 3 {
-        return match i {
-            0 => Field::Time,
-            1 => Field::Member,
-            _ => Field::Contract,
-        };
-    }
-    match i {
-        3 => Field::Side,
-        4 => Field::OrderKind,
-        5 => Field::Price,
-        _ => Field::Lots,
-    }
-}
-
-fn cancel_field(i: u64) -> Field
-    requires { ⌜ i < length cancelFields ⌝ }
-    ensures { λ r. ⌜ r ≡ getD cancelFields i firstField ⌝ }
-{
-    match i {
-        0 => Field::Time,
-        1 => Field::Member,
-        _ => Field::Order,
-    }
-}
-
-fn day_limits_field(i: u64) -> Field
-    requires { ⌜ i < length dayLimitsFields ⌝ }
-    ensures { λ r. ⌜ r ≡ getD dayLimitsFields i firstField ⌝ }
-{
-    match i {
-        0 => Field::Contract,
-        1 => Field::Low,
-        _ => Field::High,
-    }
-}
-
-fn proposal_field(legs: u64, i: u64) -> Field
-    requires { ⌜ i < length (fieldsOfKind proposalKind legs) ⌝ }
-    ensures { λ r. ⌜ r ≡ getD (fieldsOfKind proposalKind legs) i firstField ⌝ }
-{
-    if i == 0 {
-        return Field::Legs;
-    }
-    match (i - 1) % LEG_FIELDS {
-        0 => Field::Order,
-        1 => Field::Lots,
-        _ => Field::Price,
-    }
-}
-
-fn close_out_field(i: u64) -> Field
-    requires { ⌜ i < length closeOutFields ⌝ }
-    ensures { λ r. ⌜ r ≡ getD closeOutFields i firstField ⌝ }
-{
-    match i {
-        0 => Field::Contract,
-        _ => Field::Ratio,
-    }
-}
-
+// After the kind's own fields those of the legs follow, one leg after the other.
 fn field_of_kind(kind: u64, legs: u64, i: u64) -> Field
     requires { ⌜ i < length (fieldsOfKind kind legs) ⌝ }
     ensures { λ r. ⌜ r ≡ getD (fieldsOfKind kind legs) i firstField ⌝ }
 {
-    match kind {
-        SUBMIT => submit_field(i),
-        CANCEL => cancel_field(i),
-        DAY_LIMITS => day_limits_field(i),
-        PROPOSAL => proposal_field(legs, i),
-        DEFAULT => Field::Member,
-        CLOSE_OUT => close_out_field(i),
-        _ => Field::Time,
+    let place = i as usize;
+    let count = field_count(kind);
+    if place < count {
+        return field_of(kind, place);
     }
+    leg_field((place - count) % LEG_FIELDS)
 }
 
 fn fixed_field(i: u64) -> Field
@@ -153,14 +82,9 @@ pub fn count_of_kind(kind: u64, legs: u64) -> u64
     requires { ⌜ legs < 256 ⌝ }
     ensures { λ r. ⌜ (r ≡ length (fieldsOfKind kind legs)) × (r ≤ 766) ⌝ }
 {
-    match kind {
-        SUBMIT => 7,
-        CANCEL => 3,
-        DAY_LIMITS => 3,
-        PROPOSAL => 1 + LEG_FIELDS * legs,
-        DEFAULT => 1,
-        CLOSE_OUT => 2,
-        CLOSE_OF_DAY => 1,
-        _ => 0,
+    let count = field_count(kind) as u64;
+    if kind == PROPOSAL {
+        return count + LEG_FIELDS as u64 * legs;
     }
+    count
 }

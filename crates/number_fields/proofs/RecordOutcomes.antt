@@ -12,14 +12,14 @@ use Rattle.rules.specs.declared.event.Reading.the-variants.{Sound, Unsound}
 use Rattle.rules.specs.Answers.{Outcome}
 use Rattle.rules.specs.Ranges.{mostLegs}
 use Rattle.rules.specs.Records.{legIn, writeSpec, legsOf, readOf}
-use Rattle.record_kinds.specs.LegCount.{legCount}
+use Rattle.record_kinds.specs.Numbers.{legCount}
 use Rattle.codec.specs.Columns.{legRows, legColumns, heldLegs}
 use Rattle.codec.specs.declared.legs.Legs.{Legs}
 use Rattle.codec.proofs.Fields.{said}
 use Rattle.codec.proofs.LegColumns.{rows-of-columns, rows-said}
-use Rattle.codec.proofs.Written.{one-byte, few-legs-beside}
+use Rattle.codec.proofs.Written.{sound-event}
 use Rattle.number_fields.specs.RecordFields.{recordFields, legField, eventIn, firstLegs, legsIn, withNumbers, withReading, readFields, writeReading, writeFields}
-use Rattle.number_fields.proofs.Given.{gives, legs-given, few-given}
+use Rattle.number_fields.proofs.Given.{given, legs-given}
 
 pub length-legs : (f : List ℕ) (n : ℕ) → length (firstLegs f n) ≡ n
 unfolding firstLegs
@@ -45,7 +45,7 @@ module _ (n : ℕ) (s row : List ℕ) where
       read = sym q ∙ u
 
       pub few-read : legCount e ≤ mostLegs
-      few-read = let known = said n s read in few-legs-beside e (one-byte n (known .0) e (legsOf s) (known .2))
+      few-read = let known = said n s read in sound-event n (known .0) (legsOf s) e (known .2) .few
 
       pub rows-read : legRows (legCount e) (legColumns (heldLegs s)) ≡ legsOf s
       rows-read = let known = said n s read in rows-said n s e (known .1) (known .2)
@@ -71,17 +71,17 @@ module _ (n : ℕ) (row out : List ℕ) where
       pub write-none : r ≡ Unsound → record { answer = RecordUnsound; after = out } ≡ writeFields n row out
       write-none u = sym (write-by ∙ rw u refl)
 
-    module _ {e : Event} (u : r ≡ Sound e) where
-      pub few-in : legCount e ≤ mostLegs
-      few-in = few-given row e (gives row e (sym q ∙ u))
+      module _ {e : Event} (u : r ≡ Sound e) where
+        pub few-in : legCount e ≤ mostLegs
+        few-in = given row e h (sym q ∙ u) .few
 
-      rows-in : legRows (legCount e) (legColumns (firstLegs row (legCount e))) ≡ legsIn row
-      rows-in =
-          let legs = firstLegs row (legCount e) in
-          rw (length-legs row (legCount e)) at (rows-of-columns legs) ∙ sym (legs-given row e (gives row e (sym q ∙ u)))
+        rows-in : legRows (legCount e) (legColumns (firstLegs row (legCount e))) ≡ legsIn row
+        rows-in =
+            let legs = firstLegs row (legCount e) in
+            rw (length-legs row (legCount e)) at (rows-of-columns legs) ∙ sym (legs-given row e (given row e h (sym q ∙ u)))
 
-      pub write-event : recordFields ≤ length row → {k : ℕ} {l : Legs} {o : Outcome (List ℕ)} → k ≡ legCount e → l ≡ legColumns (firstLegs row k)
-          → o ≡ writeSpec n e (legRows (legCount e) l) out → o ≡ writeFields n row out
-      write-event h {k} {l} {o} c d w =
-          let rows : legRows (legCount e) l ≡ legsIn row = rw (d, c) rows-in in
-          w ∙ (ap (λ x. writeSpec n e x out) rows ∙ sym (write-by h ∙ rw u refl))
+        pub write-event : {k : ℕ} {l : Legs} {o : Outcome (List ℕ)} → k ≡ legCount e → l ≡ legColumns (firstLegs row k)
+            → o ≡ writeSpec n e (legRows (legCount e) l) out → o ≡ writeFields n row out
+        write-event {k} {l} {o} c d w =
+            let rows : legRows (legCount e) l ≡ legsIn row = rw (d, c) rows-in in
+            w ∙ (ap (λ x. writeSpec n e x out) rows ∙ sym (write-by ∙ rw u refl))

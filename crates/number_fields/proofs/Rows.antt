@@ -1,60 +1,72 @@
--- Numbers put in a row, and the event of a row by its kind. Assumes nothing.
-use Prim.Native.Nat.{ℕ, _+_, _≤_, _<_}
-use mathlib.Core.List.{List, [], _∷_, flatMap, append-assoc}
-use mathlib.Core.Path.{_≡_, refl, sym, ap}
+-- The numbers of an event put in a row. Assumes nothing.
+use Prim.Native.Nat.{ℕ, _+_, _*_, _≤_}
+use mathlib.Core.List.{List, [], _∷_, _++_, flatMap, append-assoc, append-nil}
+use mathlib.Core.Path.{_≡_, refl, sym, _∙_}
+use native.Mathlib.Nat.{add-zero}
 use native.Mathlib.Omega.{arith}
-use borrow.Author.Tests.{lt-leb, ne-eqb}
-use lib.Dec.{leb}
-use lib.ListN.{length, getD, take, drop, set}
-use lib.Seq.{sets, paste, take-length}
+use borrow.Author.Tests.{eq-eqb}
+use lib.ListN.{length, take, drop, length-append, take-append-drop}
+use lib.Seq.{paste, take-length}
 use Rattle.arith.specs.Lists.{over}
 use Rattle.arith.proofs.Appends.{flat-length}
 use Rattle.arith.proofs.Beside.{over-then}
-use Rattle.arith.proofs.Tests.{and-false}
-use Rattle.arith.proofs.Writes.{stored}
 use Rattle.rules.specs.declared.answer.Answer.the-variants.{Accepted}
 use Rattle.rules.specs.declared.event.Event.{Event}
-use Rattle.rules.specs.declared.event.Event.the-variants.{Proposal}
 use Rattle.rules.specs.declared.event.Leg.{Leg}
-use Rattle.rules.specs.declared.event.Reading.the-variants.{Unsound}
-use Rattle.rules.specs.Fields.{proposalKind}
-use Rattle.rules.specs.Records.{legNumbers, numbersOf, submitOf}
-use Rattle.number_fields.specs.RecordFields.{kindField, legField, rowEvent, eventIn, withNumbers}
+use Rattle.rules.specs.Fields.{proposalKind, kindFields}
+use Rattle.rules.specs.Ranges.{mostLegs}
+use Rattle.rules.specs.Records.{kindNumber, eventNumbers, legNumbers, numbersOf}
+use Rattle.record_kinds.specs.Numbers.{legCount}
+use Rattle.record_kinds.proofs.EachKind.{described, legs-or-none}
+use Rattle.codec.specs.Columns.{legRows}
+use Rattle.codec.specs.declared.legs.Legs.{Legs}
+use Rattle.codec.proofs.LegColumns.{length-rows}
+use Rattle.codec.proofs.Trips as codec
+use Rattle.number_fields.specs.RecordFields.{recordFields, firstLegField, withNumbers}
 
--- ---- stores
--- Numbers stored one after the other from the front.
-pub stored-numbers : (e : Event) (legs : List Leg) (row : List ℕ) → length (numbersOf e legs) ≤ length row
-    → record { answer = Accepted (length (numbersOf e legs)); after = sets row 0 (numbersOf e legs) } ≡ withNumbers e legs row
-stored-numbers e legs row h = rw (stored (numbersOf e legs) row 0 (omega arith)) refl
+over-none : (a : ℕ) (row : List ℕ) → over a [] row ≡ row
+unfolding over
+over-none a row = rw add-zero (take-append-drop a row)
 
--- Kind and count, then the legs.
-pub stored-proposal : (k : ℕ) (legs : List Leg) (row after : List ℕ) → length legs ≡ k → 2 ≤ length row
-    → after ≡ over 2 (flatMap legNumbers legs) (set (set row 0 proposalKind) 1 k)
-    → record { answer = Accepted (legField k); after = after } ≡ withNumbers (Proposal k) legs row
-unfolding numbersOf
-stored-proposal k legs row after l h e =
-    let rest = flatMap legNumbers legs in
-    let front : set (set row 0 proposalKind) 1 k ≡ over 0 (proposalKind ∷ k ∷ []) row = stored (proposalKind ∷ k ∷ []) row 0 (omega arith) in
-    let whole : after ≡ over 0 (proposalKind ∷ k ∷ rest) row = over-then 2 (proposalKind ∷ k ∷ []) rest row _ after front e refl h in
-    let count : legField k ≡ length (proposalKind ∷ k ∷ rest) = omega (arith, flat-length 3 legNumbers (λ g. refl) legs) in
-    rw (whole, count) refl
+-- ---- an event with as many legs beside it as it says
+module _ (e : Event) (legs : List Leg) (counted : length legs ≡ legCount e) where
+  pub numbers-joined : numbersOf e legs ≡ kindNumber e ∷ eventNumbers e ++ flatMap legNumbers legs
+  unfolding numbersOf flatMap
+  numbers-joined =
+      legs-or-none e (λ four one. rw (eq-eqb (kindNumber e) proposalKind four) refl)
+      (λ no none. rw (no, sym (codec.none legs (counted ∙ none))) refl)
+
+  numbers-count : 1 + length (kindFields (kindNumber e)) + 3 * legCount e ≡ length (numbersOf e legs)
+  numbers-count =
+      rw (numbers-joined, length-append (eventNumbers e) (flatMap legNumbers legs), described e .counted, flat-length 3 legNumbers (λ g. refl) legs, counted) (omega arith)
+
+  pub most-numbers : legCount e ≤ mostLegs → length (numbersOf e legs) ≤ recordFields
+  most-numbers few =
+      legs-or-none e (λ four one. omega (arith, numbers-count, described e .counted, one, few)) (λ no none. omega (arith, numbers-count, described e .few, none))
+
+  -- The event's own numbers, then its legs'.
+  put-joined : (row put after : List ℕ) → recordFields ≤ length row → put ≡ over 0 (kindNumber e ∷ eventNumbers e) row
+      → after ≡ over firstLegField (flatMap legNumbers legs) put → record { answer = Accepted (1 + length (kindFields (kindNumber e)) + 3 * legCount e); after = after } ≡ withNumbers e legs row
+  unfolding flatMap
+  put-joined row put after h p q =
+      let whole : after ≡ over 0 (numbersOf e legs) row =
+      rw numbers-joined (legs-or-none e
+      (λ four one. over-then firstLegField (kindNumber e ∷ eventNumbers e) (flatMap legNumbers legs) row put after p q (omega (arith, one)) (omega arith))
+      (λ no none. alone (kindNumber e ∷ eventNumbers e) put after (sym (codec.none legs (counted ∙ none))) p q)) in
+      rw (whole, numbers-count) refl
+    where
+      alone : (numbers put after : List ℕ) → legs ≡ [] → put ≡ over 0 numbers row → after ≡ over firstLegField (flatMap legNumbers legs) put
+          → after ≡ over 0 (numbers ++ flatMap legNumbers legs) row
+      alone numbers put after n p q = rw (n, append-nil numbers) (rw n at q ∙ over-none firstLegField put ∙ p)
+
+-- The same of the numbers that calls answered.
+pub put-rows : {k n : ℕ} (e : Event) (l : Legs) (row put after : List ℕ) → k ≡ legCount e → n ≡ length (kindFields (kindNumber e)) → recordFields ≤ length row
+    → put ≡ over 0 (kindNumber e ∷ eventNumbers e) row → after ≡ over firstLegField (flatMap legNumbers (legRows k l)) put
+    → record { answer = Accepted (1 + n + 3 * k); after = after } ≡ withNumbers e (legRows (legCount e) l) row
+put-rows e l row put after count fields h p q =
+    rw (count, fields) (put-joined e (legRows (legCount e) l) (length-rows (legCount e) l) row put after h p (rw count at q))
 
 -- A list stored place by place.
 pub pasted : (row : List ℕ) (at : ℕ) (list : List ℕ) (i : ℕ) → i ≡ length list → paste row at list i ≡ over at list row
 unfolding over
 pasted row at list i e = rw (e, take-length list) (append-assoc (take at row) list (drop (at + length list) row))
-
--- ---- by the kind
-module _ (f : List ℕ) where
-  pub by-kind : (k : ℕ) → getD f kindField 0 ≡ k → rowEvent k f ≡ eventIn f
-  by-kind k e = ap (λ x. rowEvent x f) (sym e)
-
-  pub no-kind : (k : ℕ) → (k ≡ 1 → ⊥) → (k ≡ 2 → ⊥) → (k ≡ 3 → ⊥) → (k ≡ 4 → ⊥) → (k ≡ 5 → ⊥) → (k ≡ 6 → ⊥) → (k ≡ 7 → ⊥) → Unsound ≡ rowEvent k f
-  unfolding rowEvent
-  no-kind k n₁ n₂ n₃ n₄ n₅ n₆ n₇ = simp (ne-eqb k 1 n₁, ne-eqb k 2 n₂, ne-eqb k 3 n₃, ne-eqb k 4 n₄, ne-eqb k 5 n₅, ne-eqb k 6 n₆, ne-eqb k 7 n₇)
-
-  pub no-side : 1 < getD f 4 0 → Unsound ≡ submitOf f
-  no-side h = rw (lt-leb (getD f 4 0) 1 h) refl
-
-  pub no-order-kind : 2 < getD f 5 0 → Unsound ≡ submitOf f
-  no-order-kind h = rw (lt-leb (getD f 5 0) 2 h, and-false (leb (getD f 4 0) 1)) refl

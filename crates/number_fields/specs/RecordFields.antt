@@ -11,26 +11,29 @@ use Rattle.rules.specs.declared.event.Leg.{Leg}
 use Rattle.rules.specs.declared.event.Reading.{Reading}
 use Rattle.rules.specs.declared.event.Reading.the-variants.{Sound, Unsound}
 use Rattle.rules.specs.Answers.{Outcome, decide}
-use Rattle.rules.specs.Fields.{hasLegs}
+use Rattle.rules.specs.Fields.{proposalFields, legFields, hasLegs}
 use Rattle.rules.specs.Ranges.{mostLegs}
 use Rattle.rules.specs.Records.{numbersOf, eventByKind, legIn, writeSpec, legsOf, readOf}
 
 -- ---- places
--- How many numbers a row for a record has: as many as a proposal of 12 legs. Numbers past a record's own are surplus.
-abbrev pub recordFields : ℕ
-recordFields = 38
-
 -- Of every kind.
 abbrev pub kindField : ℕ
 kindField = 0
 
--- How many legs a proposal has.
+-- How many legs a proposal has, its one field.
 abbrev pub proposalLegsField : ℕ
 proposalLegsField = 1
 
+abbrev pub firstLegField : ℕ
+firstLegField = 1 + length proposalFields
+
 -- Where leg j begins, and so where a proposal of j legs ends: order number, lots and price of each.
 abbrev pub legField : ℕ → ℕ
-legField j = 2 + 3 * j
+legField j = firstLegField + length legFields * j
+
+-- How many numbers a row for a record has: as many as a proposal of 12 legs. Numbers past a record's own are surplus.
+abbrev pub recordFields : ℕ
+recordFields = legField mostLegs
 
 -- ---- the event of a row, its fields in range or not
 -- A proposal of more than 12 legs is no event: a row has room for 12.

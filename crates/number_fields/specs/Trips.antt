@@ -11,7 +11,7 @@ use Rattle.rules.specs.declared.event.Leg.{Leg}
 use Rattle.rules.specs.declared.event.Reading.the-variants.{Sound}
 use Rattle.rules.specs.Ranges.{mostHolidays, mostLegs, mostMembers}
 use Rattle.rules.specs.Header.{Header}
-use Rattle.record_kinds.specs.LegCount.{legCount}
+use Rattle.record_kinds.specs.Numbers.{legCount}
 use Rattle.number_fields.specs.HeaderFields.{headerFields, membersField, holidayCountField, withHeader, headerIn, readHeaderFields, writeHeaderFields}
 use Rattle.rules.specs.Records.{numbersOf}
 use Rattle.number_fields.specs.RecordFields.{recordFields, eventIn, legsIn, readFields, writeFields}

@@ -39,11 +39,10 @@ pub fn record_length(kind: u64, legs: u64) -> u64
     requires { ⌜ legs < 256 ⌝ }
     ensures { λ r. ⌜ r ≡ recordLength kind legs ⌝ }
 {
-    let fields = fields_length(kind);
-    if fields == 0 {
+    if field_count(kind) == 0 {
         return 0;
     }
-    let length = (FIRST_FIELD_BYTE + fields) as u64;
+    let length = (FIRST_FIELD_BYTE + fields_length(kind)) as u64;
     if kind == PROPOSAL {
         return length + LEG_LENGTH as u64 * legs;
     }

@@ -16,5 +16,3 @@ pub use numbers::event_of;
 pub use numbers::kind_number;
 pub use numbers::leg_count;
 pub use numbers::put_numbers;
-pub use order_kinds::order_kind_number;
-pub use order_kinds::order_kind_of;

@@ -6,7 +6,7 @@ ghost use Prim.Native.Nat.{_<_, _≤_};
 ghost use lib.ListN.{length, getD};
 ghost use Rattle.arith.specs.Lists.{over};
 ghost use Rattle.rules.specs.declared.event.Event.the-variants.{Submit, Cancel, DayLimits, Proposal, Default, CloseOut, CloseOfDay};
-ghost use Rattle.rules.specs.Records.{kindByte, kindNumber, eventNumbers, submitOf, cancellationOf, newDayLimitsOf, closeOutOf, eventByKind};
+ghost use Rattle.rules.specs.Records.{kindNumber, eventNumbers, submitOf, cancellationOf, newDayLimitsOf, closeOutOf, eventByKind};
 ghost use Rattle.record_kinds.specs.Numbers.{mostNumbers, legCount};
 use crate::order_kinds::order_kind_number;
 use crate::order_kinds::order_kind_of;
@@ -69,8 +69,13 @@ pub fn leg_count(event: Event) -> u64
     ensures { λ r. ⌜ r ≡ legCount event ⌝ }
 {
     match event {
+        Event::Submit(_) => 0,
+        Event::Cancel(_) => 0,
+        Event::DayLimits(_) => 0,
         Event::Proposal(count) => count,
-        _ => 0,
+        Event::Default(_) => 0,
+        Event::CloseOut(_) => 0,
+        Event::CloseOfDay(_) => 0,
     }
 }
 

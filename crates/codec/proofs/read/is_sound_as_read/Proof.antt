@@ -1,6 +1,6 @@
 use mathlib.Core.Path.{sym, ap, _∙_}
 use Rattle.rules.specs.Records.{eventSound}
-use Rattle.record_kinds.specs.LegCount.{legCount}
+use Rattle.record_kinds.specs.Numbers.{legCount}
 use Rattle.codec.specs.Columns.{legRows, legColumns, heldLegs}
 use Rattle.codec.proofs.LegColumns.{judged-proposal, judged-legless, rows-judged}
 use borrow.Author.Needs.{needs}

@@ -1,10 +1,10 @@
 use mathlib.Core.Path.{sym, _∙_}
 use native.Mathlib.Omega.{arith}
 use Rattle.arith.proofs.Tests.{asked-true, asked-false}
-use Rattle.record_kinds.specs.LegCount.{legCount}
+use Rattle.record_kinds.specs.Numbers.{legCount}
 use Rattle.codec.specs.Columns.{legRows}
 use Rattle.codec.proofs.LegColumns.{length-rows}
-use Rattle.codec.proofs.Written.{length-record, one-byte, few-legs-beside, some-bytes, record-put, write-few, write-unsound, write-short, write-whole}
+use Rattle.codec.proofs.Written.{length-record, sound-event, some-bytes, record-put, write-few, write-unsound, write-short, write-whole}
 use borrow.Author.Needs.{needs}
 use Rattle.codec.proofs.write.write_record.Statement.{statement}
 use Rattle.codec.proofs.write.write_record.Tie as tie
@@ -20,8 +20,8 @@ returns-2 c =
 record-length-requires : tie.Need-record-length-requires
 record-length-requires c κs =
     let few = asked-true (c .before .before .before .before .before .is-member-count-sound .ensures) (c .before .before .before .before .if1 .left) in
-    let fits = one-byte _ few _ _ (asked-true (c .before .before .before .is-event-sound .ensures) (c .before .before .if2 .left)) in
-    rw (c .leg-count .ensures) (omega (arith, few-legs-beside (c .before .before .before .before .before .before .before .args .event) fits))
+    let known = sound-event _ few _ _ (asked-true (c .before .before .before .is-event-sound .ensures) (c .before .before .if2 .left)) in
+    rw (c .leg-count .ensures) (omega (arith, known .few))
 
 returns-3 : tie.Need-returns-3
 returns-3 c =
@@ -41,7 +41,8 @@ returns-3 c =
 put-u8-requires : tie.Need-put-u8-requires
 put-u8-requires c κs =
     let sized = rw (c .before .before .before .before .kind-number .ensures .0, c .before .before .before .leg-count .ensures) at (c .before .before .record-length .ensures) in
-    (omega (arith, sized, some-bytes (c .before .before .before .before .before .before .before .before .before .before .args .event)), c .before .before .before .before .kind-number .ensures .1)
+    let e = c .before .before .before .before .before .before .before .before .before .before .args .event in
+    (omega (arith, sized, some-bytes e (legCount e)), c .before .before .before .before .kind-number .ensures .1)
 
 put-fields-requires : tie.Need-put-fields-requires
 put-fields-requires c κs =
@@ -54,7 +55,8 @@ put-fields-requires c κs =
     let record-length = c .before .before .before .before .before .before .record-length in
     let few = asked-true (is-member-count-sound .ensures) (if1 .left) in
     let sized = rw (kind-number .ensures .0, leg-count .ensures) at (record-length .ensures) in
-    (omega (arith, sized), one-byte _ few _ _ (asked-true (is-event-sound .ensures) (if2 .left)))
+    let known = sound-event _ few _ _ (asked-true (is-event-sound .ensures) (if2 .left)) in
+    (omega (arith, sized), known .fits, known .few)
 
 returns-4 : tie.Need-returns-4
 returns-4 c =
@@ -72,7 +74,7 @@ returns-4 c =
     let few = asked-true (is-member-count-sound .ensures) (if1 .left) in
     let sized = rw (kind-number .ensures .0, leg-count .ensures) at (record-length .ensures) in
     let whole = length-record e (legRows (legCount e) (a .legs)) (length-rows (legCount e) (a .legs)) in
-    let some = some-bytes e in
+    let some = some-bytes e (legCount e) in
     let put = record-put e _ _ _ _ (kind-number .ensures .0) (put-u8 .ensures) (put-fields .ensures) (omega (arith, sized)) in
     write-whole _ _ _ _ few (asked-true (is-event-sound .ensures) (if2 .left)) _ _ (sized ∙ sym whole) (omega (arith, sized, whole)) put
 

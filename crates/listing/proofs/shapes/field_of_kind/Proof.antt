@@ -1,61 +1,20 @@
-use Rattle.rules.specs.declared.field.Field.the-variants.{Member}
-use mathlib.Core.Path.{refl, _∙_}
-use Rattle.rules.specs.Fields.{fieldsOfKind}
-use Rattle.listing.proofs.FieldPlaces.{only, time-at}
+use Rattle.listing.proofs.FieldPlaces.{own-at, leg-of-kind}
+use borrow.Author.Needs.{needs}
 use Rattle.listing.proofs.shapes.field_of_kind.Statement.{statement}
 use Rattle.listing.proofs.shapes.field_of_kind.Tie as tie
 
-submit-field-requires : tie.Need-submit-field-requires
-unfolding fieldsOfKind
-submit-field-requires c κs = rw (c .match .keys1) at (c .before .pre)
-
-cancel-field-requires : tie.Need-cancel-field-requires
-unfolding fieldsOfKind
-cancel-field-requires c κs = rw (c .match .keys2) at (c .before .pre)
-
-day-limits-field-requires : tie.Need-day-limits-field-requires
-unfolding fieldsOfKind
-day-limits-field-requires c κs = rw (c .match .keys3) at (c .before .pre)
-
-proposal-field-requires : tie.Need-proposal-field-requires
-unfolding fieldsOfKind
-proposal-field-requires c κs = rw (c .match .keys4) at (c .before .pre)
-
-close-out-field-requires : tie.Need-close-out-field-requires
-unfolding fieldsOfKind
-close-out-field-requires c κs = rw (c .match .keys6) at (c .before .pre)
-
 returns : tie.Need-returns
-unfolding fieldsOfKind
-returns c = c .submit-field .ensures ∙ rw (c .before .match .keys1) refl
+returns c =
+    let a = c .before .before .before .args in
+    own-at (a .kind) (a .legs) (a .i) (c .before .before .field-count .ensures .0) (c .before .if1 .taken) (c .field-of .ensures)
 
 returns-2 : tie.Need-returns-2
-unfolding fieldsOfKind
-returns-2 c = c .cancel-field .ensures ∙ rw (c .before .match .keys2) refl
-
-returns-3 : tie.Need-returns-3
-unfolding fieldsOfKind
-returns-3 c = c .day-limits-field .ensures ∙ rw (c .before .match .keys3) refl
-
-returns-4 : tie.Need-returns-4
-unfolding fieldsOfKind
-returns-4 c = c .proposal-field .ensures ∙ rw (c .before .match .keys4) refl
-
-returns-5 : tie.Need-returns-5
-unfolding fieldsOfKind
-returns-5 c = rw (c .match .keys5) (only Member _ (rw (c .match .keys5) at (c .before .pre)))
-
-returns-6 : tie.Need-returns-6
-unfolding fieldsOfKind
-returns-6 c = c .close-out-field .ensures ∙ rw (c .before .match .keys6) refl
-
-returns-7 : tie.Need-returns-7
-returns-7 c =
-    let r = c .match .rest in
-    time-at _ _ (r .0 .0 .0 .0 .0 .1) (r .0 .0 .0 .0 .1) (r .0 .0 .0 .1) (r .0 .0 .1) (r .0 .1) (r .1) _ (c .before .pre)
+returns-2 c =
+    let start = c .before .before .before in
+    let a = start .args in
+    leg-of-kind (a .kind) (a .legs) (a .i) (c .before .before .field-count .ensures .0) (c .before .if1 .left) (start .pre) (c .leg-field .ensures)
 
 pub field-of-kind-spec : {M : Type 1} → statement M
 field-of-kind-spec =
     tie.close
-    (tie.spec submit-field-requires cancel-field-requires day-limits-field-requires proposal-field-requires
-    close-out-field-requires returns returns-2 returns-3 returns-4 returns-5 returns-6 returns-7)
+    (tie.spec (λ c κs. search needs) (λ c κs. search needs) returns (λ c κs. search needs) returns-2)

@@ -1,44 +1,25 @@
-use Rattle.arith.specs.Lists.{from}
-use Rattle.codec.specs.Columns.{legRows}
+use mathlib.Core.Path.{ap, _∙_}
+use lib.ListN.{length}
+use Rattle.rules.specs.Fields.{kindFields}
+use Rattle.number_fields.proofs.Rows.{put-rows}
 use borrow.Author.Needs.{needs}
 use Rattle.number_fields.proofs.numbers.put_event.Statement.{statement}
 use Rattle.number_fields.proofs.numbers.put_event.Tie as tie
 
-put-proposal-requires : tie.Need-put-proposal-requires
-put-proposal-requires c κs = rw (c .before .before .event4 .given .1) at (c .before .before .before .before .before .pre)
-
 returns : tie.Need-returns
-unfolding legRows from
-returns c = rw (c .before .before .before .before .before .event .given .1) (c .before .before .put-submit .ensures)
-
-returns-2 : tie.Need-returns-2
-unfolding legRows from
-returns-2 c = rw (c .before .before .before .before .before .event2 .given .1) (c .before .before .put-cancel .ensures)
-
-returns-3 : tie.Need-returns-3
-unfolding legRows from
-returns-3 c = rw (c .before .before .before .before .before .event3 .given .1) (c .before .before .put-day-limits .ensures)
-
-returns-4 : tie.Need-returns-4
-returns-4 c = rw (c .before .before .before .before .before .event4 .given .1) (c .before .before .put-proposal .ensures)
-
-returns-5 : tie.Need-returns-5
-unfolding legRows from
-returns-5 c = rw (c .before .before .before .before .before .event5 .given .1) (c .before .before .put-default .ensures)
-
-returns-6 : tie.Need-returns-6
-unfolding legRows from
-returns-6 c = rw (c .before .before .before .before .before .event6 .given .1) (c .before .before .put-close-out .ensures)
-
-returns-7 : tie.Need-returns-7
-unfolding legRows from
-returns-7 c = rw (c .before .before .before .before .before .event7 .given .1) (c .before .before .put-close-of-day .ensures)
+returns c =
+    let start = c .before .before .before .before .before .before .before .before .before .before .before .before in
+    let leg-count = c .before .before .before .before .before .before .before .before .before .before .leg-count in
+    let put-numbers = c .before .before .before .before .before .before .before .before .put-numbers in
+    let put-legs = c .before .before .before .before .put-legs in
+    let kind-number = c .before .kind-number in
+    let field-count = c .field-count in
+    let a = start .args in
+    let fields = field-count .ensures .0 ∙ ap (λ k. length (kindFields k)) (kind-number .ensures .0) in
+    put-rows (a .event) (a .legs) (a .row .now) _ _ (leg-count .ensures) fields (start .pre .0) (put-numbers .ensures) (put-legs .ensures)
 
 pub put-event-spec : {M : Type 1} → statement M
 put-event-spec =
     tie.close
-    (tie.spec (λ c. search needs) (λ c κs. search needs) (λ c. search needs) (λ c κs. search needs)
-    (λ c. search needs) (λ c κs. search needs) (λ c. search needs) put-proposal-requires (λ c. search needs)
-    (λ c κs. search needs) (λ c. search needs) (λ c κs. search needs) (λ c. search needs) (λ c κs. search needs)
-    (λ c. search needs) returns (λ c. search needs) returns-2 (λ c. search needs) returns-3 (λ c. search needs)
-    returns-4 (λ c. search needs) returns-5 (λ c. search needs) returns-6 (λ c. search needs) returns-7)
+    (tie.spec (λ c κs. search needs) (λ c κs. search needs) (λ c κs. search needs) (λ c κs. search needs)
+    (λ c κs. search needs) (λ c. search needs) (λ c. search needs) (λ c. search needs) (λ c. search needs) returns)

@@ -13,7 +13,7 @@ legs-in-requires c κs =
     let event-in = c .before .before .before .before .event-in in
     let event = c .before .before .event in
     let a = start .args in
-    (test1 .left, rw (c .leg-count .ensures) (few-in (a .members) (a .row .now) (a .out .now) (event-in .ensures) (event .given .1)))
+    (test1 .left, rw (c .leg-count .ensures) (few-in (a .members) (a .row .now) (a .out .now) (event-in .ensures) (test1 .left) (event .given .1)))
 
 returns-2 : tie.Need-returns-2
 returns-2 c =
@@ -25,7 +25,7 @@ returns-2 c =
     let legs-in = c .before .before .before .before .legs-in in
     let write-record = c .before .before .write-record in
     let a = start .args in
-    write-event (a .members) (a .row .now) (a .out .now) (event-in .ensures) (event .given .1) (test1 .left) (leg-count .ensures) (legs-in .ensures) (write-record .ensures)
+    write-event (a .members) (a .row .now) (a .out .now) (event-in .ensures) (test1 .left) (event .given .1) (leg-count .ensures) (legs-in .ensures) (write-record .ensures)
 
 returns-3 : tie.Need-returns-3
 returns-3 c =
