@@ -61,7 +61,7 @@ module _ {A : Type 0} (reply : A → Reply) (Apply : Tables → List ℕ → A �
   after-every-run Make makes P every header t made answer run m e k =
       let h = headerOf header in
       let is = makes t header answer made m in
-      let well = made-well t header (ap (λ (r : Reply). r .number) (sym (is .0)) ∙ e) in
+      let well = made-well t header (sym (is .0) ∙ e) in
       let same = same-as-list h run (h .startDay) made k in
       rw (← (same .tables), ← (same .lines), ← (same .days), is .1)
       (every header t (calls run) (passes _ (well .1)) (passes _ (ap not (well .0))))

@@ -50,7 +50,7 @@ module _ {A : Type 0} (reply : A → Reply) where
 
   -- A promise to answer and to leave what the rules say.
   abbrev pub MakesByRules : (Tables → List ℕ → A → Tables → Type 0) → Type 0
-  MakesByRules Promise = (t : Tables) (header : List ℕ) (a : A) (u : Tables) → Promise t header a u → (reply a ≡ replyOf (makeSpec t header .answer)) × (u ≡ makeSpec t header .after)
+  MakesByRules Promise = (t : Tables) (header : List ℕ) (a : A) (u : Tables) → Promise t header a u → (reply a .number ≡ replyOf (makeSpec t header .answer) .number) × (u ≡ makeSpec t header .after)
 
   abbrev pub AppliesByRules : (Tables → List ℕ → A → Tables → Type 0) → Type 0
   AppliesByRules Promise = (t : Tables) (bytes : List ℕ) (a : A) (u : Tables) → Promise t bytes a u → (reply a ≡ replyOf (applySpec t bytes .answer)) × (u ≡ applySpec t bytes .after)

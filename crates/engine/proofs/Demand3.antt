@@ -11,7 +11,7 @@ use Rattle.accounts.proofs.TwoBookkeepers.{two-bookkeepers}
 use Rattle.engine.specs.Runs.{Makes, Applies, Demand3Runs}
 
 makes-by-rules : MakesByRules replyOf Makes
-makes-by-rules t header a u e = (ap (λ (o : Outcome Tables). replyOf (o .answer)) e, ap (λ (o : Outcome Tables). o .after) e)
+makes-by-rules t header a u e = (ap (λ (o : Outcome Tables). replyOf (o .answer) .number) e, ap (λ (o : Outcome Tables). o .after) e)
 
 applies-by-rules : AppliesByRules replyOf Applies
 applies-by-rules t bytes a u e = (ap (λ (o : Outcome Tables). replyOf (o .answer)) e, ap (λ (o : Outcome Tables). o .after) e)

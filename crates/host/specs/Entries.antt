@@ -1,32 +1,25 @@
--- The promises of `ledger_make` and `ledger_apply`, and what holds of every call of them and of every run of such calls.
-use Prim.Native.Nat.{ℕ, _≤_, _<_}
-use mathlib.Core.Logic.{_⊎_}
+-- The promises of `ledger_make` and `ledger_apply`, and what holds of every call of them and after every run of such calls.
+use Prim.Native.Nat.{ℕ}
 use mathlib.Core.Path.{_≡_}
-use mathlib.Core.Bool.{true, false, _&&_, not}
+use mathlib.Core.Bool.{true}
 use mathlib.Core.List.{List}
-use lib.Dec.{eqb}
-use lib.IntN.{pos}
-use Rattle.arith.specs.Lists.{All}
 use Rattle.rules.specs.declared.answer.Answer.{Answer}
-use Rattle.rules.specs.declared.event.CloseOutTerms.{CloseOutTerms}
-use Rattle.rules.specs.declared.event.Event.the-variants.{Submit, CloseOut}
-use Rattle.rules.specs.declared.event.Reading.the-variants.{Sound}
-use Rattle.rules.specs.declared.event.Submission.{Submission}
-use Rattle.rules.specs.Answers.{Reply, replyOf}
+use Rattle.rules.specs.Answers.{Outcome, Reply, replyOf}
 use Rattle.rules.specs.Header.{Header}
-use Rattle.rules.specs.Ranges.{contractCount}
-use Rattle.rules.specs.Ledger.{Tables, Line, withLines, members, ggf, defaulted, lotsAt, resting, linesShort}
-use Rattle.rules.specs.Matching.{opposes, meets, precedes, incoming, submitMatched}
-use Rattle.rules.specs.Records.{readOf}
-use Rattle.rules.specs.Refusals.{makeSpec, applySpec, rowsSound, unsound}
-use Rattle.rules.specs.Accounts.{Call}
+use Rattle.rules.specs.Ledger.{Tables, Line, day, lotsRun, lineRun, resting, withLines, linesShort}
+use Rattle.rules.specs.Refusals.{makeSpec, applySpec}
+use Rattle.rules.specs.Accounts.{Call, Agrees}
 use Rattle.accounts.specs.Answered.{callCauses, Exact}
+use Rattle.accounts.specs.ClosedOut.{NoLotsOfDefaulted}
+use Rattle.accounts.specs.Complete.{MatchedInFull, NonePassedOver}
+use Rattle.accounts.specs.EveryList.{NotDamaged, RestInOpen, Uncrossed, NoneDefaulted, GgfsKept}
 use Rattle.accounts.specs.EveryRun.{Applied, calls, standing, Kept, printed, acceptedOf, AfterEveryRun}
-use Rattle.accounts.specs.Lengths.{SameLengths}
-use Rattle.accounts.specs.Refused.{SameLedger}
-use Rattle.accounts.specs.StaysSound.{isClose}
+use Rattle.accounts.specs.Lengths.{SameLengths, FewLines}
+use Rattle.accounts.specs.Refused.{LeavesIfRefused, SameLedger}
+use Rattle.accounts.specs.StaysSound.{SoundAfter, SoundButRows}
 use Rattle.host.specs.Sent.{sent}
 
+-- ---- the promises
 -- On these tables and this header `ledger_make` answered this number and left these tables.
 abbrev pub Makes : Tables → List ℕ → ℕ → Tables → Type 0
 Makes before header number after = record { number = number; detail = 0; after = after } ≡ sent (makeSpec before header)
@@ -35,9 +28,73 @@ Makes before header number after = record { number = number; detail = 0; after =
 abbrev pub Applies : Tables → List ℕ → ℕ → ℕ → Tables → Type 0
 Applies before bytes number detail after = record { number = number; detail = detail; after = after } ≡ sent (applySpec before bytes)
 
--- ---- every run of calls
-abbrev pub makesReply : Tables → List ℕ → Reply → Tables → Type 0
-makesReply before header reply after = (reply .detail ≡ 0) × Makes before header (reply .number) after
+-- ---- every call
+-- An outcome that a host got as this number and detail, with what it left, has the property Q.
+pub record GotAs (Q : Outcome Tables → Type 0) (number detail : ℕ) (after : Tables) : Type 0 where
+  pub answer : Answer
+  pub number-is : replyOf answer .number ≡ number
+  pub detail-is : replyOf answer .detail ≡ detail
+  pub holds : Q (record { answer = answer; after = after })
 
-abbrev pub appliesReply : Tables → List ℕ → Reply → Tables → Type 0
-appliesReply before bytes reply after = Applies before bytes (reply .number) (reply .detail) after
+-- What holds of every outcome of a record on tables t.
+pub record OfRecord (t : Tables) (bytes : List ℕ) (o : Outcome Tables) : Type 0 where
+  pub exact : Exact (callCauses t bytes) (o .answer)
+  pub refused : LeavesIfRefused t o
+  pub lengths : SameLengths t (o .after)
+  pub few-lines : FewLines o
+  pub complete : MatchedInFull t bytes o
+  pub none-passed-over : NonePassedOver t bytes o
+  pub closed-out : NoLotsOfDefaulted t bytes o
+  pub sound : SoundAfter t bytes o
+  pub sound-but-rows : SoundButRows t o
+
+-- What holds of every outcome of making a ledger in tables t.
+pub record OfMaking (t : Tables) (o : Outcome Tables) : Type 0 where
+  pub refused : LeavesIfRefused t o
+  pub lengths : SameLengths t (o .after)
+
+abbrev pub EveryRecord : Type 0
+EveryRecord = (t : Tables) (bytes : List ℕ) (number detail : ℕ) (u : Tables) → Applies t bytes number detail u → GotAs (OfRecord t bytes) number detail u
+
+abbrev pub EveryMaking : Type 0
+EveryMaking = (t : Tables) (header : List ℕ) (number : ℕ) (u : Tables) → Makes t header number u → GotAs (OfMaking t) number 0 u
+
+-- ---- every run of calls
+abbrev pub AppliesReply : Tables → List ℕ → Reply → Tables → Type 0
+AppliesReply before bytes reply after = Applies before bytes (reply .number) (reply .detail) after
+
+-- `ledger_make` made a ledger in any lent tables, then `ledger_apply` was given any bytes and any line tables.
+abbrev pub AfterEntries : (Header → Tables → List Line → ℕ → Type 0) → Type 0
+AfterEntries P = AfterEveryRun (λ reply. reply) (λ before header reply after. Makes before header (reply .number) after) AppliesReply P
+
+-- Number 1 is answered for a short line table alone.
+abbrev pub OneForShortLines : Tables → Type 0
+OneForShortLines t =
+    (call : Call) (detail : ℕ) (u : Tables) → Applies (withLines (call .lines) t) (call .bytes) 1 detail u → linesShort (withLines (call .lines) t) ≡ true
+
+-- What holds of the header, the ledger, the printed lines and the list's day: demand 3, and the rest of what `accounts` shows of every list.
+pub record AfterRun (h : Header) (t : Tables) (ls : List Line) (d : ℕ) : Type 0 where
+  pub agrees : Agrees h t ls d
+  pub not-damaged : NotDamaged t
+  pub one-for-lines : OneForShortLines t
+  pub rest-in-open : RestInOpen h t d
+  pub uncrossed : Uncrossed (resting t)
+  pub none-defaulted : NoneDefaulted t
+  pub run-is-logged : lotsRun t ≡ lineRun ls
+  pub day-is-the-lists : day t ≡ d
+
+abbrev pub EveryRun : Type 0
+EveryRun = AfterEntries AfterRun
+
+-- Whatever tables records are applied to: a GGF once found never becomes 0 again.
+abbrev pub GgfsStay : Type 0
+GgfsStay = (t : Tables) (run : List (Applied Reply)) → Kept AppliesReply t run → GgfsKept t (standing t run)
+
+-- A run of the accepted records alone leads to the same ledger and the same lines.
+abbrev pub Struck : Type 0
+Struck =
+    (t : Tables) (run accepted : List (Applied Reply))
+    → Kept AppliesReply t run
+    → Kept AppliesReply t accepted
+    → calls accepted ≡ acceptedOf (λ reply. reply) run
+    → SameLedger (standing t run) (standing t accepted) × (printed (λ reply. reply) run ≡ printed (λ reply. reply) accepted)
