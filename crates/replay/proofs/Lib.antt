@@ -1,3 +1,5 @@
 pub mod Same
 pub mod Damage
 pub mod Alike
+pub mod Closing
+pub mod EachKind
