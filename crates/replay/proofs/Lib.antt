@@ -3,3 +3,4 @@ pub mod Damage
 pub mod Alike
 pub mod Closing
 pub mod EachKind
+pub mod Replay

@@ -1,0 +1,59 @@
+-- What recovery from a journal rests on: the same records lead to the same answers, the same lines and the same ledger, surplus apart.
+use Prim.Native.Nat.{ℕ}
+use mathlib.Core.Path.{_≡_}
+use mathlib.Core.Bool.{not}
+use mathlib.Core.List.{List, [], _∷_}
+use lib.Dec.{T, ltb}
+use lib.ListN.{length}
+use Rattle.rules.specs.declared.answer.Answer.{Answer}
+use Rattle.rules.specs.Header.{beginsWithHeader}
+use Rattle.rules.specs.Ledger.{Tables, Line, linesLength, ledgerShort}
+use Rattle.rules.specs.Refusals.{makeSpec}
+use Rattle.rules.specs.Accounts.{Call, callSpec, after, linesOf}
+use Rattle.replay.specs.Surplus.{SameButSurplus, SurplusKept}
+
+-- The same record; the line tables may differ in what they hold and in length, if both are long enough or both too short.
+abbrev pub SameRecord : Call → Call → Type 0
+SameRecord call other = (call .bytes ≡ other .bytes) × (ltb (length (call .lines)) linesLength ≡ ltb (length (other .lines)) linesLength)
+
+abbrev pub SameRecords : List Call → List Call → Type 0
+SameRecords [] [] = Unit {0}
+SameRecords [] (other ∷ others) = ⊥
+SameRecords (call ∷ calls) [] = ⊥
+SameRecords (call ∷ calls) (other ∷ others) = SameRecord call other × SameRecords calls others
+
+-- Each call's answer, with its lines.
+unfoldable pub answered : Tables → List Call → List (Answer × List Line)
+answered t [] = []
+answered t (call ∷ calls) = let o = callSpec t call in (o .answer, linesOf (o .answer) (o .after .lines)) ∷ answered (o .after) calls
+
+pub record Replayed (t u : Tables) (calls others : List Call) : Type 0 where
+  pub answers : answered t calls ≡ answered u others
+  pub ledger : SameButSurplus (after t calls) (after u others)
+
+-- Ledgers that agree but for surplus still do after the same records, and these are answered alike.
+abbrev pub ReplaysAlike : Type 0
+ReplaysAlike = (t u : Tables) (calls others : List Call) → SameButSurplus t u → SameRecords calls others → Replayed t u calls others
+
+-- Made from the same header, in any lent tables of sufficient length, whatever they hold.
+abbrev pub MakesAlike : Type 0
+MakesAlike =
+    (header : List ℕ) (t u : Tables)
+    → T (beginsWithHeader header)
+    → T (not (ledgerShort t))
+    → T (not (ledgerShort u))
+    → SameButSurplus (makeSpec t header .after) (makeSpec u header .after)
+
+-- So the stored header and records lead to the ledger that was lost.
+abbrev pub Recovers : Type 0
+Recovers =
+    (header : List ℕ) (t u : Tables) (calls others : List Call)
+    → T (beginsWithHeader header)
+    → T (not (ledgerShort t))
+    → T (not (ledgerShort u))
+    → SameRecords calls others
+    → Replayed (makeSpec t header .after) (makeSpec u header .after) calls others
+
+-- Whatever calls follow, surplus that is no place for an order stays; t are any tables, so also those that a list leads to.
+abbrev pub SurplusStays : Type 0
+SurplusStays = (t : Tables) (calls : List Call) → SurplusKept t (after t calls)
