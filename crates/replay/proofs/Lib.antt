@@ -4,3 +4,4 @@ pub mod Alike
 pub mod Closing
 pub mod EachKind
 pub mod Replay
+pub mod Making
