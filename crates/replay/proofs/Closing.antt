@@ -34,7 +34,7 @@ use Rattle.replay.proofs.Alike.{PricesAlike, prices-with, RowsAlike, He
 abbrev pub Below : List ℕ → Type 0
 Below cs = All (λ c. c < contractCount) cs
 
-below-from : (a n : ℕ) → a + n ≤ contractCount → Below (from a n)
+pub below-from : (a n : ℕ) → a + n ≤ contractCount → Below (from a n)
 unfolding from
 below-from a zero h = tt
 below-from a (suc n) h = (omega arith, below-from (suc a) n (omega arith))

@@ -5,3 +5,5 @@ pub mod Closing
 pub mod EachKind
 pub mod Replay
 pub mod Making
+pub mod Stays
+pub mod SurplusStays
