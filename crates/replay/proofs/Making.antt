@@ -1,29 +1,31 @@
 -- Ledgers made from the same header agree but for surplus, whatever the tables held. Assumes nothing.
 use Prim.Native.Nat.{ℕ, _+_, _*_, _-_, _≤_, _<_}
-use mathlib.Core.Path.{_≡_, refl, sym, ap, subst₂, _∙_}
+use mathlib.Core.Path.{_≡_, refl, sym, ap, subst, subst₂, _∙_}
 use mathlib.Core.Bool.{not}
 use mathlib.Core.List.{List, [], _∷_}
 use native.Mathlib.Omega.{arith}
 use lib.Dec.{T}
-use lib.ListN.{length, getD, replicate, length-replicate}
+use lib.ListN.{length, getD, replicate, length-replicate, length-take, length-drop}
+use lib.IntN.{ℤ, pos}
 use Rattle.arith.specs.Lists.{over}
 use Rattle.arith.proofs.EachBlock.{block, block-at, in-each-block, in-each-length}
 use Rattle.arith.proofs.Overs.{over-length, over-inside, over-outside}
 use Rattle.arith.proofs.Tests.{le-or-lt, passed, failed}
-use Rattle.rules.specs.Ranges.{contractCount, mostPrice}
+use Rattle.rules.specs.Ranges.{contractCount, mostMembers, mostPrice}
 use Rattle.rules.specs.Header.{Header, headerOf, beginsWithHeader}
-use Rattle.rules.specs.Ledger.{Tables, headLength, holidaysFrom, limitsFrom, marksFrom, submitsFrom, firstYearPlace, priceWidth, pricesLength, ledgerShort, freshHead, freshPrices, fresh}
+use Rattle.rules.specs.Ledger.{Tables, headLength, holidaysFrom, limitsFrom, marksFrom, submitsFrom, firstYearPlace, priceWidth, pricesLength, rowWidth, rowsLength, ledgerShort, freshHead, freshPrices, freshRows, fresh}
 use Rattle.rules.specs.Refusals.{makeSpec}
-use Rattle.rules.specs.Accounts.{lots, value}
+use Rattle.rules.specs.Accounts.{Column, lots, value, row}
 use Rattle.rules.proofs.SoundHeaders.{SoundHeader, header-gives, begun}
 use Rattle.rules.proofs.SoundTables.{Long, long-enough}
 use Rattle.accounts.proofs.Fresh.{head-length, counts-of, holiday-count-of, fresh-runs, fresh-zero}
 use Rattle.accounts.proofs.SameLengths.{fresh-lengths, stays-long}
 use Rattle.accounts.proofs.TwoBookkeepers.{made}
-use Rattle.replay.specs.Surplus.{InUse, ofLedger, ofHoliday, ofLimit, ofMark, ofSubmits, SameButSurplus}
-use Rattle.replay.specs.Replay.{MakesAlike, Recovers}
+use Rattle.replay.specs.Surplus.{InUse, ofLedger, ofHoliday, ofLimit, ofMark, ofSubmits, SameButSurplus, SurplusKept}
+use Rattle.replay.specs.Replay.{MakesAlike, MakingLeavesSurplus, Recovers}
 use Rattle.replay.proofs.Alike.{PricesAlike, Alike, same-of}
 use Rattle.replay.proofs.Replay.{replays-alike}
+use Rattle.replay.proofs.Stays.{past-blocks}
 
 -- ---- the head: a place of the part that is written is the same, any other if it was
 part : (a : ℕ) (xs l l′ : List ℕ) → a + length xs ≤ headLength → headLength ≤ length l → headLength ≤ length l′ → (i : ℕ)
@@ -121,6 +123,79 @@ fresh-alike h f t u a b =
     } in
     same-of (fresh h t) (fresh h u) whole long long′
 
+-- ---- what is surplus in it
+module _ (h : Header) (f : SoundHeader h) where
+  part-stays : (a : ℕ) (xs l : List ℕ) → a + length xs ≤ headLength → headLength ≤ length l → (i : ℕ) → (a ≤ i → i < a + length xs → ⊥) → getD (over a xs l) i 0 ≡ getD l i 0
+  part-stays a xs l fit s i o = over-outside a xs l (omega arith) i 0 (λ k. le-or-lt (a + length xs) i (λ q. q) (λ q. absurd (o k q)))
+
+  head-stays : (l : List ℕ) → headLength ≤ length l → (i : ℕ) → (InUse (h .members) (length (h .holidays)) i → ⊥) → getD (freshHead h l) i 0 ≡ getD l i 0
+  unfolding freshHead
+  head-stays l s i p =
+      let n = h .members in
+      let zeros : List ℕ = replicate n 0 in
+      let z : length zeros ≡ n = length-replicate {A = ℕ} n 0 in
+      let few = f .members-range .to in
+      let fields : List ℕ = h .firstYear ∷ n ∷ length (h .holidays) ∷ h .startDay ∷ 0 ∷ 0 ∷ 0 ∷ 0 ∷ [] in
+      let l₀ = over firstYearPlace fields l in
+      let l₁ = over holidaysFrom (h .holidays) l₀ in
+      let l₂ = over limitsFrom (h .limits) l₁ in
+      let l₃ = over marksFrom zeros l₂ in
+      let fit₁ : holidaysFrom + length (h .holidays) ≤ headLength = omega (arith, f .holidays≤) in
+      let fit₂ : limitsFrom + length (h .limits) ≤ headLength = omega (arith, f .one-limit, few) in
+      let fit₃ : marksFrom + length zeros ≤ headLength = omega (arith, z, few) in
+      let fit₄ : submitsFrom + length zeros ≤ headLength = omega (arith, z, few) in
+      let a₀ = still-long firstYearPlace fields l (omega arith) s in
+      let a₁ = still-long holidaysFrom (h .holidays) l₀ fit₁ a₀ in
+      let a₂ = still-long limitsFrom (h .limits) l₁ fit₂ a₁ in
+      let a₃ = still-long marksFrom zeros l₂ fit₃ a₂ in
+      part-stays submitsFrom zeros l₃ fit₄ a₃ i (λ x y. p (ofSubmits (i - submitsFrom) (omega (arith, z)) (omega arith)))
+      ∙ part-stays marksFrom zeros l₂ fit₃ a₂ i (λ x y. p (ofMark (i - marksFrom) (omega (arith, z)) (omega arith)))
+      ∙ part-stays limitsFrom (h .limits) l₁ fit₂ a₁ i (λ x y. p (ofLimit (i - limitsFrom) (omega (arith, f .one-limit)) (omega arith)))
+      ∙ part-stays holidaysFrom (h .holidays) l₀ fit₁ a₀ i (λ x y. p (ofHoliday (i - holidaysFrom) (omega arith) (omega arith)))
+      ∙ part-stays firstYearPlace fields l (omega arith) s i (λ x y. p (ofLedger (omega arith)))
+
+  rows-stay : (l : List ℤ) → rowsLength ≤ length l → (c m : ℕ) → m < mostMembers → (c < contractCount → h .members ≤ m) → getD (freshRows (h .members) l) (c * rowWidth + m) (pos 0) ≡ getD l (c * rowWidth + m) (pos 0)
+  unfolding freshRows
+  rows-stay l s c m b g =
+      let n = h .members in
+      let few = f .members-range .to in
+      let zeros : List ℤ = replicate n (pos 0) in
+      let z : length zeros ≡ n = length-replicate n (pos 0) in
+      let wide : (x : List ℤ) → length x ≡ rowWidth → length (over 0 zeros x) ≡ rowWidth = λ x e. over-length 0 zeros x (omega arith) ∙ e in
+      le-or-lt contractCount c (λ q. past-blocks (pos 0) rowWidth (over 0 zeros) wide contractCount l s (c * rowWidth + m) (omega arith))
+      (λ q. let past : n ≤ m = g q in
+      let here : length (block rowWidth c l) ≡ rowWidth = simp (length-take, length-drop) (omega arith) in
+      sym (block-at rowWidth c m (freshRows n l) (pos 0) b)
+      ∙ ap (λ x. getD x m (pos 0)) (in-each-block rowWidth (over 0 zeros) wide contractCount l s c q)
+      ∙ over-outside 0 zeros (block rowWidth c l) (omega arith) m (pos 0) (λ _. omega arith) ∙ block-at rowWidth c m l (pos 0) b)
+
+  prices-stay : (l : List ℕ) → pricesLength ≤ length l → (i : ℕ) → pricesLength ≤ i → getD (freshPrices l) i 0 ≡ getD l i 0
+  unfolding freshPrices
+  prices-stay l s i b = past-blocks 0 priceWidth (λ five. 0 ∷ 1 ∷ mostPrice ∷ 0 ∷ 0 ∷ []) (λ _ _. refl) contractCount l s i b
+
+  fresh-stays : (t : Tables) → Long t → SurplusKept (h .members) (length (h .holidays)) t (fresh h t)
+  unfolding fresh
+  fresh-stays t a = record {
+    head = head-stays (t .head) (a .head);
+    prices = prices-stay (t .prices) (a .prices);
+    rows = rows;
+    book = λ _ _. refl;
+  }
+    where
+      rows : (x : Column) (c m : ℕ) → m < mostMembers → (c < contractCount → h .members ≤ m) → row x (fresh h t) c m ≡ row x t c m
+      rows lots = rows-stay (t .lots) (a .lots)
+      rows value = rows-stay (t .value) (a .value)
+
+pub making-leaves-surplus : MakingLeavesSurplus
+unfolding fresh
+making-leaves-surplus header t b s =
+    let h = headerOf header in
+    let is = made header t b s in (
+      subst (SurplusKept (h .members) (length (h .holidays)) t) (sym is) (fresh-stays h (header-gives h (begun header (passed _ b))) t (long-enough t (failed (ledgerShort t) s))),
+      ap (λ (u : Tables). u .book) is,
+    )
+
+-- ---- recovery
 pub makes-alike : MakesAlike
 makes-alike header t u b s s′ =
     subst₂ SameButSurplus (sym (made header t b s)) (sym (made header u b s′))

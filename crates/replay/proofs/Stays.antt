@@ -78,7 +78,7 @@ ggfs-length t s [] l = refl
 ggfs-length t s (c ∷ cs) l = ggfs-length t s cs (withGgf c (ggfAtClose t s c) l) ∙ length-set l (ggfPlace c) (ggfAtClose t s c)
 
 -- what is done in each of n blocks leaves what is past them
-past-blocks : {A : Type 0} (z : A) (w : ℕ) (f : List A → List A) → ((b : List A) → length b ≡ w → length (f b) ≡ w)
+pub past-blocks : {A : Type 0} (z : A) (w : ℕ) (f : List A → List A) → ((b : List A) → length b ≡ w → length (f b) ≡ w)
     → (n : ℕ) (l : List A) → n * w ≤ length l → (i : ℕ) → n * w ≤ i → getD (inEachBlock w f n l) i z ≡ getD l i z
 unfolding inEachBlock
 past-blocks z w f g zero l s i h = refl

@@ -41,7 +41,7 @@ use Rattle.accounts.proofs.Proposals.{proposal-fits}
 use Rattle.accounts.proofs.Runs.{orders-same, sound-of}
 use Rattle.accounts.proofs.Submits.{submit-fits}
 use Rattle.replay.specs.Surplus.{InUse, ofLedger, ofMark, ofSubmits, SurplusKept}
-use Rattle.replay.specs.Replay as replay
+use Rattle.replay.specs.Replay.{SurplusStays}
 use Rattle.replay.proofs.Closing.{open-below}
 use Rattle.replay.proofs.Stays.{HeadStays, head-set, head-zeros, PricesStay, price-set, priced-stay, RowsStay, posted-stay, all-cascaded-stay}
 
@@ -176,7 +176,7 @@ kind-stays event t legs u q none = go event q none
 -- ---- every call, and every list
 -- surplus is kept, and the same places are surplus
 record Stays (t u : Tables) : Type 0 where
-  kept : SurplusKept t u
+  kept : SurplusKept (members t) (holidayCount t) t u
   size : members u ≡ members t
   count : holidayCount u ≡ holidayCount t
 
@@ -222,5 +222,5 @@ unfolding after
 after-stays [] t = stays-same t
 after-stays (call ∷ calls) t = stays-then (stays-then (lines-lent (call .lines) t) (apply-stays (withLines (call .lines) t) (call .bytes))) (after-stays calls (callSpec t call .after))
 
-pub surplus-stays : replay.SurplusStays
+pub surplus-stays : SurplusStays
 surplus-stays t calls = after-stays calls t .kept

@@ -6,11 +6,11 @@ use mathlib.Core.List.{List, [], _∷_}
 use lib.Dec.{T, ltb}
 use lib.ListN.{length}
 use Rattle.rules.specs.declared.answer.Answer.{Answer}
-use Rattle.rules.specs.Header.{beginsWithHeader}
-use Rattle.rules.specs.Ledger.{Tables, Line, linesLength, ledgerShort}
-use Rattle.rules.specs.Refusals.{makeSpec}
+use Rattle.rules.specs.Header.{headerOf, beginsWithHeader}
+use Rattle.rules.specs.Ledger.{Tables, Line, members, holidayCount, linesLength, ledgerShort}
+use Rattle.rules.specs.Refusals.{makeSpec, applySpec}
 use Rattle.rules.specs.Accounts.{Call, callSpec, after, linesOf}
-use Rattle.replay.specs.Surplus.{SameButSurplus, SurplusKept}
+use Rattle.replay.specs.Surplus.{SameButSurplus, SurplusKept, LinesKept}
 
 -- The same record; the line tables may differ in what they hold and in length, if both are long enough or both too short.
 abbrev pub SameRecord : Call → Call → Type 0
@@ -56,4 +56,18 @@ Recovers =
 
 -- Whatever calls follow, surplus that is no place for an order stays; t are any tables, so also those that a list leads to.
 abbrev pub SurplusStays : Type 0
-SurplusStays = (t : Tables) (calls : List Call) → SurplusKept t (after t calls)
+SurplusStays = (t : Tables) (calls : List Call) → SurplusKept (members t) (holidayCount t) t (after t calls)
+
+-- Making a ledger leaves what is surplus in it, and the whole book.
+abbrev pub MakingLeavesSurplus : Type 0
+MakingLeavesSurplus =
+    (header : List ℕ) (t : Tables)
+    → T (beginsWithHeader header)
+    → T (not (ledgerShort t))
+    → let h = headerOf header in
+    let made = makeSpec t header .after in
+    SurplusKept (h .members) (length (h .holidays)) t made × (made .book ≡ t .book)
+
+-- A call leaves the line table past its lines.
+abbrev pub LinesStay : Type 0
+LinesStay = (t : Tables) (bytes : List ℕ) → LinesKept t (applySpec t bytes)
