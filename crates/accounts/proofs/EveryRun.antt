@@ -8,23 +8,23 @@ use lib.Dec.{eqb}
 use Rattle.arith.proofs.Tests.{true-or, passes}
 use Rattle.rules.specs.Answers.{Outcome, Reply, replyOf}
 use Rattle.rules.specs.Header.{Header, headerOf, calendarOf, beginsWithHeader}
-use Rattle.rules.specs.Ledger.{Tables, Line, firstLines, ledgerShort}
+use Rattle.rules.specs.Ledger.{Tables, Line, ledgerShort}
 use Rattle.rules.specs.Records.{readOf}
 use Rattle.rules.specs.Refusals.{makeSpec}
 use Rattle.rules.specs.Accounts.{Call, callSpec, after, log, listsDay, dayAfterEvent}
 use Rattle.accounts.specs.EveryList.{AfterEveryList}
 use Rattle.accounts.specs.Refused.{acceptedCalls}
-use Rattle.accounts.specs.EveryRun.{Applied, calls, standing, Kept, printed, dayOf, acceptedOf, MakesByRules, AppliesByRules, AfterEveryRun}
+use Rattle.accounts.specs.EveryRun.{Applied, calls, standing, Kept, linesOfReply, printed, dayOf, acceptedOf, MakesByRules, AppliesByRules, AfterEveryRun}
 
 -- a ledger is made only from a sound header, in tables that are long enough
-made-well : (t : Tables) (header : List ℕ) → replyOf (makeSpec t header .answer) .number ≡ 0 → (ledgerShort t ≡ false) × (beginsWithHeader header ≡ true)
+pub made-well : (t : Tables) (header : List ℕ) → replyOf (makeSpec t header .answer) .number ≡ 0 → (ledgerShort t ≡ false) × (beginsWithHeader header ≡ true)
 unfolding makeSpec
 made-well t header e =
     true-or (ledgerShort t) (λ s. absurd (let z : _≡_ {A = ℕ} 0 1 = sym (rw s at e) in omega arith))
     (λ s. true-or (beginsWithHeader header) (λ b. (s, b)) (λ b. absurd (let z : _≡_ {A = ℕ} 0 2 = sym (rw (s, b) at e) in omega arith)))
 
 -- an outcome as it is seen: the reply, and what is left
-abbrev told : Outcome Tables → Reply × Tables
+abbrev pub told : Outcome Tables → Reply × Tables
 told o = (replyOf (o .answer), o .after)
 
 module _ {A : Type 0} (reply : A → Reply) (Apply : Tables → List ℕ → A → Tables → Type 0) (applies : AppliesByRules reply Apply) where
@@ -46,8 +46,8 @@ module _ {A : Type 0} (reply : A → Reply) (Apply : Tables → List ℕ → A �
       record {
         tables = ap (λ (o : Reply × Tables). after (o .1) (calls run)) as-kept ∙ rest .tables;
         lines =
-            ap (λ (o : Reply × Tables). cond (eqb (o .0 .number) 0) (firstLines (o .0 .detail) (o .1 .lines)) [] ++ log (o .1) (calls run)) as-kept
-            ∙ ap (λ ls. cond (eqb (reply (a .answer) .number) 0) (firstLines (reply (a .answer) .detail) (a .left .lines)) [] ++ ls) (rest .lines);
+            ap (λ (o : Reply × Tables). linesOfReply (o .0) (o .1 .lines) ++ log (o .1) (calls run)) as-kept
+            ∙ ap (λ ls. linesOfReply (reply (a .answer)) (a .left .lines) ++ ls) (rest .lines);
         days =
             ap (λ (o : Reply × Tables). listsDay h (cond (eqb (o .0 .number) 0) (dayAfterEvent (calendarOf h) d (readOf (h .members) (a .call .bytes))) d) (o .1) (calls run)) as-kept
             ∙ rest .days;

@@ -5,6 +5,7 @@ use mathlib.Core.Path.{_≡_}
 use mathlib.Core.Bool.{cond}
 use mathlib.Core.List.{List, [], _∷_, _++_, map}
 use lib.Dec.{eqb}
+use lib.IntN.{ℤ}
 use Rattle.rules.specs.Answers.{Reply, replyOf}
 use Rattle.rules.specs.Header.{Header, headerOf, calendarOf}
 use Rattle.rules.specs.Ledger.{Tables, Line, withLines, firstLines}
@@ -32,11 +33,15 @@ Kept Promise t [] = Unit {0}
 Kept Promise t (a ∷ rest) = Promise (withLines (a .call .lines) t) (a .call .bytes) (a .answer) (a .left) × Kept Promise (a .left) rest
 
 -- ---- what is seen of the answers alone: of each its reply
+-- The lines of an accepted record; a refused one has none.
+abbrev pub linesOfReply : Reply → List ℤ → List Line
+linesOfReply r l = cond (eqb (r .number) 0) (firstLines (r .detail) l) []
+
 module _ {A : Type 0} (reply : A → Reply) where
   -- All that the other bookkeeper sees: the lines of each accepted record, in printed order.
   unfoldable pub printed : List (Applied A) → List Line
   printed [] = []
-  printed (a ∷ rest) = cond (eqb (reply (a .answer) .number) 0) (firstLines (reply (a .answer) .detail) (a .left .lines)) [] ++ printed rest
+  printed (a ∷ rest) = linesOfReply (reply (a .answer)) (a .left .lines) ++ printed rest
 
   -- The list's day: each accepted close of day moves it to the next day.
   unfoldable pub dayOf : Header → ℕ → List (Applied A) → ℕ

@@ -7,3 +7,5 @@ pub mod Replay
 pub mod Making
 pub mod Stays
 pub mod SurplusStays
+pub mod EveryRun
+pub mod LinesStay

@@ -6,10 +6,12 @@ use mathlib.Core.List.{List, [], _∷_}
 use lib.Dec.{T, ltb}
 use lib.ListN.{length}
 use Rattle.rules.specs.declared.answer.Answer.{Answer}
+use Rattle.rules.specs.Answers.{Reply}
 use Rattle.rules.specs.Header.{headerOf, beginsWithHeader}
 use Rattle.rules.specs.Ledger.{Tables, Line, members, holidayCount, linesLength, ledgerShort}
 use Rattle.rules.specs.Refusals.{makeSpec, applySpec}
 use Rattle.rules.specs.Accounts.{Call, callSpec, after, linesOf}
+use Rattle.accounts.specs.EveryRun.{Applied, calls, standing, Kept, linesOfReply}
 use Rattle.replay.specs.Surplus.{SameButSurplus, SurplusKept, LinesKept}
 
 -- The same record; the line tables may differ in what they hold and in length, if both are long enough or both too short.
@@ -71,3 +73,40 @@ MakingLeavesSurplus =
 -- A call leaves the line table past its lines.
 abbrev pub LinesStay : Type 0
 LinesStay = (t : Tables) (bytes : List ℕ) → LinesKept t (applySpec t bytes)
+
+-- ---- the same of runs, whose calls kept their promises
+-- Each call's reply, with its lines.
+unfoldable pub shown : {A : Type 0} → (A → Reply) → List (Applied A) → List (Reply × List Line)
+shown reply [] = []
+shown reply (a ∷ rest) = (reply (a .answer), linesOfReply (reply (a .answer)) (a .left .lines)) ∷ shown reply rest
+
+-- From tables t and u the same was replied, with the same lines, and the ledgers agree but for surplus.
+pub record SameRuns {A : Type 0} (reply : A → Reply) (t u : Tables) (run other : List (Applied A)) : Type 0 where
+  pub replies : shown reply run ≡ shown reply other
+  pub ledger : SameButSurplus (standing t run) (standing u other)
+
+module _ {A : Type 0} (reply : A → Reply) (Make Apply : Tables → List ℕ → A → Tables → Type 0) where
+  abbrev pub RunsAlike : Type 0
+  RunsAlike =
+      (t u : Tables) (run other : List (Applied A))
+      → SameButSurplus t u
+      → Kept Apply t run
+      → Kept Apply u other
+      → SameRecords (calls run) (calls other)
+      → SameRuns reply t u run other
+
+  -- Both ledgers were made from the same header.
+  abbrev pub RunsRecover : Type 0
+  RunsRecover =
+      (header : List ℕ) (t made : Tables) (answer : A) (run : List (Applied A)) (u remade : Tables) (again : A) (other : List (Applied A))
+      → Make t header answer made
+      → reply answer .number ≡ 0
+      → Make u header again remade
+      → reply again .number ≡ 0
+      → Kept Apply made run
+      → Kept Apply remade other
+      → SameRecords (calls run) (calls other)
+      → SameRuns reply made remade run other
+
+  abbrev pub RunsLeaveSurplus : Type 0
+  RunsLeaveSurplus = (t : Tables) (run : List (Applied A)) → Kept Apply t run → SurplusKept (members t) (holidayCount t) t (standing t run)
