@@ -1,7 +1,10 @@
 -- What `accounts` shows of the rules holds of what the C entries answer and leave. Assumes nothing.
 use Prim.Native.Nat.{ℕ}
 use mathlib.Core.Path.{_≡_, refl, sym, ap, subst, subst₂, _∙_}
+use mathlib.Core.Bool.{not}
 use mathlib.Core.List.{List, []}
+use borrow.Author.Tests.{eqb-true}
+use Rattle.arith.proofs.Tests.{passes}
 use Rattle.rules.specs.Answers.{Outcome, Reply, replyOf}
 use Rattle.rules.specs.Header.{headerOf}
 use Rattle.rules.specs.Ledger.{Tables, Line}
@@ -14,14 +17,17 @@ use Rattle.accounts.proofs.Answered.{answers-exactly}
 use Rattle.accounts.proofs.ClosedOut.{defaulted-are-closed-out}
 use Rattle.accounts.proofs.Complete.{matching-is-complete, nobody-is-passed-over}
 use Rattle.accounts.proofs.EveryList.{never-crossed, defaulted-never-rest, day-is-the-lists, run-is-logged, ggf-never-lost}
-use Rattle.accounts.proofs.EveryRun.{SameAsList, same-as-list, after-every-run}
+use Rattle.accounts.proofs.EveryRun.{made-well, SameAsList, same-as-list, after-every-run}
 use Rattle.accounts.proofs.LengthsStay.{lengths-stay, making-keeps-lengths, at-most-200-lines}
 use Rattle.accounts.proofs.NeverDamaged.{never-damaged, one-for-lines-alone}
 use Rattle.accounts.proofs.Refused.{refused-changes-nothing, refused-makes-nothing, striking-changes-nothing}
 use Rattle.accounts.proofs.StaysSound.{stays-sound, only-rows-change}
 use Rattle.accounts.proofs.TwoBookkeepers.{two-bookkeepers, orders-rest-in-open}
+use Rattle.replay.proofs.EveryRun.{runs-alike, runs-recover, runs-leave-surplus}
+use Rattle.replay.proofs.PastWritten.{lines-stay, book-stays}
+use Rattle.replay.proofs.Making.{making-leaves-surplus}
 use Rattle.host.specs.Sent.{Sent, sent}
-use Rattle.host.specs.Entries.{Makes, Applies, AppliesReply, GotAs, OfRecord, OfMaking, EveryRecord, EveryMaking, AfterRun, EveryRun, GgfsStay, Struck}
+use Rattle.host.specs.Entries.{MakesReply, AppliesReply, GotAs, OfRecord, OfMaking, EveryRecord, EveryMaking, AfterRun, EveryRun, GgfsStay, Struck, ReplaysAlike, Recovers, SurplusStays}
 
 -- ---- every call
 got : (Q : Outcome Tables → Type 0) (o : Outcome Tables) → Q o → (s : Sent Tables) → s ≡ sent o → GotAs Q (s .number) (s .detail) (s .after)
@@ -38,6 +44,8 @@ of-record t bytes = record {
   closed-out = defaulted-are-closed-out t bytes;
   sound = stays-sound t bytes;
   sound-but-rows = only-rows-change t bytes;
+  lines-kept = lines-stay t bytes;
+  book-kept = book-stays t bytes;
 }
 
 pub every-record : EveryRecord
@@ -45,10 +53,16 @@ every-record t bytes number detail u e = got (OfRecord t bytes) (applySpec t byt
 
 pub every-making : EveryMaking
 every-making t header number u e =
-    got (OfMaking t) (makeSpec t header) (record { refused = refused-makes-nothing t header; lengths = making-keeps-lengths t header }) (record { number = number; detail = 0; after = u }) e
+    got (OfMaking t header) (makeSpec t header)
+    (record {
+      refused = refused-makes-nothing t header;
+      lengths = making-keeps-lengths t header;
+      surplus = λ a. let well = made-well t header (eqb-true (replyOf (makeSpec t header .answer) .number) 0 a) in making-leaves-surplus header t (passes _ (well .1)) (passes _ (ap not (well .0))) .0;
+    })
+    (record { number = number; detail = 0; after = u }) e
 
 -- ---- every run of calls
-makes-by-rules : MakesByRules (λ (reply : Reply). reply) (λ before header reply after. Makes before header (reply .number) after)
+makes-by-rules : MakesByRules (λ (reply : Reply). reply) MakesReply
 makes-by-rules t header reply u e = (ap (λ (s : Sent Tables). s .number) e, ap (λ (s : Sent Tables). s .after) e)
 
 applies-by-rules : AppliesByRules (λ (reply : Reply). reply) AppliesReply
@@ -67,7 +81,7 @@ after-list header t calls b long = record {
 }
 
 pub every-run : EveryRun
-every-run = after-every-run (λ reply. reply) AppliesReply applies-by-rules (λ before header reply after. Makes before header (reply .number) after) makes-by-rules AfterRun after-list
+every-run = after-every-run (λ reply. reply) AppliesReply applies-by-rules MakesReply makes-by-rules AfterRun after-list
 
 -- ---- runs from any tables
 as-list : (t : Tables) (run : List (Applied Reply)) → Kept AppliesReply t run → SameAsList (λ reply. reply) AppliesReply applies-by-rules (headerOf []) 0 t run
@@ -85,3 +99,13 @@ struck t run accepted k a e =
       subst₂ SameLedger (all .tables) (ap (after t) is ∙ some .tables) (both .0),
       sym (all .lines) ∙ both .1 ∙ ap (log t) is ∙ some .lines,
     )
+
+-- ---- replay
+pub replays-alike : ReplaysAlike
+replays-alike = runs-alike (λ reply. reply) MakesReply AppliesReply makes-by-rules applies-by-rules
+
+pub recovers : Recovers
+recovers = runs-recover (λ reply. reply) MakesReply AppliesReply makes-by-rules applies-by-rules
+
+pub surplus-stays : SurplusStays
+surplus-stays = runs-leave-surplus (λ reply. reply) MakesReply AppliesReply makes-by-rules applies-by-rules

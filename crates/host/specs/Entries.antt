@@ -3,12 +3,13 @@ use Prim.Native.Nat.{ℕ}
 use mathlib.Core.Path.{_≡_}
 use mathlib.Core.Bool.{true}
 use mathlib.Core.List.{List}
+use lib.ListN.{length}
 use Rattle.rules.specs.declared.answer.Answer.{Answer}
 use Rattle.rules.specs.Answers.{Outcome, Reply, replyOf}
-use Rattle.rules.specs.Header.{Header}
+use Rattle.rules.specs.Header.{Header, headerOf}
 use Rattle.rules.specs.Ledger.{Tables, Line, day, lotsRun, lineRun, resting, withLines, linesShort}
 use Rattle.rules.specs.Refusals.{makeSpec, applySpec}
-use Rattle.rules.specs.Accounts.{Call, Agrees}
+use Rattle.rules.specs.Accounts.{Call, Agrees, isAccepted}
 use Rattle.accounts.specs.Answered.{callCauses, Exact}
 use Rattle.accounts.specs.ClosedOut.{NoLotsOfDefaulted}
 use Rattle.accounts.specs.Complete.{MatchedInFull, NonePassedOver}
@@ -17,6 +18,8 @@ use Rattle.accounts.specs.EveryRun.{Applied, calls, standing, Kept, printed, ac
 use Rattle.accounts.specs.Lengths.{SameLengths, FewLines}
 use Rattle.accounts.specs.Refused.{LeavesIfRefused, SameLedger}
 use Rattle.accounts.specs.StaysSound.{SoundAfter, SoundButRows}
+use Rattle.replay.specs.Surplus.{SurplusKept, LinesKept, BookKept}
+use Rattle.replay.specs.Replay.{RunsAlike, RunsRecover, RunsLeaveSurplus}
 use Rattle.host.specs.Sent.{sent}
 
 -- ---- the promises
@@ -47,25 +50,31 @@ pub record OfRecord (t : Tables) (bytes : List ℕ) (o : Outcome Tables) : Type 
   pub closed-out : NoLotsOfDefaulted t bytes o
   pub sound : SoundAfter t bytes o
   pub sound-but-rows : SoundButRows t o
+  pub lines-kept : LinesKept t o
+  pub book-kept : BookKept t o
 
 -- What holds of every outcome of making a ledger in tables t.
-pub record OfMaking (t : Tables) (o : Outcome Tables) : Type 0 where
+pub record OfMaking (t : Tables) (header : List ℕ) (o : Outcome Tables) : Type 0 where
   pub refused : LeavesIfRefused t o
   pub lengths : SameLengths t (o .after)
+  pub surplus : isAccepted (o .answer) ≡ true → let h = headerOf header in SurplusKept (h .members) (length (h .holidays)) t (o .after)
 
 abbrev pub EveryRecord : Type 0
 EveryRecord = (t : Tables) (bytes : List ℕ) (number detail : ℕ) (u : Tables) → Applies t bytes number detail u → GotAs (OfRecord t bytes) number detail u
 
 abbrev pub EveryMaking : Type 0
-EveryMaking = (t : Tables) (header : List ℕ) (number : ℕ) (u : Tables) → Makes t header number u → GotAs (OfMaking t) number 0 u
+EveryMaking = (t : Tables) (header : List ℕ) (number : ℕ) (u : Tables) → Makes t header number u → GotAs (OfMaking t header) number 0 u
 
 -- ---- every run of calls
+abbrev pub MakesReply : Tables → List ℕ → Reply → Tables → Type 0
+MakesReply before header reply after = Makes before header (reply .number) after
+
 abbrev pub AppliesReply : Tables → List ℕ → Reply → Tables → Type 0
 AppliesReply before bytes reply after = Applies before bytes (reply .number) (reply .detail) after
 
 -- `ledger_make` made a ledger in any lent tables, then `ledger_apply` was given any bytes and any line tables.
 abbrev pub AfterEntries : (Header → Tables → List Line → ℕ → Type 0) → Type 0
-AfterEntries P = AfterEveryRun (λ reply. reply) (λ before header reply after. Makes before header (reply .number) after) AppliesReply P
+AfterEntries P = AfterEveryRun (λ reply. reply) MakesReply AppliesReply P
 
 -- Number 1 is answered for a short line table alone.
 abbrev pub OneForShortLines : Tables → Type 0
@@ -98,3 +107,15 @@ Struck =
     → Kept AppliesReply t accepted
     → calls accepted ≡ acceptedOf (λ reply. reply) run
     → SameLedger (standing t run) (standing t accepted) × (printed (λ reply. reply) run ≡ printed (λ reply. reply) accepted)
+
+-- The same records, applied to ledgers that agree but for surplus, are answered alike, with the same lines, and the ledgers still agree.
+abbrev pub ReplaysAlike : Type 0
+ReplaysAlike = RunsAlike (λ reply. reply) MakesReply AppliesReply
+
+-- So a ledger made anew from the stored header, with the stored records applied to it, is the one that was lost, surplus apart.
+abbrev pub Recovers : Type 0
+Recovers = RunsRecover (λ reply. reply) MakesReply AppliesReply
+
+-- Surplus that is no place for an order stays.
+abbrev pub SurplusStays : Type 0
+SurplusStays = RunsLeaveSurplus (λ reply. reply) MakesReply AppliesReply

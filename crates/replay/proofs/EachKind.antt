@@ -72,7 +72,7 @@ unfolding total
 total-alike f g [] h = refl
 total-alike f g (x ∷ l) h = λ r. h .0 r + total-alike f g l (h .1) r
 
-priced-orders : (n : ℕ) (t : Tables) → orders (priced n t) ≡ orders t
+pub priced-orders : (n : ℕ) (t : Tables) → orders (priced n t) ≡ orders t
 unfolding priced
 priced-orders n t = orders-same t (priced n t) refl refl
 

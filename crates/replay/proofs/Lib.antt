@@ -8,4 +8,4 @@ pub mod Making
 pub mod Stays
 pub mod SurplusStays
 pub mod EveryRun
-pub mod LinesStay
+pub mod PastWritten

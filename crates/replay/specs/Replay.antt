@@ -12,7 +12,7 @@ use Rattle.rules.specs.Ledger.{Tables, Line, members, holidayCount, linesLength
 use Rattle.rules.specs.Refusals.{makeSpec, applySpec}
 use Rattle.rules.specs.Accounts.{Call, callSpec, after, linesOf}
 use Rattle.accounts.specs.EveryRun.{Applied, calls, standing, Kept, linesOfReply}
-use Rattle.replay.specs.Surplus.{SameButSurplus, SurplusKept, LinesKept}
+use Rattle.replay.specs.Surplus.{SameButSurplus, SurplusKept, LinesKept, BookKept}
 
 -- The same record; the line tables may differ in what they hold and in length, if both are long enough or both too short.
 abbrev pub SameRecord : Call → Call → Type 0
@@ -73,6 +73,10 @@ MakingLeavesSurplus =
 -- A call leaves the line table past its lines.
 abbrev pub LinesStay : Type 0
 LinesStay = (t : Tables) (bytes : List ℕ) → LinesKept t (applySpec t bytes)
+
+-- And the book past the orders that it leaves: a surplus place of the book is written only where an order comes to stand.
+abbrev pub BookStays : Type 0
+BookStays = (t : Tables) (bytes : List ℕ) → BookKept t (applySpec t bytes)
 
 -- ---- the same of runs, whose calls kept their promises
 -- Each call's reply, with its lines.

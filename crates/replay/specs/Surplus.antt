@@ -37,3 +37,7 @@ pub record SurplusKept (n k : ℕ) (t u : Tables) : Type 0 where
 abbrev pub LinesKept : Tables → Outcome Tables → Type 0
 LinesKept t o =
     (i : ℕ) → (isAccepted (o .answer) ≡ true → replyOf (o .answer) .detail * lineWidth ≤ i) → getD (o .after .lines) i (pos 0) ≡ getD (t .lines) i (pos 0)
+
+-- Of the book, the places past the orders that a call leaves hold what they held.
+abbrev pub BookKept : Tables → Outcome Tables → Type 0
+BookKept t o = (i : ℕ) → orderCount (o .after) * orderWidth ≤ i → getD (o .after .book) i 0 ≡ getD (t .book) i 0
