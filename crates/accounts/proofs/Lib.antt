@@ -41,4 +41,4 @@ pub mod LengthsStay
 pub mod EveryList
 pub mod ClosedOut
 pub mod StaysSound
-pub mod EveryRun
+pub mod ListsToRuns

@@ -6,7 +6,7 @@ use Rattle.rules.specs.Answers.{Outcome, replyOf}
 use Rattle.rules.specs.Ledger.{Tables}
 use Rattle.rules.specs.Accounts.{Agrees}
 use Rattle.accounts.specs.EveryRun.{MakesByRules, AppliesByRules}
-use Rattle.accounts.proofs.EveryRun.{after-every-run}
+use Rattle.accounts.proofs.ListsToRuns.{after-every-run}
 use Rattle.accounts.proofs.TwoBookkeepers.{two-bookkeepers}
 use Rattle.engine.specs.Runs.{Makes, Applies, Demand3Runs}
 

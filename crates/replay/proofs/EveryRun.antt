@@ -11,11 +11,11 @@ use Rattle.rules.specs.Ledger.{Tables, Line, members, holidayCount}
 use Rattle.rules.specs.Refusals.{makeSpec}
 use Rattle.rules.specs.Accounts.{callSpec, after}
 use Rattle.accounts.specs.EveryRun.{Applied, calls, standing, Kept, linesOfReply, MakesByRules, AppliesByRules}
-use Rattle.accounts.proofs.EveryRun.{told, made-well, same-as-list}
+use Rattle.accounts.proofs.ListsToRuns.{told, made-well, same-as-list}
 use Rattle.replay.specs.Surplus.{SameButSurplus, SurplusKept}
 use Rattle.replay.specs.Replay.{answered, Replayed, shown, SameRuns, RunsAlike, RunsRecover, RunsLeaveSurplus}
 use Rattle.replay.proofs.Making.{recovers}
-use Rattle.replay.proofs.Replay.{replays-alike}
+use Rattle.replay.proofs.EveryList.{replays-alike}
 use Rattle.replay.proofs.SurplusStays.{surplus-stays}
 
 -- an answer with its lines as it is seen

@@ -3,7 +3,7 @@ pub mod Damage
 pub mod Alike
 pub mod Closing
 pub mod EachKind
-pub mod Replay
+pub mod EveryList
 pub mod Making
 pub mod Stays
 pub mod SurplusStays

@@ -24,7 +24,7 @@ use Rattle.accounts.proofs.TwoBookkeepers.{made}
 use Rattle.replay.specs.Surplus.{InUse, ofLedger, ofHoliday, ofLimit, ofMark, ofSubmits, SameButSurplus, SurplusKept}
 use Rattle.replay.specs.Replay.{MakesAlike, MakingLeavesSurplus, Recovers}
 use Rattle.replay.proofs.Alike.{PricesAlike, Alike, same-of}
-use Rattle.replay.proofs.Replay.{replays-alike}
+use Rattle.replay.proofs.EveryList.{replays-alike}
 use Rattle.replay.proofs.Stays.{past-blocks}
 
 -- ---- the head: a place of the part that is written is the same, any other if it was

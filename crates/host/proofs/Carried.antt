@@ -17,7 +17,7 @@ use Rattle.accounts.proofs.Answered.{answers-exactly}
 use Rattle.accounts.proofs.ClosedOut.{defaulted-are-closed-out}
 use Rattle.accounts.proofs.Complete.{matching-is-complete, nobody-is-passed-over}
 use Rattle.accounts.proofs.EveryList.{never-crossed, defaulted-never-rest, day-is-the-lists, run-is-logged, ggf-never-lost}
-use Rattle.accounts.proofs.EveryRun.{made-well, SameAsList, same-as-list, after-every-run}
+use Rattle.accounts.proofs.ListsToRuns.{made-well, SameAsList, same-as-list, after-every-run}
 use Rattle.accounts.proofs.LengthsStay.{lengths-stay, making-keeps-lengths, at-most-200-lines}
 use Rattle.accounts.proofs.NeverDamaged.{never-damaged, one-for-lines-alone}
 use Rattle.accounts.proofs.Refused.{refused-changes-nothing, refused-makes-nothing, striking-changes-nothing}
