@@ -11,7 +11,7 @@ use Rattle.rules.specs.Header.{Header, headerOf, calendarOf, beginsWithHeader}
 use Rattle.rules.specs.Ledger.{Tables, Line, ledgerShort}
 use Rattle.rules.specs.Records.{readOf}
 use Rattle.rules.specs.Refusals.{makeSpec}
-use Rattle.rules.specs.Accounts.{Call, callSpec, after, log, listsDay, dayAfterEvent}
+use Rattle.rules.specs.Accounts.{callSpec, after, log, listsDay, dayAfterEvent}
 use Rattle.accounts.specs.EveryList.{AfterEveryList}
 use Rattle.accounts.specs.Refused.{acceptedCalls}
 use Rattle.accounts.specs.EveryRun.{Applied, calls, standing, Kept, linesOfReply, printed, dayOf, acceptedOf, MakesByRules, AppliesByRules, AfterEveryRun}

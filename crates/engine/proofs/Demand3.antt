@@ -1,7 +1,5 @@
 -- Demand 3 of what runs: calls that keep their promises are the list of the theorem about the rules. Assumes nothing.
-use Prim.Native.Nat.{ℕ}
 use mathlib.Core.Path.{ap}
-use mathlib.Core.List.{List}
 use Rattle.rules.specs.Answers.{Outcome, replyOf}
 use Rattle.rules.specs.Ledger.{Tables}
 use Rattle.rules.specs.Accounts.{Agrees}

@@ -7,11 +7,11 @@ use borrow.Author.Tests.{eqb-true}
 use Rattle.arith.proofs.Tests.{passes}
 use Rattle.rules.specs.Answers.{Outcome, Reply, replyOf}
 use Rattle.rules.specs.Header.{headerOf}
-use Rattle.rules.specs.Ledger.{Tables, Line}
+use Rattle.rules.specs.Ledger.{Tables}
 use Rattle.rules.specs.Refusals.{makeSpec, applySpec}
-use Rattle.rules.specs.Accounts.{Call, after, log}
+use Rattle.rules.specs.Accounts.{after, log}
 use Rattle.accounts.specs.EveryList.{AfterEveryList, GgfsKept}
-use Rattle.accounts.specs.EveryRun.{Applied, calls, standing, Kept, printed, acceptedOf, MakesByRules, AppliesByRules}
+use Rattle.accounts.specs.EveryRun.{Applied, calls, Kept, MakesByRules, AppliesByRules}
 use Rattle.accounts.specs.Refused.{acceptedCalls, SameLedger}
 use Rattle.accounts.proofs.Answered.{answers-exactly}
 use Rattle.accounts.proofs.ClosedOut.{defaulted-are-closed-out}

@@ -1,11 +1,11 @@
 -- The same writing done to two ledgers that agree but for surplus leaves them so. Assumes nothing.
-use Prim.Native.Nat.{ℕ, zero, suc, _+_, _*_, _-_, _≤_, _<_}
+use Prim.Native.Nat.{ℕ, _+_, _*_, _-_, _≤_, _<_}
 use mathlib.Core.Path.{_≡_, refl, sym, ap, subst, subst₂, _∙_}
-use mathlib.Core.Bool.{Bool, true, false, not, cond}
-use mathlib.Core.List.{List, [], _∷_, _++_, flatMap}
+use mathlib.Core.Bool.{cond}
+use mathlib.Core.List.{List, flatMap}
 use native.Mathlib.Omega.{arith}
 use lib.Dec.{ltb}
-use lib.ListN.{length, getD, set, take, drop, replicate, length-set, length-replicate, List·getD-append}
+use lib.ListN.{length, getD, set, drop, replicate, length-set, length-replicate, List·getD-append}
 use lib.Seq.{getD-set-same, getD-set-other}
 use lib.IntN.{ℤ, pos, _+ℤ_}
 use Rattle.arith.specs.Lists.{All, over, total}
@@ -14,7 +14,7 @@ use Rattle.arith.proofs.Overs.{over-length, over-inside, over-outside}
 use Rattle.arith.proofs.Tests.{by-bool, le-or-lt, same-or}
 use Rattle.rules.specs.declared.order.Order.{Order}
 use Rattle.rules.specs.Ranges.{contractCount, mostMembers}
-use Rattle.rules.specs.Ledger.{Tables, Line, withHead, withPrices, withBook, headLength, membersPlace, holidayCountPlace, dayPlace, timePlace, acceptedSubmitsPlace, lotsRunPlace, orderCountPlace, holidaysFrom, marksFrom, submitsFrom}
+use Rattle.rules.specs.Ledger.{Tables, Line, withHead, withPrices, headLength, membersPlace, holidayCountPlace, dayPlace, timePlace, acceptedSubmitsPlace, lotsRunPlace, orderCountPlace, marksFrom, submitsFrom}
 use Rattle.rules.specs.Ledger.{members, holidayCount, time, acceptedSubmits, lotsRun, orderCount, submitsThisSecond, priceWidth, pricesLength, rowWidth, rowsLength, orderWidth, orderPlaces, withOrders, lineLots, lineValue, lineRun, posted, booked}
 use Rattle.rules.specs.Ledger.{withoutSubmits, timed, withMark, defaultMark, dayLots, dayValue, withDealt, dayLotsPlace, dayValuePlace, withDayLimits, lowPlace, highPlace}
 use Rattle.rules.specs.Matching.{Deal, withDeals, counted}
@@ -24,7 +24,7 @@ use Rattle.rules.specs.Accounts.{Column, row}
 use Rattle.rules.proofs.SoundTables.{Long, not-short}
 use Rattle.accounts.proofs.Lines.{Fits, rowTotal}
 use Rattle.accounts.proofs.Rows.{posted-length, posted-row}
-use Rattle.replay.specs.Surplus.{InUse, ofLedger, ofHoliday, ofLimit, ofMark, ofSubmits, SameButSurplus}
+use Rattle.replay.specs.Surplus.{InUse, ofLedger, ofSubmits, SameButSurplus}
 
 -- ---- one place of two lists
 module _ {A : Type 0} (z : A) (l l′ : List A) (i : ℕ) (e : getD l i z ≡ getD l′ i z) where

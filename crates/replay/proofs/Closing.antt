@@ -1,16 +1,14 @@
 -- A close of day on two ledgers that agree but for surplus: GGFs, cascades, closing orders and the next day. Assumes nothing.
 use Prim.Native.Nat.{ℕ, zero, suc, _+_, _*_, _%_, _≤_, _<_}
-use mathlib.Core.Path.{_≡_, refl, sym, ap, subst, subst₂, _∙_}
-use mathlib.Core.Bool.{Bool, true, not, cond}
-use mathlib.Core.List.{List, [], _∷_, _++_}
+use mathlib.Core.Path.{_≡_, sym, ap, subst, _∙_}
+use mathlib.Core.Bool.{Bool, true, not}
+use mathlib.Core.List.{List, [], _∷_}
 use native.Mathlib.Omega.{arith}
 use native.Mathlib.Nat.{add-zero}
-use lib.Dec.{eqb}
-use lib.ListN.{length, getD, take, drop, length-take, length-drop}
+use lib.ListN.{length, getD, take, length-take, length-drop}
 use lib.Seq.{ext-getD}
-use lib.IntN.{ℤ, pos, _+ℤ_}
-use Rattle.arith.specs.Ints.{when}
-use Rattle.arith.specs.Lists.{All, any, kept, from, over}
+use lib.IntN.{ℤ}
+use Rattle.arith.specs.Lists.{All, kept, from, over}
 use Rattle.arith.proofs.Alls.{all-map, all-append, all-kept}
 use Rattle.arith.proofs.EachBlock.{block, block-at, in-each-block, in-each-length}
 use Rattle.arith.proofs.Overs.{over-length}
@@ -22,36 +20,36 @@ use Rattle.rules.specs.declared.order.Side.{Side}
 use Rattle.rules.specs.declared.order.Side.the-variants.{Buy, Sell}
 use Rattle.rules.specs.Ranges.{contractCount, termCount, mostMembers}
 use Rattle.rules.specs.Days.{Calendar}
-use Rattle.rules.specs.Contracts.{sameKind, kindOf, termOf, contractsOf, openCount, stillToClose, openOfKind, openContracts, childrenOf}
-use Rattle.rules.specs.Ledger.{Tables, members, day, calendar, dayLotsPlace, ggfPlace, priceWidth, pricesLength, rowWidth, dayLots, dayValue, ggf, withGgf, orders, withOrders, membersPlace}
+use Rattle.rules.specs.Contracts.{sameKind, kindOf, termOf, contractsOf, openCount, stillToClose, openOfKind, openContracts}
+use Rattle.rules.specs.Ledger.{Tables, members, day, calendar, dayLotsPlace, ggfPlace, priceWidth, pricesLength, dayLots, dayValue, ggf, withGgf, orders, withOrders, membersPlace}
 use Rattle.rules.specs.Matching.{best}
-use Rattle.rules.specs.CloseOfDay.{quotes, bestQuote, priceOfDay, ggfAtClose, withGgfs, withoutDeals, priced, cascaded, allCascaded, isOfAny, withClosed, closingContracts}
+use Rattle.rules.specs.CloseOfDay.{quotes, bestQuote, ggfAtClose, withGgfs, withoutDeals, priced, cascaded, allCascaded, isOfAny, withClosed}
 use Rattle.rules.proofs.Cascade.{cascaded-month, cascaded-length, cascaded-row}
 use Rattle.replay.specs.Surplus.{ofLedger}
-use Rattle.replay.proofs.Alike.{PricesAlike, prices-with, RowsAlike, HeadsAlike, heads-counted, Alike, with-orders}
+use Rattle.replay.proofs.Alike.{PricesAlike, prices-with, RowsAlike, Alike, with-orders}
 
 -- ---- the open contracts have prices and rows
-abbrev pub Below : List ℕ → Type 0
-Below cs = All (λ c. c < contractCount) cs
+abbrev pub AreContracts : List ℕ → Type 0
+AreContracts cs = All (λ c. c < contractCount) cs
 
-pub below-from : (a n : ℕ) → a + n ≤ contractCount → Below (from a n)
+pub below-from : (a n : ℕ) → a + n ≤ contractCount → AreContracts (from a n)
 unfolding from
 below-from a zero h = tt
 below-from a (suc n) h = (omega arith, below-from (suc a) n (omega arith))
 
-below-kept : (p : ℕ → Bool) (cs : List ℕ) → Below cs → Below (kept p cs)
+below-kept : (p : ℕ → Bool) (cs : List ℕ) → AreContracts cs → AreContracts (kept p cs)
 below-kept p cs a = all-map (λ c. (c < contractCount) × (p c ≡ true)) (λ c. c < contractCount) (kept p cs) (λ c h. h .0) (all-kept (λ c. c < contractCount) p cs a)
 
-below-take : (n : ℕ) (cs : List ℕ) → Below cs → Below (take n cs)
+below-take : (n : ℕ) (cs : List ℕ) → AreContracts cs → AreContracts (take n cs)
 below-take zero cs a = tt
 below-take (suc n) [] a = tt
 below-take (suc n) (c ∷ cs) a = (a .0, below-take n cs (a .1))
 
-pub open-below : (k : Calendar) (d : ℕ) → Below (openContracts k d)
+pub open-below : (k : Calendar) (d : ℕ) → AreContracts (openContracts k d)
 unfolding openContracts openOfKind contractsOf
 open-below k d = all-append _ (openOfKind k d Year) _ (of Year) (all-append _ (openOfKind k d Quarter) _ (of Quarter) (of Month))
   where
-    of : (s : ContractKind) → Below (openOfKind k d s)
+    of : (s : ContractKind) → AreContracts (openOfKind k d s)
     of s = below-take (openCount s) _ (below-kept (λ c. stillToClose k d (termOf c)) (contractsOf s) (below-kept (λ c. sameKind (kindOf c) s) (from 0 termCount) (below-from 0 termCount (omega arith))))
 
 -- ---- GGFs
@@ -72,7 +70,7 @@ module _ (t u : Tables) (today : day t ≡ day u) (os : orders t ≡ orders u) (
       let g : ggf t c ≡ ggf u c = rw (add-zero (c * priceWidth)) at (prices .places c 0 h (omega arith)) in
       rw (m, v, g, same-best c Buy, same-best c Sell)
 
-  ggfs-alike : (cs : List ℕ) → Below cs → {l l′ : List ℕ} → PricesAlike l l′ → PricesAlike (withGgfs t s cs l) (withGgfs u s cs l′)
+  ggfs-alike : (cs : List ℕ) → AreContracts cs → {l l′ : List ℕ} → PricesAlike l l′ → PricesAlike (withGgfs t s cs l) (withGgfs u s cs l′)
   unfolding withGgfs
   ggfs-alike [] b a = a
   ggfs-alike (c ∷ cs) b {l} {l′} a =

@@ -1,25 +1,25 @@
 -- Two ledgers that agree but for surplus are both damaged or both not. Assumes nothing.
 use Prim.Native.Nat.{ℕ, zero, suc, _+_, _*_, _≤_, _<_}
-use mathlib.Core.Path.{_≡_, refl, sym, ap, subst, subst₂, _∙_}
-use mathlib.Core.Bool.{Bool, true, false, not, _&&_, _||_}
-use mathlib.Core.List.{List, [], _∷_, map}
+use mathlib.Core.Path.{_≡_, refl, sym, ap, subst₂, _∙_}
+use mathlib.Core.Bool.{Bool, true, false, not, _&&_}
+use mathlib.Core.List.{List}
 use native.Mathlib.Omega.{arith}
-use lib.Dec.{leb, ltb}
-use lib.ListN.{length, getD, take, drop, length-take, length-drop}
+use lib.Dec.{leb}
+use lib.ListN.{length, getD, take, length-take, length-drop}
 use lib.Seq.{getD-take, ext-getD, take-all}
 use lib.IntN.{ℤ, pos, natAbs}
 use borrow.Author.Tests.{not-false}
-use Rattle.arith.specs.Lists.{every, from, allOf, everyBlock}
+use Rattle.arith.specs.Lists.{every, from}
 use Rattle.arith.proofs.Alls.{all-hold, hold-all}
 use Rattle.arith.proofs.EachBlock.{block, block-at, block-passes, every-block}
 use Rattle.arith.proofs.Tests.{true-or, never, and-left, and-right, or-left, or-right}
 use Rattle.rules.specs.declared.order.Order.{Order}
-use Rattle.rules.specs.Ranges.{contractCount, mostMembers, mostHolidays, mostPrice}
-use Rattle.rules.specs.Ledger.{Tables, members, holidayCount, lotsRun, orderCount, priceWidth, pricesLength, rowWidth, rowsLength, sideAt, orders, ledgerShort, linesShort}
+use Rattle.rules.specs.Ranges.{contractCount, mostHolidays, mostPrice}
+use Rattle.rules.specs.Ledger.{Tables, members, holidayCount, lotsRun, orderCount, priceWidth, rowWidth, rowsLength, sideAt, orders, ledgerShort, linesShort}
 use Rattle.rules.specs.Records.{sideSound}
-use Rattle.rules.specs.Refusals.{everyRow, rowsSound, contractPricesSound, pricesSound, memberSound, headSound, orderSound, sidesSound, distinct, bookSound, damaged, ledgerUnsound, unsound}
+use Rattle.rules.specs.Refusals.{everyRow, rowsSound, contractPricesSound, pricesSound, memberSound, headSound, orderSound, sidesSound, bookSound, damaged, ledgerUnsound, unsound}
 use Rattle.rules.specs.Accounts.{Column, lots, value, row}
-use Rattle.rules.proofs.SoundTables.{Long, long-enough, not-short, Undamaged, undamaged}
+use Rattle.rules.proofs.SoundTables.{Long, long-enough, not-short, undamaged}
 use Rattle.replay.specs.Surplus.{InUse, SameButSurplus}
 use Rattle.replay.proofs.Same.{same-members, same-count, same-day, same-time, same-accepted, same-run, same-order-count, same-limit, same-mark, same-submits, same-side, same-orders, same-calendar}
 
@@ -33,10 +33,10 @@ same-back {t} {u} s = record {
   book = λ i j h k. sym (s .book i j (omega (arith, same-order-count t u s)) k);
 }
 
-every-same : (p q : ℕ → Bool) (a n : ℕ) → ((i : ℕ) → a ≤ i → i < a + n → p i ≡ q i) → every p (from a n) ≡ every q (from a n)
+every-from-same : (p q : ℕ → Bool) (a n : ℕ) → ((i : ℕ) → a ≤ i → i < a + n → p i ≡ q i) → every p (from a n) ≡ every q (from a n)
 unfolding every from
-every-same p q a zero e = refl
-every-same p q a (suc n) e = λ s. e a (omega arith) (omega arith) s && every-same p q (suc a) n (λ i h k. e i (omega arith) (omega arith)) s
+every-from-same p q a zero e = refl
+every-from-same p q a (suc n) e = λ s. e a (omega arith) (omega arith) s && every-from-same p q (suc a) n (λ i h k. e i (omega arith) (omega arith)) s
 
 -- blocks of which the first n places are the same
 block-same : {A : Type 0} (z : A) (w n c k : ℕ) (l l′ : List A) → k * w ≤ length l → k * w ≤ length l′ → c < k → (c + 1) * w ≤ k * w
@@ -53,7 +53,7 @@ module _ (t u : Tables) (s : SameButSurplus t u) (long : Long t) (long′ : Long
   unfolding headSound memberSound
   same-head few =
       let members-same : every (memberSound t) (from 0 (members t)) ≡ every (memberSound u) (from 0 (members u)) =
-      every-same (memberSound t) (memberSound u) 0 (members t) (λ m _ h. rw (same-limit t u s m (omega arith), same-mark t u s m (omega arith), same-submits t u s m (omega arith)))
+      every-from-same (memberSound t) (memberSound u) 0 (members t) (λ m _ h. rw (same-limit t u s m (omega arith), same-mark t u s m (omega arith), same-submits t u s m (omega arith)))
       ∙ ap (λ n. every (memberSound u) (from 0 n)) (same-members t u s) in
       rw (members-same, same-calendar t u s few (long .head) (long′ .head), same-count t u s, same-members t u s, same-day t u s, same-time t u s, same-accepted t u s, same-run t u s, same-order-count t u s)
 
@@ -94,7 +94,7 @@ module _ (t u : Tables) (s : SameButSurplus t u) (long : Long t) (long′ : Long
   unfolding bookSound sidesSound
   same-book few =
       let sides-same : every (λ i. sideSound (sideAt (t .book) i)) (from 0 (orderCount t)) ≡ every (λ i. sideSound (sideAt (u .book) i)) (from 0 (orderCount u)) =
-      every-same (λ i. sideSound (sideAt (t .book) i)) (λ i. sideSound (sideAt (u .book) i)) 0 (orderCount t) (λ i _ h. ap sideSound (same-side t u s i (omega arith)))
+      every-from-same (λ i. sideSound (sideAt (t .book) i)) (λ i. sideSound (sideAt (u .book) i)) 0 (orderCount t) (λ i _ h. ap sideSound (same-side t u s i (omega arith)))
       ∙ ap (λ n. every (λ i. sideSound (sideAt (u .book) i)) (from 0 n)) (same-order-count t u s) in
       let each-same : every (orderSound t) (orders u) ≡ every (orderSound u) (orders u) = λ r. every (λ o. order-same few o r) (orders u) in
       rw (sides-same, same-orders t u s, each-same)

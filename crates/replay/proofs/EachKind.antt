@@ -1,5 +1,5 @@
 -- A record of each kind on two ledgers that agree but for surplus: the same causes, the same answer, the same lines. Assumes nothing.
-use Prim.Native.Nat.{ℕ, _+_, _*_, _≤_, _<_, min}
+use Prim.Native.Nat.{ℕ, _+_, _*_, _≤_, _<_}
 use mathlib.Core.Path.{_≡_, refl, sym, ap, subst, _∙_}
 use mathlib.Core.Bool.{Bool, true, false, cond, not, _&&_}
 use mathlib.Core.List.{List, [], _∷_, _++_, map, flatMap}
@@ -7,7 +7,6 @@ use native.Mathlib.Omega.{arith}
 use lib.Dec.{eqb, ltb}
 use lib.ListN.{length}
 use lib.IntN.{natAbs}
-use Rattle.arith.specs.Ints.{up, dn}
 use Rattle.arith.specs.Lists.{All, every, kept, total, from}
 use Rattle.arith.proofs.Alls.{all-map}
 use Rattle.rules.specs.declared.answer.Answer.the-variants.{Accepted}
@@ -16,7 +15,6 @@ use Rattle.rules.specs.declared.event.CloseOutTerms.{CloseOutTerms}
 use Rattle.rules.specs.declared.event.Leg.{Leg}
 use Rattle.rules.specs.declared.event.NewDayLimits.{NewDayLimits}
 use Rattle.rules.specs.declared.event.Submission.{Submission}
-use Rattle.rules.specs.declared.order.Order.{Order}
 use Rattle.rules.specs.declared.order.Side.{Side}
 use Rattle.rules.specs.declared.order.Side.the-variants.{Buy, Sell}
 use Rattle.rules.specs.Answers.{Outcome}
@@ -24,11 +22,11 @@ use Rattle.rules.specs.Ranges.{contractCount, termCount, mostMembers}
 use Rattle.rules.specs.declared.units.Day.the-variants.{On, NoDay}
 use Rattle.rules.specs.Days.{nextBusinessDay}
 use Rattle.rules.specs.Contracts.{daysOf, openContracts}
-use Rattle.rules.specs.Ledger.{Tables, Line, members, holidayCount, orderCount, isOpen, day, calendar, defaulted, lotsAt, ggf, orders, resting, low, high, withOrders, withPrices, withHead, withMark, withDayLimits, booked, timed, linePlaces, firstLines}
-use Rattle.rules.specs.Matching.{Matched, matched, dealLines, incoming, submitMatched, submitLines, isResting, wouldRest, withLots, submitsAt, restingLots, aboveLimit, submitOrders, withDeals, counted, submitBooked}
+use Rattle.rules.specs.Ledger.{Tables, Line, members, holidayCount, orderCount, isOpen, day, calendar, defaulted, lotsAt, orders, resting, low, high, booked, firstLines}
+use Rattle.rules.specs.Matching.{matched, dealLines, incoming, submitMatched, submitLines, isResting, wouldRest, withLots, submitsAt, restingLots, aboveLimit, submitOrders, submitBooked}
 use Rattle.rules.specs.Synthetic.{Named, namedLegs, priceWithin, priceAllowed, acceptable, proposalLines, usedByLegs, proposalBooked}
-use Rattle.rules.specs.CloseOfDay.{hasNextDay, nextDay, closingContracts, priced, withClosed, onDay, closeBooked}
-use Rattle.rules.specs.Default.{defaultBooked, byMember, sumOf, defaultedLongs, defaultedShorts, smallerTotal, nettedLongs, nettedShorts, nettingChanges, longsLeft, shortsLeft, lotsLeft, othersLots, openWeight}
+use Rattle.rules.specs.CloseOfDay.{hasNextDay, nextDay, closingContracts, priced, closeBooked}
+use Rattle.rules.specs.Default.{defaultBooked, byMember, defaultedLongs, defaultedShorts, smallerTotal, nettedLongs, nettedShorts, nettingChanges, longsLeft, shortsLeft, lotsLeft, othersLots, openWeight}
 use Rattle.rules.specs.Default.{weights, taken, defaultedChanges, takerChanges, closeOutLines, closeOutBooked}
 use Rattle.rules.specs.Refusals.{isCancelled, submitCauses, cancelCauses, dayLimitsCauses, proposalCauses, defaultCauses, closeOutCauses, closeCauses, cancelBooked, dayLimitsBooked}
 use Rattle.rules.specs.Accounts.{linesOf}
@@ -42,9 +40,9 @@ use Rattle.accounts.proofs.Runs.{orders-same, sound-of}
 use Rattle.accounts.proofs.Submits.{submit-fits}
 use Rattle.accounts.proofs.Written.{lines-printed}
 use Rattle.replay.specs.Surplus.{SameButSurplus}
-use Rattle.replay.proofs.Same.{map-same, same-members, same-day, same-time, same-accepted, same-run, same-limit, same-defaulted, same-submits, same-lots, same-ggf, same-low, same-high, same-orders, same-calendar, same-open}
+use Rattle.replay.proofs.Same.{map-from-same, same-members, same-day, same-time, same-accepted, same-run, same-limit, same-defaulted, same-submits, same-lots, same-ggf, same-low, same-high, same-orders, same-calendar, same-open}
 use Rattle.replay.proofs.Alike.{Alike, alike-of, with-orders, with-booked, with-time, with-counted, with-mark, with-day, with-deals, with-limits}
-use Rattle.replay.proofs.Closing.{Below, open-below, with-ggfs, with-closed}
+use Rattle.replay.proofs.Closing.{open-below, with-ggfs, with-closed}
 
 -- ---- two outcomes: the same answer, the same lines, and ledgers that agree but for surplus
 pub record OutcomesAlike (n k : ℕ) (o o′ : Outcome Tables) : Type 0 where
@@ -231,7 +229,7 @@ module _ (t u : Tables) (s : SameButSurplus t u) (a : Undamaged t) (l : Long u) 
   -- ---- close-out
   module _ (e : CloseOutTerms) (h : e .contract < contractCount) where
     by-member : {A : Type 0} (f g : ℕ → A) → ((m : ℕ) → m < members t → f m ≡ g m) → byMember t f ≡ byMember u g
-    by-member f g q = map-same f g 0 (members t) (λ m _ k. q m (omega arith)) ∙ ap (λ n. map g (from 0 n)) (same-members t u s)
+    by-member f g q = map-from-same f g 0 (members t) (λ m _ k. q m (omega arith)) ∙ ap (λ n. map g (from 0 n)) (same-members t u s)
 
     longs : defaultedLongs t (e .contract) ≡ defaultedLongs u (e .contract)
     unfolding defaultedLongs

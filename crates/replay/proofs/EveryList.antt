@@ -1,18 +1,12 @@
 -- From a record of each kind to every list, and from a header on. Assumes nothing.
-use Prim.Native.Nat.{ℕ, _+_, _*_, _≤_, _<_}
-use mathlib.Core.Path.{_≡_, refl, sym, ap, subst, subst₂, _∙_}
-use mathlib.Core.Bool.{Bool, true, false, not}
+use Prim.Native.Nat.{ℕ, _<_}
+use mathlib.Core.Path.{_≡_, refl, sym, subst, _∙_}
+use mathlib.Core.Bool.{true, false}
 use mathlib.Core.List.{List, [], _∷_}
-use native.Mathlib.Omega.{arith}
-use lib.Dec.{T}
-use lib.ListN.{length, getD, replicate, length-replicate}
 use lib.IntN.{ℤ}
-use Rattle.arith.specs.Lists.{All, over}
-use Rattle.arith.proofs.EachBlock.{block, block-at, in-each-block, in-each-length}
-use Rattle.arith.proofs.Overs.{over-length}
-use Rattle.arith.proofs.Tests.{true-or, passed, failed}
+use Rattle.arith.proofs.Tests.{true-or}
 use Rattle.rules.specs.declared.answer.Answer.{Answer}
-use Rattle.rules.specs.declared.answer.Answer.the-variants.{TableUnsound, RecordUnsound}
+use Rattle.rules.specs.declared.answer.Answer.the-variants.{RecordUnsound}
 use Rattle.rules.specs.declared.event.Event.{Event}
 use Rattle.rules.specs.declared.event.Event.the-variants.{Submit, Cancel, DayLimits, Proposal, Default, CloseOut, CloseOfDay}
 use Rattle.rules.specs.declared.event.Leg.{Leg}
@@ -25,12 +19,12 @@ use Rattle.rules.specs.Refusals.{unsound, kindCauses, kindBooked, eventSpec, re
 use Rattle.rules.specs.Accounts.{Column, lots, value, row, Call, callSpec, after, isAccepted, linesOf}
 use Rattle.rules.specs.Ranges.{contractCount}
 use Rattle.rules.proofs.SoundEvents.{submission, new-day-limits, default-member, close-out-contract}
-use Rattle.rules.proofs.SoundTables.{Long, long-enough, not-short, Undamaged, undamaged}
+use Rattle.rules.proofs.SoundTables.{Long, Undamaged, undamaged}
 use Rattle.accounts.proofs.EachKind.{Refuses, causes-refuse, read-sound}
 use Rattle.accounts.proofs.LengthsStay.{lengths-stay}
 use Rattle.accounts.proofs.SameLengths.{stays-long}
 use Rattle.replay.specs.Surplus.{SameButSurplus}
-use Rattle.replay.specs.Replay.{SameRecord, SameRecords, answered, Replayed, ReplaysAlike}
+use Rattle.replay.specs.Replay.{SameRecord, answered, ReplaysAlike}
 use Rattle.replay.proofs.Same.{same-members}
 use Rattle.replay.proofs.Damage.{same-unsound}
 use Rattle.replay.proofs.Alike.{Alike, alike-of, same-of}

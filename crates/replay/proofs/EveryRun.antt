@@ -8,7 +8,6 @@ use Rattle.rules.specs.declared.answer.Answer.{Answer}
 use Rattle.rules.specs.Answers.{Reply, replyOf}
 use Rattle.rules.specs.Header.{headerOf}
 use Rattle.rules.specs.Ledger.{Tables, Line, members, holidayCount}
-use Rattle.rules.specs.Refusals.{makeSpec}
 use Rattle.rules.specs.Accounts.{callSpec, after}
 use Rattle.accounts.specs.EveryRun.{Applied, calls, standing, Kept, linesOfReply, MakesByRules, AppliesByRules}
 use Rattle.accounts.proofs.ListsToRuns.{told, made-well, same-as-list}

@@ -5,7 +5,7 @@ pub mod Closing
 pub mod EachKind
 pub mod EveryList
 pub mod Making
-pub mod Stays
+pub mod SurplusParts
 pub mod SurplusStays
 pub mod EveryRun
 pub mod PastWritten

@@ -1,10 +1,8 @@
 -- Ledgers made from the same header agree but for surplus, whatever the tables held. Assumes nothing.
 use Prim.Native.Nat.{ℕ, _+_, _*_, _-_, _≤_, _<_}
 use mathlib.Core.Path.{_≡_, refl, sym, ap, subst, subst₂, _∙_}
-use mathlib.Core.Bool.{not}
 use mathlib.Core.List.{List, [], _∷_}
 use native.Mathlib.Omega.{arith}
-use lib.Dec.{T}
 use lib.ListN.{length, getD, replicate, length-replicate, length-take, length-drop}
 use lib.IntN.{ℤ, pos}
 use Rattle.arith.specs.Lists.{over}
@@ -12,20 +10,20 @@ use Rattle.arith.proofs.EachBlock.{block, block-at, in-each-block, in-each-leng
 use Rattle.arith.proofs.Overs.{over-length, over-inside, over-outside}
 use Rattle.arith.proofs.Tests.{le-or-lt, passed, failed}
 use Rattle.rules.specs.Ranges.{contractCount, mostMembers, mostPrice}
-use Rattle.rules.specs.Header.{Header, headerOf, beginsWithHeader}
+use Rattle.rules.specs.Header.{Header, headerOf}
 use Rattle.rules.specs.Ledger.{Tables, headLength, holidaysFrom, limitsFrom, marksFrom, submitsFrom, firstYearPlace, priceWidth, pricesLength, rowWidth, rowsLength, ledgerShort, freshHead, freshPrices, freshRows, fresh}
 use Rattle.rules.specs.Refusals.{makeSpec}
 use Rattle.rules.specs.Accounts.{Column, lots, value, row}
 use Rattle.rules.proofs.SoundHeaders.{SoundHeader, header-gives, begun}
 use Rattle.rules.proofs.SoundTables.{Long, long-enough}
-use Rattle.accounts.proofs.Fresh.{head-length, counts-of, holiday-count-of, fresh-runs, fresh-zero}
+use Rattle.accounts.proofs.Fresh.{counts-of, holiday-count-of, fresh-runs, fresh-zero}
 use Rattle.accounts.proofs.SameLengths.{fresh-lengths, stays-long}
 use Rattle.accounts.proofs.TwoBookkeepers.{made}
 use Rattle.replay.specs.Surplus.{InUse, ofLedger, ofHoliday, ofLimit, ofMark, ofSubmits, SameButSurplus, SurplusKept}
 use Rattle.replay.specs.Replay.{MakesAlike, MakingLeavesSurplus, Recovers}
 use Rattle.replay.proofs.Alike.{PricesAlike, Alike, same-of}
 use Rattle.replay.proofs.EveryList.{replays-alike}
-use Rattle.replay.proofs.Stays.{past-blocks}
+use Rattle.replay.proofs.SurplusParts.{past-blocks}
 
 -- ---- the head: a place of the part that is written is the same, any other if it was
 part : (a : ℕ) (xs l l′ : List ℕ) → a + length xs ≤ headLength → headLength ≤ length l → headLength ≤ length l′ → (i : ℕ)

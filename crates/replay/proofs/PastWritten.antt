@@ -1,12 +1,12 @@
 -- Every call leaves the line table past its lines, and the book past its orders. Assumes nothing.
-use Prim.Native.Nat.{ℕ, _+_, _*_, _≤_}
+use Prim.Native.Nat.{ℕ, _*_, _≤_}
 use mathlib.Core.Path.{_≡_, refl, sym, ap, _∙_}
 use mathlib.Core.Bool.{Bool, true, not, cond}
 use mathlib.Core.List.{List, [], flatMap}
 use native.Mathlib.Omega.{arith}
 use lib.Dec.{eqb, ltb}
 use lib.ListN.{length, getD, set}
-use lib.IntN.{ℤ, pos}
+use lib.IntN.{pos}
 use Rattle.arith.specs.Lists.{kept, over}
 use Rattle.arith.proofs.Appends.{flat-length}
 use Rattle.arith.proofs.Overs.{over-outside}
@@ -15,8 +15,8 @@ use Rattle.rules.specs.declared.event.Event.{Event}
 use Rattle.rules.specs.declared.event.Event.the-variants.{Submit, Cancel, DayLimits, Proposal, Default, CloseOut, CloseOfDay}
 use Rattle.rules.specs.declared.event.Leg.{Leg}
 use Rattle.rules.specs.declared.order.Order.{Order}
-use Rattle.rules.specs.Ranges.{leastLines, mostOrders}
-use Rattle.rules.specs.Ledger.{Tables, Line, members, orderCount, orders, orderWidth, orderPlaces, bookLength, time, withHead, linesLength, lineWidth, linePlaces, withOrders, booked, withoutSubmits, timed, timePlace}
+use Rattle.rules.specs.Ranges.{mostOrders}
+use Rattle.rules.specs.Ledger.{Tables, members, orderCount, orders, orderWidth, orderPlaces, bookLength, time, withHead, lineWidth, linePlaces, withOrders, booked, withoutSubmits, timed, timePlace}
 use Rattle.rules.specs.Records.{eventSound}
 use Rattle.rules.specs.Matching.{submitOrders, submitLines, withDeals, counted, submitBooked}
 use Rattle.rules.specs.Synthetic.{usedByLegs, proposalLines, proposalBooked}

@@ -1,30 +1,26 @@
 -- What is read of two ledgers that agree but for surplus is the same. Assumes nothing.
 use Prim.Native.Nat.{ℕ, zero, suc, _+_, _*_, _≤_, _<_}
 use mathlib.Core.Path.{_≡_, refl, sym, ap, _∙_}
-use mathlib.Core.Bool.{Bool, true, false, cond}
-use mathlib.Core.List.{List, [], _∷_, map}
+use mathlib.Core.List.{_∷_, map}
 use native.Mathlib.Omega.{arith}
 use native.Mathlib.Nat.{add-zero}
 use lib.Dec.{eqb}
 use lib.ListN.{length, getD, take, drop, length-take, length-drop}
 use lib.Seq.{getD-take, getD-drop, ext-getD}
-use lib.IntN.{ℤ, pos}
 use Rattle.arith.specs.Lists.{from}
-use Rattle.rules.specs.declared.order.Order.{Order}
 use Rattle.rules.specs.Sides.{sideOf}
-use Rattle.rules.specs.Ranges.{contractCount, mostMembers, mostHolidays}
+use Rattle.rules.specs.Ranges.{contractCount, mostHolidays}
 use Rattle.rules.specs.Ledger.{Tables, headLength, firstYearPlace, membersPlace, holidayCountPlace, dayPlace, timePlace, acceptedSubmitsPlace, lotsRunPlace, orderCountPlace, holidaysFrom, limitsFrom, marksFrom, submitsFrom}
 use Rattle.rules.specs.Ledger.{firstYear, members, holidayCount, day, time, acceptedSubmits, lotsRun, orderCount, holidays, limit, mark, submitsThisSecond, calendar, defaulted, isOpen, defaultMark}
-use Rattle.rules.specs.Ledger.{priceWidth, ggf, low, high, dayLots, dayValue, lotsAt, valueAt, orderWidth, orderAt, sideAt, orders}
-use Rattle.rules.specs.Accounts.{Column, lots, value, row}
-use Rattle.rules.proofs.SoundTables.{Long}
-use Rattle.replay.specs.Surplus.{InUse, ofLedger, ofHoliday, ofLimit, ofMark, ofSubmits, SameButSurplus}
+use Rattle.rules.specs.Ledger.{priceWidth, ggf, low, high, dayLots, dayValue, lotsAt, orderWidth, orderAt, sideAt, orders}
+use Rattle.rules.specs.Accounts.{lots, row}
+use Rattle.replay.specs.Surplus.{ofLedger, ofHoliday, ofLimit, ofMark, ofSubmits, SameButSurplus}
 
 -- what a map over numbers that follow each other takes of its function
-pub map-same : {A : Type 0} (f g : ℕ → A) (a n : ℕ) → ((i : ℕ) → a ≤ i → i < a + n → f i ≡ g i) → map f (from a n) ≡ map g (from a n)
+pub map-from-same : {A : Type 0} (f g : ℕ → A) (a n : ℕ) → ((i : ℕ) → a ≤ i → i < a + n → f i ≡ g i) → map f (from a n) ≡ map g (from a n)
 unfolding from
-map-same f g a zero e = refl
-map-same f g a (suc n) e = λ s. e a (omega arith) (omega arith) s ∷ map-same f g (suc a) n (λ i h k. e i (omega arith) (omega arith)) s
+map-from-same f g a zero e = refl
+map-from-same f g a (suc n) e = λ s. e a (omega arith) (omega arith) s ∷ map-from-same f g (suc a) n (λ i h k. e i (omega arith) (omega arith)) s
 
 module _ (t u : Tables) (s : SameButSurplus t u) where
   at : (i : ℕ) → i < holidaysFrom → getD (t .head) i 0 ≡ getD (u .head) i 0
@@ -106,7 +102,7 @@ module _ (t u : Tables) (s : SameButSurplus t u) where
 
   pub same-orders : orders t ≡ orders u
   unfolding orders
-  same-orders = map-same (orderAt (t .book)) (orderAt (u .book)) 0 (orderCount t) (λ i _ h. same-order i (omega arith)) ∙ ap (λ n. map (orderAt (u .book)) (from 0 n)) same-order-count
+  same-orders = map-from-same (orderAt (t .book)) (orderAt (u .book)) 0 (orderCount t) (λ i _ h. same-order i (omega arith)) ∙ ap (λ n. map (orderAt (u .book)) (from 0 n)) same-order-count
 
   -- the calendar, where the holidays are no more than there is room for
   module _ (few : holidayCount t ≤ mostHolidays) (long : headLength ≤ length (t .head)) (long′ : headLength ≤ length (u .head)) where

@@ -1,45 +1,40 @@
 -- Surplus of head, prices and rows, and what is past the book, is left by all that records write. Assumes nothing.
 use Prim.Native.Nat.{ℕ, zero, suc, _+_, _*_, _-_, _%_, _≤_, _<_}
 use mathlib.Core.Path.{_≡_, refl, sym, ap, subst, _∙_}
-use mathlib.Core.Bool.{Bool, true, false, not, cond}
-use mathlib.Core.List.{List, [], _∷_, _++_, flatMap, zipWith}
+use mathlib.Core.List.{List, [], _∷_, _++_, zipWith}
 use native.Mathlib.Omega.{arith}
 use native.Mathlib.Nat.{suc-mul}
-use lib.Dec.{eqb, ltb}
+use lib.Dec.{eqb}
 use lib.ListN.{length, getD, set, take, drop, replicate, length-set, length-drop, length-replicate}
 use lib.Seq.{getD-set-other, getD-append-add, getD-drop, length-take-le}
 use lib.IntN.{ℤ, pos, _+ℤ_}
 use borrow.Author.Tests.{ne-eqb}
 use Rattle.arith.specs.Ints.{when}
-use Rattle.arith.specs.Lists.{All, from, over, total, inEachBlock}
-use Rattle.arith.proofs.Appends.{flat-length}
-use Rattle.arith.proofs.EachBlock.{in-each-length}
+use Rattle.arith.specs.Lists.{All, from, over, inEachBlock}
 use Rattle.arith.proofs.Overs.{over-length, over-outside, zip-length}
 use Rattle.arith.proofs.Sums.{sorted}
-use Rattle.arith.proofs.Tests.{by-bool, by-eqb, le-or-lt, same-or}
-use Rattle.rules.specs.declared.order.Order.{Order}
-use Rattle.rules.specs.Ranges.{contractCount, termCount, mostMembers, mostOrders}
-use Rattle.rules.specs.Ledger.{Tables, Line, withHead, withPrices, headLength, membersPlace, holidayCountPlace, dayPlace, timePlace, acceptedSubmitsPlace, lotsRunPlace, orderCountPlace, holidaysFrom, marksFrom, submitsFrom}
-use Rattle.rules.specs.Ledger.{members, holidayCount, time, acceptedSubmits, lotsRun, submitsThisSecond, priceWidth, pricesLength, ggfPlace, dayLotsPlace, dayValuePlace, lowPlace, highPlace, dayLots, dayValue, rowWidth, rowsLength, rowsFrom}
-use Rattle.rules.specs.Ledger.{orderWidth, orderPlaces, bookLength, withOrders, lineLots, lineValue, lineRun, posted, booked, withoutSubmits, timed, withMark, defaultMark, withGgf, withDayLimits}
-use Rattle.rules.specs.Matching.{Deal, withDeals, counted}
-use Rattle.rules.specs.CloseOfDay.{ggfAtClose, withGgfs, withoutDeals, contractRows, addedTo, cascaded, allCascaded, onDay}
-use Rattle.rules.proofs.Cascade.{rows-length, put-length, children, cascaded-month, cascaded-parent, cascaded-length}
+use Rattle.arith.proofs.Tests.{by-eqb, le-or-lt, same-or}
+use Rattle.rules.specs.Ranges.{contractCount, termCount, mostMembers}
+use Rattle.rules.specs.Ledger.{Tables, Line, headLength, membersPlace, holidayCountPlace, dayPlace, submitsFrom}
+use Rattle.rules.specs.Ledger.{priceWidth, pricesLength, ggfPlace, dayLotsPlace, rowWidth, rowsLength, rowsFrom}
+use Rattle.rules.specs.Ledger.{posted, withGgf}
+use Rattle.rules.specs.CloseOfDay.{ggfAtClose, withGgfs, withoutDeals, contractRows, addedTo, cascaded, allCascaded}
+use Rattle.rules.proofs.Cascade.{rows-length, children, cascaded-month, cascaded-parent}
 use Rattle.rules.proofs.HourLaws.{cascading}
 use Rattle.accounts.proofs.Lines.{Fits, rowTotal}
 use Rattle.accounts.proofs.Rows.{posted-length, posted-row}
-use Rattle.replay.specs.Surplus.{InUse, ofLedger, ofMark, ofSubmits}
-use Rattle.replay.proofs.Closing.{Below, below-from}
+use Rattle.replay.specs.Surplus.{InUse, ofSubmits}
+use Rattle.replay.proofs.Closing.{AreContracts, below-from}
 
 -- ---- the head l′ of a ledger with n members and k holidays has the surplus of the head l
-pub record HeadStays (n k : ℕ) (l l′ : List ℕ) : Type 0 where
+pub record HeadSurplus (n k : ℕ) (l l′ : List ℕ) : Type 0 where
   pub long : headLength ≤ length l′
   pub size : getD l′ membersPlace 0 ≡ n
   pub count : getD l′ holidayCountPlace 0 ≡ k
   pub places : (i : ℕ) → (InUse n k i → ⊥) → getD l′ i 0 ≡ getD l i 0
 
-module _ {n k : ℕ} {l l′ : List ℕ} (a : HeadStays n k l l′) where
-  pub head-set : (j v : ℕ) → dayPlace ≤ j → InUse n k j → HeadStays n k l (set l′ j v)
+module _ {n k : ℕ} {l l′ : List ℕ} (a : HeadSurplus n k l l′) where
+  pub head-set : (j v : ℕ) → dayPlace ≤ j → InUse n k j → HeadSurplus n k l (set l′ j v)
   head-set j v h b = record {
     long = simp length-set (a .long);
     size = getD-set-other l′ j membersPlace v 0 (λ x. omega arith) ∙ a .size;
@@ -47,7 +42,7 @@ module _ {n k : ℕ} {l l′ : List ℕ} (a : HeadStays n k l l′) where
     places = λ i p. getD-set-other l′ j i v 0 (λ e. p (subst (InUse n k) (sym e) b)) ∙ a .places i p;
   }
 
-  pub head-zeros : n ≤ mostMembers → HeadStays n k l (over submitsFrom (replicate n 0) l′)
+  pub head-zeros : n ≤ mostMembers → HeadSurplus n k l (over submitsFrom (replicate n 0) l′)
   head-zeros few =
       let zeros : List ℕ = replicate n 0 in
       let z : length zeros ≡ n = length-replicate {A = ℕ} n 0 in
@@ -61,13 +56,13 @@ module _ {n k : ℕ} {l l′ : List ℕ} (a : HeadStays n k l l′) where
       }
 
 -- ---- prices past the contracts
-pub record PricesStay (l l′ : List ℕ) : Type 0 where
+pub record PricesSurplus (l l′ : List ℕ) : Type 0 where
   pub places : (i : ℕ) → pricesLength ≤ i → getD l′ i 0 ≡ getD l i 0
 
-pub price-set : {l l′ : List ℕ} → PricesStay l l′ → (j v : ℕ) → j < pricesLength → PricesStay l (set l′ j v)
+pub price-set : {l l′ : List ℕ} → PricesSurplus l l′ → (j v : ℕ) → j < pricesLength → PricesSurplus l (set l′ j v)
 price-set {l} {l′} a j v h = record { places = λ i b. getD-set-other l′ j i v 0 (λ e. omega arith) ∙ a .places i b }
 
-ggfs-stay : (t : Tables) (s : ℕ) (cs : List ℕ) → Below cs → {l l′ : List ℕ} → PricesStay l l′ → PricesStay l (withGgfs t s cs l′)
+ggfs-stay : (t : Tables) (s : ℕ) (cs : List ℕ) → AreContracts cs → {l l′ : List ℕ} → PricesSurplus l l′ → PricesSurplus l (withGgfs t s cs l′)
 unfolding withGgfs
 ggfs-stay t s [] b a = a
 ggfs-stay t s (c ∷ cs) b {l} {l′} a = ggfs-stay t s cs (b .1) (price-set a (ggfPlace c) (ggfAtClose t s c) (omega (arith, b .0)))
@@ -92,11 +87,11 @@ past-blocks z w f g (suc n) l s i h =
     ap (λ x. getD (first ++ rest) x z) e′ ∙ getD-append-add first rest (i - w) z
     ∙ past-blocks z w f g n (drop w l) (simp length-drop (omega (arith, suc-mul n w))) (i - w) (omega (arith, suc-mul n w)) ∙ getD-drop w l (i - w) z ∙ ap (λ x. getD l x z) (sym e)
 
-pub priced-stay : (t : Tables) (s : ℕ) (cs : List ℕ) → Below cs → pricesLength ≤ length (t .prices) → PricesStay (t .prices) (withoutDeals (withGgfs t s cs (t .prices)))
+pub priced-stay : (t : Tables) (s : ℕ) (cs : List ℕ) → AreContracts cs → pricesLength ≤ length (t .prices) → PricesSurplus (t .prices) (withoutDeals (withGgfs t s cs (t .prices)))
 unfolding withoutDeals
 priced-stay t s cs b long =
     let l = withGgfs t s cs (t .prices) in
-    let start : PricesStay (t .prices) (t .prices) = record { places = λ _ _. refl } in
+    let start : PricesSurplus (t .prices) (t .prices) = record { places = λ _ _. refl } in
     record {
       places = λ i h.
           past-blocks 0 priceWidth (over (dayLotsPlace 0) (0 ∷ 0 ∷ [])) (λ x e. over-length (dayLotsPlace 0) (0 ∷ 0 ∷ []) x (omega arith) ∙ e) contractCount l (omega (arith, ggfs-length t s cs (t .prices))) i h
@@ -104,15 +99,15 @@ priced-stay t s cs b long =
     }
 
 -- ---- rows: of contract c and member m a place is surplus, of any of 32 members past the n or of no contract
-abbrev pub Surplus : ℕ → ℕ → ℕ → Type 0
-Surplus n c m = (m < mostMembers) × (c < contractCount → n ≤ m)
+abbrev pub OfSurplus : ℕ → ℕ → ℕ → Type 0
+OfSurplus n c m = (m < mostMembers) × (c < contractCount → n ≤ m)
 
-pub record RowsStay (n : ℕ) (l l′ : List ℤ) : Type 0 where
+pub record RowsSurplus (n : ℕ) (l l′ : List ℤ) : Type 0 where
   pub long : rowsLength ≤ length l′
-  pub places : (c m : ℕ) → Surplus n c m → getD l′ (c * rowWidth + m) (pos 0) ≡ getD l (c * rowWidth + m) (pos 0)
+  pub places : (c m : ℕ) → OfSurplus n c m → getD l′ (c * rowWidth + m) (pos 0) ≡ getD l (c * rowWidth + m) (pos 0)
 
 -- lines of members and contracts add nothing there
-no-line : (n c m : ℕ) (weigh : Line → ℤ) (ls : List Line) → All (Fits n) ls → Surplus n c m → rowTotal weigh c m ls ≡ pos 0
+no-line : (n c m : ℕ) (weigh : Line → ℤ) (ls : List Line) → All (Fits n) ls → OfSurplus n c m → rowTotal weigh c m ls ≡ pos 0
 unfolding rowTotal
 no-line n c m weigh [] fit p = refl
 no-line n c m weigh (x ∷ ls) fit p =
@@ -121,14 +116,14 @@ no-line n c m weigh (x ∷ ls) fit p =
     (λ e. let past : n ≤ m = p .1 (omega (arith, fit .0 .contract<)) in rw (ne-eqb (x .member) m (λ q. omega (arith, fit .0 .member<))) refl)
     (λ e. refl))
 
-pub posted-stay : {n : ℕ} {l l′ : List ℤ} → n ≤ mostMembers → (weigh : Line → ℤ) (ls : List Line) → All (Fits n) ls → RowsStay n l l′ → RowsStay n l (posted weigh ls l′)
+pub posted-stay : {n : ℕ} {l l′ : List ℤ} → n ≤ mostMembers → (weigh : Line → ℤ) (ls : List Line) → All (Fits n) ls → RowsSurplus n l l′ → RowsSurplus n l (posted weigh ls l′)
 posted-stay {n} {l} {l′} few weigh ls fit a = record {
   long = omega (arith, posted-length weigh ls l′, a .long);
   places = λ c m p. posted-row n weigh ls l′ c m (a .long) fit few (p .0) ∙ rw (no-line n c m weigh ls fit p) (simp sorted (a .places c m p));
 }
 
 -- a contract's rows written
-put-stay : (n c : ℕ) (xs : List ℤ) → length xs ≡ n → c < contractCount → n ≤ mostMembers → {l l′ : List ℤ} → RowsStay n l l′ → RowsStay n l (over (rowsFrom c) xs l′)
+put-stay : (n c : ℕ) (xs : List ℤ) → length xs ≡ n → c < contractCount → n ≤ mostMembers → {l l′ : List ℤ} → RowsSurplus n l l′ → RowsSurplus n l (over (rowsFrom c) xs l′)
 put-stay n c xs e h few {l} {l′} a = record {
   long = omega (arith, over-length (rowsFrom c) xs l′ (omega (arith, a .long)), a .long);
   places = λ d m p. over-outside (rowsFrom c) xs l′ (omega (arith, a .long)) (d * rowWidth + m) (pos 0)
@@ -137,7 +132,7 @@ put-stay n c xs e h few {l} {l′} a = record {
 }
 
 module _ (n : ℕ) (few : n ≤ mostMembers) where
-  added-stay : (p : ℕ) → p < contractCount → (cs : List ℕ) → Below cs → {l l′ : List ℤ} → RowsStay n l l′ → RowsStay n l (addedTo n p cs l′)
+  added-stay : (p : ℕ) → p < contractCount → (cs : List ℕ) → AreContracts cs → {l l′ : List ℤ} → RowsSurplus n l l′ → RowsSurplus n l (addedTo n p cs l′)
   unfolding addedTo
   added-stay p h [] b a = a
   added-stay p h (c ∷ cs) b {l} {l′} a =
@@ -146,7 +141,7 @@ module _ (n : ℕ) (few : n ≤ mostMembers) where
       added-stay p h cs (b .1)
       (put-stay n c sums (zip-length _+ℤ_ (contractRows n c l′) (contractRows n p l′) (wide ∙ sym (rows-length n p l′ (a .long) h few)) ∙ wide) (b .0) few a)
 
-  cascaded-stay : (c : ℕ) → c < termCount → {l l′ : List ℤ} → RowsStay n l l′ → RowsStay n l (cascaded n c l′)
+  cascaded-stay : (c : ℕ) → c < termCount → {l l′ : List ℤ} → RowsSurplus n l l′ → RowsSurplus n l (cascaded n c l′)
   cascaded-stay c h {l} {l′} a =
       le-or-lt 5 (c % 17) (λ q. rw (cascaded-month n c l′ q) a)
       (λ q. let k = children c h (cascading c h q) in
@@ -154,7 +149,7 @@ module _ (n : ℕ) (few : n ≤ mostMembers) where
       (put-stay n c (replicate n (pos 0)) (length-replicate n (pos 0)) (omega arith) few
       (added-stay c (omega arith) (from (k .first) (suc (k .more))) (below-from (k .first) (suc (k .more)) (omega (arith, k .fit))) a)))
 
-  pub all-cascaded-stay : (cs : List ℕ) → All (λ c. c < termCount) cs → {l l′ : List ℤ} → RowsStay n l l′ → RowsStay n l (allCascaded n cs l′)
+  pub all-cascaded-stay : (cs : List ℕ) → All (λ c. c < termCount) cs → {l l′ : List ℤ} → RowsSurplus n l l′ → RowsSurplus n l (allCascaded n cs l′)
   unfolding allCascaded
   all-cascaded-stay [] b a = a
   all-cascaded-stay (c ∷ cs) b a = all-cascaded-stay cs (b .1) (cascaded-stay c (b .0) a)
