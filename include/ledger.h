@@ -10,8 +10,9 @@
    - The five tables head, prices, lots, value and book are the ledger. Between two calls they stand as the call before
      left them, and nobody else writes them; they may be copied, stored and moved to another address. The line table is
      paper to print on: any table with any content, in each call another one if the host likes.
-   - A table may be longer than its least count. Places past it, and places that docs/LAYOUT.md calls surplus, are
-     neither read nor written and need hold nothing.
+   - A table may be longer than its least count. Places past it, and places that docs/LAYOUT.md calls surplus, are not
+     read and need hold nothing. They are not written either, but for two tables: in the book a place is surplus until an
+     order comes to stand there, and in the line table until a line is printed there.
 
    What a call does
    - It answers for every length and every content of what it is lent; nothing is undefined, and nothing is kept: the

@@ -167,7 +167,7 @@ module _ (t : Tables) (e : Submission) where
       submit-all (λ r. opposes new r && f r ≡ false) (all-map (λ r. opposes new r ≡ true → f r ≡ false) (λ r. opposes new r && f r ≡ false) (m .resting) (λ r. not-both (opposes new r) (f r)) a)
       (λ _. rw (own-side (m .left)))
 
-module _ (t : Tables) (bytes : List ℕ) (e : Submission) (a : AcceptedSubmit t bytes e) where
+module _ (t : Tables) (bytes : List ℕ) (e : Submission) (a : AcceptedSubmit t bytes (applySpec t bytes) e) where
   -- the orders after it
   now : orders (applySpec t bytes .after) ≡ submitOrders t e
   now = let c = accepted-call t bytes (Submit e) (a .0) (a .1) in ap (λ o. orders (o .after)) (c .leads) ∙ submit-orders t (c .tables) e

@@ -29,10 +29,10 @@ use Rattle.rules.specs.Accounts.{isAccepted}
 use Rattle.rules.proofs.SoundTables.{Undamaged, undamaged}
 
 -- ---- decide
-abbrev Refuses : List Cause → Type 0
+abbrev pub Refuses : List Cause → Type 0
 Refuses causes = All (λ cause. isAccepted (cause .1) ≡ false) causes
 
-abbrev NoneHolds : List Cause → Type 0
+abbrev pub NoneHolds : List Cause → Type 0
 NoneHolds causes = All (λ cause. cause .0 ≡ false) causes
 
 -- the first cause that holds refuses; where none does, what is booked decides
@@ -106,7 +106,7 @@ kind-decides t (Default m) legs = record { in-order = refl; accepted = refl }
 kind-decides t (CloseOut e) legs = record { in-order = refl; accepted = refl }
 kind-decides t (CloseOfDay s) legs = record { in-order = refl; accepted = refl }
 
-causes-refuse : (t : Tables) (e : Event) (legs : List Leg) → Refuses (kindCauses t e legs)
+pub causes-refuse : (t : Tables) (e : Event) (legs : List Leg) → Refuses (kindCauses t e legs)
 causes-refuse t e legs =
     let n = rank RecordUnsound in
     let causes = kindCauses t e legs in

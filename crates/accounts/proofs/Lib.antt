@@ -41,3 +41,4 @@ pub mod LengthsStay
 pub mod EveryList
 pub mod ClosedOut
 pub mod StaysSound
+pub mod ListsToRuns

@@ -47,7 +47,7 @@ module _ (P : Order → Type 0) where
       by-bool (λ b. cond b (some x) (numbered n os) ≡ some o → P o) (eqb (x .number) n)
       (λ _ f. let same : x ≡ o = cc in rw same at (h .0)) (λ _ f. numbered-all n os o (h .1) f) e
 
-  named-all : (os : List Order) (gs : List Leg) → All P os → All (λ n. P (n .order)) (namedLegs os gs)
+  pub named-all : (os : List Order) (gs : List Leg) → All P os → All (λ n. P (n .order)) (namedLegs os gs)
   unfolding namedLegs
   named-all os [] h = tt
   named-all os (g ∷ gs) h = go (numbered (g .order) os) refl (named-all os gs h)

@@ -27,16 +27,25 @@ AfterEveryList P =
     P h (after start calls) (log start calls) (listsDay h (h .startDay) start calls)
 
 -- The ledger is neither short nor damaged: its own records never damage it.
+abbrev pub NotDamaged : Tables → Type 0
+NotDamaged t = (ledgerShort t ≡ false) × (damaged t ≡ false)
+
 abbrev pub NeverDamaged : Type 0
-NeverDamaged = AfterEveryList (λ h t ls d. (ledgerShort t ≡ false) × (damaged t ≡ false))
+NeverDamaged = AfterEveryList (λ h t ls d. NotDamaged t)
 
 -- Number 1 is answered for a short line table alone.
+abbrev pub OneForShortLines : Tables → Type 0
+OneForShortLines t = (call : Call) → replyOf (callSpec t call .answer) .number ≡ 1 → linesShort (withLines (call .lines) t) ≡ true
+
 abbrev pub OneForLinesAlone : Type 0
-OneForLinesAlone = AfterEveryList (λ h t ls d. (call : Call) → replyOf (callSpec t call .answer) .number ≡ 1 → linesShort (withLines (call .lines) t) ≡ true)
+OneForLinesAlone = AfterEveryList (λ h t ls d. OneForShortLines t)
 
 -- An order rests only in a contract that is open on the list's day.
+abbrev pub RestInOpen : Header → Tables → ℕ → Type 0
+RestInOpen h t d = All (λ o. openOn (calendarOf h) d (o .contract) ≡ true) (orders t)
+
 abbrev pub OrdersRestInOpen : Type 0
-OrdersRestInOpen = AfterEveryList (λ h t ls d. All (λ o. openOn (calendarOf h) d (o .contract) ≡ true) (orders t))
+OrdersRestInOpen = AfterEveryList (λ h t ls d. RestInOpen h t d)
 
 -- A buy is below a sell of the same contract.
 abbrev pub Below : Order → Order → Type 0
@@ -65,5 +74,8 @@ abbrev pub DayIsTheLists : Type 0
 DayIsTheLists = AfterEveryList (λ h t ls d. day t ≡ d)
 
 -- A GGF once found never becomes 0 again, whatever calls follow: t are any tables, so also those that a list leads to.
+abbrev pub GgfsKept : Tables → Tables → Type 0
+GgfsKept t u = (c : ℕ) → c < contractCount → 0 < ggf t c → 0 < ggf u c
+
 abbrev pub GgfNeverLost : Type 0
-GgfNeverLost = (t : Tables) (calls : List Call) (c : ℕ) → c < contractCount → 0 < ggf t c → 0 < ggf (after t calls) c
+GgfNeverLost = (t : Tables) (calls : List Call) → GgfsKept t (after t calls)

@@ -4,7 +4,7 @@ use mathlib.Core.Path.{_≡_}
 use mathlib.Core.Bool.{true}
 use mathlib.Core.List.{List}
 use lib.ListN.{length}
-use Rattle.rules.specs.Answers.{replyOf}
+use Rattle.rules.specs.Answers.{Outcome, replyOf}
 use Rattle.rules.specs.Ledger.{Tables}
 use Rattle.rules.specs.Refusals.{applySpec, makeSpec}
 use Rattle.rules.specs.Accounts.{isAccepted}
@@ -24,5 +24,8 @@ LengthsStay = (t : Tables) (bytes : List ℕ) → SameLengths t (applySpec t byt
 abbrev pub MakingKeepsLengths : Type 0
 MakingKeepsLengths = (t : Tables) (bytes : List ℕ) → SameLengths t (makeSpec t bytes .after)
 
+abbrev pub FewLines : Outcome Tables → Type 0
+FewLines o = isAccepted (o .answer) ≡ true → replyOf (o .answer) .detail ≤ 200
+
 abbrev pub AtMost200Lines : Type 0
-AtMost200Lines = (t : Tables) (bytes : List ℕ) → isAccepted (applySpec t bytes .answer) ≡ true → replyOf (applySpec t bytes .answer) .detail ≤ 200
+AtMost200Lines = (t : Tables) (bytes : List ℕ) → FewLines (applySpec t bytes)

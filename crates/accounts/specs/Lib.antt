@@ -5,3 +5,4 @@ pub mod Complete
 pub mod EveryList
 pub mod ClosedOut
 pub mod StaysSound
+pub mod EveryRun

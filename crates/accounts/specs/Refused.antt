@@ -3,16 +3,21 @@ use Prim.Native.Nat.{ℕ}
 use mathlib.Core.Path.{_≡_}
 use mathlib.Core.Bool.{false, cond}
 use mathlib.Core.List.{List, [], _∷_}
+use Rattle.rules.specs.Answers.{Outcome}
 use Rattle.rules.specs.Ledger.{Tables}
 use Rattle.rules.specs.Refusals.{applySpec, makeSpec}
 use Rattle.rules.specs.Accounts.{Call, callSpec, after, isAccepted, log}
 
+-- An outcome of a call on tables t: where it is refused, they are as they were.
+abbrev pub LeavesIfRefused : Tables → Outcome Tables → Type 0
+LeavesIfRefused t o = isAccepted (o .answer) ≡ false → o .after ≡ t
+
 abbrev pub RefusedChangesNothing : Type 0
-RefusedChangesNothing = (t : Tables) (bytes : List ℕ) → isAccepted (applySpec t bytes .answer) ≡ false → applySpec t bytes .after ≡ t
+RefusedChangesNothing = (t : Tables) (bytes : List ℕ) → LeavesIfRefused t (applySpec t bytes)
 
 -- After 1 or 2 no ledger is made.
 abbrev pub RefusedMakesNothing : Type 0
-RefusedMakesNothing = (t : Tables) (bytes : List ℕ) → isAccepted (makeSpec t bytes .answer) ≡ false → makeSpec t bytes .after ≡ t
+RefusedMakesNothing = (t : Tables) (bytes : List ℕ) → LeavesIfRefused t (makeSpec t bytes)
 
 -- The calls of a list that are accepted, from tables t on.
 unfoldable pub acceptedCalls : Tables → List Call → List Call

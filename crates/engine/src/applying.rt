@@ -1,7 +1,6 @@
 // One record applied to the lent tables.
-ghost use mathlib.Core.Path.{_≡_};
 ghost use Rattle.rules.specs.Ledger.{lent};
-ghost use Rattle.rules.specs.Refusals.{applySpec};
+ghost use Rattle.engine.specs.Runs.{Applies};
 use crate::event::apply_event;
 use rules::Answer;
 use rules::Reading;
@@ -17,8 +16,8 @@ pub fn apply(
     lines: &mut [i64],
     bytes: &[u8],
 ) -> Answer
-    ensures { λ r. ⌜ record { answer = r; after = lent (now (head .exit)) (now (prices .exit)) (now (lots .exit)) (now (value .exit)) (now (book .exit)) (now (lines .exit)) }
-        ≡ applySpec (lent (now (head .entry)) (now (prices .entry)) (now (lots .entry)) (now (value .entry)) (now (book .entry)) (now (lines .entry))) (now (bytes .entry)) ⌝ }
+    ensures { λ r. ⌜ Applies (lent (now (head .entry)) (now (prices .entry)) (now (lots .entry)) (now (value .entry)) (now (book .entry)) (now (lines .entry))) (now (bytes .entry)) r
+        (lent (now (head .exit)) (now (prices .exit)) (now (lots .exit)) (now (value .exit)) (now (book .exit)) (now (lines .exit))) ⌝ }
 {
     if damage::is_unsound(&*head, &*prices, &*lots, &*value, &*book, &*lines) {
         return Answer::TableUnsound;

@@ -2,9 +2,9 @@
 ghost use mathlib.Core.Path.{_≡_};
 ghost use mathlib.Core.List.{List};
 ghost use lib.IntN.{ℤ};
-ghost use Rattle.rules.specs.Refusals.{makeSpec, applySpec};
 ghost use Rattle.rules.specs.Ledger.{lent};
-ghost use Rattle.host.specs.Sent.{sent, damageNumber};
+ghost use Rattle.host.specs.Entries.{Makes, Applies};
+ghost use Rattle.host.specs.Sent.{damageNumber};
 
 mod bytes;
 
@@ -25,8 +25,8 @@ pub extern "C" fn ledger_make(
     book: &[u64],
     header: &[u8],
 ) -> u64
-    ensures { λ r. ⌜ ((n : List ℤ) → record { number = r; detail = 0; after = lent (now (head .exit)) (now (prices .exit)) (now (lots .exit)) (now (value .exit)) (now (book .entry)) n }
-        ≡ sent (makeSpec (lent (now (head .entry)) (now (prices .entry)) (now (lots .entry)) (now (value .entry)) (now (book .entry)) n) (now (header .entry)))) ⌝ }
+    ensures { λ r. ⌜ ((n : List ℤ) → Makes (lent (now (head .entry)) (now (prices .entry)) (now (lots .entry)) (now (value .entry)) (now (book .entry)) n) (now (header .entry)) r
+        (lent (now (head .exit)) (now (prices .exit)) (now (lots .exit)) (now (value .exit)) (now (book .entry)) n)) ⌝ }
 {
     let answer = engine::make(
         &mut *head,
@@ -70,12 +70,8 @@ pub extern "C" fn ledger_apply(
     bytes: &[u8],
     detail: &mut u64,
 ) -> u64
-    ensures { λ r. ⌜ record {
-      number = r;
-      detail = now (detail .exit);
-      after = lent (now (head .exit)) (now (prices .exit)) (now (lots .exit)) (now (value .exit)) (now (book .exit)) (now (lines .exit));
-    }
-        ≡ sent (applySpec (lent (now (head .entry)) (now (prices .entry)) (now (lots .entry)) (now (value .entry)) (now (book .entry)) (now (lines .entry))) (now (bytes .entry))) ⌝ }
+    ensures { λ r. ⌜ Applies (lent (now (head .entry)) (now (prices .entry)) (now (lots .entry)) (now (value .entry)) (now (book .entry)) (now (lines .entry))) (now (bytes .entry)) r (now (detail .exit))
+        (lent (now (head .exit)) (now (prices .exit)) (now (lots .exit)) (now (value .exit)) (now (book .exit)) (now (lines .exit))) ⌝ }
 {
     let answer = engine::apply(
         &mut *head,

@@ -1,0 +1,11 @@
+pub mod Same
+pub mod Damage
+pub mod Alike
+pub mod Closing
+pub mod EachKind
+pub mod EveryList
+pub mod Making
+pub mod SurplusParts
+pub mod SurplusStays
+pub mod EveryRun
+pub mod PastWritten

@@ -1,0 +1,2 @@
+pub mod Surplus
+pub mod Replay
