@@ -24,4 +24,8 @@ for host in "${hosts[@]}"; do
     exit 1
   fi
 done
+if [ "$stories" -ne 6 ]; then
+  echo "$stories stories, and there are 6"
+  exit 1
+fi
 echo "${#hosts[@]} hosts, $stories stories"

@@ -19,6 +19,7 @@ PROGRAM, MODEL = (str(pathlib.Path(word).resolve()) for word in sys.argv[1:3])
 WORDS = ("journal", "listing")
 ENDED, WRONG_CALL, HEADER, RECORD, INPUT, OUTPUT = 0, 1, 2, 3, 4, 5
 STACK_KIB, LITTLE_STACK_KIB = 512, 192
+STORIES = 6
 # How long an answer may take, and how long a run lasts whose progress is told.
 PATIENCE, LONG = 10, 2.3
 LINE = re.compile(rb"durskafn: (\d+) bytes, (\d+) records(?:, (\d+)%)?\n")
@@ -97,8 +98,14 @@ def test_help():
         expect("--help on a full disk", (b"standard output" in said, status), (True, OUTPUT))
 
 
+def stories():
+    found = sorted((ROOT / "examples").glob("*.vjr"))
+    expect("the stories", len(found), STORIES)
+    return found
+
+
 def test_files():
-    for path in sorted((ROOT / "examples").glob("*.vjr")):
+    for path in stories():
         data = path.read_bytes()
         for word in WORDS:
             wanted = run(word, data=data)
@@ -142,7 +149,7 @@ def read_until(pipe, length):
 
 def test_open_pipes():
     """What is booked or listed is out while the input stays open; the end comes when it is closed."""
-    for path in sorted((ROOT / "examples").glob("*.vjr")):
+    for path in stories():
         data = path.read_bytes()
         for word in WORDS:
             whole, _, status = run(word, data=data)

@@ -6,13 +6,19 @@ Here every slip must be refused by itself. Each name on its line `refused:` is o
 - a function of which a fact does not hold (not only a function that calls one which is refused);
 - a law or an example that does not hold.
 No other function may be refused by itself, and none because its proof names a step that the edited code lacks: then the
-text changed and not a fact. Every function that another crate or a host calls is named by a slip of its crate.
+text changed and not a fact. So a slip of code has the shape of what it stands for: values and comparisons differ, and
+nothing else. A slip of another shape has a control, a change of the same shape that is no slip, in controls/CRATE.control;
+controls.py asks whether it is proved. Every function that another crate or a host calls is named by a slip of its crate.
 """
 import pathlib
 import re
 import sys
 
 SLIP_LINES = ("slip: ", "refused: ", "file: ", "old: ", "new:")
+CONTROLS = pathlib.Path(__file__).resolve().parent / "controls"
+# What stands for a value: a literal, or a name with its path and its fields. A number may have a sign.
+VALUE = re.compile(r"""b?'[^']*'|\*?b?"[^"]*"|(?<![\w)\]] )-\d+|\w+(?:(?:::|\.)\w+)*""")
+COMPARISON = re.compile(r"<=|>=|==|!=|<|>")
 ERROR = re.compile(r"/((?:specs|proofs)/\S+)\.antt:\d+:\d+: error: (.*)")
 # A function without a proof of its own, of which Rattle's search closes too little.
 NOT_FOUND = re.compile(r"^fn \w+::(\S+): no proof: ", re.M)
@@ -25,25 +31,60 @@ class Slip:
     def __init__(self, name):
         self.name = name
         self.refused = []
-        self.pairs = 0
+        # each as file, old and new text
+        self.changes = []
 
 
-def slips_of(edit, complain):
+def slips_of(edit, complain, word="slip: "):
     slips = []
+    file = old = ""
     for number, line in enumerate(edit.read_text(encoding="utf-8").splitlines(), 1):
-        if line.startswith("slip: "):
-            slips.append(Slip(line[len("slip: ") :]))
+        if line.startswith(word):
+            slips.append(Slip(line[len(word) :]))
         elif not line or line.startswith("#"):
             continue
         elif not line.startswith(SLIP_LINES):
             complain(f"line {number} is no line of an edit: {line}")
         elif not slips:
-            complain(f"line {number} stands before the first 'slip:'")
+            complain(f"line {number} stands before the first '{word.strip()}'")
         elif line.startswith("refused: "):
             slips[-1].refused += line[len("refused: ") :].split()
+        elif line.startswith("file: "):
+            file = line[len("file: ") :]
+        elif line.startswith("old: "):
+            old = line[len("old: ") :]
         elif line.startswith("new:"):
-            slips[-1].pairs += 1
+            slips[-1].changes.append((file, old, line[len("new:") :].removeprefix(" ")))
     return slips
+
+
+def shape(code):
+    """The code with one sign for every value, one for every comparison, and one for `&` and `|`."""
+    with_values = VALUE.sub("x", code).replace("=>", ":")
+    return "".join(COMPARISON.sub("<", with_values).replace("|", "&").split())
+
+
+def shapes(slip):
+    """Where the slip stands, and the shape of what it puts there."""
+    return [(file, old, shape(new)) for file, old, new in slip.changes]
+
+
+def controls_of(crate, complain):
+    path = CONTROLS / f"{crate}.control"
+    return slips_of(path, complain, "control: ") if path.exists() else []
+
+
+def check_shapes(crate, slips, complain):
+    """A slip of code has the shape of what it stands for, or else a control of its own shape and places."""
+    controls = {control.name: control for control in controls_of(crate, complain)}
+    for slip in slips:
+        if slip.name in controls:
+            if shapes(controls.pop(slip.name)) != shapes(slip):
+                complain(f"the control of {slip.name} has another shape or other places")
+        elif any(file.startswith("src/") and shape(old) != shape(new) for file, old, new in slip.changes):
+            complain(f"{slip.name} changes the shape of the code and has no control")
+    for name in controls:
+        complain(f"a control of {name}, which is no slip")
 
 
 def refusals_of(said, complain):
@@ -74,7 +115,7 @@ def check_edit(edit, said, complain):
     functions, laws = refusals_of(said, complain)
     claimed = {}
     for slip in slips:
-        if not slip.refused or not slip.pairs:
+        if not slip.refused or not slip.changes:
             complain(f"{slip.name} has no 'refused:' or no 'old:' and 'new:'")
         for name in slip.refused:
             if name in claimed:
@@ -87,7 +128,7 @@ def check_edit(edit, said, complain):
             complain(f"{function} is refused too, and no slip names it")
     if not slips:
         complain("no slip")
-    return [slip.name for slip in slips]
+    return slips
 
 
 def called_from_outside(root):
@@ -113,21 +154,26 @@ def main():
     root = pathlib.Path(sys.argv[1] if len(sys.argv) > 1 else ".")
     complaints = []
     edits = sorted(root.glob("crates/*/must-fail/*.edit"))
-    slips = []
+    slips = {path.stem: [] for path in CONTROLS.glob("*.control")}
     for edit in edits:
         crate = edit.parent.parent.name
         complain = lambda text, at=f"{crate}/{edit.stem}": complaints.append(f"{at}: {text}")
         log = root / "target" / "must-fail" / crate / edit.stem / ".log"
         if log.exists():
-            slips += [f"{crate}/{name}" for name in check_edit(edit, log.read_text(encoding="utf-8"), complain)]
+            slips.setdefault(crate, []).extend(check_edit(edit, log.read_text(encoding="utf-8"), complain))
         else:
             complain("the prover was not asked")
-    complaints += [f"two slips are called {name}" for name in sorted({name for name in slips if slips.count(name) > 1})]
+    for crate in sorted(slips):
+        complain = lambda text, at=crate: complaints.append(f"{at}: {text}")
+        names = [slip.name for slip in slips[crate]]
+        check_shapes(crate, slips[crate], complain)
+        for name in sorted({name for name in names if names.count(name) > 1}):
+            complain(f"two slips are called {name}")
     for crate, function in called_from_outside(root):
         if not is_slipped(root, crate, function):
             complaints.append(f"{crate}: no slip of {function}, which is called from outside")
     print("".join(complaint + "\n" for complaint in complaints), end="")
-    print(f"{len(slips)} slips in {len(edits)} must-fail edits, {len(complaints)} complaints")
+    print(f"{sum(map(len, slips.values()))} slips in {len(edits)} must-fail edits, {len(complaints)} complaints")
     return 1 if complaints or not edits else 0
 
 

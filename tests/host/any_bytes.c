@@ -11,6 +11,8 @@
 #include <stdlib.h>
 #include <string.h>
 
+/* The checks of a whole run with seed 1. */
+enum { CHECKS = 2304206 };
 enum { RECORDS = 200000, EPISODE = 1000, SURPLUS = 7, MOST_BYTES = 300 };
 enum {
   FIRST_YEAR = 2021,
@@ -345,7 +347,8 @@ static void call(const Tables *tables, const Tables *before, const Bytes *record
 
 int main(int count, char **words) {
   const uint64_t records = count > 1 ? strtoull(words[1], NULL, 10) : RECORDS;
-  state = count > 2 ? strtoull(words[2], NULL, 10) : 1;
+  const uint64_t seed = count > 2 ? strtoull(words[2], NULL, 10) : 1;
+  state = seed;
   uint8_t *ends = guarded(2 * MOST_BYTES, ENDS) + 2 * MOST_BYTES, *begins = guarded(2 * MOST_BYTES, BEGINS);
   for (int kind = 0; kind < 4; kind++) {
     const Edge edge = kind % 2 == 0 ? ENDS : BEGINS;
@@ -373,5 +376,5 @@ int main(int count, char **words) {
     printf("accepted of kind %zu: %" PRIu64 "\n", kind, accepted_of_kind[kind]);
     expect(accepted_of_kind[kind] > 0 || !whole, "kind %zu is not accepted", kind);
   }
-  return finish();
+  return records == RECORDS && seed == 1 ? finish_after(CHECKS) : finish();
 }

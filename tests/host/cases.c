@@ -9,6 +9,9 @@
 #include <string.h>
 
 enum { MOST_NUMBERS = 16, LAST_SECOND = 86399 };
+/* The cases of the file, and the records of all. */
+enum { CASES = 57, RECORDS = 1020 };
+static int cases, records_taken;
 
 static Tables tables;
 static int64_t *lots, *value, *lines;
@@ -94,6 +97,7 @@ static void show_lines(uint64_t count) {
 typedef enum { REFUSAL, ANSWER, LINE_COUNT } Shown;
 
 static void take_record(const Bytes *record, Shown shown) {
+  records_taken++;
   uint64_t detail, number = apply(&tables, record->at, record->length, &detail);
   if (shown == REFUSAL && number == LEDGER_ACCEPTED) return;
   if (shown == REFUSAL) printf(" given");
@@ -273,6 +277,7 @@ static void take_line(const char *text) {
     leg_numbers = 0;
   } else if (strncmp(text, "case ", 5) == 0) {
     printf("%s:", text + 5);
+    cases++;
     made = false;
   } else {
     Line line = line_of(text);
@@ -295,5 +300,7 @@ int main(int count, char **arguments) {
   }
   give_back(&tables);
   free(text);
-  return 0;
+  if (cases == CASES && records_taken == RECORDS) return 0;
+  printf("%d cases with %d records, and there are %d with %d\n", cases, records_taken, CASES, RECORDS);
+  return 1;
 }

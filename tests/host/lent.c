@@ -191,3 +191,11 @@ int finish(void) {
   else printf("%d of %d checks failed\n", failures, checks);
   return failures != 0;
 }
+
+int finish_after(int count) {
+  if (checks != count) {
+    failures++;
+    printf("failed: %d checks were made, and %d are to be made\n", checks, count);
+  }
+  return finish();
+}

@@ -65,4 +65,6 @@ uint8_t *read_file(const char *path, size_t *bytes);
 /* Counts a check and says where it fails; finish prints "ok" and the count, and gives the exit status. */
 void expect(bool holds, const char *what, ...) __attribute__((format(printf, 2, 3)));
 int finish(void);
+/* Fails too where another number of checks was made: a check was dropped, or a list of inputs is shorter or longer. */
+int finish_after(int count);
 #endif

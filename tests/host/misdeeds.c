@@ -1,5 +1,5 @@
-/* Stands between a C test and the library (gcc -Wl,--wrap) and does one wrong thing, the one that MISDEED names. A test
-   that no misdeed makes fail would be no test; misdeeds.sh tries each. */
+/* Stands between a test and the library (gcc -Wl,--wrap) and does one wrong thing, the one that MISDEED names. A test
+   that no misdeed makes fail would be no test; misdeeds.sh tries each, and misdeeds.out says which tests have to see it. */
 #include "lent.h"
 #include <stdlib.h>
 #include <string.h>
@@ -40,8 +40,23 @@ static bool does(const char *what) {
   return misdeed != NULL && strcmp(misdeed, what) == 0;
 }
 
+/* A place that holds a wrong number until the next record, and its right number: only a test that looks after each call
+   sees it. */
+static uint64_t *wrong_place, right_number;
+
+static void make_wrong(uint64_t *place) {
+  wrong_place = place;
+  right_number = (*place)++;
+}
+
+static void make_right(void) {
+  if (wrong_place != NULL) *wrong_place = right_number;
+  wrong_place = NULL;
+}
+
 uint64_t __wrap_ledger_make(TABLES_OF_A_LEDGER, const uint64_t *book, size_t book_len, const uint8_t *header,
                             size_t header_len) {
+  wrong_place = NULL;
   uint64_t number = __real_ledger_make(LEDGER, book, book_len, header, header_len);
   if (number == LEDGER_ACCEPTED && does("clears the book of a made ledger"))
     memset((void *)(uintptr_t)book, 0, book_len * sizeof *book);
@@ -53,12 +68,29 @@ uint64_t __wrap_ledger_make(TABLES_OF_A_LEDGER, const uint64_t *book, size_t boo
   return number;
 }
 
+/* A copy of a table of so many places, in which the numbers of the first places, as many as the width, are repeated up to an
+   end. */
+static void *alike(const void *table, size_t places, size_t first, size_t width, size_t end) {
+  static uint64_t copy[LEDGER_ROWS];
+  memcpy(copy, table, places * sizeof *copy);
+  for (size_t i = first + width; i < end; i++) copy[i] = copy[i - width];
+  return copy;
+}
+
 uint64_t __wrap_ledger_is_damaged(TABLES_OF_A_LEDGER, const uint64_t *book, size_t book_len, const int64_t *lines,
                                   size_t lines_len) {
+  if (does("does not ask for lines")) lines = (const int64_t *)(uintptr_t)lots, lines_len = LEDGER_LINES;
+  const bool long_enough = head_len >= LEDGER_HEAD && prices_len >= LEDGER_PRICES && lots_len >= LEDGER_ROWS;
+  if (long_enough && does("looks at the first limit only"))
+    head = alike(head, LEDGER_HEAD, LEDGER_LIMITS, 1, LEDGER_MARKS);
+  if (long_enough && does("looks at the first prices only"))
+    prices = alike(prices, LEDGER_PRICES, 0, LEDGER_PRICE_WIDTH, LEDGER_PRICES);
+  if (long_enough && does("looks at the first row only"))
+    lots = alike(lots, LEDGER_ROWS, 0, LEDGER_ROW_WIDTH, LEDGER_ROWS);
   uint64_t number = __real_ledger_is_damaged(LEDGER, book, book_len, lines, lines_len);
-  if (does("finds nothing damaged")) return 0;
-  if (does("does not ask for lines"))
-    return __real_ledger_is_damaged(LEDGER, book, book_len, (const int64_t *)(uintptr_t)lots, LEDGER_LINES);
+  if (does("finds nothing damaged")) return LEDGER_NOT_DAMAGED;
+  if (number == LEDGER_NOT_DAMAGED && head[LEDGER_ORDER_COUNT] > 0 && does("finds a ledger with orders damaged"))
+    return LEDGER_DAMAGED;
   return number;
 }
 
@@ -72,6 +104,7 @@ static void spoil(uint64_t kind, uint64_t *head, uint64_t *prices, int64_t *lots
   if (does("counts lines one short") && count > 0) *detail = count - 1;
   if (does("clears the place of an order that went") && orders < LEDGER_MOST_ORDERS)
     book[orders * LEDGER_ORDER_WIDTH] = 0;
+  if (does("counts a lot too many") && kind == LEDGER_KIND_SUBMIT && count > 0) head[LEDGER_LOTS_RUN]++;
   if (does("books no value") && count > 0)
     value[lines[LEDGER_LINE_CONTRACT] * LEDGER_ROW_WIDTH + lines[LEDGER_LINE_MEMBER]] -=
         lines[LEDGER_LINE_LOTS] * lines[LEDGER_LINE_PRICE];
@@ -92,26 +125,54 @@ static void spoil(uint64_t kind, uint64_t *head, uint64_t *prices, int64_t *lots
   if (does("keeps the clock over a close")) head[LEDGER_TIME] = 1;
 }
 
+/* A lot more for each member whose lots a close carried from a quarter to its months, in the first of them. */
+static void add_where_carried(const int64_t *before, int64_t *lots) {
+  for (size_t row = 0; row < LEDGER_ROWS; row++) {
+    const size_t contract = row / LEDGER_ROW_WIDTH, k = contract % LEDGER_CONTRACTS_A_YEAR;
+    if (k == LEDGER_YEAR || k >= LEDGER_JANUARY || before[row] == 0 || lots[row] != 0) continue;
+    const size_t month = contract - k + LEDGER_JANUARY + (k - LEDGER_FIRST_QUARTER) * 3;
+    lots[month * LEDGER_ROW_WIDTH + row % LEDGER_ROW_WIDTH]++;
+  }
+}
+
+/* What is answered in place of a refusal. */
+static uint64_t other_number(uint64_t number, size_t record_len, uint64_t *detail) {
+  if (number == LEDGER_TABLE_UNSOUND && record_len == 0 && does("answers 3 before 1")) return LEDGER_RECORD_UNSOUND;
+  if (number == LEDGER_RECORD_UNSOUND && does("answers a bad record with 1")) return LEDGER_TABLE_UNSOUND;
+  if (number == LEDGER_NO_SUCH_ORDER && does("hides a number")) return LEDGER_NOT_ACCEPTABLE;
+  if (number == LEDGER_NO_SUCH_ORDER && does("tells something with 12")) *detail = 1;
+  if (number == LEDGER_MEMBER_DEFAULTED && does("does not tell the member of 5")) *detail = 0;
+  if (number == LEDGER_CONTRACT_NOT_OPEN && does("does not tell the contract of 6")) *detail = 0;
+  if (number == LEDGER_CONTRACT_NOT_OPEN && does("answers a contract that is not open with 7")) {
+    *detail = 0;
+    return LEDGER_CONTRACT_NOT_OPEN + 1;
+  }
+  return number;
+}
+
 uint64_t __wrap_ledger_apply(TABLES_OF_A_LEDGER, uint64_t *book, size_t book_len, int64_t *lines, size_t lines_len,
                              const uint8_t *record, size_t record_len, uint64_t *detail) {
+  static int64_t lots_before[LEDGER_ROWS];
+  const bool adds = lots_len >= LEDGER_ROWS && does("adds a lot to a month of a quarter that closes");
+  if (adds) memcpy(lots_before, lots, sizeof lots_before);
+  make_right();
   uint64_t number = __real_ledger_apply(LEDGER, book, book_len, lines, lines_len, record, record_len, detail);
   if (number == LEDGER_ACCEPTED) spoil(record[0], head, prices, lots, value, book, lines, detail);
+  if (number == LEDGER_ACCEPTED && record[0] == LEDGER_KIND_CLOSE_OF_DAY && adds) add_where_carried(lots_before, lots);
   if (number > LEDGER_RECORD_UNSOUND && does("moves the clock of a refused record")) head[LEDGER_TIME]++;
+  if (number > LEDGER_RECORD_UNSOUND && does("moves the clock of a refused record until the next"))
+    make_wrong(head + LEDGER_TIME);
   if (number > LEDGER_RECORD_UNSOUND && does("writes and restores a refused record's clock"))
     *(volatile uint64_t *)(head + LEDGER_TIME) += 0;
   if (number == LEDGER_TOTAL_PASSED && record[0] == LEDGER_KIND_CLOSE_OUT &&
       does("writes and restores a line of a close-out that is 17"))
     *(volatile int64_t *)lines += 0;
-  if (number == LEDGER_TABLE_UNSOUND && record_len == 0 && does("answers 3 before 1")) return LEDGER_RECORD_UNSOUND;
-  if (number == LEDGER_NO_SUCH_ORDER && does("hides a number")) return LEDGER_NOT_ACCEPTABLE;
-  if (number == LEDGER_MEMBER_DEFAULTED && does("does not tell the member of 5")) *detail = 0;
-  if (number == LEDGER_CONTRACT_NOT_OPEN && does("does not tell the contract of 6")) *detail = 0;
   if (lines_len == LEDGER_LINES - 1 && does("takes a short line table")) return LEDGER_ACCEPTED;
   if (does("reads past the line table")) *detail += 0 * (uint64_t)((volatile int64_t *)lines)[lines_len];
   if (does("reads before the head")) *detail += 0 * ((volatile uint64_t *)head)[-1];
   if (does("reads past the record")) *detail += 0 * ((const volatile uint8_t *)record)[record_len];
   if (record_len > 0 && does("writes the record")) *(uint8_t *)(uintptr_t)record ^= 1;
-  return number;
+  return other_number(number, record_len, detail);
 }
 
 uint64_t __wrap_ledger_read_header(const uint8_t *header, size_t header_len, uint64_t *fields, size_t fields_len,

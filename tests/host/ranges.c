@@ -6,15 +6,21 @@
 #include <string.h>
 
 #define MEMBERS 3
+/* How often the damage test is asked, a place or a number each. */
+enum { ASKED = 18064 };
 
 static Tables tables;
+static int asked;
 static uint64_t *head, *prices, *book, *lots, *value;
 
 /* VJR, version 1, first year 2021, start day 369 (Monday), three members, holidays 370 and 626, limits 1000 */
 static const uint8_t sound[] = {'V',  'J', 'R', 0,    1,    0x07, 0xE5, 0x01, 0x71, MEMBERS, 2, 0x01, 0x72, 0x02,
                                 0x72, 0,   0,   0x03, 0xE8, 0,    0,    0x03, 0xE8, 0,       0, 0x03, 0xE8};
 
-static bool is_sound(void) { return is_damaged(&tables) == LEDGER_NOT_DAMAGED; }
+static bool is_sound(void) {
+  asked++;
+  return is_damaged(&tables) == LEDGER_NOT_DAMAGED;
+}
 
 /* contract 18, sell, 31000, 1 lot, entered on day 369 at 36000 s */
 static void put_order(size_t i, uint64_t number, uint64_t member) {
@@ -275,5 +281,7 @@ int main(void) {
   headers();
   fresh();
   give_back(&tables);
-  return 0;
+  if (asked == ASKED) return 0;
+  printf("the damage test was asked %d times and is to be asked %d times\n", asked, ASKED);
+  return 1;
 }

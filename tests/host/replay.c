@@ -7,7 +7,8 @@
    replay digests STORED.digests ...  the same with one 64-bit number for the six tables, which names no place: for
                                       journals whose places would fill too large a file
 
-   The model wrote the stored files (replay_tables). Prints "ok" and the count of checks, or each check that fails. */
+   The model wrote the stored files (replay_tables). Prints "ok" and the count of checks, or each check that fails. It
+   fails too where the files are not all that there are, or one of them is cut. */
 #include "lent.h"
 #include <ctype.h>
 #include <inttypes.h>
@@ -178,15 +179,19 @@ static void compare_stored(const Tables *tables, const char *path, Each *compare
   free(text);
 }
 
+/* The checks of each form on all its files: of 'printed' one a journal. */
+enum { PRINTED_CHECKS = 66, PLACES_CHECKS = 2629, DIGESTS_CHECKS = 1304 };
+
 int main(int count, char **words) {
   const char *form = count > 2 ? words[1] : "";
   const Tables tables = lend_guarded(0, ENDS);
+  int checks = 0;
   for (int i = 2; i < count; i++)
-    if (strcmp(form, "printed") == 0) compare_printed(&tables, words[i]);
-    else if (strcmp(form, "places") == 0) compare_stored(&tables, words[i], compare_places);
-    else if (strcmp(form, "digests") == 0) compare_stored(&tables, words[i], compare_digest);
+    if (strcmp(form, "printed") == 0) checks = PRINTED_CHECKS, compare_printed(&tables, words[i]);
+    else if (strcmp(form, "places") == 0) checks = PLACES_CHECKS, compare_stored(&tables, words[i], compare_places);
+    else if (strcmp(form, "digests") == 0) checks = DIGESTS_CHECKS, compare_stored(&tables, words[i], compare_digest);
     else form = "";
-  if (*form != 0) return finish();
+  if (*form != 0) return finish_after(checks);
   fprintf(stderr, "replay printed JOURNAL ... | replay places STORED ... | replay digests STORED ...\n");
   return 2;
 }

@@ -17,6 +17,7 @@ PROGRAM, MODEL = [sys.argv[1], 'journal'], sys.argv[2]
 READ, HEADER, RECORD, INPUT, OUTPUT = 0, 2, 3, 4, 5
 # What the program needs: its buffers and tables lie on the stack. It holds no more for a longer journal.
 STACK_KIB, MEMORY_KIB = 512, 4096
+JOURNALS, JOURNAL_BYTES = 66, 100_111
 
 checks, failures = 0, 0
 
@@ -50,7 +51,10 @@ def status_of(printed):
 
 
 def stored():
-    return {path: open(path, 'rb').read() for path in sorted(glob.glob('tests/journals/*.vjr') + glob.glob('examples/*.vjr'))}
+    """The stored journals and the stories, with how many there are and their bytes."""
+    journals = {path: open(path, 'rb').read() for path in sorted(glob.glob('tests/journals/*.vjr') + glob.glob('examples/*.vjr'))}
+    expect('the stored journals', (len(journals), sum(map(len, journals.values()))), (JOURNALS, JOURNAL_BYTES))
+    return journals
 
 
 def in_pieces(data, sizes):

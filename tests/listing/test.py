@@ -15,6 +15,7 @@ from listing import listing
 PROGRAM = [sys.argv[1], "listing"]
 ROOT = pathlib.Path(__file__).resolve().parents[2]
 INPUT, OUTPUT = 4, 5
+JOURNALS, JOURNAL_BYTES, SOUND = 66, 100_111, 3
 checks, failures = 0, 0
 
 
@@ -90,9 +91,11 @@ def test_statuses(data):
 def main():
     stories = sorted((ROOT / "examples").glob("*.vjr"))
     journals = stories + sorted((ROOT / "tests/journals").glob("*.vjr"))
+    expect("the stored journals", (len(journals), sum(len(path.read_bytes()) for path in journals)), (JOURNALS, JOURNAL_BYTES))
     for path in journals:
         test_listed(path.name, path.read_bytes())
     sound = [path.read_bytes() for path in stories if path.stem in ("synthetic", "default", "year_end")]
+    expect("the sound stories", len(sound), SOUND)
     for data in sound:
         test_listed("all turned", turned(data))
         for end in range(len(data)):

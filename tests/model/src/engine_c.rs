@@ -1,5 +1,13 @@
 //! The C entries of the proved library, as include/ledger.h declares them. Everything about their form is in this file.
 use crate::tables::Tables;
+use std::sync::atomic::{AtomicU64, Ordering};
+
+static CALLS: AtomicU64 = AtomicU64::new(0);
+
+/// How often `ledger_make` and `ledger_apply` were called.
+pub fn calls() -> u64 {
+    CALLS.load(Ordering::Relaxed)
+}
 
 extern "C" {
     fn ledger_make(
@@ -54,6 +62,7 @@ extern "C" {
 /// The answer's number and the value that goes with it.
 pub fn make(tables: &mut Tables, header: &[u8]) -> (u64, u64) {
     let Tables { head, prices, lots, value, book, .. } = tables;
+    CALLS.fetch_add(1, Ordering::Relaxed);
     // SAFETY: each pointer is given with the length of the table that it points to; the tables do not overlap.
     let number = unsafe {
         ledger_make(
@@ -78,6 +87,7 @@ pub fn make(tables: &mut Tables, header: &[u8]) -> (u64, u64) {
 pub fn apply(tables: &mut Tables, record: &[u8]) -> (u64, u64) {
     let Tables { head, prices, lots, value, book, lines } = tables;
     let mut value_out = 0;
+    CALLS.fetch_add(1, Ordering::Relaxed);
     // SAFETY: as for `make`; `value_out` is one number.
     let number = unsafe {
         ledger_apply(

@@ -1,7 +1,7 @@
 //! What the generator reaches, and what holds of every call.
 use model::answer::Answer;
 use model::apply::apply;
-use model::coverage::{Coverage, LONG_RUN};
+use model::coverage::{Coverage, EDGES, LONG_RUN};
 use model::generate::{run, Call};
 use model::make::make;
 use model::record::Record;
@@ -27,6 +27,25 @@ fn every_refusal_and_edge_is_reached() {
     });
     assert_eq!(outcome, Ok(()));
     assert_eq!(coverage.unmet(), Vec::<String>::new());
+}
+
+/// The answers and edges that are asked for; a short run must not meet them all, or the long one shows nothing.
+#[test]
+fn nothing_is_met_before_it_comes() {
+    let mut coverage = Coverage::default();
+    assert_eq!((coverage.answers.len(), EDGES.len(), coverage.unmet().len()), (19, 126, 19 + 126));
+    let mut before = Tables::empty();
+    let outcome: Result<(), ()> = run(1, 500, |tables, call| {
+        before.clone_from(tables);
+        let answer = called(tables, &call);
+        coverage.observe(&before, &call, answer, tables);
+        Ok(())
+    });
+    assert_eq!(outcome, Ok(()));
+    assert!(coverage.answers[0] > 0);
+    for rare in ["submit: 100 deals (200 lines)", "close-out: L of 100,000 or more", "close: a GGF of 1"] {
+        assert!(coverage.unmet().iter().any(|unmet| unmet == rare), "{rare}");
+    }
 }
 
 #[test]

@@ -52,19 +52,25 @@ fn replayed(list: &str) -> String {
 fn stored_lists() {
     let files = files("lists", "txt");
     assert_eq!(files.len(), 36);
+    let mut records = 0;
     for file in files {
         let list = fs::read_to_string(&file).expect("a list");
         assert_eq!(replayed(&list).trim(), list.trim(), "{}", file.display());
+        records += list.lines().filter(|line| line.starts_with("record ")).count();
     }
+    assert_eq!(records, 896);
 }
 
 #[test]
 fn stored_journals() {
     let (journals, stories) = (files("journals", "vjr"), files("../examples", "vjr"));
     assert_eq!((journals.len(), stories.len()), (60, 6));
+    let mut bytes = 0;
     for file in journals.into_iter().chain(stories) {
         let journal = fs::read(&file).expect("a journal");
         let expected = fs::read_to_string(file.with_extension("out")).expect("what it prints");
         assert_eq!(model::journal::printed(&journal), expected, "{}", file.display());
+        bytes += journal.len();
     }
+    assert_eq!(bytes, 100_111);
 }

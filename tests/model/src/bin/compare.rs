@@ -1,6 +1,7 @@
 //! compare SEED RECORDS: applies generated records and prints how often each answer and each edge came. With the
-//! feature `c_engine` the proved library gets the same calls; the run stops at the first difference. A run of 400,000
-//! records or more fails where it does not meet every answer and every edge.
+//! feature `c_engine` the proved library gets the same calls; the run stops at the first difference. It fails where the
+//! library was not called as often as the model, so always without the feature. A run of 400,000 records or more fails
+//! too where it does not meet every answer and every edge.
 use model::answer::{told, Answer};
 use model::apply::apply;
 use model::coverage::{Coverage, EDGES, LONG_RUN};
@@ -36,6 +37,14 @@ fn proved(tables: &mut Tables, call: &Call) -> Option<(u64, u64)> {
 #[cfg(not(feature = "c_engine"))]
 fn proved(_: &mut Tables, _: &Call) -> Option<(u64, u64)> {
     None
+}
+
+/// How often the library was called.
+fn library_calls() -> u64 {
+    #[cfg(feature = "c_engine")]
+    return model::engine_c::calls();
+    #[cfg(not(feature = "c_engine"))]
+    0
 }
 
 /// The first place of a table on which the two differ.
@@ -91,14 +100,19 @@ fn main() -> ExitCode {
     let mut sides = Sides { before: Tables::empty(), theirs: Tables::empty(), coverage: Coverage::default() };
     let outcome = run(seed, records, |tables, call| sides.call(tables, call));
     let answers = &sides.coverage.answers;
-    println!("{} calls, {} accepted", answers.iter().sum::<u64>(), answers[0]);
+    let calls = answers.iter().sum::<u64>();
+    println!("{calls} calls, {} accepted", answers[0]);
     answers.iter().enumerate().skip(1).for_each(|(number, count)| println!("refused {number}: {count}"));
     EDGES.iter().for_each(|edge| println!("{edge}: {}", sides.coverage.count(edge)));
     if let Err(difference) = outcome {
         if !is_damaged(&sides.before) {
             print!("ledger before the call\n{}", ledger(&sides.before));
         }
-        println!("DIFFERENT after {} calls\n{difference}", answers.iter().sum::<u64>());
+        println!("DIFFERENT after {calls} calls\n{difference}");
+        return ExitCode::FAILURE;
+    }
+    if library_calls() != calls {
+        println!("NOT CALLED: the library {} times, the model {calls} times", library_calls());
         return ExitCode::FAILURE;
     }
     let unmet = sides.coverage.unmet();

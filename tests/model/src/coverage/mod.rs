@@ -22,7 +22,7 @@ pub struct Coverage {
 
 /// Every edge that a long run has to meet. A number in brackets is the answer that comes with it; the others come with
 /// accepted records. 'Only' stands for a proposal that would be accepted but for that.
-pub const EDGES: &[&str] = &[
+pub static EDGES: [&str; 126] = [
     "ledger made",
     // Matching
     "submit: a limit met exactly, buy",
