@@ -1,0 +1,5 @@
+pub mod Damage
+pub mod Lengths
+pub mod Records
+pub mod Headers
+pub mod Writers
