@@ -37,8 +37,9 @@ records =
     ∷ buy 1 18 31000 20
     ∷ sell 1 23 29000 1
     ∷ buy 0 23 29000 1
-    -- a time below the ledger's: 4
+    -- a submit and a close of day whose time is below the ledger's: 4
     ∷ submit 35999 Resting Buy 0 17 30000 1
+    ∷ close 35999
     -- the year cascades; day 362
     ∷ close 61200
     -- the quarter is bought by member 0, its months are sold by member 2
@@ -129,7 +130,7 @@ atLast =
 
 -- After so many calls.
 balances : List (ℕ × List Balance)
-balances = (7, atFirst) ∷ (8, atFirst) ∷ (13, proposed) ∷ (15, atLast) ∷ (18, atLast) ∷ []
+balances = (8, atFirst) ∷ (9, atFirst) ∷ (14, proposed) ∷ (16, atLast) ∷ (19, atLast) ∷ []
 
 engine-account : Each (λ n. let t = after start (take n calls) in map (engineBalance t) hours) balances
 unfolding computed sum engineAccount after calls records start header ofMembers engineBalance none hours inHours atFirst proposed atLast balances
@@ -140,14 +141,14 @@ unfolding computed log entered otherAccount calls records start header ofMembers
 other-account = refl
 
 -- ---- the list's day, and what has cascaded
--- After so many calls: a refused record and a record that is cut move nothing.
-lists-day : Each (λ n. listsDay header 359 start (take n calls)) ((0, 359) ∷ (7, 359) ∷ (8, 362) ∷ (16, 362) ∷ (17, 363) ∷ (18, 364) ∷ [])
+-- After so many calls: a close of day that is refused and a record that is cut do not move it.
+lists-day : Each (λ n. listsDay header 359 start (take n calls)) ((0, 359) ∷ (8, 359) ∷ (9, 362) ∷ (17, 362) ∷ (18, 363) ∷ (19, 364) ∷ [])
 unfolding computed listsDay calls records start header
 lists-day = refl
 
 -- On a day: the year 2021, its first and second quarter, its January; the year 2020 and its first quarter, which closed before day 0;
 -- number 102, which is no contract.
-cascaded : Each (λ d. map (hasCascaded (calendarOf header) d) (17 ∷ 18 ∷ 19 ∷ 22 ∷ 0 ∷ 1 ∷ 102 ∷ []))
+which-cascaded : Each (λ d. map (hasCascaded (calendarOf header) d) (17 ∷ 18 ∷ 19 ∷ 22 ∷ 0 ∷ 1 ∷ 102 ∷ []))
     ((0, false ∷ false ∷ false ∷ false ∷ true ∷ true ∷ false ∷ [])
     ∷ (359, false ∷ false ∷ false ∷ false ∷ true ∷ true ∷ false ∷ [])
     ∷ (360, true ∷ false ∷ false ∷ false ∷ true ∷ true ∷ false ∷ [])
@@ -156,7 +157,7 @@ cascaded : Each (λ d. map (hasCascaded (calendarOf header) d) (17 ∷ 18 ∷ 19
     ∷ (454, true ∷ true ∷ true ∷ false ∷ true ∷ true ∷ false ∷ [])
     ∷ [])
 unfolding computed header
-cascaded = refl
+which-cascaded = refl
 
 -- Nothing is left in the year and the quarter that have cascaded: lots and value of each member at the end; January has some.
 rowsOf : ℕ → Balance

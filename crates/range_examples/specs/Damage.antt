@@ -19,10 +19,10 @@ data Place : Type 0 where
   prices : ℕ → Place
   book : ℕ → Place
 
-with : Place → ℕ → Tables → Tables
-with (head i) n t = inHead (λ l. set l i n) t
-with (prices i) n t = inPrices (λ l. set l i n) t
-with (book i) n t = withBook (set (t .book) i n) t
+withPlace : Place → ℕ → Tables → Tables
+withPlace (head i) n t = inHead (λ l. set l i n) t
+withPlace (prices i) n t = inPrices (λ l. set l i n) t
+withPlace (book i) n t = withBook (set (t .book) i n) t
 
 -- ---- the ledgers
 -- Monday, 369, three members, a lots run of 10. The year 2022 has a GGF, limits and 4 lots of the day. Orders 3 and 6 rest.
@@ -36,12 +36,12 @@ withHolidays : Tables
 withHolidays = made 2021 369 (370 ∷ 512 ∷ []) (5 ∷ [])
 
 -- 120 holidays, days 400 to 519. The place behind them has the limit of 1000 lots, which could be a further holiday.
-mostHolidays : Tables
-mostHolidays = made 2021 369 (from 400 120) (1000 ∷ [])
+with120Holidays : Tables
+with120Holidays = made 2021 369 (from 400 120) (1000 ∷ [])
 
 -- 257 sound orders in a longer book.
-tooManyOrders : Tables
-tooManyOrders = withOrders (map (λ n. order n 0 17 Sell 27000 1 369 0) (from 0 257)) (withBook (replicate 2056 0) (inHead (withAcceptedSubmits 257) monday))
+with257Orders : Tables
+with257Orders = withOrders (map (λ n. order n 0 17 Sell 27000 1 369 0) (from 0 257)) (withBook (replicate 2056 0) (inHead (withAcceptedSubmits 257) monday))
 
 -- ---- a ledger, a place, what is sound there, what is damage
 ranges : List (Tables × Place × List ℕ × List ℕ)
@@ -52,7 +52,7 @@ ranges =
     -- 1 to 32 members
     ∷ (monday, head 1, 1 ∷ 32 ∷ [], 0 ∷ 33 ∷ [])
     -- 0 to 120 holidays, strictly rising in the span, 366 to 2556; the ledger's day is none. A place past the count is surplus.
-    ∷ (mostHolidays, head 2, 0 ∷ 120 ∷ [], 121 ∷ [])
+    ∷ (with120Holidays, head 2, 0 ∷ 120 ∷ [], 121 ∷ [])
     ∷ (withHolidays, head 8, 366 ∷ 511 ∷ [], 365 ∷ 369 ∷ 512 ∷ 513 ∷ [])
     ∷ (withHolidays, head 9, 371 ∷ 2556 ∷ [], 370 ∷ 2557 ∷ [])
     ∷ (withHolidays, head 10, 9999 ∷ [], [])
@@ -62,7 +62,7 @@ ranges =
     ∷ (lent, head 4, 0 ∷ 86399 ∷ [], 86400 ∷ [])
     ∷ (lent, head 5, 7 ∷ 4000000000 ∷ [], 6 ∷ 4000000001 ∷ [])
     ∷ (lent, head 6, 4 ∷ 5000000 ∷ [], 3 ∷ 5000001 ∷ [])
-    ∷ (tooManyOrders, head 7, 1 ∷ [], 257 ∷ [])
+    ∷ (with257Orders, head 7, 1 ∷ [], 257 ∷ [])
     -- limit, mark and submits in the present second of the first and the last member; what a fourth has is surplus
     ∷ (lent, head 128, 0 ∷ 100000 ∷ [], 100001 ∷ [])
     ∷ (lent, head 130, 0 ∷ 100000 ∷ [], 100001 ∷ [])
@@ -97,9 +97,9 @@ ranges =
     ∷ (lent, book 19, 2 ∷ [], [])
     ∷ []
 
-damage-of-places : map (λ x. map (λ n. damaged (with (x .1) n (x .0))) (x .2 ++ x .3)) ranges
+damage-of-places : map (λ x. map (λ n. damaged (withPlace (x .1) n (x .0))) (x .2 ++ x .3)) ranges
     ≡ map (λ x. map (λ n. false) (x .2) ++ map (λ n. true) (x .3)) ranges
-unfolding computed ranges lent withHolidays mostHolidays tooManyOrders with
+unfolding computed ranges lent withHolidays with120Holidays with257Orders withPlace
 damage-of-places = refl
 
 -- ---- rows, with a sign: lots up to the lots run of 10 in absolute size, value up to 10,000,000
