@@ -1,4 +1,5 @@
 pub mod Damage
+pub mod Fresh
 pub mod Lengths
 pub mod Records
 pub mod Headers
