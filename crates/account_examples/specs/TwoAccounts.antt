@@ -21,13 +21,13 @@ use Rattle.rules.specs.ExampleRecords.{submit, buy, sell, proposal, default, cl
 
 -- ---- the list of calls
 -- First year 2020, Friday 25 December 2020, three members.
-header : Header
+unfoldable pub header : Header
 header = record { firstYear = 2020; startDay = 359; members = 3; holidays = []; limits = 1000 ∷ 1000 ∷ 1000 ∷ [] }
 
-start : Tables
+unfoldable pub start : Tables
 start = makeSpec zeroTables (headerBytes header) .after
 
-records : List (List ℕ)
+unfoldable pub records : List (List ℕ)
 records =
     -- day 359: member 0 buys 2 lots of the year 2021 from member 1
     sell 1 17 30000 2
@@ -59,7 +59,7 @@ records =
     ∷ []
 
 -- Each call is lent a line table that holds something else.
-calls : List Call
+unfoldable pub calls : List Call
 calls = map (λ r. record { bytes = r; lines = replicate 800 (pos 7) }) records
 
 -- ---- the log
