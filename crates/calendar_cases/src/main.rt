@@ -60,11 +60,11 @@ fn print_next(holidays: &[u64], day: DayNo) {
     print(next_day_number(next));
 }
 
-// The last day up to 500 on which a contract of a ledger that begins in 2020 is open: its closing day.
+// The last day up to 700 on which a contract of a ledger that begins in 2020 is open: its closing day.
 fn print_closing(holidays: &[u64], contract: u64) {
     let mut last = Day::NoDay;
     let mut day: u64 = 0;
-    while day <= 500 {
+    while day <= 700 {
         if contracts::is_open(2020, holidays, DayNo(day), contract) {
             last = Day::On(DayNo(day));
         }
@@ -104,11 +104,13 @@ fn print_business_days(holidays: &[u64], from: u64, end: u64) {
 
 fn main() {
     let holidays = HOLIDAYS;
-    // Year 2021, its January, its first and second quarter; the year 2020 closed before day 0.
+    // Year 2021, its January, its four quarters; the year 2020 closed before day 0.
     print_closing(&holidays[..0], 17);
     print_closing(&holidays[..0], 22);
     print_closing(&holidays[..0], 18);
     print_closing(&holidays[..0], 19);
+    print_closing(&holidays[..0], 20);
+    print_closing(&holidays[..0], 21);
     print_closing(&holidays[..0], 0);
     print_closing(&holidays, 17);
     print_closing(&holidays, 22);

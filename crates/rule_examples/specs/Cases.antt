@@ -107,3 +107,9 @@ cases =
 starred-cases : map (λ x. result (x .0)) cases ≡ map (λ x. x .1) cases
 unfolding computed result cases dayNumber quote dayPrice after cascadeAfter proposalNumber
 starred-cases = refl
+
+-- ---- the slide of cascades has the same days, and two more: 28 June and 28 September 2021 for the third and the fourth quarter
+slide-of-cascades : map result (closing 2020 17 ∷ closing 2020 18 ∷ closing 2020 19 ∷ closing 2020 20 ∷ closing 2020 21 ∷ [])
+    ≡ (pos 359 ∷ []) ∷ (pos 363 ∷ []) ∷ (pos 453 ∷ []) ∷ (pos 544 ∷ []) ∷ (pos 636 ∷ []) ∷ []
+unfolding computed result dayNumber
+slide-of-cascades = refl

@@ -37,11 +37,11 @@ journal-run = refl
 abbrev printedHead : List ℕ
 printedHead = 72 ∷ 32 ∷ 50 ∷ 48 ∷ 50 ∷ 49 ∷ 32 ∷ 51 ∷ 54 ∷ 57 ∷ 32 ∷ 50 ∷ 10 ∷ []
 
--- "D 1 17 3 26000", "D 0 17 -3 26000"
-abbrev printedDeals : List ℕ
-printedDeals =
-    (68 ∷ 32 ∷ 49 ∷ 32 ∷ 49 ∷ 55 ∷ 32 ∷ 51 ∷ 32 ∷ 50 ∷ 54 ∷ 48 ∷ 48 ∷ 48 ∷ 10 ∷ [])
-    ++ (68 ∷ 32 ∷ 48 ∷ 32 ∷ 49 ∷ 55 ∷ 32 ∷ 45 ∷ 51 ∷ 32 ∷ 50 ∷ 54 ∷ 48 ∷ 48 ∷ 48 ∷ 10 ∷ [])
+-- "D 1 17 3 26000", "D 0 17 -3 26000", with this digit for the lots.
+abbrev printedDeals : ℕ → List ℕ
+printedDeals q =
+    (68 ∷ 32 ∷ 49 ∷ 32 ∷ 49 ∷ 55 ∷ 32 ∷ q ∷ 32 ∷ 50 ∷ 54 ∷ 48 ∷ 48 ∷ 48 ∷ 10 ∷ [])
+    ++ (68 ∷ 32 ∷ 48 ∷ 32 ∷ 49 ∷ 55 ∷ 32 ∷ 45 ∷ q ∷ 32 ∷ 50 ∷ 54 ∷ 48 ∷ 48 ∷ 48 ∷ 10 ∷ [])
 
 -- R and E with these digits after their spaces.
 abbrev printedR : ℕ → ℕ → List ℕ
@@ -58,7 +58,7 @@ unfolding computed frontOf digits decimal signedDecimal lineText headText dealTe
 computedText x = x
 
 -- Whole output.
-whole-output : journalText whole ≡ printedHead ++ (printedDeals ++ (printedR 51 52 ++ printedE 50 49 54))
+whole-output : journalText whole ≡ printedHead ++ (printedDeals 51 ++ (printedR 51 52 ++ printedE 50 49 54))
 unfolding computedText
 whole-output = refl
 
@@ -70,6 +70,13 @@ header-cut = refl
 header-alone : journalText journalHeader ≡ printedHead ++ printedE 48 48 48
 unfolding computedText
 header-alone = refl
+
+-- After any other number it goes on: a fourth record, the second again, meets the two lots that still rest.
+-- The end is "E 3 1 10".
+goes-on-after-four : journalText (whole ++ (1 ∷ 0 ∷ 0 ∷ 140 ∷ 170 ∷ 1 ∷ 17 ∷ 0 ∷ 1 ∷ 0 ∷ 0 ∷ 101 ∷ 244 ∷ 0 ∷ 3 ∷ []))
+    ≡ printedHead ++ (printedDeals 51 ++ (printedR 51 52 ++ (printedDeals 50 ++ (69 ∷ 32 ∷ 51 ∷ 32 ∷ 49 ∷ 32 ∷ 49 ∷ 48 ∷ 10 ∷ []))))
+unfolding computedText
+goes-on-after-four = refl
 
 -- After 3 it stops: a cut record, and an unknown kind with a sound record behind it.
 record-cut : journalText (take 35 whole) ≡ printedHead ++ (printedR 50 51 ++ printedE 49 49 48)

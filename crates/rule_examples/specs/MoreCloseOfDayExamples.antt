@@ -4,13 +4,14 @@ use mathlib.Core.Path.{_≡_, refl}
 use mathlib.Core.List.{List, [], _∷_, _++_, map}
 use lib.IntN.{ℤ, pos, negsuc}
 use Rattle.arith.specs.Lists.{from}
+use Rattle.rules.specs.declared.event.OrderKind.the-variants.{Resting}
 use Rattle.rules.specs.declared.order.Side.the-variants.{Buy, Sell}
 use Rattle.rules.specs.declared.units.Day.the-variants.{On}
 use Rattle.rules.specs.Contracts.{termOf, termClosingDay}
 use Rattle.rules.specs.Ledger.{Tables, calendar, withAcceptedSubmits, withLotsRun, withOrders, day, time, submitsThisSecond, orderCount, ggf, dayLots, dayValue, lotsAt, valueAt, orderAt}
 use Rattle.rules.specs.Refusals.{applySpec}
 use Rattle.rules.specs.Computed.{tablesAfter, computed}
-use Rattle.rules.specs.ExampleRecords.{buy, sell, close, made, monday, inHead, held, order, bought, accepted, refused, Each, Prints}
+use Rattle.rules.specs.ExampleRecords.{submit, buy, sell, close, made, monday, inHead, held, order, bought, accepted, refused, Each, Prints}
 use Rattle.rules.specs.CloseOfDayExamples.{Prices, ordersFrom, placed, closed}
 
 -- ---- the GGF
@@ -57,8 +58,9 @@ which-orders-quote : Prices
 unfolding computed closed placed ordersFrom
 which-orders-quote = refl
 
--- Orders enter with the ledger's day and their own time: at 36000 s of Monday, 300 s and 299 s before the close, and the day before.
-entered-at : Each (λ rs. ggf (tablesAfter monday (buy 0 22 27500 50 ∷ sell 1 22 27601 50 ∷ rs)) 22)
+-- Orders enter with the ledger's day and their own time, not the ledger's before them: a buy at 35000 s and a sell at 36000 s of Monday,
+-- 300 s and 299 s before the close, and the day before.
+entered-at : Each (λ rs. ggf (tablesAfter monday (submit 35000 Resting Buy 0 22 27500 50 ∷ sell 1 22 27601 50 ∷ rs)) 22)
     ((close 36300 ∷ [], 27551) ∷ (close 36299 ∷ [], 0) ∷ (close 36299 ∷ close 0 ∷ [], 27551) ∷ [])
 unfolding computed
 entered-at = refl
@@ -112,9 +114,11 @@ closing-is-priced :
 unfolding computed
 closing-is-priced = refl
 
--- Rows of members past the count are surplus: of two members, the third's stay.
-surplus-rows : Each (λ c. lotsAt (applySpec (held ((2, 17, pos 7) ∷ []) (made 2020 359 [] (1000 ∷ 1000 ∷ []))) (close 0) .after) c 2)
-    ((17, pos 7) ∷ (18, pos 0) ∷ [])
+-- Rows of members past the count are surplus: of two members the first's rows cascade, and the third's stay.
+surplus-rows : Each
+    (λ m. let t = applySpec (held ((0, 17, pos 7) ∷ (2, 17, pos 7) ∷ []) (inHead (withLotsRun 7) (made 2020 359 [] (1000 ∷ 1000 ∷ [])))) (close 0) .after in
+    lotsAt t 17 m ∷ lotsAt t 18 m ∷ [])
+    ((0, pos 0 ∷ pos 7 ∷ []) ∷ (2, pos 7 ∷ pos 0 ∷ []) ∷ [])
 unfolding computed held
 surplus-rows = refl
 

@@ -43,6 +43,15 @@ netting-of-shorts : closedOut (0 ∷ 1 ∷ 2 ∷ []) ((0, 17, negsuc 2) ∷ (1, 
 unfolding computed closedOut lent held withDefaulted
 netting-of-shorts = refl
 
+-- Two defaulted members give up what is left of them in step 2, 1 and 3 lots, the lower first; then the takers, who weigh 365 and
+-- three times that.
+two-give-up : closedOut (0 ∷ 1 ∷ 2 ∷ []) ((0, 17, pos 2) ∷ (1, 17, negsuc 0) ∷ (2, 17, pos 3) ∷ (3, 17, negsuc 0) ∷ (4, 17, negsuc 2) ∷ []) 1000
+    ≡ accepted
+    (line 0 17 (negsuc 0) 26000 ∷ line 1 17 (pos 1) 26000
+    ∷ line 0 17 (negsuc 0) 26000 ∷ line 2 17 (negsuc 2) 26000 ∷ line 3 17 (pos 1) 26000 ∷ line 4 17 (pos 3) 26000 ∷ [])
+unfolding computed closedOut lent held withDefaulted
+two-give-up = refl
+
 -- Defaulted lots that net to zero are no 15: step 1 alone, though there is no taker. Lots elsewhere are 15.
 netting-to-zero : closedOut (0 ∷ 1 ∷ []) ((0, 17, pos 5) ∷ (1, 17, negsuc 4) ∷ []) 1000
     ≡ accepted (line 0 17 (negsuc 4) 26000 ∷ line 1 17 (pos 5) 26000 ∷ [])

@@ -6,10 +6,10 @@ use lib.IntN.{pos}
 use Rattle.arith.specs.Lists.{from}
 use Rattle.rules.specs.declared.event.OrderKind.the-variants.{Resting, Oeye, Teye}
 use Rattle.rules.specs.declared.order.Side.the-variants.{Buy, Sell}
-use Rattle.rules.specs.Ledger.{linesLength, withLines}
+use Rattle.rules.specs.Ledger.{linesLength, withLines, withAcceptedSubmits, withOrders}
 use Rattle.rules.specs.Refusals.{applySpec}
 use Rattle.rules.specs.Computed.{tablesAfter, computed}
-use Rattle.rules.specs.ExampleRecords.{submit, buy, sell, cancel, limits, default, close, made, monday, bought, sold, accepted, refused, refusedOf, Prints}
+use Rattle.rules.specs.ExampleRecords.{submit, buy, sell, cancel, limits, default, close, made, monday, inHead, withDefaulted, order, bought, sold, accepted, refused, refusedOf, EachPrints, Prints}
 
 -- The highest buy first, then the lower number; a remainder keeps its number.
 priority-of-buys : Prints monday
@@ -122,6 +122,14 @@ after-a-default : Prints monday
     ∷ [])
 unfolding computed
 after-a-default = refl
+
+-- Every order of a lent table rests: a defaulted member's meets a buy, one of January 2021, which has closed, can be cancelled.
+lent-orders-rest : EachPrints
+    (withDefaulted (1 ∷ [])
+    (withOrders (order 0 1 17 Sell 26000 1 369 0 ∷ order 1 0 5 Sell 26000 1 369 0 ∷ []) (inHead (withAcceptedSubmits 2) monday)))
+    ((buy 2 17 26000 1, accepted (bought 2 1 17 1 26000)) ∷ (cancel 36000 0 1, accepted []) ∷ [])
+unfolding computed withDefaulted
+lent-orders-rest = refl
 
 -- An order number is the count of accepted submits before it, OEYE and all. A cancel takes one order of that member.
 cancels : Prints monday

@@ -16,6 +16,7 @@ named x = zipWith (λ f n. (f, n)) (Kind ∷ fieldsOfKind (kindNumber (x .event)
 pub examples-named : map named examples
     ≡ ((Kind, 1) ∷ (Time, 66051) ∷ (Member, 2) ∷ (Contract, 17) ∷ (Side, 1) ∷ (OrderKind, 2) ∷ (Price, 258000) ∷ (Lots, 100) ∷ [])
     ∷ ((Kind, 1) ∷ (Time, 256) ∷ (Member, 0) ∷ (Contract, 101) ∷ (Side, 0) ∷ (OrderKind, 1) ∷ (Price, 1000000) ∷ (Lots, 1) ∷ [])
+    ∷ ((Kind, 1) ∷ (Time, 4660) ∷ (Member, 1) ∷ (Contract, 34) ∷ (Side, 0) ∷ (OrderKind, 0) ∷ (Price, 66051) ∷ (Lots, 7) ∷ [])
     ∷ ((Kind, 2) ∷ (Time, 86399) ∷ (Member, 2) ∷ (Order, 16909060) ∷ [])
     ∷ ((Kind, 3) ∷ (Contract, 5) ∷ (Low, 256) ∷ (High, 65536) ∷ [])
     ∷ ((Kind, 4) ∷ (Legs, 2) ∷ (Order, 1) ∷ (Lots, 2) ∷ (Price, 256) ∷ (Order, 65536) ∷ (Lots, 3) ∷ (Price, 65537) ∷ [])

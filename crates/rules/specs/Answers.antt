@@ -1,7 +1,8 @@
 -- Document 01, "Why a record is turned back": the numbers. What an outcome is, and how causes decide.
 use Prim.Native.Nat.{ℕ, suc}
 use mathlib.Core.Bool.{Bool, true, false, cond}
-use mathlib.Core.List.{List, [], _∷_}
+use mathlib.Core.List.{List, [], _∷_, map}
+use mathlib.Core.Path.{_≡_, refl}
 use lib.Dec.{eqb}
 use Rattle.rules.specs.declared.answer.Answer.{Answer}
 use Rattle.rules.specs.declared.answer.Answer.the-variants.{Accepted, TableUnsound, HeaderUnsound, RecordUnsound, TimeBelowLedger, MemberDefaulted, ContractNotOpen}
@@ -41,6 +42,10 @@ replyOf NoLaterDay = record { number = 18; detail = 0 }
 abbrev pub replyOfNextDay : Day → Reply
 replyOfNextDay (On d) = record { number = 0; detail = d .0 }
 replyOfNextDay NoDay = replyOf NoLaterDay
+
+-- Day 371, and no later day.
+next-days : map replyOfNextDay (On (record { 0 = 371 }) ∷ NoDay ∷ []) ≡ record { number = 0; detail = 371 } ∷ record { number = 18; detail = 0 } ∷ []
+next-days = refl
 
 -- What a call answers, and what it leaves.
 pub record Outcome (S : Type 0) : Type 0 where

@@ -6,15 +6,16 @@ use mathlib.Core.Bool.{true, false}
 use mathlib.Core.List.{List, [], _∷_, _++_, map, flatMap}
 use lib.ListN.{take}
 use Rattle.arith.specs.Lists.{from, every}
+use Rattle.rules.specs.declared.answer.Answer.the-variants.{RecordUnsound}
 use Rattle.rules.specs.declared.event.Event.{Event}
 use Rattle.rules.specs.declared.event.Event.the-variants.{Submit, Cancel, DayLimits, Proposal, Default, CloseOut, CloseOfDay}
 use Rattle.rules.specs.declared.event.Leg.{Leg}
-use Rattle.rules.specs.declared.event.OrderKind.the-variants.{Oeye, Teye}
-use Rattle.rules.specs.declared.event.Reading.the-variants.{Sound}
+use Rattle.rules.specs.declared.event.OrderKind.the-variants.{Resting, Oeye, Teye}
+use Rattle.rules.specs.declared.event.Reading.the-variants.{Sound, Unsound}
 use Rattle.rules.specs.declared.order.Side.the-variants.{Buy, Sell}
 use Rattle.rules.specs.Header.{u16At, u32At, u16Bytes, u32Bytes, u16sAt, u32sAt, Header, headerOf, headerBytes, beginsWithHeader}
 use Rattle.rules.specs.Computed.{computed}
-use Rattle.rules.specs.Records.{recordLength, eventSound, fieldBytes, bytesOf, fieldsByKind, fieldsOf, legsOf, readOf}
+use Rattle.rules.specs.Records.{recordLength, eventSound, fieldBytes, bytesOf, writeSpec, fieldsByKind, fieldsOf, legsOf, readOf}
 
 -- 256 is 01 00.
 two-bytes : u16At (1 ∷ 0 ∷ []) 0 ≡ 256
@@ -45,6 +46,15 @@ examples =
           Submit
           (record
           { time = 256; member = 0; contract = 101; side = Buy; kind = Oeye; price = record { 0 = 1000000 }; lots = record { 0 = 1 } });
+      legs = [];
+    }
+    -- submit: time 4,660 s, member 1, contract 34, buy, resting, 66,051 kuruş, 7 lots
+    ∷ record {
+      bytes = 1 ∷ 0 ∷ 0 ∷ 18 ∷ 52 ∷ 1 ∷ 34 ∷ 0 ∷ 0 ∷ 0 ∷ 1 ∷ 2 ∷ 3 ∷ 0 ∷ 7 ∷ [];
+      event =
+          Submit
+          (record
+          { time = 4660; member = 1; contract = 34; side = Buy; kind = Resting; price = record { 0 = 66051 }; lots = record { 0 = 7 } });
       legs = [];
     }
     -- cancel: time 86,399 s, member 2, order number 16,909,060
@@ -88,6 +98,20 @@ examples-legs = refl
 pub examples-written : map (λ x. bytesOf (x .event) (x .legs)) examples ≡ map (λ x. x .bytes) examples
 unfolding bytesOf fieldBytes u16Bytes u32Bytes flatMap
 examples-written = refl
+
+-- The third of them with side 2, and with order kind 3: neither is a record.
+no-third-side : readOf 3 (1 ∷ 0 ∷ 0 ∷ 18 ∷ 52 ∷ 1 ∷ 34 ∷ 2 ∷ 0 ∷ 0 ∷ 1 ∷ 2 ∷ 3 ∷ 0 ∷ 7 ∷ []) ≡ Unsound
+unfolding computed
+no-third-side = refl
+
+no-fourth-order-kind : readOf 3 (1 ∷ 0 ∷ 0 ∷ 18 ∷ 52 ∷ 1 ∷ 34 ∷ 0 ∷ 3 ∷ 0 ∷ 1 ∷ 2 ∷ 3 ∷ 0 ∷ 7 ∷ []) ≡ Unsound
+unfolding computed
+no-fourth-order-kind = refl
+
+-- A time of 86,400 s and no room for a byte: the writer answers 3, not 1.
+three-before-one : writeSpec 3 (CloseOfDay 86400) [] [] ≡ record { answer = RecordUnsound; after = [] }
+unfolding computed
+three-before-one = refl
 
 -- VJR, version 1, first year 2021, start day 369, three members, holidays 370 and 512, limits 1,000, 66,051 and 100,000.
 abbrev pub headerExample : List ℕ

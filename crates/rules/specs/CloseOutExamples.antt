@@ -1,12 +1,20 @@
 -- Document 01, "Default": close-outs of contract 17, a year of 365 days with the GGF 26000, computed.
 use Prim.Native.Nat.{ℕ}
 use mathlib.Core.Path.{_≡_, refl}
-use mathlib.Core.List.{List, [], _∷_}
+use mathlib.Core.List.{List, [], _∷_, map}
 use lib.IntN.{ℤ, pos, negsuc}
+use Rattle.rules.specs.Contracts.{daysOf}
 use Rattle.rules.specs.Ledger.{Tables, withLotsRun, withGgf, withDealt}
 use Rattle.rules.specs.Refusals.{applySpec}
 use Rattle.rules.specs.Computed.{Printed, printed, computed}
 use Rattle.rules.specs.ExampleRecords.{closeOut, made, inHead, inPrices, withDefaulted, held, line, accepted}
+
+-- How many days contracts of a ledger from 2020 on deliver: the years 2020 and 2021, quarters and months of each
+-- length, the last month, and number 102, which is no contract.
+days-delivered : map (daysOf (record { firstYear = 2020; holidays = [] })) (0 ∷ 17 ∷ 1 ∷ 2 ∷ 3 ∷ 18 ∷ 5 ∷ 6 ∷ 23 ∷ 8 ∷ 101 ∷ 102 ∷ [])
+    ≡ 366 ∷ 365 ∷ 91 ∷ 91 ∷ 92 ∷ 90 ∷ 31 ∷ 29 ∷ 28 ∷ 30 ∷ 31 ∷ 0 ∷ []
+unfolding computed
+days-delivered = refl
 
 -- Monday, 369, five members: these have defaulted, and these lots are held. The GGF is 26000; the day's deals were at 28000.
 unfoldable pub lent : List ℕ → List (ℕ × ℕ × ℤ) → Tables

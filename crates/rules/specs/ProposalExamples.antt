@@ -5,7 +5,7 @@ use mathlib.Core.List.{List, [], _∷_}
 use lib.IntN.{pos, negsuc}
 use Rattle.rules.specs.declared.order.Side.the-variants.{Buy, Sell}
 use Rattle.rules.specs.Answers.{Outcome}
-use Rattle.rules.specs.Ledger.{Tables, withAcceptedSubmits, withDayLimits, withOrders, dayLots}
+use Rattle.rules.specs.Ledger.{Tables, withAcceptedSubmits, withDayLimits, orders, withOrders, dayLots}
 use Rattle.rules.specs.Refusals.{applySpec}
 use Rattle.rules.specs.Computed.{Printed, computed}
 use Rattle.rules.specs.ExampleRecords.{proposal, monday, inHead, inPrices, order, line, accepted, refused, EachPrints}
@@ -42,6 +42,19 @@ legs-of-a-quarter : EachPrints (inPrices (withDayLimits 24 1 31400) (quarterBy 0
     ∷ [])
 unfolding computed
 legs-of-a-quarter = refl
+
+-- A high below the price of a buy leg, and a low above that of a sell leg, do not matter.
+bounds-of-a-side : EachPrints (inPrices (withDayLimits 18 1 31299) (inPrices (withDayLimits 22 31301 1000000) (quarterBy 0 1)))
+    ((ones 31300 31300 31300 31300, fourLines 31300) ∷ [])
+unfolding computed
+bounds-of-a-side = refl
+
+-- Nor do orders of the other side, though lent tables may have one that a leg's own side would put first: a sell of the quarter at
+-- a lower price than the buy that is a leg.
+priority-of-a-side : EachPrints (withOrders (order 5 2 18 Sell 31400 1 369 0 ∷ orders (quarterBy 0 1)) (inHead (withAcceptedSubmits 6) monday))
+    ((ones 31300 31300 31300 31300, fourLines 31300) ∷ [])
+unfolding computed
+priority-of-a-side = refl
 
 -- Synthetic lots do not count in M.
 synthetic-lots : (let t = usedInPart .after in dayLots t 18 ∷ dayLots t 22 ∷ []) ≡ 0 ∷ 0 ∷ []

@@ -274,6 +274,9 @@ abbrev pub replyOfReading : Reading → Reply
 replyOfReading (Sound e) = record { number = 0; detail = 0 }
 replyOfReading Unsound = replyOf RecordUnsound
 
+reading-replies : map replyOfReading (Sound (Default 2) ∷ Unsound ∷ []) ≡ record { number = 0; detail = 0 } ∷ record { number = 3; detail = 0 } ∷ []
+reading-replies = refl
+
 -- ---- records one after the other
 -- The record at the front: its length follows from its kind and, of a proposal, its number of legs.
 unfoldable pub frontOf : List ℕ → Front
@@ -287,3 +290,7 @@ abbrev pub replyOfFront : Front → Reply
 replyOfFront (Whole n) = record { number = 0; detail = n }
 replyOfFront Cut = replyOf RecordUnsound
 replyOfFront UnknownKind = replyOf RecordUnsound
+
+front-replies : map replyOfFront (Whole 15 ∷ Cut ∷ UnknownKind ∷ [])
+    ≡ record { number = 0; detail = 15 } ∷ record { number = 3; detail = 0 } ∷ record { number = 3; detail = 0 } ∷ []
+front-replies = refl

@@ -4,10 +4,10 @@ use Rattle.calendar_cases.proofs.print_closing.Statement.{statement}
 use Rattle.calendar_cases.proofs.print_closing.Tie as tie
 
 abbrev Inv-loop : tie.InvT-loop
-Inv-loop holidays contract last₀ day₀ last day = day ≤ 501
+Inv-loop holidays contract last₀ day₀ last day = day ≤ 701
 
 abbrev μ-loop : tie.MeasureT-loop
-μ-loop holidays contract last₀ day₀ last day = 501 - day
+μ-loop holidays contract last₀ day₀ last day = 701 - day
 
 pub print-closing-spec : {M : Type 1} → statement M
 print-closing-spec =

@@ -1,0 +1,2 @@
+pub mod TwoAccounts
+pub mod Disagreements

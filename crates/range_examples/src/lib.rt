@@ -1,0 +1,1 @@
+// Examples of rules only, in specs/.
