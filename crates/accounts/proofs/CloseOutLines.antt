@@ -146,8 +146,8 @@ module _ (t : Tables) (c : ℕ) where
   pub netted-length : (xs : List ℕ) → length xs ≡ members t → length (givenUp (smallerTotal t c) xs) ≡ members t
   netted-length xs e = given-length (smallerTotal t c) xs ∙ e
 
-  pub remaining-length : (xs : List ℕ) → length xs ≡ members t → length (less xs (givenUp (smallerTotal t c) xs)) ≡ members t
-  remaining-length xs e = zip-length _ xs _ (e ∙ sym (netted-length xs e)) ∙ e
+  pub after-netting-length : (xs : List ℕ) → length xs ≡ members t → length (less xs (givenUp (smallerTotal t c) xs)) ≡ members t
+  after-netting-length xs e = zip-length _ xs _ (e ∙ sym (netted-length xs e)) ∙ e
 
   netting-length : length (nettingChanges t c) ≡ members t
   unfolding nettingChanges nettedLongs nettedShorts
@@ -178,12 +178,12 @@ module _ (t : Tables) (c : ℕ) where
   remaining-length : length (defaultedChanges t c) ≡ members t
   unfolding defaultedChanges longsRemaining shortsRemaining nettedLongs nettedShorts
   remaining-length =
-      let shorts = remaining-length _ shorts-length in
-      zip-length _ (shortsRemaining t c) (longsRemaining t c) (shorts ∙ sym (remaining-length _ longs-length)) ∙ shorts
+      let shorts = after-netting-length _ shorts-length in
+      zip-length _ (shortsRemaining t c) (longsRemaining t c) (shorts ∙ sym (after-netting-length _ longs-length)) ∙ shorts
 
   remaining-net : netOf (defaultedChanges t c) ≡ pos (sumOf (shortsRemaining t c)) -ℤ pos (sumOf (longsRemaining t c))
   unfolding defaultedChanges longsRemaining shortsRemaining nettedLongs nettedShorts
-  remaining-net = back-less-given (shortsRemaining t c) (longsRemaining t c) (remaining-length _ shorts-length ∙ sym (remaining-length _ longs-length))
+  remaining-net = back-less-given (shortsRemaining t c) (longsRemaining t c) (after-netting-length _ shorts-length ∙ sym (after-netting-length _ longs-length))
 
 -- ---- the laws
 module _ (t : Tables) (e : CloseOutTerms) where

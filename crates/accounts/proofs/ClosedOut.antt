@@ -29,7 +29,7 @@ use Rattle.accounts.proofs.Runs.{sound-of}
 use Rattle.accounts.proofs.Lines.{rowTotal}
 use Rattle.accounts.proofs.Calls.{booked-row}
 use Rattle.accounts.proofs.Books.{booked-place}
-use Rattle.accounts.proofs.CloseOutLines.{no-change, longs-length, shorts-length, netted-length, remaining-length, close-out-fits, defaulted-take-none, regroup}
+use Rattle.accounts.proofs.CloseOutLines.{no-change, longs-length, shorts-length, netted-length, after-netting-length, close-out-fits, defaulted-take-none, regroup}
 use Rattle.accounts.proofs.EachKind.{accepted-call}
 
 -- ---- what the lines of changes add to a row
@@ -118,7 +118,7 @@ module _ (t : Tables) (e : CloseOutTerms) (m : ℕ) (member< : m < members t) (d
 
   remaining : getD (defaultedChanges t c) m (pos 0) ≡ pos (getD (shortsRemaining t c) m 0) -ℤ pos (getD (longsRemaining t c) m 0)
   unfolding defaultedChanges shortsRemaining longsRemaining nettedShorts nettedLongs
-  remaining = back-less-given-at (shortsRemaining t c) (longsRemaining t c) m (remaining-length t c _ (shorts-length t c) ∙ sym (remaining-length t c _ (longs-length t c)))
+  remaining = back-less-given-at (shortsRemaining t c) (longsRemaining t c) m (after-netting-length t c _ (shorts-length t c) ∙ sym (after-netting-length t c _ (longs-length t c)))
 
   -- both steps together
   given-up : getD (nettingChanges t c) m (pos 0) +ℤ getD (defaultedChanges t c) m (pos 0) ≡ pos (dn (lotsAt t c m)) -ℤ pos (up (lotsAt t c m))
