@@ -26,7 +26,7 @@ use Rattle.rules.specs.Ledger.{Tables, Line, members, holidayCount, orderCount,
 use Rattle.rules.specs.Matching.{matched, dealLines, incoming, submitMatched, submitLines, isResting, wouldRest, withLots, submitsAt, restingLots, aboveLimit, submitOrders, submitBooked}
 use Rattle.rules.specs.Synthetic.{Named, namedLegs, priceWithin, priceAllowed, acceptable, proposalLines, usedByLegs, proposalBooked}
 use Rattle.rules.specs.CloseOfDay.{hasNextDay, nextDay, closingContracts, priced, closeBooked}
-use Rattle.rules.specs.Default.{defaultBooked, byMember, defaultedLongs, defaultedShorts, smallerTotal, nettedLongs, nettedShorts, nettingChanges, longsLeft, shortsLeft, lotsLeft, othersLots, openWeight}
+use Rattle.rules.specs.Default.{defaultBooked, byMember, defaultedLongs, defaultedShorts, smallerTotal, nettedLongs, nettedShorts, nettingChanges, longsRemaining, shortsRemaining, lotsRemaining, othersLots, openWeight}
 use Rattle.rules.specs.Default.{weights, taken, defaultedChanges, takerChanges, closeOutLines, closeOutBooked}
 use Rattle.rules.specs.Refusals.{isCancelled, submitCauses, cancelCauses, dayLimitsCauses, proposalCauses, defaultCauses, closeOutCauses, closeCauses, cancelBooked, dayLimitsBooked}
 use Rattle.rules.specs.Accounts.{linesOf}
@@ -253,8 +253,8 @@ module _ (t u : Tables) (s : SameButSurplus t u) (a : Undamaged t) (l : Long u) 
     all-weights : byMember t (λ m. cond (defaulted t m) 0 (openWeight t m)) ≡ byMember u (λ m. cond (defaulted u m) 0 (openWeight u m))
     all-weights = by-member _ _ (λ m k. rw (same-defaulted t u s m k, weight m k))
 
-    left : lotsLeft t (e .contract) ≡ lotsLeft u (e .contract)
-    unfolding lotsLeft longsLeft shortsLeft nettedLongs nettedShorts smallerTotal
+    left : lotsRemaining t (e .contract) ≡ lotsRemaining u (e .contract)
+    unfolding lotsRemaining longsRemaining shortsRemaining nettedLongs nettedShorts smallerTotal
     left = rw (longs, shorts)
 
     same-weights : weights t e ≡ weights u e
@@ -266,7 +266,7 @@ module _ (t u : Tables) (s : SameButSurplus t u) (a : Undamaged t) (l : Long u) 
     same-taken = rw (left, same-weights)
 
     same-close-out : closeOutLines t e ≡ closeOutLines u e
-    unfolding closeOutLines nettingChanges defaultedChanges takerChanges longsLeft shortsLeft nettedLongs nettedShorts smallerTotal
+    unfolding closeOutLines nettingChanges defaultedChanges takerChanges longsRemaining shortsRemaining nettedLongs nettedShorts smallerTotal
     same-close-out = rw (same-taken, same-ggf t u s (e .contract) h, longs, shorts)
 
     pub close-out-causes : closeOutCauses t e ≡ closeOutCauses u e
