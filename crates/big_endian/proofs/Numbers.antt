@@ -1,6 +1,6 @@
 -- Big-endian numbers written and read back, and read and written again. Assumes nothing.
 use Prim.Native.Nat.{ℕ, zero, suc, _+_, _*_, _/_, _%_, _≤_, _<_}
-use mathlib.Core.List.{List, [], _∷_, _++_, map, flatMap, append-assoc, append-nil}
+use mathlib.Core.List.{List, [], _∷_, _++_, map, flatMap, append-assoc}
 use mathlib.Core.Path.{_≡_, refl, sym, ap, _∙_}
 use native.Mathlib.Nat.{add-zero, mul-suc, mul-zero}
 use native.Mathlib.Numerals.{add-one}
@@ -94,18 +94,8 @@ module _ (s : List ℕ) (small : (i : ℕ) → getD s i 0 < 256) where
       let place : i + 2 + 2 ≡ i + 4 = omega arith in
       rw (high, low, append-assoc, ← place, u16-again (i + 2) (omega arith), u16-again i (omega arith)) refl
 
-  -- at the end of the list
   pub none-past : (k : ℕ) → length s ≡ k → drop k s ≡ []
   none-past k l = drop-of-length-le s {i = k} (omega arith)
-
-  pub u8-last : (i : ℕ) → length s ≡ i + 1 → getD s i 0 ∷ [] ≡ drop i s
-  u8-last i l = rw (none-past (i + 1) l) at (u8-again i (omega arith))
-
-  pub u16-last : (i : ℕ) → length s ≡ i + 2 → u16Bytes (u16At s i) ≡ drop i s
-  u16-last i l = sym (append-nil (u16Bytes (u16At s i))) ∙ rw (none-past (i + 2) l) at (u16-again i (omega arith))
-
-  pub u32-last : (i : ℕ) → length s ≡ i + 4 → u32Bytes (u32At s i) ≡ drop i s
-  u32-last i l = sym (append-nil (u32Bytes (u32At s i))) ∙ rw (none-past (i + 4) l) at (u32-again i (omega arith))
 
   -- the first byte, by what it is
   pub u8-first : (k : ℕ) → getD s 0 0 ≡ k → 0 < length s → k ∷ drop 1 s ≡ s

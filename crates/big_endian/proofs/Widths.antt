@@ -1,7 +1,6 @@
 -- Numbers of each width, read and written. Assumes nothing.
 use Prim.Native.Nat.{ℕ}
 use mathlib.Core.Path.{_≡_, refl}
-use native.Mathlib.Omega.{arith}
 use Rattle.big_endian.specs.Width.{Width, one, two, four}
 
 -- What is neither one byte nor two is four.

@@ -3,10 +3,9 @@ use Prim.Native.Nat.{ℕ, zero, suc, _+_, _^_, _≤_, _<_}
 use mathlib.Core.List.{List, [], _∷_, _++_, append-assoc, append-nil}
 use mathlib.Core.Path.{_≡_, refl, sym, ap, _∙_}
 use native.Mathlib.Nat.{zero-add, add-zero, add-assoc}
-use native.Mathlib.Numerals.{add-one}
 use native.Mathlib.Omega.{arith}
 use lib.ListN.{length, getD, take, drop, length-append, take-append-drop}
-use lib.Seq.{getD-append-add, take-suc}
+use lib.Seq.{getD-append-add}
 use Rattle.rules.specs.declared.field.Field.{Field}
 use Rattle.rules.specs.declared.field.Field.the-variants.{LetterV, LetterJ, LetterR, Version, FirstYear, StartDay, Members, HolidayCount, Holiday, Limit}
 use Rattle.rules.specs.declared.field.Field.the-variants.{Kind, Time, Member, Contract, Side, OrderKind, Price, Lots, Order, Low, High, Legs, Ratio}
@@ -74,13 +73,6 @@ number-again two s small i h = u16-again s small i h
 number-again four s small i h = u32-again s small i h
 
 -- ---- one field after the other
-pub fits-count : (fs : List Field) (ns : List ℕ) → Fits fs ns → length ns ≡ length fs
-unfolding Fits
-fits-count [] [] h = refl
-fits-count [] (n ∷ ns) h = absurd h
-fits-count (f ∷ fs) [] h = absurd h
-fits-count (f ∷ fs) (n ∷ ns) h = ap suc (fits-count fs ns (h .1))
-
 pub fits-at : (fs : List Field) (ns : List ℕ) → Fits fs ns → (i : ℕ) → i < length fs → getD ns i 0 < 256 ^ widthOf (getD fs i Kind)
 unfolding Fits
 fits-at [] ns h i k = absurd (omega arith)

@@ -17,7 +17,7 @@ use Rattle.rules.specs.Fields.{hasLegs, widths, kindFields, numbersAt}
 use Rattle.rules.specs.Header.{u16At, u32At, membersSound}
 use Rattle.rules.specs.Records.{lengthWith, legLength, recordLength, frontLength, kindNumber, eventNumbers, eventByKind}
 use Rattle.rules.specs.Records.{recordNumbers, fieldsByKind, fieldsOf, legAt, legsOf, eventSound, ifSound, readOf}
-use Rattle.record_kinds.proofs.EachKind.{nothing, if-true, described, numbers-of-event}
+use Rattle.record_kinds.proofs.EachKind.{nothing, if-true, numbers-of-event}
 use Rattle.codec.proofs.FieldBytes.{length-numbers}
 use Rattle.codec.proofs.FieldLoops.{with-zeros}
 

@@ -1,5 +1,5 @@
 use native.Mathlib.Omega.{arith}
-use mathlib.Core.Path.{_≡_, sym, _∙_}
+use mathlib.Core.Path.{sym, _∙_}
 use Rattle.record_kinds.specs.Numbers.{legCount}
 use Rattle.codec.proofs.Written.{length-proposal, some-bytes, no-legs-put, legs-put}
 use borrow.Author.Needs.{needs}
