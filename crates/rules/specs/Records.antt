@@ -41,7 +41,7 @@ unfoldable pub recordLength : ℕ → ℕ → ℕ
 unfolding kindFields widths
 recordLength kind legs = lengthWith (kindFields kind) (cond (hasLegs kind) (widths legFields * legs) 0)
 
--- What code names. `lengths` and `leg-lengths` below say that the lengths follow from Fields.
+-- Where a record's kind, its first field, a proposal's number of legs and its first leg stand.
 abbrev pub kindByte : ℕ
 kindByte = 0
 
@@ -54,25 +54,7 @@ proposalLegsByte = 1
 abbrev pub firstLegByte : ℕ
 firstLegByte = 2
 
--- How many bytes a record of each kind takes.
-abbrev pub submitLength : ℕ
-submitLength = 15
-
-abbrev pub cancelLength : ℕ
-cancelLength = 10
-
-abbrev pub dayLimitsLength : ℕ
-dayLimitsLength = 10
-
-abbrev pub defaultLength : ℕ
-defaultLength = 2
-
-abbrev pub closeOutLength : ℕ
-closeOutLength = 4
-
-abbrev pub closeOfDayLength : ℕ
-closeOfDayLength = 5
-
+-- How many bytes a leg takes. `leg-lengths` below says that it follows from Fields.
 abbrev pub legLength : ℕ
 legLength = 10
 
@@ -80,8 +62,8 @@ legLength = 10
 abbrev pub legPlace : ℕ → ℕ
 legPlace j = firstLegByte + legLength * j
 
-lengths : map (λ kind. recordLength kind 0) (from 1 7)
-    ≡ submitLength ∷ cancelLength ∷ dayLimitsLength ∷ legPlace 0 ∷ defaultLength ∷ closeOutLength ∷ closeOfDayLength ∷ []
+-- The bytes of a record of each kind, without legs.
+lengths : map (λ kind. recordLength kind 0) (from 1 7) ≡ 15 ∷ 10 ∷ 10 ∷ 2 ∷ 2 ∷ 4 ∷ 5 ∷ []
 unfolding recordLength from
 lengths = refl
 
