@@ -18,7 +18,7 @@ use Rattle.accounts.specs.EveryRun.{Applied, calls, standing, Kept, printed, ac
 use Rattle.accounts.specs.Lengths.{SameLengths, FewLines}
 use Rattle.accounts.specs.Refused.{LeavesIfRefused, SameLedger}
 use Rattle.accounts.specs.StaysSound.{SoundAfter, SoundButRows}
-use Rattle.replay.specs.Surplus.{SurplusKept, LinesKept, BookKept}
+use Rattle.replay.specs.Surplus.{SurplusUntouched, LinesUntouched, BookUntouched}
 use Rattle.replay.specs.Replay.{RunsAlike, RunsRecover, RunsLeaveSurplus}
 use Rattle.host.specs.Sent.{sent}
 
@@ -50,14 +50,14 @@ pub record OfRecord (t : Tables) (bytes : List ℕ) (o : Outcome Tables) : Type 
   pub closed-out : NoLotsOfDefaulted t bytes o
   pub sound : SoundAfter t bytes o
   pub sound-but-rows : SoundButRows t o
-  pub lines-kept : LinesKept t o
-  pub book-kept : BookKept t o
+  pub lines-untouched : LinesUntouched t o
+  pub book-untouched : BookUntouched t o
 
 -- What holds of every outcome of making a ledger in tables t.
 pub record OfMaking (t : Tables) (header : List ℕ) (o : Outcome Tables) : Type 0 where
   pub refused : LeavesIfRefused t o
   pub lengths : SameLengths t (o .after)
-  pub surplus : isAccepted (o .answer) ≡ true → let h = headerOf header in SurplusKept (h .members) (length (h .holidays)) t (o .after)
+  pub surplus : isAccepted (o .answer) ≡ true → let h = headerOf header in SurplusUntouched (h .members) (length (h .holidays)) t (o .after)
 
 abbrev pub EveryRecord : Type 0
 EveryRecord = (t : Tables) (bytes : List ℕ) (number detail : ℕ) (u : Tables) → Applies t bytes number detail u → GotAs (OfRecord t bytes) number detail u
