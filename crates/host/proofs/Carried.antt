@@ -4,12 +4,13 @@ use mathlib.Core.Path.{_≡_, refl, sym, ap, subst, subst₂, _∙_}
 use mathlib.Core.Bool.{not}
 use mathlib.Core.List.{List, []}
 use borrow.Author.Tests.{eqb-true}
-use Rattle.arith.proofs.Tests.{passes}
+use Rattle.arith.proofs.Tests.{true-or, never, passes}
 use Rattle.rules.specs.Answers.{Outcome, Reply, replyOf}
 use Rattle.rules.specs.Header.{headerOf}
-use Rattle.rules.specs.Ledger.{Tables}
-use Rattle.rules.specs.Refusals.{makeSpec, applySpec}
+use Rattle.rules.specs.Ledger.{Tables, withLines}
+use Rattle.rules.specs.Refusals.{unsound, makeSpec, applySpec}
 use Rattle.rules.specs.Accounts.{after, log}
+use Rattle.accounts.specs.EveryList as rules
 use Rattle.accounts.specs.EveryList.{AfterEveryList, GgfsKept}
 use Rattle.accounts.specs.EveryRun.{Applied, calls, Kept, MakesByRules, AppliesByRules}
 use Rattle.accounts.specs.Refused.{acceptedCalls, SameLedger}
@@ -26,8 +27,8 @@ use Rattle.accounts.proofs.TwoBookkeepers.{two-bookkeepers, orders-rest-in-open
 use Rattle.replay.proofs.EveryRun.{runs-alike, runs-recover, runs-leave-surplus}
 use Rattle.replay.proofs.PastWritten.{lines-stay, book-stays}
 use Rattle.replay.proofs.Making.{making-leaves-surplus}
-use Rattle.host.specs.Sent.{Sent, sent}
-use Rattle.host.specs.Entries.{MakesReply, AppliesReply, GotAs, OfRecord, OfMaking, EveryRecord, EveryMaking, AfterRun, EveryRun, GgfsStay, Struck, ReplaysAlike, Recovers, SurplusStays}
+use Rattle.host.specs.Sent.{Sent, sent, damageNumber}
+use Rattle.host.specs.Entries.{MakesReply, AppliesReply, GotAs, OfRecord, OfMaking, EveryRecord, EveryMaking, AnswersNoDamage, AfterRun, EveryRun, GgfsStay, Struck, ReplaysAlike, Recovers, SurplusStays}
 
 -- ---- every call
 got : (Q : Outcome Tables → Type 0) (o : Outcome Tables) → Q o → (s : Sent Tables) → s ≡ sent o → GotAs Q (s .number) (s .detail) (s .after)
@@ -44,8 +45,8 @@ of-record t bytes = record {
   closed-out = defaulted-are-closed-out t bytes;
   sound = stays-sound t bytes;
   sound-but-rows = only-rows-change t bytes;
-  lines-kept = lines-stay t bytes;
-  book-kept = book-stays t bytes;
+  lines-untouched = lines-stay t bytes;
+  book-untouched = book-stays t bytes;
 }
 
 pub every-record : EveryRecord
@@ -68,11 +69,19 @@ makes-by-rules t header reply u e = (ap (λ (s : Sent Tables). s .number) e, ap 
 applies-by-rules : AppliesByRules (λ (reply : Reply). reply) AppliesReply
 applies-by-rules t bytes reply u e = (ap (λ (s : Sent Tables). record { number = s .number; detail = s .detail }) e, ap (λ (s : Sent Tables). s .after) e)
 
+-- tables for which number 1 is answered for a short line table alone are not damaged
+no-damage : (t : Tables) → rules.OneForShortLines t → AnswersNoDamage t
+unfolding damageNumber applySpec
+no-damage t one l long =
+    let v = withLines l t in
+    true-or (unsound v) (λ e. never (sym (one (record { bytes = []; lines = l }) (rw e refl)) ∙ long)) (λ e. rw e refl)
+
 after-list : AfterEveryList AfterRun
 after-list header t calls b long = record {
   agrees = two-bookkeepers header t calls b long;
   not-damaged = never-damaged header t calls b long;
   one-for-lines = λ call detail u e. one-for-lines-alone header t calls b long call (ap (λ (s : Sent Tables). s .number) (sym e));
+  no-damage = no-damage (after (makeSpec t header .after) calls) (one-for-lines-alone header t calls b long);
   rest-in-open = orders-rest-in-open header t calls b long;
   uncrossed = never-crossed header t calls b long;
   none-defaulted = defaulted-never-rest header t calls b long;

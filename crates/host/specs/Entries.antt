@@ -1,9 +1,10 @@
 -- The promises of `ledger_make` and `ledger_apply`, and what holds of every call of them and after every run of such calls.
 use Prim.Native.Nat.{ℕ}
 use mathlib.Core.Path.{_≡_}
-use mathlib.Core.Bool.{true}
+use mathlib.Core.Bool.{true, false}
 use mathlib.Core.List.{List}
 use lib.ListN.{length}
+use lib.IntN.{ℤ}
 use Rattle.rules.specs.declared.answer.Answer.{Answer}
 use Rattle.rules.specs.Answers.{Outcome, Reply, replyOf}
 use Rattle.rules.specs.Header.{Header, headerOf}
@@ -18,9 +19,9 @@ use Rattle.accounts.specs.EveryRun.{Applied, calls, standing, Kept, printed, ac
 use Rattle.accounts.specs.Lengths.{SameLengths, FewLines}
 use Rattle.accounts.specs.Refused.{LeavesIfRefused, SameLedger}
 use Rattle.accounts.specs.StaysSound.{SoundAfter, SoundButRows}
-use Rattle.replay.specs.Surplus.{SurplusKept, LinesKept, BookKept}
+use Rattle.replay.specs.Surplus.{SurplusUntouched, LinesUntouched, BookUntouched}
 use Rattle.replay.specs.Replay.{RunsAlike, RunsRecover, RunsLeaveSurplus}
-use Rattle.host.specs.Sent.{sent}
+use Rattle.host.specs.Sent.{sent, damageNumber}
 
 -- ---- the promises
 -- On these tables and this header `ledger_make` answered this number and left these tables.
@@ -50,14 +51,14 @@ pub record OfRecord (t : Tables) (bytes : List ℕ) (o : Outcome Tables) : Type 
   pub closed-out : NoLotsOfDefaulted t bytes o
   pub sound : SoundAfter t bytes o
   pub sound-but-rows : SoundButRows t o
-  pub lines-kept : LinesKept t o
-  pub book-kept : BookKept t o
+  pub lines-untouched : LinesUntouched t o
+  pub book-untouched : BookUntouched t o
 
 -- What holds of every outcome of making a ledger in tables t.
 pub record OfMaking (t : Tables) (header : List ℕ) (o : Outcome Tables) : Type 0 where
   pub refused : LeavesIfRefused t o
   pub lengths : SameLengths t (o .after)
-  pub surplus : isAccepted (o .answer) ≡ true → let h = headerOf header in SurplusKept (h .members) (length (h .holidays)) t (o .after)
+  pub surplus : isAccepted (o .answer) ≡ true → let h = headerOf header in SurplusUntouched (h .members) (length (h .holidays)) t (o .after)
 
 abbrev pub EveryRecord : Type 0
 EveryRecord = (t : Tables) (bytes : List ℕ) (number detail : ℕ) (u : Tables) → Applies t bytes number detail u → GotAs (OfRecord t bytes) number detail u
@@ -81,11 +82,16 @@ abbrev pub OneForShortLines : Tables → Type 0
 OneForShortLines t =
     (call : Call) (detail : ℕ) (u : Tables) → Applies (withLines (call .lines) t) (call .bytes) 1 detail u → linesShort (withLines (call .lines) t) ≡ true
 
+-- `ledger_is_damaged` answers 0 with any line table that is long enough.
+abbrev pub AnswersNoDamage : Tables → Type 0
+AnswersNoDamage t = (l : List ℤ) → linesShort (withLines l t) ≡ false → damageNumber (withLines l t) ≡ 0
+
 -- What holds of the header, the ledger, the printed lines and the list's day: demand 3, and the rest of what `accounts` shows of every list.
 pub record AfterRun (h : Header) (t : Tables) (ls : List Line) (d : ℕ) : Type 0 where
   pub agrees : Agrees h t ls d
   pub not-damaged : NotDamaged t
   pub one-for-lines : OneForShortLines t
+  pub no-damage : AnswersNoDamage t
   pub rest-in-open : RestInOpen h t d
   pub uncrossed : Uncrossed (resting t)
   pub none-defaulted : NoneDefaulted t

@@ -11,7 +11,7 @@ use Rattle.rules.specs.Ledger.{Tables, Line, members, holidayCount}
 use Rattle.rules.specs.Accounts.{callSpec, after}
 use Rattle.accounts.specs.EveryRun.{Applied, calls, standing, Kept, linesOfReply, MakesByRules, AppliesByRules}
 use Rattle.accounts.proofs.ListsToRuns.{told, made-well, same-as-list}
-use Rattle.replay.specs.Surplus.{SameButSurplus, SurplusKept}
+use Rattle.replay.specs.Surplus.{SameButSurplus, SurplusUntouched}
 use Rattle.replay.specs.Replay.{answered, Replayed, shown, SameRuns, RunsAlike, RunsRecover, RunsLeaveSurplus}
 use Rattle.replay.proofs.Making.{recovers}
 use Rattle.replay.proofs.EveryList.{replays-alike}
@@ -52,4 +52,4 @@ module _ {A : Type 0} (reply : A → Reply) (Make Apply : Tables → List ℕ �
       runs-of made remade run other k k′ (rw (is .1, is′ .1) (recovers header t u (calls run) (calls other) (passes _ (well .1)) (passes _ (ap not (well .0))) (passes _ (ap not (well′ .0))) same))
 
   pub runs-leave-surplus : RunsLeaveSurplus reply Make Apply
-  runs-leave-surplus t run k = subst (SurplusKept (members t) (holidayCount t) t) (stands run t k) (surplus-stays t (calls run))
+  runs-leave-surplus t run k = subst (SurplusUntouched (members t) (holidayCount t) t) (stands run t k) (surplus-stays t (calls run))

@@ -19,7 +19,7 @@ use Rattle.rules.proofs.SoundTables.{Long, long-enough}
 use Rattle.accounts.proofs.Fresh.{counts-of, holiday-count-of, fresh-runs, fresh-zero}
 use Rattle.accounts.proofs.SameLengths.{fresh-lengths, stays-long}
 use Rattle.accounts.proofs.TwoBookkeepers.{made}
-use Rattle.replay.specs.Surplus.{InUse, ofLedger, ofHoliday, ofLimit, ofMark, ofSubmits, SameButSurplus, SurplusKept}
+use Rattle.replay.specs.Surplus.{InUse, ofLedger, ofHoliday, ofLimit, ofMark, ofSubmits, SameButSurplus, SurplusUntouched}
 use Rattle.replay.specs.Replay.{MakesAlike, MakingLeavesSurplus, Recovers}
 use Rattle.replay.proofs.Alike.{PricesAlike, Alike, same-of}
 use Rattle.replay.proofs.EveryList.{replays-alike}
@@ -171,7 +171,7 @@ module _ (h : Header) (f : SoundHeader h) where
   unfolding freshPrices
   prices-stay l s i b = past-blocks 0 priceWidth (λ five. 0 ∷ 1 ∷ mostPrice ∷ 0 ∷ 0 ∷ []) (λ _ _. refl) contractCount l s i b
 
-  fresh-stays : (t : Tables) → Long t → SurplusKept (h .members) (length (h .holidays)) t (fresh h t)
+  fresh-stays : (t : Tables) → Long t → SurplusUntouched (h .members) (length (h .holidays)) t (fresh h t)
   unfolding fresh
   fresh-stays t a = record {
     head = head-stays (t .head) (a .head);
@@ -189,7 +189,7 @@ unfolding fresh
 making-leaves-surplus header t b s =
     let h = headerOf header in
     let is = made header t b s in (
-      subst (SurplusKept (h .members) (length (h .holidays)) t) (sym is) (fresh-stays h (header-gives h (begun header (passed _ b))) t (long-enough t (failed (ledgerShort t) s))),
+      subst (SurplusUntouched (h .members) (length (h .holidays)) t) (sym is) (fresh-stays h (header-gives h (begun header (passed _ b))) t (long-enough t (failed (ledgerShort t) s))),
       ap (λ (u : Tables). u .book) is,
     )
 

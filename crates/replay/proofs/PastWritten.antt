@@ -28,7 +28,7 @@ use Rattle.accounts.proofs.EachKind.{NoCause, every-call}
 use Rattle.accounts.proofs.KindsKeep.{kind-keeps}
 use Rattle.accounts.proofs.OrdersAfter.{submit-orders, cancel-orders, proposal-orders, default-orders, close-orders}
 use Rattle.accounts.proofs.Books.{orders-count}
-use Rattle.replay.specs.Surplus.{LinesKept, BookKept}
+use Rattle.replay.specs.Surplus.{LinesUntouched, BookUntouched}
 use Rattle.replay.specs.Replay.{LinesStay, BookStays}
 use Rattle.replay.proofs.EachKind.{priced-orders}
 
@@ -47,7 +47,7 @@ timed-lines s t =
     by-bool (λ b. let v = cond b (withHead (set (withoutSubmits t .head) timePlace s) t) t in (v .lines ≡ t .lines) × (v .book ≡ t .book)) (ltb (time t) s)
     (λ _. (refl, refl)) (λ _. (refl, refl))
 
-kind-lines : (e : Event) (t : Tables) (legs : List Leg) → Undamaged t → eventSound (members t) e legs ≡ true → NoCause t e legs → LinesKept t (kindBooked t e legs)
+kind-lines : (e : Event) (t : Tables) (legs : List Leg) → Undamaged t → eventSound (members t) e legs ≡ true → NoCause t e legs → LinesUntouched t (kindBooked t e legs)
 unfolding submitBooked proposalBooked defaultBooked closeOutBooked closeBooked withOrders withDeals counted priced withClosed onDay booked
 kind-lines (Submit e) t legs u q n = λ i h. past-written (pos 0) lineWidth linePlaces (λ _. refl) (submitLines t e) (t .lines) (timed (e .time) t .lines) (timed-lines (e .time) t .0) (omega (arith, u .lines, kind-keeps (Submit e) t legs u q n .fits .few refl)) i (h refl)
 kind-lines (Cancel e) t legs u q n = λ i h. past-written (pos 0) lineWidth linePlaces (λ _. refl) [] (t .lines) (timed (e .time) t .lines) (timed-lines (e .time) t .0) (omega (arith, u .lines, kind-keeps (Cancel e) t legs u q n .fits .few refl)) i (h refl)
@@ -58,7 +58,7 @@ kind-lines (CloseOut e) t legs u q n = λ i h. past-written (pos 0) lineWidth li
 kind-lines (CloseOfDay s) t legs u q n = λ i h. refl
 
 pub lines-stay : LinesStay
-lines-stay = every-call LinesKept (λ t a q i h. refl) kind-lines
+lines-stay = every-call LinesUntouched (λ t a q i h. refl) kind-lines
 
 -- ---- the book
 -- the orders os that a record leaves were written in the book l′
@@ -68,13 +68,13 @@ past-orders t v os l′ e long is few w i h =
     let count : length os ≡ orderCount v = sym (ap length is) ∙ orders-count v in
     ap (λ x. getD x i 0) w ∙ past-written 0 orderWidth orderPlaces (λ _. refl) os (t .book) l′ e (omega arith) i (omega arith)
 
-kind-book : (e : Event) (t : Tables) (legs : List Leg) → Undamaged t → eventSound (members t) e legs ≡ true → NoCause t e legs → BookKept t (kindBooked t e legs)
+kind-book : (e : Event) (t : Tables) (legs : List Leg) → Undamaged t → eventSound (members t) e legs ≡ true → NoCause t e legs → BookUntouched t (kindBooked t e legs)
 kind-book event t legs u q n = go event q n
   where
     few : (e : Event) → eventSound (members t) e legs ≡ true → NoCause t e legs → orderCount (kindBooked t e legs .after) ≤ mostOrders
     few e q n = kind-keeps e t legs u q n .book .few
 
-    go : (e : Event) → eventSound (members t) e legs ≡ true → NoCause t e legs → BookKept t (kindBooked t e legs)
+    go : (e : Event) → eventSound (members t) e legs ≡ true → NoCause t e legs → BookUntouched t (kindBooked t e legs)
     go (Submit e) q n =
         past-orders t (submitBooked t e .after) (submitOrders t e) (timed (e .time) t .book) (timed-lines (e .time) t .1) (u .long .book) (submit-orders t u e) (few (Submit e) q n)
         (unfold submitBooked withOrders withDeals counted booked in refl)
@@ -96,4 +96,4 @@ kind-book event t legs u q n = go event q n
         (unfold closeBooked priced withClosed withOrders onDay in ap (λ (os : List Order). over 0 (flatMap orderPlaces (kept others os)) (t .book)) (priced-orders s t))
 
 pub book-stays : BookStays
-book-stays = every-call BookKept (λ t a q i h. refl) kind-book
+book-stays = every-call BookUntouched (λ t a q i h. refl) kind-book

@@ -40,7 +40,7 @@ use Rattle.accounts.proofs.OrdersAfter.{submit-orders, cancel-orders, proposal-
 use Rattle.accounts.proofs.Proposals.{proposal-fits}
 use Rattle.accounts.proofs.Runs.{orders-same, sound-of}
 use Rattle.accounts.proofs.Submits.{submit-fits}
-use Rattle.replay.specs.Surplus.{InUse, ofLedger, ofMark, ofSubmits, SurplusKept}
+use Rattle.replay.specs.Surplus.{InUse, ofLedger, ofMark, ofSubmits, SurplusUntouched}
 use Rattle.replay.specs.Replay.{SurplusStays}
 use Rattle.replay.proofs.Closing.{open-below}
 use Rattle.replay.proofs.SurplusParts.{HeadSurplus, head-set, head-zeros, PricesSurplus, price-set, priced-stay, RowsSurplus, posted-stay, all-cascaded-stay}
@@ -176,7 +176,7 @@ kind-stays event t legs u q none = go event q none
 -- ---- every call, and every list
 -- surplus is kept, and the same places are surplus
 record SameSurplus (t u : Tables) : Type 0 where
-  kept : SurplusKept (members t) (holidayCount t) t u
+  kept : SurplusUntouched (members t) (holidayCount t) t u
   size : members u ≡ members t
   count : holidayCount u ≡ holidayCount t
 

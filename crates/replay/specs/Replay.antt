@@ -12,7 +12,7 @@ use Rattle.rules.specs.Ledger.{Tables, Line, members, holidayCount, linesLength
 use Rattle.rules.specs.Refusals.{makeSpec, applySpec}
 use Rattle.rules.specs.Accounts.{Call, callSpec, after, linesOf}
 use Rattle.accounts.specs.EveryRun.{Applied, calls, standing, Kept, linesOfReply}
-use Rattle.replay.specs.Surplus.{SameButSurplus, SurplusKept, LinesKept, BookKept}
+use Rattle.replay.specs.Surplus.{SameButSurplus, SurplusUntouched, LinesUntouched, BookUntouched}
 
 -- The same record; the line tables may differ in what they hold and in length, if both are long enough or both too short.
 abbrev pub SameRecord : Call → Call → Type 0
@@ -58,7 +58,7 @@ Recovers =
 
 -- Whatever calls follow, surplus that is no place for an order stays; t are any tables, so also those that a list leads to.
 abbrev pub SurplusStays : Type 0
-SurplusStays = (t : Tables) (calls : List Call) → SurplusKept (members t) (holidayCount t) t (after t calls)
+SurplusStays = (t : Tables) (calls : List Call) → SurplusUntouched (members t) (holidayCount t) t (after t calls)
 
 -- Making a ledger leaves what is surplus in it, and the whole book.
 abbrev pub MakingLeavesSurplus : Type 0
@@ -68,15 +68,15 @@ MakingLeavesSurplus =
     → T (not (ledgerShort t))
     → let h = headerOf header in
     let made = makeSpec t header .after in
-    SurplusKept (h .members) (length (h .holidays)) t made × (made .book ≡ t .book)
+    SurplusUntouched (h .members) (length (h .holidays)) t made × (made .book ≡ t .book)
 
 -- A call leaves the line table past its lines.
 abbrev pub LinesStay : Type 0
-LinesStay = (t : Tables) (bytes : List ℕ) → LinesKept t (applySpec t bytes)
+LinesStay = (t : Tables) (bytes : List ℕ) → LinesUntouched t (applySpec t bytes)
 
 -- And the book past the orders that it leaves: a surplus place of the book is written only where an order comes to stand.
 abbrev pub BookStays : Type 0
-BookStays = (t : Tables) (bytes : List ℕ) → BookKept t (applySpec t bytes)
+BookStays = (t : Tables) (bytes : List ℕ) → BookUntouched t (applySpec t bytes)
 
 -- ---- the same of runs, whose calls kept their promises
 -- Each call's reply, with its lines.
@@ -113,4 +113,4 @@ module _ {A : Type 0} (reply : A → Reply) (Make Apply : Tables → List ℕ �
       → SameRuns reply made remade run other
 
   abbrev pub RunsLeaveSurplus : Type 0
-  RunsLeaveSurplus = (t : Tables) (run : List (Applied A)) → Kept Apply t run → SurplusKept (members t) (holidayCount t) t (standing t run)
+  RunsLeaveSurplus = (t : Tables) (run : List (Applied A)) → Kept Apply t run → SurplusUntouched (members t) (holidayCount t) t (standing t run)

@@ -27,17 +27,17 @@ pub record SameButSurplus (t u : Tables) : Type 0 where
   pub book : (i j : ℕ) → i < orderCount t → j < orderWidth → getD (t .book) (i * orderWidth + j) 0 ≡ getD (u .book) (i * orderWidth + j) 0
 
 -- With n members and k holidays: surplus of t that is no place for an order holds in u what it held in t.
-pub record SurplusKept (n k : ℕ) (t u : Tables) : Type 0 where
+pub record SurplusUntouched (n k : ℕ) (t u : Tables) : Type 0 where
   pub head : (i : ℕ) → (InUse n k i → ⊥) → getD (u .head) i 0 ≡ getD (t .head) i 0
   pub prices : (i : ℕ) → pricesLength ≤ i → getD (u .prices) i 0 ≡ getD (t .prices) i 0
   pub rows : (x : Column) (c m : ℕ) → m < mostMembers → (c < contractCount → n ≤ m) → row x u c m ≡ row x t c m
   pub book : (i : ℕ) → bookLength ≤ i → getD (u .book) i 0 ≡ getD (t .book) i 0
 
 -- Of the line table that a call was lent, the places past its lines hold what they held.
-abbrev pub LinesKept : Tables → Outcome Tables → Type 0
-LinesKept t o =
+abbrev pub LinesUntouched : Tables → Outcome Tables → Type 0
+LinesUntouched t o =
     (i : ℕ) → (isAccepted (o .answer) ≡ true → replyOf (o .answer) .detail * lineWidth ≤ i) → getD (o .after .lines) i (pos 0) ≡ getD (t .lines) i (pos 0)
 
 -- Of the book, the places past the orders that a call leaves hold what they held.
-abbrev pub BookKept : Tables → Outcome Tables → Type 0
-BookKept t o = (i : ℕ) → orderCount (o .after) * orderWidth ≤ i → getD (o .after .book) i 0 ≡ getD (t .book) i 0
+abbrev pub BookUntouched : Tables → Outcome Tables → Type 0
+BookUntouched t o = (i : ℕ) → orderCount (o .after) * orderWidth ≤ i → getD (o .after .book) i 0 ≡ getD (t .book) i 0
