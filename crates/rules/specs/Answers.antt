@@ -43,7 +43,7 @@ abbrev pub replyOfNextDay : Day → Reply
 replyOfNextDay (On d) = record { number = 0; detail = d .0 }
 replyOfNextDay NoDay = replyOf NoLaterDay
 
--- Day 371, and no later day.
+-- The next business day is 371; there is no later one.
 next-days : map replyOfNextDay (On (record { 0 = 371 }) ∷ NoDay ∷ []) ≡ record { number = 0; detail = 371 } ∷ record { number = 18; detail = 0 } ∷ []
 next-days = refl
 

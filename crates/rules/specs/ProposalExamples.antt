@@ -49,8 +49,8 @@ bounds-of-a-side : EachPrints (inPrices (withDayLimits 18 1 31299) (inPrices (wi
 unfolding computed
 bounds-of-a-side = refl
 
--- Nor do orders of the other side, though lent tables may have one that a leg's own side would put first: a sell of the quarter at
--- a lower price than the buy that is a leg.
+-- An order of the other side need be no leg, even a sell of the quarter at a lower price than the buy that is one. Only lent tables have
+-- such a pair: two submits would have met.
 priority-of-a-side : EachPrints (withOrders (order 5 2 18 Sell 31400 1 369 0 ∷ orders (quarterBy 0 1)) (inHead (withAcceptedSubmits 6) monday))
     ((ones 31300 31300 31300 31300, fourLines 31300) ∷ [])
 unfolding computed
