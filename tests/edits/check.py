@@ -1,5 +1,5 @@
 #!/usr/bin/env python3
-"""Reads what the prover said of each must-fail edit, once `rt ci` or `rt must-fail` has tried them.
+"""check.py [--forms]: reads what the prover said of each must-fail edit, once `rt ci` or `rt must-fail` has tried them.
 
 An edit may hold several slips, so that its crate is proved once for all of them. `rt` asks only that the crate is refused.
 Here every slip must be refused by itself. Each name on its line `refused:` is one of these:
@@ -9,6 +9,8 @@ No other function may be refused by itself, and none because its proof names a s
 text changed and not a fact. So a slip of code has the shape of what it stands for: values and comparisons differ, and
 nothing else. A slip of another shape has a control, a change of the same shape that is no slip, in controls/CRATE.control;
 controls.py asks whether it is proved. Every function that another crate or a host calls is named by a slip of its crate.
+With --forms, which the gate does not ask, no proof may be refused for its form at all: for a path to a step that is not
+there, or for a step that takes another number of things.
 """
 import pathlib
 import re
@@ -25,6 +27,9 @@ NOT_FOUND = re.compile(r"^fn \w+::(\S+): no proof: ", re.M)
 # What is said of whatever rests on something that was refused.
 RESTS_ON_REFUSED = "was not admitted ("
 LOST_STEP = "has no `Need-"
+# What is said of a proof, with the lines that it goes on over, and what is said of its form.
+OF_A_PROOF = re.compile(r"/proofs/(\S+)/Proof\.antt:\d+:\d+: error: (.*(?:\n  .*)*)")
+OF_FORM = re.compile(r"has no field `|this pattern needs a function|this λ has \d+ binders")
 
 
 class Slip:
@@ -106,6 +111,11 @@ def refusals_of(said, complain):
     return functions, laws
 
 
+def form_refusals(said):
+    """The functions whose proof is refused for its form."""
+    return sorted({path.replace("/", "::") for path, error in OF_A_PROOF.findall(said) if OF_FORM.search(error)})
+
+
 def is_called(function, name):
     return function == name or function.endswith("::" + name)
 
@@ -151,7 +161,8 @@ def is_slipped(root, crate, function):
 
 
 def main():
-    root = pathlib.Path(sys.argv[1] if len(sys.argv) > 1 else ".")
+    asks_forms = "--forms" in sys.argv[1:]
+    root = pathlib.Path(next((word for word in sys.argv[1:] if word != "--forms"), "."))
     complaints = []
     edits = sorted(root.glob("crates/*/must-fail/*.edit"))
     slips = {path.stem: [] for path in CONTROLS.glob("*.control")}
@@ -160,7 +171,10 @@ def main():
         complain = lambda text, at=f"{crate}/{edit.stem}": complaints.append(f"{at}: {text}")
         log = root / "target" / "must-fail" / crate / edit.stem / ".log"
         if log.exists():
-            slips.setdefault(crate, []).extend(check_edit(edit, log.read_text(encoding="utf-8"), complain))
+            said = log.read_text(encoding="utf-8")
+            slips.setdefault(crate, []).extend(check_edit(edit, said, complain))
+            for function in form_refusals(said) if asks_forms else ():
+                complain(f"the proof of {function} is refused for its form")
         else:
             complain("the prover was not asked")
     for crate in sorted(slips):
