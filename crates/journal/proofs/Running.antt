@@ -237,7 +237,7 @@ module _ {n₀ k₀ : ℕ} {t₀ : Tables} {bytes : List ℕ} {last : Bool} {fil
   unfolding remaining endFrom countedAt afterStage
   end-read e yes-last all =
       let none : (more : List ℕ) → (last ≡ true → more ≡ []) → length (drop place (bytes ++ more)) ≡ 0 =
-          λ more ends. rw (ends yes-last, append-nil bytes, length-drop place bytes) (omega arith) in
+      λ more ends. rw (ends yes-last, append-nil bytes, length-drop place bytes) (omega arith) in
       record {
         text = w .text;
         wrote = w .wrote;

@@ -25,7 +25,7 @@ behind-short s h = rw (length-drop (nextLength s) s) (omega (arith, next-some s 
 module _ {A : Type 0} (go : ℕ → ℕ → ℕ → Tables → List ℕ → A) (none : ℕ → ℕ → Tables → A) (join : ℕ → ℕ → Outcome Tables → A → A)
     (at-end : (f n k : ℕ) (t : Tables) (s : List ℕ) → length s ≡ 0 → go f n k t s ≡ none n k t)
     (at-next : (f n k : ℕ) (t : Tables) (s : List ℕ) → 0 < length s
-        → go (suc f) n k t s ≡ join n k (outcomeOf t s) (go f (n + 1) (k + acceptedBy (outcomeOf t s .answer)) (outcomeOf t s .after) (drop (nextLength s) s))) where
+    → go (suc f) n k t s ≡ join n k (outcomeOf t s) (go f (n + 1) (k + acceptedBy (outcomeOf t s .answer)) (outcomeOf t s .after) (drop (nextLength s) s))) where
   -- Fuel for each byte is enough.
   fuel : (f g n k : ℕ) (t : Tables) (s : List ℕ) → length s ≤ f → length s ≤ g → go f n k t s ≡ go g n k t s
   fuel zero g n k t s h i = at-end zero n k t s (omega arith) ∙ sym (at-end g n k t s (omega arith))

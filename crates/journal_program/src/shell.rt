@@ -257,7 +257,7 @@ fn run_on_rows(
     requires { ⌜ (length (now lots) ≡ rowsRoom) × (length (now value) ≡ rowsRoom) ⌝ }
     ensures { λ r. ⌜ JournalRan
         (lent (now (head .entry)) (now (prices .entry)) (take rowsLength (drop 1 (now (lots .entry)))) (take rowsLength (drop 1 (now (value .entry))))
-            (now (book .entry)) (now (lines .entry))) r ⌝ }
+        (now (book .entry)) (now (lines .entry))) r ⌝ }
 {
     let first: usize = 1;
     let end = first + ROWS_LENGTH;
