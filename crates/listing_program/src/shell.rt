@@ -1,5 +1,5 @@
 // The program's turns: the next record is listed, or bytes are read, or lines are written. No contract can say what a read brought
-// or a write took. What is listed for the bytes that came is the promise of crate listing; how a listing ends is promised here.
+// or a write took. The promises say what each turn lists of the bytes that came, whichever these are, and how the listing ends.
 ghost use mathlib.Core.Path.{_≡_};
 ghost use mathlib.Core.Bool.{Bool};
 ghost use mathlib.Core.List.{List};
@@ -7,10 +7,9 @@ ghost use Prim.Native.Nat.{ℕ, _+_, _≤_, _<_};
 ghost use lib.ListN.{length, take, drop};
 ghost use Rattle.listing.specs.Sizes.{lineRoom};
 ghost use Rattle.streams.specs.declared.ending.Ending.{Ending};
-ghost use Rattle.listing_words.specs.Fields.{isNone, faultOf};
 ghost use Rattle.streams.specs.Windows.{Within, held, statusOf};
 ghost use Rattle.listing_program.specs.Places.{inputLength, outputLength, mostTurns, mostInTwoBytes, LedgerOf, Stands, nextStands, movedWithin};
-ghost use Rattle.listing_program.specs.Runs.{RecordsEnd, recordEnds, moveEnds, turnEnds, headerEnds, ListingEnds};
+ghost use Rattle.listing_program.specs.Runs.{RecordsEnd, lineListed, writtenOn, readOn, turned, headerEnds, ListingEnds};
 use big_endian::u8_or_zero;
 use header::FIRST_YEAR_BYTE;
 use header::HOLIDAY_COUNT_BYTE;
@@ -65,7 +64,7 @@ enum Next {
 // What is printed goes out, then more bytes come.
 fn read_on(place: Place, input: &mut [u8], output: &[u8]) -> Next
     requires { ⌜ Stands place × (length (now input) ≡ inputLength) × (length (now output) ≡ outputLength) ⌝ }
-    ensures { λ r. ⌜ nextStands (place .turns) r × moveEnds r ⌝ }
+    ensures { λ r. ⌜ nextStands (place .turns) r × readOn (place .window) (place .records) (place .base) (now (input .entry)) (now (input .exit)) r ⌝ }
 {
     match read_more(place.window, place.records, input, output) {
         Moved::On(window) => Next::Going(Place {
@@ -81,7 +80,7 @@ fn read_on(place: Place, input: &mut [u8], output: &[u8]) -> Next
 // What is printed so far goes out.
 fn write_on(place: Place, output: &[u8]) -> Next
     requires { ⌜ Stands place × (length (now output) ≡ outputLength) ⌝ }
-    ensures { λ r. ⌜ nextStands (place .turns) r × moveEnds r ⌝ }
+    ensures { λ r. ⌜ nextStands (place .turns) r × writtenOn (place .window) (place .records) (place .base) r ⌝ }
 {
     match write_out(place.window, output) {
         Moved::On(window) => Next::Going(Place {
@@ -98,7 +97,8 @@ fn write_on(place: Place, output: &[u8]) -> Next
 fn list_record(ledger: Ledger, place: Place, size: usize, input: &[u8], output: &mut [u8]) -> Next
     requires { ⌜ Stands place × (place .turns < mostTurns) × (place .window .from + size ≤ place .window .end) × (place .window .filled + lineRoom ≤ outputLength) ⌝ }
     requires { ⌜ (ledger .«first_year» ≤ mostInTwoBytes) × (length (now input) ≡ inputLength) × (length (now output) ≡ outputLength) ⌝ }
-    ensures { λ r. ⌜ nextStands (place .turns + 1) r × recordEnds (isNone (faultOf (ledger .members) (take size (drop (place .window .from) (now (input .entry)))))) r ⌝ }
+    ensures { λ r. ⌜ nextStands (place .turns + 1) r
+        × lineListed ledger place size (take size (drop (place .window .from) (now (input .entry)))) (now (output .entry)) (now (output .exit)) r ⌝ }
 {
     let window = place.window;
     let from = window.from;
@@ -133,7 +133,7 @@ fn list_record(ledger: Ledger, place: Place, size: usize, input: &[u8], output: 
 
 fn turn(ledger: Ledger, place: Place, input: &mut [u8], output: &mut [u8]) -> Next
     requires { ⌜ Stands place × (place .turns < mostTurns) × (ledger .«first_year» ≤ mostInTwoBytes) × (length (now input) ≡ inputLength) × (length (now output) ≡ outputLength) ⌝ }
-    ensures { λ r. ⌜ nextStands (place .turns + 1) r × turnEnds (ledger .members) (place .window .«is_last») (held (place .window) (now (input .entry))) r ⌝ }
+    ensures { λ r. ⌜ nextStands (place .turns + 1) r × turned ledger place (now (input .entry)) (now (input .exit)) (now (output .entry)) (now (output .exit)) r ⌝ }
 {
     let window = place.window;
     let from = window.from;
