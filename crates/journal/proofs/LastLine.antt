@@ -14,7 +14,7 @@ use Rattle.journal.specs.declared.stage.Progress.{Progress}
 use Rattle.journal.specs.declared.stage.Stage.{Stage}
 use Rattle.journal.specs.declared.stage.Stage.the-variants.{Header, Records, Read, Stopped, ReadToEnd, RecordUnsound, HeaderUnsound}
 use Rattle.journal.specs.declared.stage.Wants.the-variants.{Nothing, Room}
-use Rattle.journal.specs.Stages.{remaining, rank, Counts, EndPrinted, Advanced}
+use Rattle.journal.specs.Stages.{remaining, endFrom, afterStage, rank, Counts, EndPrinted, Advanced}
 use Rattle.journal.proofs.Starts.{none-run}
 
 counts-more : (stage : Stage) (most more : ℕ) → Counts stage most → Counts stage (most + more)
@@ -52,7 +52,7 @@ end-printed w short e = rw e (record { wrote = w; room = short; stands = refl })
 -- After E nothing is left to print.
 module _ (t : Tables) (bytes : List ℕ) (last : Bool) (filled : ℕ) (entry exit : List ℕ) (n k : ℕ) (room : filled + lineRoom ≤ length entry) {r : Progress} where
   pub read-line : {stage : Stage} → stage ≡ Read n k → EndPrinted ReadToEnd n k (t .head) filled entry exit r → Advanced stage t bytes last filled entry exit t r
-  unfolding remaining
+  unfolding remaining endFrom afterStage
   read-line e w =
       rw (e, w .stands)
       (record {
@@ -64,10 +64,12 @@ module _ (t : Tables) (bytes : List ℕ) (last : Bool) (filled : ℕ) (entry exi
         asks = λ room′ g h. omega arith;
         rest = λ more ends. sym
             (append-nil (endText n k t));
+        tables = λ more ends. refl;
+        ends = λ more ends. refl;
       })
 
   pub stopped-line : {stage : Stage} → stage ≡ Stopped n k → EndPrinted RecordUnsound n k (t .head) filled entry exit r → Advanced stage t bytes last filled entry exit t r
-  unfolding remaining
+  unfolding remaining endFrom afterStage
   stopped-line e w =
       rw (e, w .stands)
       (record {
@@ -79,4 +81,6 @@ module _ (t : Tables) (bytes : List ℕ) (last : Bool) (filled : ℕ) (entry exi
         asks = λ room′ g h. omega arith;
         rest = λ more ends. sym
             (append-nil (endText n k t));
+        tables = λ more ends. refl;
+        ends = λ more ends. refl;
       })

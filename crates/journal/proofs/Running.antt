@@ -1,5 +1,5 @@
 -- Records run one after the other: what holds before each, and where it ends. Assumes nothing.
-use Prim.Native.Nat.{ℕ, _+_, _-_, _<_, _≤_}
+use Prim.Native.Nat.{ℕ, suc, _+_, _-_, _<_, _≤_}
 use mathlib.Core.Bool.{Bool, true, false, cond, _&&_}
 use mathlib.Core.List.{List, [], _++_, append-assoc, append-nil}
 use mathlib.Core.Path.{_≡_, refl, sym, ap, _∙_}
@@ -20,12 +20,12 @@ use Rattle.text.proofs.Writing.{then, wrote-none}
 use Rattle.journal.specs.Room.{roomWanted}
 use Rattle.journal.specs.declared.record.Printed.{Printed}
 use Rattle.journal.specs.declared.stage.Stage.{Stage}
-use Rattle.journal.specs.declared.stage.Stage.the-variants.{Records, Read, Stopped}
+use Rattle.journal.specs.declared.stage.Stage.the-variants.{Records, Read, Stopped, RecordUnsound}
 use Rattle.journal.specs.declared.stage.Wants.{Wants}
 use Rattle.journal.specs.declared.stage.Wants.the-variants.{Nothing, Bytes, Room}
-use Rattle.journal.specs.Stages.{RanOne, lengthNow, readyLength, stageAfter, wantsAfter, remaining, Advanced}
+use Rattle.journal.specs.Stages.{RanOne, lengthNow, readyLength, stageAfter, wantsAfter, remaining, recordsEnd, endFrom, afterRecord, afterRecords, countedAt, afterStage, Advanced}
 use Rattle.journal.proofs.Fronts.{now-fits, now-next, now-short, now-none}
-use Rattle.journal.proofs.Texts.{records-none, records-next}
+use Rattle.journal.proofs.Texts.{records-none, records-next, ends-none, ends-next}
 
 -- ---- parts as the calls were handed them
 rest-part : (i : ℕ) (s : List ℕ) → take (length s - i) (drop i s) ≡ drop i s
@@ -51,13 +51,21 @@ pub ready-none : (last : Bool) (room : ℕ) (s : List ℕ) → readyLength last 
 unfolding readyLength
 ready-none last room s z e = rw e at z
 
--- What one record and those behind it print.
-next-text : (n k m : ℕ) (t t′ : Tables) (s : List ℕ) (o : Outcome Tables) (more : ℕ) (u : Bool) → 0 < length s → nextLength s ≡ m → applySpec t (take m s) ≡ o
-    → t′ ≡ o .after → more ≡ acceptedBy (o .answer) → u ≡ stops (o .answer)
-    → recordsText n k t s ≡ answerText (n + 1) o ++ cond u (endText (n + 1) (k + more) t′) (recordsText (n + 1) (k + more) t′ (drop m s))
-next-text n k m t t′ s o more u h e f g a b = rw (g, a, b) (rw (e, f) at (records-next n k t s h))
+-- One record and those behind it: what they print, how they end, and what is left after the one.
+module _ (m : ℕ) (t t′ : Tables) (s : List ℕ) (o : Outcome Tables) (e : nextLength s ≡ m) (f : applySpec t (take m s) ≡ o) (g : t′ ≡ o .after) where
+  next-text : (n k more : ℕ) (u : Bool) → 0 < length s → more ≡ acceptedBy (o .answer) → u ≡ stops (o .answer)
+      → recordsText n k t s ≡ answerText (n + 1) o ++ cond u (endText (n + 1) (k + more) t′) (recordsText (n + 1) (k + more) t′ (drop m s))
+  next-text n k more u h a b = rw (g, a, b) (rw (e, f) at (records-next n k t s h))
 
--- What holds before each record: a text is printed, and it, with what is still to be printed, is what was to be printed.
+  next-end : (u : Bool) → 0 < length s → u ≡ stops (o .answer) → recordsEnd t s ≡ cond u (record { stage = RecordUnsound; tables = t′ }) (recordsEnd t′ (drop m s))
+  next-end u h b = rw (g, b) (rw (e, f) at (ends-next t s h))
+
+  next-rest : record { tables = t′; bytes = drop m s } ≡ afterRecord (record { tables = t; bytes = s })
+  unfolding afterRecord
+  next-rest = rw (e, f, g) refl
+
+-- What holds before each record: a text is printed, and it, with what is still to be printed, is what was to be printed; so of the
+-- tables and the bytes left, and of the end.
 pub record Runs (n₀ k₀ : ℕ) (t₀ : Tables) (bytes : List ℕ) (last : Bool) (filled : ℕ) (entry out : List ℕ) (t : Tables) (place end n k : ℕ) (stopped : Bool) : Type 0 where
   pub text : List ℕ
   pub wrote : Wrote filled text entry out end
@@ -66,13 +74,32 @@ pub record Runs (n₀ k₀ : ℕ) (t₀ : Tables) (bytes : List ℕ) (last : Boo
   pub same : length out ≡ length entry
   pub below : k ≤ n
   pub few : n ≤ n₀ + place
+  pub grown : n₀ ≤ n
   pub rest : (more : List ℕ) → (last ≡ true → more ≡ [])
       → recordsText n₀ k₀ t₀ (bytes ++ more) ≡ text ++ cond stopped (endText n k t) (recordsText n k t (drop place (bytes ++ more)))
+  pub tables : (more : List ℕ) → (last ≡ true → more ≡ [])
+      → record { tables = t; bytes = drop place (bytes ++ more) } ≡ afterRecords (n - n₀) (record { tables = t₀; bytes = bytes ++ more })
+  pub ends : (more : List ℕ) → (last ≡ true → more ≡ [])
+      → recordsEnd t₀ (bytes ++ more) ≡ cond stopped (record { stage = RecordUnsound; tables = t }) (recordsEnd t (drop place (bytes ++ more)))
 
 pub runs-start : (n k : ℕ) (t : Tables) (bytes : List ℕ) (last : Bool) (filled : ℕ) (entry : List ℕ) → k ≤ n → filled ≤ length entry
     → Runs n k t bytes last filled entry entry t 0 filled n k false
+unfolding afterRecords
 runs-start n k t bytes last filled entry b f =
-    record { text = []; wrote = wrote-none filled entry; inside = omega arith; within = f; same = refl; below = b; few = omega arith; rest = λ more ends. refl }
+    let none : n - n ≡ 0 = omega arith in
+    record {
+      text = [];
+      wrote = wrote-none filled entry;
+      inside = omega arith;
+      within = f;
+      same = refl;
+      below = b;
+      few = omega arith;
+      grown = omega arith;
+      rest = λ more ends. refl;
+      tables = λ more ends. rw none refl;
+      ends = λ more ends. refl;
+    }
 
 at-most-one : (b : Bool) → cond b 1 0 ≤ 1
 at-most-one true = omega arith
@@ -113,17 +140,38 @@ module _ {n₀ k₀ : ℕ} {t₀ : Tables} {bytes : List ℕ} {last : Bool} {fil
       abbrev o : Outcome Tables
       o = applySpec t (take m left)
 
-      behind : (more : List ℕ) → (last ≡ true → more ≡ [])
-          → recordsText n k t (drop place (bytes ++ more))
-          ≡ answerText (n + 1) o ++ cond (r .«is_unsound») (endText (n + 1) (k + r .accepted) t′) (recordsText (n + 1) (k + r .accepted) t′ (drop (place + m) (bytes ++ more)))
-      behind more ends =
-          let s : List ℕ = left ++ more in
-          let fits : m ≤ length left = rw now-is (now-fits last left) in
-          let long : 0 < length s = rw (length-append left more) (omega arith) in
-          let next : nextLength s ≡ m = now-next last left (rw now-is at some) more ends ∙ sym now-is in
-          let same-record : applySpec t (take m s) ≡ o = ap (applySpec t) (take-append-le m left more fits) in
-          let past : drop m s ≡ drop (place + m) (bytes ++ more) = ap (drop m) (sym (here more)) ∙ drop-drop m place (bytes ++ more) in
-          rw (here more, ← past) (next-text n k m t t′ s o (r .accepted) (r .«is_unsound») long next same-record (one .outcome) (one .counted) (one .unsound))
+      module _ (more : List ℕ) (ends : last ≡ true → more ≡ []) where
+        abbrev s : List ℕ
+        s = left ++ more
+
+        fits : m ≤ length left
+        fits = rw now-is (now-fits last left)
+
+        long : 0 < length s
+        long = let f = fits in rw (length-append left more) (omega arith)
+
+        next : nextLength s ≡ m
+        next = now-next last left (rw now-is at some) more ends ∙ sym now-is
+
+        same-record : applySpec t (take m s) ≡ o
+        same-record = ap (applySpec t) (take-append-le m left more fits)
+
+        past : drop m s ≡ drop (place + m) (bytes ++ more)
+        past = ap (drop m) (sym (here more)) ∙ drop-drop m place (bytes ++ more)
+
+        behind : recordsText n k t (drop place (bytes ++ more))
+            ≡ answerText (n + 1) o ++ cond (r .«is_unsound») (endText (n + 1) (k + r .accepted) t′) (recordsText (n + 1) (k + r .accepted) t′ (drop (place + m) (bytes ++ more)))
+        behind = rw (here more, ← past) (next-text m t t′ s o next same-record (one .outcome) n k (r .accepted) (r .«is_unsound») long (one .counted) (one .unsound))
+
+        behind-end : recordsEnd t (drop place (bytes ++ more))
+            ≡ cond (r .«is_unsound») (record { stage = RecordUnsound; tables = t′ }) (recordsEnd t′ (drop (place + m) (bytes ++ more)))
+        behind-end = rw (here more, ← past) (next-end m t t′ s o next same-record (one .outcome) (r .«is_unsound») long (one .unsound))
+
+        behind-rest : record { tables = t′; bytes = drop (place + m) (bytes ++ more) } ≡ afterRecords (n + 1 - n₀) (record { tables = t₀; bytes = bytes ++ more })
+        unfolding afterRecords
+        behind-rest =
+            let one-more : n + 1 - n₀ ≡ suc (n - n₀) = omega (arith, w .grown) in
+            rw (one-more, ← w .tables more ends, here more, ← past) (next-rest m t t′ s o next same-record (one .outcome))
 
       pub runs-next : Runs n₀ k₀ t₀ bytes last filled entry out′ t′ (place + m) (r .end) (n + 1) (k + r .accepted) (r .«is_unsound»)
       runs-next =
@@ -135,9 +183,15 @@ module _ {n₀ k₀ : ℕ} {t₀ : Tables} {bytes : List ℕ} {last : Bool} {fil
             same = kept ∙ w .same;
             below = omega (arith, w .below, one-at-most one);
             few = omega (arith, w .few);
+            grown = omega (arith, w .grown);
+            tables = behind-rest;
+            ends = λ more ends. (rw (ready .0) at (w .ends more ends)) ∙ behind-end more ends;
             rest = λ more ends.
                 going (ready .0) more ends ∙ (ap (λ x. w .text ++ x) (behind more ends) ∙ sym (append-assoc (w .text) (answerText (n + 1) o) _));
           }
+
+  going-end : stopped ≡ false → (more : List ℕ) → (last ≡ true → more ≡ []) → recordsEnd t₀ (bytes ++ more) ≡ recordsEnd t (drop place (bytes ++ more))
+  going-end e more ends = rw e at (w .ends more ends)
 
   -- ---- no record more
   abbrev End : Stage → Wants → Type 0
@@ -147,7 +201,7 @@ module _ {n₀ k₀ : ℕ} {t₀ : Tables} {bytes : List ℕ} {last : Bool} {fil
   counts most c = (w .below, omega (arith, w .few, w .inside))
 
   end-stopped : stopped ≡ true → End (Stopped n k) Nothing
-  unfolding remaining
+  unfolding remaining endFrom countedAt afterStage
   end-stopped e =
       record {
         text =
@@ -159,16 +213,31 @@ module _ {n₀ k₀ : ℕ} {t₀ : Tables} {bytes : List ℕ} {last : Bool} {fil
         asks = λ room f h. omega arith;
         rest = λ more ends. rw e at
             (w .rest more ends);
+        tables = w .tables;
+        ends = λ more ends. rw e at
+            (w .ends more ends);
       }
 
   end-room : (room : ℕ) → stopped ≡ false → end + room ≡ length out → room < roomWanted → End (Records n k) Room
-  unfolding remaining
+  unfolding remaining endFrom countedAt afterStage
   end-room room e f h =
-      record { text = w .text; wrote = w .wrote; inside = w .inside; within = w .within; counts = counts; asks = λ room′ g. omega (arith, w .same); rest = going e }
+      record {
+        text = w .text;
+        wrote = w .wrote;
+        inside = w .inside;
+        within = w .within;
+        counts = counts;
+        asks = λ room′ g. omega (arith, w .same);
+        rest = going e;
+        tables = w .tables;
+        ends = going-end e;
+      }
 
   end-read : stopped ≡ false → last ≡ true → place ≡ length bytes → End (Read n k) Nothing
-  unfolding remaining
+  unfolding remaining endFrom countedAt afterStage
   end-read e yes-last all =
+      let none : (more : List ℕ) → (last ≡ true → more ≡ []) → length (drop place (bytes ++ more)) ≡ 0 =
+      λ more ends. rw (ends yes-last, append-nil bytes, length-drop place bytes) (omega arith) in
       record {
         text = w .text;
         wrote = w .wrote;
@@ -176,15 +245,25 @@ module _ {n₀ k₀ : ℕ} {t₀ : Tables} {bytes : List ℕ} {last : Bool} {fil
         within = w .within;
         counts = counts;
         asks = λ room f h. omega arith;
-        rest = λ more ends.
-            let none : length (drop place (bytes ++ more)) ≡ 0 = rw (ends yes-last, append-nil bytes, length-drop place bytes) (omega arith) in
-            going e more ends ∙ ap (λ x. w .text ++ x) (records-none n k t (drop place (bytes ++ more)) none);
+        rest = λ more ends. going e more ends ∙ ap (λ x. w .text ++ x) (records-none n k t (drop place (bytes ++ more)) (none more ends));
+        tables = w .tables;
+        ends = λ more ends. going-end e more ends ∙ ends-none t (drop place (bytes ++ more)) (none more ends);
       }
 
   end-bytes : stopped ≡ false → last ≡ false → frontOf left ≡ Cut → End (Records n k) Bytes
-  unfolding remaining
+  unfolding remaining endFrom countedAt afterStage
   end-bytes e not-last cut =
-      record { text = w .text; wrote = w .wrote; inside = w .inside; within = w .within; counts = counts; asks = λ room f. (not-last, cut); rest = going e }
+      record {
+        text = w .text;
+        wrote = w .wrote;
+        inside = w .inside;
+        within = w .within;
+        counts = counts;
+        asks = λ room f. (not-last, cut);
+        rest = going e;
+        tables = w .tables;
+        ends = going-end e;
+      }
 
   -- ---- the stage that is told
   module _ (room : ℕ) (read : Bool) (roomy : end + room ≡ length out) (is-read : read ≡ last && eqb place (length bytes)) where

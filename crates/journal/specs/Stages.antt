@@ -1,17 +1,19 @@
 -- A journal run stage by stage: what is still to be printed, and what one call promises.
-use Prim.Native.Nat.{ℕ, _+_, _≤_, _<_}
+use Prim.Native.Nat.{ℕ, zero, suc, _+_, _-_, _≤_, _<_}
 use mathlib.Core.Bool.{Bool, true, false, cond}
 use mathlib.Core.List.{List, [], _++_}
 use mathlib.Core.Path.{_≡_}
-use lib.Dec.{ltb}
-use lib.ListN.{length, drop}
+use lib.Dec.{eqb, ltb}
+use lib.ListN.{length, take, drop}
 use Rattle.rules.specs.declared.event.Front.{Front}
 use Rattle.rules.specs.declared.event.Front.the-variants.{Whole, Cut, UnknownKind}
 use Rattle.rules.specs.Answers.{Outcome}
 use Rattle.rules.specs.Header.{headerLength}
-use Rattle.rules.specs.Journal.{endText, answerText, stops, acceptedBy, recordsText, journalTextOn}
+use Rattle.rules.specs.Accounts.{isAccepted}
+use Rattle.rules.specs.Journal.{endText, answerText, stops, acceptedBy, nextLength, recordsText, journalTextOn}
 use Rattle.rules.specs.Ledger.{Tables, withHead}
 use Rattle.rules.specs.Records.{frontOf}
+use Rattle.rules.specs.Refusals.{applySpec, makeSpec}
 use Rattle.text.specs.Wrote.{Wrote}
 use Rattle.printing.specs.Room.{lineRoom}
 use Rattle.journal.specs.Room.{recordRoom, roomWanted}
@@ -61,6 +63,84 @@ remaining ReadToEnd t s = []
 remaining RecordUnsound t s = []
 remaining HeaderUnsound t s = []
 
+-- ---- how a journal ends: its last stage, and the tables then
+pub record JournalEnd : Type 0 where
+  pub stage : Stage
+  pub tables : Tables
+
+-- A record that is number 3 is the last. Else the journal is read to its end.
+unfoldable pub recordsEndWithin : ℕ → Tables → List ℕ → JournalEnd
+recordsEndWithin zero t s = record { stage = ReadToEnd; tables = t }
+recordsEndWithin (suc fuel) t s =
+    let n = nextLength s in
+    let o = applySpec t (take n s) in
+    cond (eqb (length s) 0) (record { stage = ReadToEnd; tables = t })
+    (cond (stops (o .answer)) (record { stage = RecordUnsound; tables = o .after }) (recordsEndWithin fuel (o .after) (drop n s)))
+
+unfoldable pub recordsEnd : Tables → List ℕ → JournalEnd
+recordsEnd t s = recordsEndWithin (length s) t s
+
+unfoldable pub journalEndOn : Tables → List ℕ → JournalEnd
+journalEndOn t s =
+    let o = makeSpec t s in
+    cond (isAccepted (o .answer)) (recordsEnd (o .after) (drop (headerLength s) s)) (record { stage = HeaderUnsound; tables = o .after })
+
+-- From a stage on, of these tables and bytes.
+unfoldable pub endFrom : Stage → Tables → List ℕ → JournalEnd
+endFrom Header t s = journalEndOn t s
+endFrom (Records n k) t s = recordsEnd t s
+endFrom (Read n k) t s = record { stage = ReadToEnd; tables = t }
+endFrom (Stopped n k) t s = record { stage = RecordUnsound; tables = t }
+endFrom ReadToEnd t s = record { stage = ReadToEnd; tables = t }
+endFrom RecordUnsound t s = record { stage = RecordUnsound; tables = t }
+endFrom HeaderUnsound t s = record { stage = HeaderUnsound; tables = t }
+
+-- ---- the tables, and the bytes still to be run on them
+pub record Rest : Type 0 where
+  pub tables : Tables
+  pub bytes : List ℕ
+
+-- After the header. One that is turned back is not passed.
+unfoldable pub afterHeader : Rest → Rest
+afterHeader x =
+    let o = makeSpec (x .tables) (x .bytes) in
+    record { tables = o .after; bytes = cond (isAccepted (o .answer)) (drop (headerLength (x .bytes)) (x .bytes)) (x .bytes) }
+
+unfoldable pub afterRecord : Rest → Rest
+afterRecord x =
+    let n = nextLength (x .bytes) in
+    record { tables = applySpec (x .tables) (take n (x .bytes)) .after; bytes = drop n (x .bytes) }
+
+unfoldable pub afterRecords : ℕ → Rest → Rest
+afterRecords zero x = x
+afterRecords (suc n) x = afterRecord (afterRecords n x)
+
+-- How many records were counted at a stage that counts them.
+unfoldable pub countedAt : Stage → ℕ
+countedAt Header = 0
+countedAt (Records n k) = n
+countedAt (Read n k) = n
+countedAt (Stopped n k) = n
+countedAt ReadToEnd = 0
+countedAt RecordUnsound = 0
+countedAt HeaderUnsound = 0
+
+-- From one stage to another: the header is run, unless it is still to be read; or the records between the two counts; else nothing.
+unfoldable pub afterStage : Stage → Stage → Rest → Rest
+afterStage Header Header x = x
+afterStage Header (Records n k) x = afterHeader x
+afterStage Header (Read n k) x = afterHeader x
+afterStage Header (Stopped n k) x = afterHeader x
+afterStage Header ReadToEnd x = afterHeader x
+afterStage Header RecordUnsound x = afterHeader x
+afterStage Header HeaderUnsound x = afterHeader x
+afterStage (Records n k) next x = afterRecords (countedAt next - n) x
+afterStage (Read n k) next x = x
+afterStage (Stopped n k) next x = x
+afterStage ReadToEnd next x = x
+afterStage RecordUnsound next x = x
+afterStage HeaderUnsound next x = x
+
 -- The rank of a stage: one that follows another has a higher rank.
 abbrev pub rank : Stage → ℕ
 rank Header = 0
@@ -105,7 +185,8 @@ pub record EndPrinted (stage : Stage) (n k : ℕ) (head : List ℕ) (filled : �
   pub stands : r ≡ record { used = 0; end = r .end; stage = stage; wants = Nothing }
 
 -- What a call did on these bytes, the last of the journal or not, whatever bytes come after them: a text was written behind
--- what was printed, and it, with what is still to be printed, is what was to be printed.
+-- what was printed, and it, with what is still to be printed, is what was to be printed. The tables, and the bytes left, are those
+-- after what was run, and the journal's end is the one that it had.
 pub record Advanced (stage : Stage) (t : Tables) (bytes : List ℕ) (last : Bool) (filled : ℕ) (entry exit : List ℕ) (after : Tables) (r : Progress) : Type 0 where
   pub text : List ℕ
   pub wrote : Wrote filled text entry exit (r .end)
@@ -114,3 +195,6 @@ pub record Advanced (stage : Stage) (t : Tables) (bytes : List ℕ) (last : Bool
   pub counts : (most : ℕ) → Counts stage most → Counts (r .stage) (most + length bytes)
   pub asks : (room : ℕ) → r .end + room ≡ length entry → Asks (r .wants) stage (r .stage) (drop (r .used) bytes) last room
   pub rest : (more : List ℕ) → (last ≡ true → more ≡ []) → remaining stage t (bytes ++ more) ≡ text ++ remaining (r .stage) after (drop (r .used) (bytes ++ more))
+  pub tables : (more : List ℕ) → (last ≡ true → more ≡ [])
+      → record { tables = after; bytes = drop (r .used) (bytes ++ more) } ≡ afterStage stage (r .stage) (record { tables = t; bytes = bytes ++ more })
+  pub ends : (more : List ℕ) → (last ≡ true → more ≡ []) → endFrom stage t (bytes ++ more) ≡ endFrom (r .stage) after (drop (r .used) (bytes ++ more))

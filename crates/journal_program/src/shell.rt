@@ -1,12 +1,19 @@
 // The program's turns: what the input holds is run, then bytes are read or what was printed is written. No contract can say
-// what a read brought or a write took; what is printed for the bytes that came is promised by journal::advance.
+// what a read brought or a write took. The promises say what is handed over to be written for the bytes that came, whichever
+// these are, and how the run ends.
 ghost use mathlib.Core.Path.{_≡_};
-ghost use Prim.Native.Nat.{_+_, _≤_, _<_};
-ghost use lib.ListN.{length};
-ghost use Rattle.rules.specs.Ledger.{headLength, linesLength};
+ghost use mathlib.Core.List.{List};
+ghost use Prim.Native.Nat.{ℕ, _+_, _≤_, _<_};
+ghost use lib.ListN.{length, take, drop};
+ghost use mathlib.Core.Bool.{false};
+ghost use Rattle.rules.specs.Ledger.{lent, headLength, linesLength, rowsLength, zeroTables};
+ghost use Rattle.journal.specs.declared.stage.Stage.the-variants.{Header};
+ghost use Rattle.journal.specs.declared.stage.Wants.the-variants.{Bytes};
+ghost use Rattle.journal.specs.Stages.{countedAt};
 ghost use Rattle.streams.specs.declared.ending.Ending.{Ending};
 ghost use Rattle.streams.specs.Windows.{statusOf};
 ghost use Rattle.journal_program.specs.Places.{bufferLength, rowsRoom, mostTurns, Stands, nextStands};
+ghost use Rattle.journal_program.specs.Runs.{Follows, Turned, RanTurns, JournalRan};
 use journal::Stage;
 use journal::Wants;
 use journal::advance;
@@ -47,7 +54,8 @@ enum Next {
 }
 
 fn first_place(progress: Progress) -> Place
-    ensures { λ r. ⌜ Stands r × (r .turns ≡ 0) ⌝ }
+    ensures { λ r. ⌜ Stands r × (r .turns ≡ 0) × (r .stage ≡ Header) ⌝ }
+    ensures { λ r. ⌜ (r .window .from ≡ 0) × (r .window .end ≡ 0) × (r .window .«is_last» ≡ false) × (r .window .filled ≡ 0) ⌝ }
 {
     Place {
         turns: 0,
@@ -57,7 +65,9 @@ fn first_place(progress: Progress) -> Place
 }
 
 // How many records were run, for progress.
-fn counted_by(stage: Stage) -> u64 {
+fn counted_by(stage: Stage) -> u64
+    ensures { λ r. ⌜ r ≡ countedAt stage ⌝ }
+{
     match stage {
         Stage::Records {
             counted,
@@ -77,8 +87,8 @@ fn counted_by(stage: Stage) -> u64 {
 
 // What is printed goes out, then more bytes come.
 fn read_on(place: Place, input: &mut [u8], output: &[u8]) -> Next
-    requires { ⌜ Stands place × (length (now input) ≡ bufferLength) × (length (now output) ≡ bufferLength) ⌝ }
-    ensures { λ r. ⌜ nextStands (place .turns) r ⌝ }
+    requires { ⌜ Stands place × (length (now input) ≡ bufferLength) × (length (now output) ≡ bufferLength) × (place .window .«is_last» ≡ false) ⌝ }
+    ensures { λ r. ⌜ nextStands (place .turns) r × Follows place (now (input .entry)) (now (input .exit)) r ⌝ }
 {
     let stage = place.stage;
     match read_more(place.window, counted_by(stage), input, output) {
@@ -94,7 +104,7 @@ fn read_on(place: Place, input: &mut [u8], output: &[u8]) -> Next
 // What is printed so far goes out.
 fn write_on(place: Place, output: &[u8]) -> Next
     requires { ⌜ Stands place × (length (now output) ≡ bufferLength) ⌝ }
-    ensures { λ r. ⌜ nextStands (place .turns) r ⌝ }
+    ensures { λ r. ⌜ nextStands (place .turns) r × ((input : List ℕ) → Follows place input input r) ⌝ }
 {
     let stage = place.stage;
     match write_out(place.window, output) {
@@ -107,42 +117,26 @@ fn write_on(place: Place, output: &[u8]) -> Next
     }
 }
 
-fn is_ended(stage: Stage) -> bool {
-    match stage {
-        Stage::ReadToEnd => true,
-        Stage::RecordUnsound => true,
-        Stage::HeaderUnsound => true,
-        _ => false,
-    }
-}
-
-// Asked only of a stage that has ended.
-fn ending_of(stage: Stage) -> Ending {
-    match stage {
-        Stage::ReadToEnd => Ending::ReadToEnd,
-        Stage::RecordUnsound => Ending::RecordUnsound,
-        Stage::HeaderUnsound => Ending::HeaderUnsound,
-        _ => Ending::ReadFailed,
-    }
-}
-
 // The next stage, or the end, when what is printed goes out.
 fn go_on(place: Place, output: &[u8]) -> Next
     requires { ⌜ Stands place × (length (now output) ≡ bufferLength) ⌝ }
-    ensures { λ r. ⌜ nextStands (place .turns) r ⌝ }
+    ensures { λ r. ⌜ nextStands (place .turns) r × ((input : List ℕ) → Follows place input input r) ⌝ }
 {
-    let stage = place.stage;
-    if !is_ended(stage) {
-        return Next::Going(place);
-    }
     let window = place.window;
-    Next::Ended(finish(output, window.filled, ending_of(stage)))
+    let filled = window.filled;
+    let stage = place.stage;
+    match stage {
+        Stage::ReadToEnd => Next::Ended(finish(output, filled, Ending::ReadToEnd)),
+        Stage::RecordUnsound => Next::Ended(finish(output, filled, Ending::RecordUnsound)),
+        Stage::HeaderUnsound => Next::Ended(finish(output, filled, Ending::HeaderUnsound)),
+        _ => Next::Going(place),
+    }
 }
 
 // What an advance wants is done.
 fn follow(wants: Wants, place: Place, input: &mut [u8], output: &[u8]) -> Next
-    requires { ⌜ Stands place × (length (now input) ≡ bufferLength) × (length (now output) ≡ bufferLength) ⌝ }
-    ensures { λ r. ⌜ nextStands (place .turns) r ⌝ }
+    requires { ⌜ Stands place × (length (now input) ≡ bufferLength) × (length (now output) ≡ bufferLength) × (wants ≡ Bytes → place .window .«is_last» ≡ false) ⌝ }
+    ensures { λ r. ⌜ nextStands (place .turns) r × Follows place (now (input .entry)) (now (input .exit)) r ⌝ }
 {
     match wants {
         Wants::Nothing => go_on(place, output),
@@ -165,6 +159,10 @@ fn turn(
     requires { ⌜ Stands place × (place .turns < mostTurns) × (length (now input) ≡ bufferLength) × (length (now output) ≡ bufferLength)
         × (headLength ≤ length (now head)) × (linesLength ≤ length (now lines)) ⌝ }
     ensures { λ r. ⌜ nextStands (place .turns + 1) r ⌝ }
+    ensures { λ r. ⌜ Turned place (now (input .entry)) (now (output .entry))
+        (lent (now (head .entry)) (now (prices .entry)) (now (lots .entry)) (now (value .entry)) (now (book .entry)) (now (lines .entry)))
+        (now (input .exit)) (now (output .exit))
+        (lent (now (head .exit)) (now (prices .exit)) (now (lots .exit)) (now (value .exit)) (now (book .exit)) (now (lines .exit))) r ⌝ }
 {
     let window = place.window;
     let from = window.from;
@@ -212,6 +210,10 @@ fn run_turns(
     lines: &mut [i64],
 ) -> Ending
     requires { ⌜ (length (now input) ≡ bufferLength) × (length (now output) ≡ bufferLength) × (headLength ≤ length (now head)) × (linesLength ≤ length (now lines)) ⌝ }
+    ensures { λ r. ⌜ RanTurns
+        (lent (now (head .entry)) (now (prices .entry)) (now (lots .entry)) (now (value .entry)) (now (book .entry)) (now (lines .entry)))
+        (lent (now (head .exit)) (now (prices .exit)) (now (lots .exit)) (now (value .exit)) (now (book .exit)) (now (lines .exit)))
+        (now (output .exit)) r ⌝ }
 {
     let mut place = first_place(progress);
     let mut turns: u64 = 0;
@@ -253,6 +255,9 @@ fn run_on_rows(
 ) -> Ending
     requires { ⌜ (length (now input) ≡ bufferLength) × (length (now output) ≡ bufferLength) × (headLength ≤ length (now head)) × (linesLength ≤ length (now lines)) ⌝ }
     requires { ⌜ (length (now lots) ≡ rowsRoom) × (length (now value) ≡ rowsRoom) ⌝ }
+    ensures { λ r. ⌜ JournalRan
+        (lent (now (head .entry)) (now (prices .entry)) (take rowsLength (drop 1 (now (lots .entry)))) (take rowsLength (drop 1 (now (value .entry))))
+        (now (book .entry)) (now (lines .entry))) r ⌝ }
 {
     let first: usize = 1;
     let end = first + ROWS_LENGTH;
@@ -269,7 +274,9 @@ fn run_on_rows(
     )
 }
 
-fn run(progress: Progress) -> Ending {
+fn run(progress: Progress) -> Ending
+    ensures { λ r. ⌜ JournalRan zeroTables r ⌝ }
+{
     let mut input = [0u8; BUFFER];
     let mut output = [0u8; BUFFER];
     let mut head = [0u64; HEAD_LENGTH];
@@ -291,12 +298,12 @@ fn run(progress: Progress) -> Ending {
     )
 }
 
-// The exit status, promised to be one of five; which one is tested: 0 if the journal was read to its end, 2 after a header and 3
-// after a record that is unsound, and, with a message on standard error, 4 if it could not be read, 5 if not written. If
-// is_said, progress goes to standard error; size is how many bytes there are to read, 0 if not known.
+// The exit status: 0 if the journal was read to its end, 2 after a header and 3 after a record that is unsound, and, with a
+// message on standard error, 4 if it could not be read, 5 if not written. It is promised of the bytes that came, whichever these
+// are. If is_said, progress goes to standard error; size is how many bytes there are to read, 0 if not known.
 #[no_mangle]
 pub extern "C" fn journal_run(is_said: bool, size: u64) -> i32
-    ensures { λ r. ⌜ ((ending : Ending) × (r ≡ statusOf ending)) ⌝ }
+    ensures { λ r. ⌜ ((ending : Ending) × (r ≡ statusOf ending) × JournalRan zeroTables ending) ⌝ }
 {
     status(run(start(is_said, size)))
 }

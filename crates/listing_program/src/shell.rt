@@ -1,12 +1,15 @@
 // The program's turns: the next record is listed, or bytes are read, or lines are written. No contract can say what a read brought
-// or a write took; what is listed for the bytes that came is the promise of crate listing.
+// or a write took. The promises say what each turn lists of the bytes that came, whichever these are, and how the listing ends.
 ghost use mathlib.Core.Path.{_≡_};
-ghost use Prim.Native.Nat.{_+_, _≤_, _<_};
-ghost use lib.ListN.{length};
+ghost use mathlib.Core.Bool.{Bool};
+ghost use mathlib.Core.List.{List};
+ghost use Prim.Native.Nat.{ℕ, _+_, _≤_, _<_};
+ghost use lib.ListN.{length, take, drop};
 ghost use Rattle.listing.specs.Sizes.{lineRoom};
 ghost use Rattle.streams.specs.declared.ending.Ending.{Ending};
-ghost use Rattle.streams.specs.Windows.{Within, statusOf};
+ghost use Rattle.streams.specs.Windows.{Within, held, statusOf};
 ghost use Rattle.listing_program.specs.Places.{inputLength, outputLength, mostTurns, mostInTwoBytes, LedgerOf, Stands, nextStands, movedWithin};
+ghost use Rattle.listing_program.specs.Runs.{RecordsEnd, lineListed, writtenOn, readOn, turned, headerEnds, ListingEnds};
 use big_endian::u8_or_zero;
 use header::FIRST_YEAR_BYTE;
 use header::HOLIDAY_COUNT_BYTE;
@@ -61,7 +64,7 @@ enum Next {
 // What is printed goes out, then more bytes come.
 fn read_on(place: Place, input: &mut [u8], output: &[u8]) -> Next
     requires { ⌜ Stands place × (length (now input) ≡ inputLength) × (length (now output) ≡ outputLength) ⌝ }
-    ensures { λ r. ⌜ nextStands (place .turns) r ⌝ }
+    ensures { λ r. ⌜ nextStands (place .turns) r × readOn (place .window) (place .records) (place .base) (now (input .entry)) (now (input .exit)) r ⌝ }
 {
     match read_more(place.window, place.records, input, output) {
         Moved::On(window) => Next::Going(Place {
@@ -77,7 +80,7 @@ fn read_on(place: Place, input: &mut [u8], output: &[u8]) -> Next
 // What is printed so far goes out.
 fn write_on(place: Place, output: &[u8]) -> Next
     requires { ⌜ Stands place × (length (now output) ≡ outputLength) ⌝ }
-    ensures { λ r. ⌜ nextStands (place .turns) r ⌝ }
+    ensures { λ r. ⌜ nextStands (place .turns) r × writtenOn (place .window) (place .records) (place .base) r ⌝ }
 {
     match write_out(place.window, output) {
         Moved::On(window) => Next::Going(Place {
@@ -94,7 +97,8 @@ fn write_on(place: Place, output: &[u8]) -> Next
 fn list_record(ledger: Ledger, place: Place, size: usize, input: &[u8], output: &mut [u8]) -> Next
     requires { ⌜ Stands place × (place .turns < mostTurns) × (place .window .from + size ≤ place .window .end) × (place .window .filled + lineRoom ≤ outputLength) ⌝ }
     requires { ⌜ (ledger .«first_year» ≤ mostInTwoBytes) × (length (now input) ≡ inputLength) × (length (now output) ≡ outputLength) ⌝ }
-    ensures { λ r. ⌜ nextStands (place .turns + 1) r ⌝ }
+    ensures { λ r. ⌜ nextStands (place .turns + 1) r
+        × lineListed ledger place size (take size (drop (place .window .from) (now (input .entry)))) (now (output .entry)) (now (output .exit)) r ⌝ }
 {
     let window = place.window;
     let from = window.from;
@@ -129,7 +133,7 @@ fn list_record(ledger: Ledger, place: Place, size: usize, input: &[u8], output: 
 
 fn turn(ledger: Ledger, place: Place, input: &mut [u8], output: &mut [u8]) -> Next
     requires { ⌜ Stands place × (place .turns < mostTurns) × (ledger .«first_year» ≤ mostInTwoBytes) × (length (now input) ≡ inputLength) × (length (now output) ≡ outputLength) ⌝ }
-    ensures { λ r. ⌜ nextStands (place .turns + 1) r ⌝ }
+    ensures { λ r. ⌜ nextStands (place .turns + 1) r × turned ledger place (now (input .entry)) (now (input .exit)) (now (output .entry)) (now (output .exit)) r ⌝ }
 {
     let window = place.window;
     let from = window.from;
@@ -152,6 +156,7 @@ fn turn(ledger: Ledger, place: Place, input: &mut [u8], output: &mut [u8]) -> Ne
 
 fn list_records(ledger: Ledger, first: Place, input: &mut [u8], output: &mut [u8]) -> Ending
     requires { ⌜ Stands first × (first .turns ≡ 0) × (ledger .«first_year» ≤ mostInTwoBytes) × (length (now input) ≡ inputLength) × (length (now output) ≡ outputLength) ⌝ }
+    ensures { λ r. ⌜ ((last : Bool) × (left : List ℕ) × RecordsEnd (ledger .members) last left r) ⌝ }
 {
     let mut place = first;
     let mut turns: u64 = 0;
@@ -184,7 +189,7 @@ fn ledger_of(bytes: &[u8]) -> Ledger
 // The bytes of the header, or all that there are.
 fn read_header(first: Window, input: &mut [u8], output: &[u8]) -> Moved
     requires { ⌜ Within inputLength outputLength first × (length (now input) ≡ inputLength) × (length (now output) ≡ outputLength) ⌝ }
-    ensures { λ r. ⌜ movedWithin r ⌝ }
+    ensures { λ r. ⌜ movedWithin r × headerEnds r ⌝ }
 {
     let mut window = first;
     let mut turns = MOST_TURNS;
@@ -209,6 +214,7 @@ fn read_header(first: Window, input: &mut [u8], output: &[u8]) -> Moved
 // The header's line, then those of the records behind it.
 fn list_from(window: Window, input: &mut [u8], output: &mut [u8]) -> Ending
     requires { ⌜ Within inputLength outputLength window × (length (now input) ≡ inputLength) × (length (now output) ≡ outputLength) ⌝ }
+    ensures { λ r. ⌜ ListingEnds (held window (now (input .entry))) r ⌝ }
 {
     let from = window.from;
     let end = window.end;
@@ -234,7 +240,9 @@ fn list_from(window: Window, input: &mut [u8], output: &mut [u8]) -> Ending
     list_records(ledger, first, input, output)
 }
 
-fn run(progress: Progress) -> Ending {
+fn run(progress: Progress) -> Ending
+    ensures { λ r. ⌜ ((s : List ℕ) × ListingEnds s r) ⌝ }
+{
     let mut input = [0u8; INPUT];
     let mut output = [0u8; OUTPUT];
     match read_header(first_window(progress), &mut input, &output) {
@@ -243,12 +251,12 @@ fn run(progress: Progress) -> Ending {
     }
 }
 
-// The exit status, promised to be one of five; which one is tested: 0 if the journal was listed to its end, 2 after a header and 3
-// after a record that is unsound, and, with a message on standard error, 4 if it could not be read, 5 if not written. If
-// is_said, progress goes to standard error; size is how many bytes there are to read, 0 if not known.
+// The exit status: 0 if the journal was listed to its end, 2 after a header and 3 after a record that is unsound, and, with a
+// message on standard error, 4 if it could not be read, 5 if not written. It is promised of the bytes that came, whichever these
+// are. If is_said, progress goes to standard error; size is how many bytes there are to read, 0 if not known.
 #[no_mangle]
 pub extern "C" fn listing_run(is_said: bool, size: u64) -> i32
-    ensures { λ r. ⌜ ((ending : Ending) × (r ≡ statusOf ending)) ⌝ }
+    ensures { λ r. ⌜ ((ending : Ending) × (s : List ℕ) × (r ≡ statusOf ending) × ListingEnds s ending) ⌝ }
 {
     status(run(start(is_said, size)))
 }

@@ -1,6 +1,6 @@
 -- Where a program stands in its buffers, and its exit status.
 use Prim.Native.Nat.{ℕ, _-_, _≤_}
-use mathlib.Core.Bool.{Bool, cond}
+use mathlib.Core.Bool.{Bool, true, cond}
 use mathlib.Core.List.{List}
 use mathlib.Core.Path.{_≡_}
 use lib.IntN.{ℤ, pos}
@@ -27,6 +27,10 @@ pub record Within (inputs outputs : ℕ) (w : Window) : Type 0 where
   pub inside : w .end ≤ inputs
   pub printed : w .filled ≤ outputs
 
+-- What a window holds of the input.
+abbrev pub held : Window → List ℕ → List ℕ
+held w input = take (w .end - w .from) (drop (w .from) input)
+
 -- Whether it is said and the size stay.
 pub record SameRun (p r : Progress) : Type 0 where
   pub said : r .«is_said» ≡ p .«is_said»
@@ -37,18 +41,23 @@ filledTo from n (Until end) = (from ≤ end) × (end ≤ n)
 filledTo from n End = Unit {0}
 filledTo from n Failed = Unit {0}
 
--- What was left of the input stands at its front, and nothing waits to be written.
+-- A read or a write failed.
+abbrev pub failed : Ending → Type 0
+failed ending = ((written : Bool) × (ending ≡ cond written ReadFailed WriteFailed))
+
+-- What was left of the input stands at its front, nothing is behind it where no more comes, and nothing waits to be written.
 pub record ReadMore (entry exit : List ℕ) (w r : Window) : Type 0 where
   pub front : r .from ≡ 0
   pub rest : w .end - w .from ≤ r .end
   pub inside : r .end ≤ length entry
   pub kept : take (w .end - w .from) exit ≡ take (w .end - w .from) (drop (w .from) entry)
+  pub last : r .«is_last» ≡ true → r .end ≡ w .end - w .from
   pub written : r .filled ≡ 0
   pub run : SameRun (w .progress) (r .progress)
 
 abbrev pub readMore : List ℕ → List ℕ → Window → Moved → Type 0
 readMore entry exit w (On r) = ReadMore entry exit w r
-readMore entry exit w (Ended ending) = Unit {0}
+readMore entry exit w (Ended ending) = failed ending
 
 pub record WroteOut (w r : Window) : Type 0 where
   pub from : r .from ≡ w .from

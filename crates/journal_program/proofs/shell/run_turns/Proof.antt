@@ -3,7 +3,11 @@ use mathlib.Core.Path.{_≡_, refl}
 use native.Mathlib.Omega.{arith}
 use lib.ListN.{length}
 use Rattle.journal_program.specs.Places.{mostTurns, Stands}
+use Rattle.rules.specs.Ledger.{lent}
+use Rattle.streams.specs.Windows.{held}
+use Rattle.journal_program.specs.Runs.{not-read, Reached}
 use Rattle.journal_program.proofs.Turning.{going-stands}
+use Rattle.journal_program.proofs.Running.{reached-first, turned-on, turned-end}
 use borrow.Author.Needs.{needs}
 use Rattle.journal_program.proofs.shell.run_turns.Statement.{statement}
 use Rattle.journal_program.proofs.shell.run_turns.Tie as tie
@@ -19,6 +23,8 @@ Inv-loop input₀ output₀ head₀ prices₀ lots₀ value₀ book₀ lines₀ 
     × (length value ≡ length value₀)
     × (length book ≡ length book₀)
     × (length lines ≡ length lines₀)
+    × Reached (lent head₀ prices₀ lots₀ value₀ book₀ lines₀) (lent head prices lots value book lines) output (place .window .«is_last») (place .stage)
+    (place .window .filled) (held (place .window) input)
 
 abbrev μ-loop : tie.MeasureT-loop
 μ-loop input₀ output₀ head₀ prices₀ lots₀ value₀ book₀ lines₀ place₀ turns₀ t13 input output head prices lots value book lines place turns =
@@ -29,7 +35,9 @@ abbrev before-turn : tie.After-turn Inv-loop μ-loop → tie.In-loop Inv-loop μ
 before-turn c = c .before .before .before .before .before .before .before .before .before
 
 loop-holds : tie.Need-loop-holds Inv-loop μ-loop
-loop-holds c = (c .first-place .ensures .0, omega (arith, c .first-place .ensures .1), omega arith, refl, refl, refl, refl, refl, refl, refl, refl)
+loop-holds c =
+    let first = c .first-place .ensures in
+    (first .0 .0, omega (arith, first .0 .1), omega arith, refl, refl, refl, refl, refl, refl, refl, refl, reached-first (c .before .before .before .before .before .before .args .input .now) (c .first-place .result) (first .0 .2) (first .1 .0) (first .1 .1) (first .1 .2) (first .1 .3))
 
 turn-requires : tie.Need-turn-requires Inv-loop μ-loop
 turn-requires c κs =
@@ -42,6 +50,10 @@ turn-requires c κs =
       omega (arith, l .inv .5, pre .2),
       omega (arith, l .inv .10, pre .3),
     )
+
+-- What is printed lies within the output.
+printed-fits : (t : tie.After-turn Inv-loop μ-loop) → before-turn t .before .loop .place .window .filled ≤ length (before-turn t .before .loop .output)
+printed-fits t = let w = before-turn t .before .loop .inv in omega (arith, w .0 .within .printed, w .4, before-turn t .before .before .before .before .before .before .before .before .pre .1)
 
 same-length : tie.Need-same-length Inv-loop μ-loop
 same-length c =
@@ -83,13 +95,16 @@ same-length-8 c =
     let t = c .before .before .before .before .before .before .before .before .before .before .before .before .before .before .before .before in
     omega (arith, t .turn .kept .1 .1 .1 .1 .1 .1 .1 .1 .0, before-turn t .before .loop .inv .10)
 
+add-turns : tie.Need-add-turns Inv-loop μ-loop
+add-turns c = omega (arith, before-turn (c .before .before .before .before .before .before .before .before .before .before .before .before .before .before .before .before) .loop-test .taken)
+
 loop-less : tie.Need-loop-less Inv-loop μ-loop
 loop-less c = omega (arith, before-turn (c .before .before .before .before .before .before .before .before .before .before .before .before .before .before .before .before) .loop-test .taken)
 
 loop-again : tie.Need-loop-again Inv-loop μ-loop
 loop-again c =
     let t = c .before .before .before .before .before .before .before .before .before .before .before .before .before .before .before .before in
-    let g = going-stands _ _ _ (t .turn .ensures) (c .before .next .given .1) in
+    let g = going-stands _ _ _ (t .turn .ensures .0) (c .before .next .given .1) in
     let k = t .turn .kept in
     let w = before-turn t .before .loop .inv in (
       g .0,
@@ -103,14 +118,26 @@ loop-again c =
       omega (arith, k .1 .1 .1 .1 .1 .1 .0, w .8),
       omega (arith, k .1 .1 .1 .1 .1 .1 .1 .0, w .9),
       omega (arith, k .1 .1 .1 .1 .1 .1 .1 .1 .0, w .10),
+      turned-on (t .turn .ensures .1) (w .11) (printed-fits t) (c .before .next .given .1),
     )
+
+returns : tie.Need-returns Inv-loop μ-loop
+returns c =
+    let t = c .before .before .before .before .before .before .before .before .before .before .before .before .before .before .before .before in
+    turned-end (t .turn .ensures .1) (before-turn t .before .loop .inv .11) (printed-fits t) (c .before .ending .given .1)
+
+returns-2 : tie.Need-returns-2 Inv-loop μ-loop
+returns-2 c =
+    let l = c .before .before .before .loop in
+    let w = l .place .window in
+    record { last = w .«is_last»; stage = l .place .stage; filled = w .filled; left = held w (l .input); reached = l .inv .11; ends = not-read }
 
 pub run-turns-spec : {M : Type 1} → statement M
 run-turns-spec =
     tie.close
     (tie.spec Inv-loop μ-loop (λ c κs. search needs) loop-holds turn-requires (λ c. search needs) (λ c. search needs)
     same-length same-length-2 same-length-3 same-length-4 same-length-5 same-length-6 same-length-7 same-length-8
-    (λ c. search needs) (λ c. omega arith) loop-less loop-again (λ c. search needs) (λ c κs. search needs)
+    returns add-turns loop-less loop-again (λ c. search needs) (λ c κs. search needs)
     (λ c. omega (arith, c .before .before .before .loop .inv .3))
     (λ c. omega (arith, c .before .before .before .loop .inv .4))
     (λ c. omega (arith, c .before .before .before .loop .inv .5))
@@ -118,4 +145,4 @@ run-turns-spec =
     (λ c. omega (arith, c .before .before .before .loop .inv .7))
     (λ c. omega (arith, c .before .before .before .loop .inv .8))
     (λ c. omega (arith, c .before .before .before .loop .inv .9))
-    (λ c. omega (arith, c .before .before .before .loop .inv .10)) (λ c. search needs))
+    (λ c. omega (arith, c .before .before .before .loop .inv .10)) returns-2)

@@ -1,10 +1,11 @@
 use mathlib.Core.Path.{refl}
 use native.Mathlib.Omega.{arith}
-use Rattle.arith.proofs.Tests.{asked-true}
+use Rattle.arith.proofs.Tests.{asked-true, asked-false}
 use Rattle.rules.specs.Header.{headerLength}
 use Rattle.listing.proofs.HeaderSizes.{header-fits}
 use Rattle.streams.proofs.Reading.{part-length}
 use Rattle.listing_program.proofs.Turning.{first-stands}
+use Rattle.listing_program.proofs.Endings.{header-finished, listing-records}
 use borrow.Author.Needs.{needs}
 use Rattle.listing_program.proofs.shell.list_from.Statement.{statement}
 use Rattle.listing_program.proofs.shell.list_from.Tie as tie
@@ -26,10 +27,18 @@ list-records-requires c κs =
       omega (arith, listed .put-header-line .kept .1 .0, start .pre .2),
     )
 
+returns : tie.Need-returns
+returns c = header-finished (asked-false (c .before .before .before .before .before .before .put-header-line .ensures .sound) (c .before .before .if1 .taken)) (c .finish .ensures)
+
+returns-2 : tie.Need-returns-2
+returns-2 c =
+    listing-records (c .before .before .before .before .before .before .before .before .ledger-of .ensures .members)
+    (asked-true (c .before .before .before .before .before .before .before .before .before .before .before .before .before .before .before .put-header-line .ensures .sound) (c .before .before .before .before .before .before .before .before .before .before .before .if1 .left)) (c .before .before .before .before .list-records .ensures)
+
 pub list-from-spec : {M : Type 1} → statement M
 list-from-spec =
     tie.close
-    (tie.spec (λ c. search needs) (λ c. search needs) (λ c. search needs) (λ c κs. search needs) (λ c κs. search needs)
-    (λ c. search needs) (λ c. search needs) (λ c. search needs) (λ c. search needs) (λ c. search needs)
+    (tie.spec (λ c. search needs) (λ c. search needs) (λ c. search needs) (λ c κs. search needs)
+    (λ c κs. search needs) (λ c. search needs) (λ c. search needs) returns (λ c. search needs) (λ c. search needs)
     (λ c. search needs) (λ c κs. search needs) (λ c. search needs) list-records-requires (λ c. search needs)
-    (λ c. search needs) (λ c. search needs))
+    (λ c. search needs) returns-2)

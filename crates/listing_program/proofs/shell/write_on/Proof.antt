@@ -1,5 +1,6 @@
+use mathlib.Core.Bool.{false}
 use mathlib.Core.Path.{refl}
-use Rattle.streams.proofs.Reading.{written-within}
+use Rattle.streams.proofs.Reading.{written-moved, written-ended, written-within}
 use borrow.Author.Needs.{needs}
 use Rattle.listing_program.proofs.shell.write_on.Statement.{statement}
 use Rattle.listing_program.proofs.shell.write_on.Tie as tie
@@ -8,8 +9,11 @@ returns : tie.Need-returns
 returns c =
     let out = c .before .before .before in
     let s = out .before .before .pre .0 in
-    (record { within = written-within _ _ (out .write-out .ensures) (s .within) (c .before .window .given .1); counted = s .counted; passed = s .passed; few = s .few }, refl)
+    ((record { within = written-within _ _ (out .write-out .ensures) (s .within) (c .before .window .given .1); counted = s .counted; passed = s .passed; few = s .few }, refl), (written-moved _ _ (out .write-out .ensures) (c .before .window .given .1), record { records-same = refl; base-same = refl }))
+
+returns-2 : tie.Need-returns-2
+returns-2 c = (tt, (false, written-ended _ _ (c .before .before .before .write-out .ensures) (c .before .ending .given .1)))
 
 pub write-on-spec : {M : Type 1} → statement M
 write-on-spec =
-    tie.close (tie.spec (λ c κs. search needs) (λ c. search needs) (λ c. search needs) returns (λ c. search needs))
+    tie.close (tie.spec (λ c κs. search needs) (λ c. search needs) (λ c. search needs) returns returns-2)

@@ -1,5 +1,7 @@
-use mathlib.Core.Path.{refl}
+use mathlib.Core.Bool.{true, false}
+use mathlib.Core.Path.{refl, sym}
 use native.Mathlib.Omega.{arith}
+use Rattle.arith.proofs.Tests.{never}
 use Rattle.streams.proofs.Reading.{filled-until, rest-kept, same-run}
 use borrow.Author.Needs.{needs}
 use Rattle.streams.proofs.window.read_more.Statement.{statement}
@@ -19,6 +21,7 @@ returns-2 c =
       rest = e .0;
       inside = omega (arith, e .1, s .shift .kept .0);
       kept = rest-kept _ _ _ _ _ (start .pre .before) (start .pre .inside) (s .shift .ensures) (f .fill .ensures .1);
+      last = λ e. never (sym e);
       written = refl;
       run = same-run (s .before .before .before .say .ensures .0) (c .read-on .ensures .0);
     }
@@ -33,6 +36,7 @@ returns-3 c =
       rest = omega arith;
       inside = omega (arith, start .pre .inside);
       kept = rest-kept _ _ _ _ _ (start .pre .before) (start .pre .inside) (s .shift .ensures) (f .fill .ensures .1);
+      last = λ e. refl;
       written = refl;
       run = s .before .before .before .say .ensures .0;
     }
@@ -40,7 +44,7 @@ returns-3 c =
 pub read-more-spec : {M : Type 1} → statement M
 read-more-spec =
     tie.close
-    (tie.spec (λ c κs. search needs) (λ c. search needs) (λ c κs. search needs) (λ c. search needs)
+    (tie.spec (λ c κs. search needs) (λ c. (false, refl)) (λ c κs. search needs) (λ c. search needs)
     (λ c κs. search needs) (λ c κs. search needs) (λ c. search needs) sub-read-on (λ c κs. search needs)
     (λ c. search needs) (λ c. search needs) (λ c. search needs) returns-2 (λ c. search needs) returns-3
-    (λ c. search needs) (λ c. search needs))
+    (λ c. search needs) (λ c. (true, refl)))
