@@ -5,7 +5,7 @@ use mathlib.Core.List.{List, [], _∷_}
 use native.Mathlib.Omega.{arith}
 use lib.ListN.{length, getD, replicate, length-replicate, length-take, length-drop}
 use lib.IntN.{ℤ, pos}
-use Rattle.arith.specs.Lists.{over}
+use Rattle.arith.specs.Lists.{All, over}
 use Rattle.arith.proofs.EachBlock.{block, block-at, in-each-block, in-each-length}
 use Rattle.arith.proofs.Overs.{over-length, over-inside, over-outside}
 use Rattle.arith.proofs.Tests.{le-or-lt, passed, failed}
@@ -25,66 +25,97 @@ use Rattle.replay.proofs.Alike.{PricesAlike, Alike, same-of}
 use Rattle.replay.proofs.EveryList.{replays-alike}
 use Rattle.replay.proofs.SurplusParts.{past-blocks}
 
--- ---- the head: a place of the part that is written is the same, any other if it was
-part : (a : ℕ) (xs l l′ : List ℕ) → a + length xs ≤ headLength → headLength ≤ length l → headLength ≤ length l′ → (i : ℕ)
-    → ((a ≤ i → i < a + length xs → ⊥) → getD l i 0 ≡ getD l′ i 0) → getD (over a xs l) i 0 ≡ getD (over a xs l′) i 0
-part a xs l l′ f s s′ i e =
-    le-or-lt a i
-    (λ h. le-or-lt (a + length xs) i (λ k. outside (λ _. k) (λ _ q. absurd (omega arith)))
-    (λ k. let q : i ≡ a + (i - a) = omega arith in rw q (over-inside a xs l (omega arith) (i - a) 0 (omega arith) ∙ sym (over-inside a xs l′ (omega arith) (i - a) 0 (omega arith)))))
-    (λ h. outside (λ k. absurd (omega arith)) (λ k _. absurd (omega arith)))
-  where
-    outside : (a ≤ i → a + length xs ≤ i) → (a ≤ i → i < a + length xs → ⊥) → getD (over a xs l) i 0 ≡ getD (over a xs l′) i 0
-    outside k o = over-outside a xs l (omega arith) i 0 k ∙ e o ∙ sym (over-outside a xs l′ (omega arith) i 0 k)
+-- ---- the head is written part after part, each from its place on
+abbrev Part : Type 0
+Part = ℕ × List ℕ
 
-still-long : (a : ℕ) (xs l : List ℕ) → a + length xs ≤ headLength → headLength ≤ length l → headLength ≤ length (over a xs l)
-still-long a xs l f s = omega (arith, over-length a xs l (omega arith))
+unfoldable written : List Part → List ℕ → List ℕ
+written [] l = l
+written (p ∷ ps) l = over (p .0) (p .1) (written ps l)
+
+-- place i lies outside a part
+abbrev Outside : ℕ → Part → Type 0
+Outside i p = p .0 ≤ i → i < p .0 + length (p .1) → ⊥
+
+abbrev AllFit : List Part → Type 0
+AllFit ps = All (λ p. p .0 + length (p .1) ≤ headLength) ps
+
+still-long : (ps : List Part) (l : List ℕ) → AllFit ps → headLength ≤ length l → headLength ≤ length (written ps l)
+unfolding written
+still-long [] l f s = s
+still-long (p ∷ ps) l f s = let rest = still-long ps l (f .1) s in omega (arith, over-length (p .0) (p .1) (written ps l) (omega (arith, f .0)))
+
+outside-stays : (p : Part) (l : List ℕ) (i : ℕ) → p .0 + length (p .1) ≤ length l → Outside i p → getD (over (p .0) (p .1) l) i 0 ≡ getD l i 0
+outside-stays p l i fit o = over-outside (p .0) (p .1) l fit i 0 (λ k. le-or-lt (p .0 + length (p .1)) i (λ q. q) (λ q. absurd (o k q)))
+
+-- a place outside all parts stays
+written-stays : (ps : List Part) (l : List ℕ) → AllFit ps → headLength ≤ length l → (i : ℕ) → All (Outside i) ps → getD (written ps l) i 0 ≡ getD l i 0
+unfolding written
+written-stays [] l f s i o = refl
+written-stays (p ∷ ps) l f s i o = outside-stays p (written ps l) i (omega (arith, f .0, still-long ps l (f .1) s)) (o .0) ∙ written-stays ps l (f .1) s i (o .1)
+
+-- any other is the same, whatever the tables held
+written-same : (ps : List Part) (l l′ : List ℕ) → AllFit ps → headLength ≤ length l → headLength ≤ length l′ → (i : ℕ) → (All (Outside i) ps → ⊥) → getD (written ps l) i 0 ≡ getD (written ps l′) i 0
+unfolding written
+written-same [] l l′ f s s′ i none = absurd (none tt)
+written-same (p ∷ ps) l l′ f s s′ i none =
+    let a = p .0 in
+    let xs = p .1 in
+    let fit : a + length xs ≤ length (written ps l) = omega (arith, f .0, still-long ps l (f .1) s) in
+    let fit′ : a + length xs ≤ length (written ps l′) = omega (arith, f .0, still-long ps l′ (f .1) s′) in
+    let outside : Outside i p → getD (over a xs (written ps l)) i 0 ≡ getD (over a xs (written ps l′)) i 0 = λ o.
+    outside-stays p (written ps l) i fit o ∙ written-same ps l l′ (f .1) s s′ i (λ all. none (o, all)) ∙ sym (outside-stays p (written ps l′) i fit′ o) in
+    le-or-lt a i
+    (λ h. le-or-lt (a + length xs) i (λ k. outside (λ _ q. absurd (omega arith)))
+    (λ k. let q : i ≡ a + (i - a) = omega arith in rw q (over-inside a xs (written ps l) fit (i - a) 0 (omega arith) ∙ sym (over-inside a xs (written ps l′) fit′ (i - a) 0 (omega arith)))))
+    (λ h. outside (λ k _. absurd (omega arith)))
 
 module _ (h : Header) (f : SoundHeader h) where
-  -- no place in use lies outside all five parts
-  none-left : (i : ℕ) → InUse (h .members) (length (h .holidays)) i → (submitsFrom ≤ i → i < submitsFrom + h .members → ⊥) → (marksFrom ≤ i → i < marksFrom + h .members → ⊥)
-      → (limitsFrom ≤ i → i < limitsFrom + h .members → ⊥) → (holidaysFrom ≤ i → i < holidaysFrom + length (h .holidays) → ⊥) → (firstYearPlace ≤ i → i < firstYearPlace + 8 → ⊥) → ⊥
-  none-left i (ofLedger b) s m l d g = g (omega arith) (omega arith)
-  none-left i (ofHoliday j b e) s m l d g = d (omega arith) (omega arith)
-  none-left i (ofLimit j b e) s m l d g = l (omega arith) (omega arith)
-  none-left i (ofMark j b e) s m l d g = m (omega arith) (omega arith)
-  none-left i (ofSubmits j b e) s m l d g = s (omega arith) (omega arith)
+  abbrev parts : List Part
+  parts =
+      let zeros : List ℕ = replicate (h .members) 0 in
+      (submitsFrom, zeros)
+      ∷ (marksFrom, zeros)
+      ∷ (limitsFrom, h .limits)
+      ∷ (holidaysFrom, h .holidays)
+      ∷ (firstYearPlace, h .firstYear ∷ h .members ∷ length (h .holidays) ∷ h .startDay ∷ 0 ∷ 0 ∷ 0 ∷ 0 ∷ [])
+      ∷ []
+
+  zeros-length : length (replicate {A = ℕ} (h .members) 0) ≡ h .members
+  zeros-length = length-replicate {A = ℕ} (h .members) 0
+
+  fits : AllFit parts
+  fits =
+      let few = f .members-range .to in
+      (omega (arith, zeros-length, few), (omega (arith, zeros-length, few), (omega (arith, f .one-limit, few), (omega (arith, f .holidays≤), (omega arith, tt)))))
+
+  -- the places in use are those of the parts
+  in-parts : (i : ℕ) → InUse (h .members) (length (h .holidays)) i → All (Outside i) parts → ⊥
+  in-parts i (ofLedger b) o = o .1 .1 .1 .1 .0 (omega arith) (omega arith)
+  in-parts i (ofHoliday j b e) o = o .1 .1 .1 .0 (omega arith) (omega arith)
+  in-parts i (ofLimit j b e) o = o .1 .1 .0 (omega arith) (omega (arith, f .one-limit))
+  in-parts i (ofMark j b e) o = o .1 .0 (omega arith) (omega (arith, zeros-length))
+  in-parts i (ofSubmits j b e) o = o .0 (omega arith) (omega (arith, zeros-length))
+
+  in-no-part : (i : ℕ) → (InUse (h .members) (length (h .holidays)) i → ⊥) → All (Outside i) parts
+  in-no-part i p = (
+    λ x y. p (ofSubmits (i - submitsFrom) (omega (arith, zeros-length)) (omega arith)),
+    (
+      λ x y. p (ofMark (i - marksFrom) (omega (arith, zeros-length)) (omega arith)),
+      (
+        λ x y. p (ofLimit (i - limitsFrom) (omega (arith, f .one-limit)) (omega arith)),
+        (λ x y. p (ofHoliday (i - holidaysFrom) (omega arith) (omega arith)), (λ x y. p (ofLedger (omega arith)), tt)),
+      ),
+    ),
+  )
 
   head-same : (l l′ : List ℕ) → headLength ≤ length l → headLength ≤ length l′ → (i : ℕ) → InUse (h .members) (length (h .holidays)) i → getD (freshHead h l) i 0 ≡ getD (freshHead h l′) i 0
-  unfolding freshHead
-  head-same l l′ s s′ i p =
-      let n = h .members in
-      let zeros : List ℕ = replicate n 0 in
-      let z : length zeros ≡ n = length-replicate {A = ℕ} n 0 in
-      let few = f .members-range .to in
-      let fields : List ℕ = h .firstYear ∷ n ∷ length (h .holidays) ∷ h .startDay ∷ 0 ∷ 0 ∷ 0 ∷ 0 ∷ [] in
-      let l₀ = over firstYearPlace fields l in
-      let l₁ = over holidaysFrom (h .holidays) l₀ in
-      let l₂ = over limitsFrom (h .limits) l₁ in
-      let l₃ = over marksFrom zeros l₂ in
-      let m₀ = over firstYearPlace fields l′ in
-      let m₁ = over holidaysFrom (h .holidays) m₀ in
-      let m₂ = over limitsFrom (h .limits) m₁ in
-      let m₃ = over marksFrom zeros m₂ in
-      let fit₀ : firstYearPlace + length fields ≤ headLength = omega arith in
-      let fit₁ : holidaysFrom + length (h .holidays) ≤ headLength = omega (arith, f .holidays≤) in
-      let fit₂ : limitsFrom + length (h .limits) ≤ headLength = omega (arith, f .one-limit, few) in
-      let fit₃ : marksFrom + length zeros ≤ headLength = omega (arith, z, few) in
-      let fit₄ : submitsFrom + length zeros ≤ headLength = omega (arith, z, few) in
-      let a₀ = still-long firstYearPlace fields l fit₀ s in
-      let a₁ = still-long holidaysFrom (h .holidays) l₀ fit₁ a₀ in
-      let a₂ = still-long limitsFrom (h .limits) l₁ fit₂ a₁ in
-      let a₃ = still-long marksFrom zeros l₂ fit₃ a₂ in
-      let b₀ = still-long firstYearPlace fields l′ fit₀ s′ in
-      let b₁ = still-long holidaysFrom (h .holidays) m₀ fit₁ b₀ in
-      let b₂ = still-long limitsFrom (h .limits) m₁ fit₂ b₁ in
-      let b₃ = still-long marksFrom zeros m₂ fit₃ b₂ in
-      part submitsFrom zeros l₃ m₃ fit₄ a₃ b₃ i
-      (λ o₄. part marksFrom zeros l₂ m₂ fit₃ a₂ b₂ i
-      (λ o₃. part limitsFrom (h .limits) l₁ m₁ fit₂ a₁ b₁ i
-      (λ o₂. part holidaysFrom (h .holidays) l₀ m₀ fit₁ a₀ b₀ i
-      (λ o₁. part firstYearPlace fields l l′ fit₀ s s′ i
-      (λ o₀. absurd (none-left i p (λ x y. o₄ x (omega (arith, z))) (λ x y. o₃ x (omega (arith, z))) (λ x y. o₂ x (omega (arith, f .one-limit))) o₁ o₀))))))
+  unfolding freshHead written
+  head-same l l′ s s′ i p = written-same parts l l′ fits s s′ i (in-parts i p)
+
+  head-stays : (l : List ℕ) → headLength ≤ length l → (i : ℕ) → (InUse (h .members) (length (h .holidays)) i → ⊥) → getD (freshHead h l) i 0 ≡ getD l i 0
+  unfolding freshHead written
+  head-stays l s i p = written-stays parts l fits s i (in-no-part i p)
 
 -- ---- prices and rows
 
@@ -123,35 +154,6 @@ fresh-alike h f t u a b =
 
 -- ---- what is surplus in it
 module _ (h : Header) (f : SoundHeader h) where
-  part-stays : (a : ℕ) (xs l : List ℕ) → a + length xs ≤ headLength → headLength ≤ length l → (i : ℕ) → (a ≤ i → i < a + length xs → ⊥) → getD (over a xs l) i 0 ≡ getD l i 0
-  part-stays a xs l fit s i o = over-outside a xs l (omega arith) i 0 (λ k. le-or-lt (a + length xs) i (λ q. q) (λ q. absurd (o k q)))
-
-  head-stays : (l : List ℕ) → headLength ≤ length l → (i : ℕ) → (InUse (h .members) (length (h .holidays)) i → ⊥) → getD (freshHead h l) i 0 ≡ getD l i 0
-  unfolding freshHead
-  head-stays l s i p =
-      let n = h .members in
-      let zeros : List ℕ = replicate n 0 in
-      let z : length zeros ≡ n = length-replicate {A = ℕ} n 0 in
-      let few = f .members-range .to in
-      let fields : List ℕ = h .firstYear ∷ n ∷ length (h .holidays) ∷ h .startDay ∷ 0 ∷ 0 ∷ 0 ∷ 0 ∷ [] in
-      let l₀ = over firstYearPlace fields l in
-      let l₁ = over holidaysFrom (h .holidays) l₀ in
-      let l₂ = over limitsFrom (h .limits) l₁ in
-      let l₃ = over marksFrom zeros l₂ in
-      let fit₁ : holidaysFrom + length (h .holidays) ≤ headLength = omega (arith, f .holidays≤) in
-      let fit₂ : limitsFrom + length (h .limits) ≤ headLength = omega (arith, f .one-limit, few) in
-      let fit₃ : marksFrom + length zeros ≤ headLength = omega (arith, z, few) in
-      let fit₄ : submitsFrom + length zeros ≤ headLength = omega (arith, z, few) in
-      let a₀ = still-long firstYearPlace fields l (omega arith) s in
-      let a₁ = still-long holidaysFrom (h .holidays) l₀ fit₁ a₀ in
-      let a₂ = still-long limitsFrom (h .limits) l₁ fit₂ a₁ in
-      let a₃ = still-long marksFrom zeros l₂ fit₃ a₂ in
-      part-stays submitsFrom zeros l₃ fit₄ a₃ i (λ x y. p (ofSubmits (i - submitsFrom) (omega (arith, z)) (omega arith)))
-      ∙ part-stays marksFrom zeros l₂ fit₃ a₂ i (λ x y. p (ofMark (i - marksFrom) (omega (arith, z)) (omega arith)))
-      ∙ part-stays limitsFrom (h .limits) l₁ fit₂ a₁ i (λ x y. p (ofLimit (i - limitsFrom) (omega (arith, f .one-limit)) (omega arith)))
-      ∙ part-stays holidaysFrom (h .holidays) l₀ fit₁ a₀ i (λ x y. p (ofHoliday (i - holidaysFrom) (omega arith) (omega arith)))
-      ∙ part-stays firstYearPlace fields l (omega arith) s i (λ x y. p (ofLedger (omega arith)))
-
   rows-stay : (l : List ℤ) → rowsLength ≤ length l → (c m : ℕ) → m < mostMembers → (c < contractCount → h .members ≤ m) → getD (freshRows (h .members) l) (c * rowWidth + m) (pos 0) ≡ getD l (c * rowWidth + m) (pos 0)
   unfolding freshRows
   rows-stay l s c m b g =
@@ -174,7 +176,7 @@ module _ (h : Header) (f : SoundHeader h) where
   fresh-stays : (t : Tables) → Long t → SurplusUntouched (h .members) (length (h .holidays)) t (fresh h t)
   unfolding fresh
   fresh-stays t a = record {
-    head = head-stays (t .head) (a .head);
+    head = head-stays h f (t .head) (a .head);
     prices = prices-stay (t .prices) (a .prices);
     rows = rows;
     book = λ _ _. refl;
