@@ -1,3 +1,2 @@
-mod Amounts
 pub mod Booked
 pub mod Takes

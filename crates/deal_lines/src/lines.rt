@@ -14,6 +14,8 @@ ghost use Rattle.deal_lines.specs.Room.{Bookable};
 use rules::Kurus;
 use rules::Lots;
 use rules::Side;
+use rules::SignedLots;
+use rules::Value;
 use rules::layout::LINE_CONTRACT;
 use rules::layout::LINE_LOTS;
 use rules::layout::LINE_MEMBER;
@@ -32,27 +34,29 @@ pub struct DealLine {
     pub price: Kurus,
 }
 
-// A number with the sign of its side.
-struct Signed(i64);
-
-fn with_sign(side: Side, amount: u64) -> Signed
-    requires { ⌜ amount ≤ mostLotsRun * mostPrice ⌝ }
-    ensures { λ r. ⌜ (r .0 ≡ signed side amount) × (natAbs (r .0) ≡ amount) ⌝ }
+fn with_sign(side: Side, lots: Lots) -> SignedLots
+    requires { ⌜ lots .0 ≤ mostLotsRun ⌝ }
+    ensures { λ r. ⌜ (r .0 ≡ signed side (lots .0)) × (natAbs (r .0) ≡ lots .0) ⌝ }
 {
-    let x = amount as i64;
+    let x = lots.0 as i64;
     match side {
-        Side::Buy => Signed(x),
-        Side::Sell => Signed(-x),
+        Side::Buy => SignedLots(x),
+        Side::Sell => SignedLots(-x),
     }
 }
 
-fn add_at(rows: &mut [i64], at: usize, d: Signed)
-    requires { ⌜ (at < length (now rows)) × (natAbs (getD (now rows) at (pos 0)) + natAbs (d .0) < 2 ^ 63) ⌝ }
-    ensures { λ _. ⌜ now (rows .exit) ≡ set (now (rows .entry)) at (getD (now (rows .entry)) at (pos 0) +ℤ d .0) ⌝ }
+fn add_to_row(lots: &mut [i64], value: &mut [i64], at: usize, more: SignedLots, worth: Value)
+    requires { ⌜ (at < length (now lots)) × (natAbs (getD (now lots) at (pos 0)) + natAbs (more .0) < 2 ^ 63) ⌝ }
+    requires { ⌜ (at < length (now value)) × (natAbs (getD (now value) at (pos 0)) + natAbs (worth .0) < 2 ^ 63) ⌝ }
+    ensures { λ _. ⌜ now (lots .exit) ≡ set (now (lots .entry)) at (getD (now (lots .entry)) at (pos 0) +ℤ more .0) ⌝ }
+    ensures { λ _. ⌜ now (value .exit) ≡ set (now (value .entry)) at (getD (now (value .entry)) at (pos 0) +ℤ worth .0) ⌝ }
 {
-    let n = rows[at];
-    let x = d.0;
-    rows[at] = n + x;
+    let n = lots[at];
+    let x = more.0;
+    lots[at] = n + x;
+    let v = value[at];
+    let y = worth.0;
+    value[at] = v + y;
 }
 
 // The line's signed lots go to the lots, these times its price to the value.
@@ -64,9 +68,9 @@ fn post_line(lots: &mut [i64], value: &mut [i64], members: u64, run: u64, line: 
 {
     let at = line.contract as usize * ROW_WIDTH + line.member as usize;
     let side = line.side;
-    let worth = line.lots.0 * line.price.0;
-    add_at(lots, at, with_sign(side, line.lots.0));
-    add_at(value, at, with_sign(side, worth));
+    let price = line.price;
+    let signed_lots = with_sign(side, line.lots);
+    add_to_row(lots, value, at, signed_lots, signed_lots.times(price));
 }
 
 // Line i of the line table.
@@ -76,7 +80,7 @@ fn print_line(lines: &mut [i64], i: usize, line: DealLine)
     ensures { λ _. ⌜ now (lines .exit) ≡ over (i * lineWidth) (linePlaces (lineOf line)) (now (lines .entry)) ⌝ }
 {
     let side = line.side;
-    let d = with_sign(side, line.lots.0);
+    let d = with_sign(side, line.lots);
     let m = line.member as i64;
     let k = line.contract as i64;
     let x = d.0;

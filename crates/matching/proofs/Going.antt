@@ -166,18 +166,18 @@ module _ (o : Order) (book : List ℕ) (n : ℕ) (first left ranks lows deals : 
   best-of best f =
       best-is (ranksOf o left os) ranks (g .placed) (omega (arith, as-many, g .most-orders)) small lows best (g .block-lows) (rw as-many f)
 
-  stopped-here : Ended o os left wanted (dealsIn k deals) → MatchMade o book n first (record { deals = k; left = wanted }) left deals
+  stopped-here : Ended o os left wanted (dealsIn k deals) → MatchMade o book n first (record { deals = k; left = record { 0 = wanted } }) left deals
   stopped-here e = record { ended = e; few = omega (arith, g .few); from-book = g .from-book; past = g .past }
 
   -- no order is left
-  pub none-left : (best : ℕ) → BestPlace lows n best → n ≤ best → MatchMade o book n first (record { deals = k; left = wanted }) left deals
+  pub none-left : (best : ℕ) → BestPlace lows n best → n ≤ best → MatchMade o book n first (record { deals = k; left = record { 0 = wanted } }) left deals
   none-left best f h =
       let l = best-of best f in
       stopped-here (ended-none o os left wanted (dealsIn k deals) (g .running) (g .ranked) (l .none (omega (arith, l .most, as-many))))
 
   -- the best does not cross
   pub best-apart : (best : ℕ) → BestPlace lows n best → best < n → (r : Order) → r ≡ orderAt book best → meets o r ≡ false
-      → MatchMade o book n first (record { deals = k; left = wanted }) left deals
+      → MatchMade o book n first (record { deals = k; left = record { 0 = wanted } }) left deals
   best-apart best f h r e t =
       stopped-here (ended-far o os left wanted (dealsIn k deals) (g .running) (orderAt book best) best (g .ranked) (best-of best f .lowest (omega (arith, as-many)))
       (ap (meets o) (order-here book n best (orderAt book best) h ∙ sym e) ∙ t))
@@ -281,7 +281,7 @@ module _ (o : Order) (book : List ℕ) (n : ℕ) (first left ranks lows deals : 
       pub still-less : still < wanted
       still-less = omega (arith, d .still-wanted, alive .1, g .some)
 
-      pub match-made : still ≡ 0 → MatchMade o book n first (record { deals = k + 1; left = still }) left′ deals′
+      pub match-made : still ≡ 0 → MatchMade o book n first (record { deals = k + 1; left = record { 0 = still } }) left′ deals′
       match-made z =
           record {
             ended = ended-full o os left′ still (dealsIn (k + 1) deals′) running-made z;

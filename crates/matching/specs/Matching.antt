@@ -44,7 +44,7 @@ pub record Ended (o : Order) (os : List Order) (left : List ℕ) (x : ℕ) (ds :
 
 -- The same by the columns: what is left of each order, and the deals, behind which the column stays as it was.
 pub record MatchMade (o : Order) (book : List ℕ) (n : ℕ) (deals : List ℕ) (m : Matched) (left′ deals′ : List ℕ) : Type 0 where
-  pub ended : Ended o (ordersIn n book) left′ (m .left) (dealsIn (m .deals) deals′)
+  pub ended : Ended o (ordersIn n book) left′ (m .left .0) (dealsIn (m .deals) deals′)
   pub few : m .deals ≤ mostLots
   pub from-book : (j : ℕ) → j < m .deals → FromBook book n (dealAt deals′ j)
   pub past : drop (m .deals * dealWidth) deals′ ≡ drop (m .deals * dealWidth) deals

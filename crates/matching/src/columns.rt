@@ -15,6 +15,7 @@ use numbers::smaller;
 use order_book::order_at;
 use order_priority::does_oppose;
 use order_priority::rank_of;
+use rules::Lots;
 use rules::Order;
 use rules::layout::ORDERS;
 use rules::ranges::MOST_ORDERS;
@@ -101,13 +102,13 @@ pub fn best_place(lows: &[u64], count: usize) -> usize
 }
 
 // Uses lots of order i; an order used up has no rank.
-pub fn use_lots(left: &mut [u64], ranks: &mut [u64], lows: &mut [u64], i: usize, lots: u64)
-    requires { ⌜ (i < length (now left)) × (length (now left) ≤ mostOrders) × (lots ≤ getD (now left) i 0) × (length (now ranks) ≡ mostOrders) × BlockLows (now ranks) (now lows) ⌝ }
-    ensures { λ _. ⌜ now (left .exit) ≡ set (now (left .entry)) i (getD (now (left .entry)) i 0 - lots) ⌝ }
-    ensures { λ _. ⌜ now (ranks .exit) ≡ cond (eqb (getD (now (left .entry)) i 0 - lots) 0) (set (now (ranks .entry)) i noRank) (now (ranks .entry)) ⌝ }
+pub fn use_lots(left: &mut [u64], ranks: &mut [u64], lows: &mut [u64], i: usize, lots: Lots)
+    requires { ⌜ (i < length (now left)) × (length (now left) ≤ mostOrders) × (lots .0 ≤ getD (now left) i 0) × (length (now ranks) ≡ mostOrders) × BlockLows (now ranks) (now lows) ⌝ }
+    ensures { λ _. ⌜ now (left .exit) ≡ set (now (left .entry)) i (getD (now (left .entry)) i 0 - lots .0) ⌝ }
+    ensures { λ _. ⌜ now (ranks .exit) ≡ cond (eqb (getD (now (left .entry)) i 0 - lots .0) 0) (set (now (ranks .entry)) i noRank) (now (ranks .entry)) ⌝ }
     ensures { λ _. ⌜ BlockLows (now (ranks .exit)) (now (lows .exit)) ⌝ }
 {
-    let rest = left[i] - lots;
+    let rest = left[i] - lots.0;
     left[i] = rest;
     if rest == 0 {
         let b = i / BLOCK;

@@ -29,7 +29,7 @@ use rules::layout::ORDERS;
 // The number of deals, and what is left of the incoming order.
 pub struct Matched {
     pub deals: usize,
-    pub left: u64,
+    pub left: Lots,
 }
 
 // Makes a deal with the order at i, for the smaller of its lots and those wanted. The answer is what is still wanted.
@@ -41,37 +41,38 @@ fn deal(
     deals: &mut [u64],
     k: usize,
     i: usize,
-    wanted: u64,
-) -> u64
+    wanted: Lots,
+) -> Lots
     requires { ⌜ (i < length (now left)) × (length (now left) ≤ mostOrders) × (length (now ranks) ≡ mostOrders) × (bookLength ≤ length (now book)) × BlockLows (now ranks) (now lows) ⌝ }
     requires { ⌜ (k < mostLots) × (mostLots * dealWidth ≤ length (now deals)) ⌝ }
-    ensures { λ r. ⌜ DealMade (now (book .entry)) k i wanted (now (left .entry)) (now (ranks .entry)) (now (deals .entry)) r (now (left .exit)) (now (ranks .exit)) (now (deals .exit)) ⌝ }
+    ensures { λ r. ⌜ DealMade (now (book .entry)) k i (wanted .0) (now (left .entry)) (now (ranks .entry)) (now (deals .entry)) (r .0) (now (left .exit)) (now (ranks .exit)) (now (deals .exit)) ⌝ }
     ensures { λ _. ⌜ BlockLows (now (ranks .exit)) (now (lows .exit)) ⌝ }
 {
     let resting = order_at(book, i);
-    let lots = smaller(wanted, left[i]);
+    let price = resting.price;
+    let lots = Lots(smaller(wanted.0, left[i]));
     use_lots(&mut *left, &mut *ranks, &mut *lows, i, lots);
     put_deal(
         &mut *deals,
         k,
         Counterparty {
             member: resting.member,
-            price: Kurus(resting.price.0),
-            lots: Lots(lots),
+            price: price,
+            lots: lots,
         },
     );
-    wanted - lots
+    Lots(wanted.0 - lots.0)
 }
 
 // Whether the order at i is one of a price level; at the end there is none.
-fn is_at(book: &[u64], count: usize, i: usize, level: u64) -> bool
+fn is_at(book: &[u64], count: usize, i: usize, level: Kurus) -> bool
     requires { ⌜ (i ≤ count) × (count ≤ mostOrders) × (bookLength ≤ length (now book)) ⌝ }
-    ensures { λ r. ⌜ (r ≡ true → (i < count) × (orderAt (now (book .entry)) i .price .0 ≡ level)) ⌝ }
+    ensures { λ r. ⌜ (r ≡ true → (i < count) × (orderAt (now (book .entry)) i .price .0 ≡ level .0)) ⌝ }
 {
     if i == count {
         return false;
     }
-    order_at(book, i).price.0 == level
+    order_at(book, i).price.0 == level.0
 }
 
 // Matches level by level, and in each level by rising number, until nothing is wanted or an order does not cross.
@@ -96,7 +97,7 @@ fn match_levels(
         if !does_meet(o, first) {
             break 'levels;
         }
-        let level = first.price.0;
+        let level = first.price;
         'orders: loop {
             wanted = deal(
                 book,
@@ -106,8 +107,9 @@ fn match_levels(
                 &mut *deals,
                 k,
                 best,
-                wanted,
-            );
+                Lots(wanted),
+            )
+            .0;
             k += 1;
             if wanted == 0 {
                 break 'levels;
@@ -120,7 +122,7 @@ fn match_levels(
     }
     Matched {
         deals: k,
-        left: wanted,
+        left: Lots(wanted),
     }
 }
 

@@ -13,8 +13,6 @@ ghost use Rattle.tables.specs.Fit.{OrdersFit, orderCountIn, ordersIn};
 ghost use Rattle.order_book.specs.Left.{leftOver, leaves, staying};
 use crate::orders::order_at;
 use crate::orders::put_order;
-use rules::DayNo;
-use rules::Kurus;
 use rules::Lots;
 use rules::Order;
 use rules::layout::ORDER_COUNT;
@@ -52,13 +50,13 @@ pub fn would_any_leave(book: &[u64], count: usize, w: Leaving) -> bool
     found
 }
 
-fn left_of(w: Leaving, o: Order) -> u64
-    ensures { λ r. ⌜ r ≡ cond (leaves w o) 0 (o .lots .0) ⌝ }
+fn left_of(w: Leaving, o: Order) -> Lots
+    ensures { λ r. ⌜ r .0 ≡ cond (leaves w o) 0 (o .lots .0) ⌝ }
 {
     if does_leave(w, o) {
-        return 0;
+        return Lots(0);
     }
-    o.lots.0
+    o.lots
 }
 
 // What is left of each order: nothing of those that leave.
@@ -69,40 +67,42 @@ fn write_left(book: &[u64], left: &mut [u64], w: Leaving)
     let mut i: usize = 0;
     while i < left.len() {
         let o = order_at(book, i);
-        left[i] = left_of(w, o);
+        left[i] = left_of(w, o).0;
         i += 1;
     }
 }
 
 // The order with another number of lots.
-pub fn with_lots(o: Order, left: u64) -> Order
-    ensures { λ r. ⌜ r ≡ withLots left o ⌝ }
+pub fn with_lots(o: Order, left: Lots) -> Order
+    ensures { λ r. ⌜ r ≡ withLots (left .0) o ⌝ }
 {
     let side = o.side;
+    let price = o.price;
+    let day = o.day;
     Order {
         number: o.number,
         member: o.member,
         contract: o.contract,
         side: side,
-        price: Kurus(o.price.0),
-        lots: Lots(left),
-        day: DayNo(o.day.0),
+        price: price,
+        lots: left,
+        day: day,
         time: o.time,
     }
 }
 
 // Order i with what is left of it is written at the next free place, unless nothing is left; the answer is the next free
 // place. While none has left, an order stands where it stood and only its lots are written.
-fn keep_order(book: &mut [u64], i: usize, free: usize, left: u64) -> usize
+fn keep_order(book: &mut [u64], i: usize, free: usize, left: Lots) -> usize
     requires { ⌜ (free ≤ i) × (i < mostOrders) × (bookLength ≤ length (now book)) × (sideAt (now book) i ≤ 1) ⌝ }
-    ensures { λ r. ⌜ r ≡ cond (eqb left 0) free (free + 1) ⌝ }
-    ensures { λ _. ⌜ now (book .exit) ≡ cond (eqb left 0) (now (book .entry)) (over (free * orderWidth) (orderPlaces (withLots left (orderAt (now (book .entry)) i))) (now (book .entry))) ⌝ }
+    ensures { λ r. ⌜ r ≡ cond (eqb (left .0) 0) free (free + 1) ⌝ }
+    ensures { λ _. ⌜ now (book .exit) ≡ cond (eqb (left .0) 0) (now (book .entry)) (over (free * orderWidth) (orderPlaces (withLots (left .0) (orderAt (now (book .entry)) i))) (now (book .entry))) ⌝ }
 {
-    if left == 0 {
+    if left.0 == 0 {
         return free;
     }
     if free == i {
-        book[i * ORDER_WIDTH + ORDER_LOTS] = left;
+        book[i * ORDER_WIDTH + ORDER_LOTS] = left.0;
         return free + 1;
     }
     let o = order_at(&*book, i);
@@ -119,7 +119,7 @@ fn write_staying(book: &mut [u64], left: &[u64], count: usize) -> usize
     let mut free: usize = 0;
     let mut i: usize = 0;
     while i < count {
-        free = keep_order(&mut *book, i, free, left[i]);
+        free = keep_order(&mut *book, i, free, Lots(left[i]));
         i += 1;
     }
     free

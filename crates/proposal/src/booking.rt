@@ -20,9 +20,9 @@ use rules::layout::ORDER_COUNT;
 use rules::layout::ORDERS;
 
 // The lots of all legs together.
-pub fn total_lots(lots: &[u64], prices: &[u64]) -> u64
+pub fn total_lots(lots: &[u64], prices: &[u64]) -> Lots
     requires { ⌜ LegsFit (length (now lots)) (now lots) (now prices) ⌝ }
-    ensures { λ r. ⌜ (r ≡ total (λ i. getD (now (lots .entry)) i 0) (from 0 (length (now (lots .entry))))) × (r ≤ mostLegs * mostLots) ⌝ }
+    ensures { λ r. ⌜ (r .0 ≡ total (λ i. getD (now (lots .entry)) i 0) (from 0 (length (now (lots .entry))))) × (r .0 ≤ mostLegs * mostLots) ⌝ }
 {
     let mut sum: u64 = 0;
     let mut i: usize = 0;
@@ -30,7 +30,7 @@ pub fn total_lots(lots: &[u64], prices: &[u64]) -> u64
         sum += lots[i];
         i += 1;
     }
-    sum
+    Lots(sum)
 }
 
 // One line for each leg, in order, at the leg's price.
@@ -67,13 +67,13 @@ pub fn book_legs(
 }
 
 // What is left of an order's lots after a leg: none where the leg takes them all.
-fn left_after(left: u64, lots: u64) -> u64
-    ensures { λ r. ⌜ r ≡ left - lots ⌝ }
+fn left_after(left: Lots, lots: Lots) -> Lots
+    ensures { λ r. ⌜ r .0 ≡ left .0 - lots .0 ⌝ }
 {
-    if left <= lots {
-        return 0;
+    if left.0 <= lots.0 {
+        return Lots(0);
     }
-    left - lots
+    Lots(left.0 - lots.0)
 }
 
 // Writes the lots of each order.
@@ -97,7 +97,7 @@ fn take_lots(left: &mut [u64], places: &[usize], lots: &[u64])
     let mut i: usize = 0;
     while i < places.len() {
         let place = places[i];
-        left[place] = left_after(left[place], lots[i]);
+        left[place] = left_after(Lots(left[place]), Lots(lots[i])).0;
         i += 1;
     }
 }

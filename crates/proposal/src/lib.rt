@@ -47,7 +47,7 @@ fn apply_at(
     if !is_acceptable(&*head, prices, &*book, places, orders, leg_lots, leg_prices) {
         return Answer::NotAcceptable;
     }
-    let run = head[LOTS_RUN] + total_lots(leg_lots, leg_prices);
+    let run = head[LOTS_RUN] + total_lots(leg_lots, leg_prices).0;
     if MOST_LOTS_RUN < run {
         return Answer::TotalPassed;
     }

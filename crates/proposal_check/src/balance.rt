@@ -3,19 +3,21 @@
 ghost use mathlib.Core.Path.{_≡_};
 ghost use mathlib.Core.Bool.{_&&_};
 ghost use mathlib.Core.List.{zipWith};
-ghost use Prim.Native.Nat.{_+_, _*_, _<_};
+ghost use Prim.Native.Nat.{_+_, _*_, _≤_, _<_};
 ghost use lib.Dec.{eqb};
 ghost use lib.ListN.{length, getD, replicate};
 ghost use Rattle.rules.specs.declared.order.Side.the-variants.{Buy, Sell};
-ghost use Rattle.rules.specs.Ranges.{monthsInSpan, mostOrders};
+ghost use Rattle.rules.specs.Ranges.{monthsInSpan, mostOrders, mostLots, mostPrice};
 ghost use Rattle.rules.specs.OtherForms.{yearOf, quarterOf, monthOf};
 ghost use Rattle.proposal_check.specs.Columns.{LegsFit, PlacesFit, ContractsFit, balancedMonths};
 ghost use Rattle.proposal_check.specs.SidePlaces.{sidePlaces};
-ghost use Rattle.proposal_check.specs.Sums.{SumsTo, SumsFit, monthSum, balancedSums};
+ghost use Rattle.proposal_check.specs.Sums.{lotUnit, SumsTo, SumsFit, monthSum, balancedSums};
 use crate::side_places::SIDE_PLACES;
 use crate::side_places::SIDES;
 use crate::side_places::side_place;
 use order_book::order_at;
+use rules::Kurus;
+use rules::Lots;
 use rules::ranges::CONTRACTS_IN_YEAR;
 use rules::ranges::FIRST_QUARTER;
 use rules::ranges::JANUARY;
@@ -27,6 +29,14 @@ use rules::ranges::MONTHS_IN_YEAR;
 // lots and values both are.
 const LOT_UNIT: u64 = 4294967296;
 
+// What a leg adds to a sum.
+fn leg_amount(lots: Lots, price: Kurus) -> u64
+    requires { ⌜ (lots .0 ≤ mostLots) × (price .0 ≤ mostPrice) ⌝ }
+    ensures { λ r. ⌜ r ≡ lots .0 * (lotUnit + price .0) ⌝ }
+{
+    lots.0 * LOT_UNIT + lots.times(price).0
+}
+
 // Each leg is added to the sum of its contract and side.
 fn write_sums(book: &[u64], places: &[usize], lots: &[u64], prices: &[u64], sums: &mut [u64])
     requires { ⌜ PlacesFit mostOrders (now places) × ContractsFit (now book) (now places) × LegsFit (length (now places)) (now lots) (now prices) × (now sums ≡ replicate sidePlaces 0) ⌝ }
@@ -35,7 +45,7 @@ fn write_sums(book: &[u64], places: &[usize], lots: &[u64], prices: &[u64], sums
     let mut i: usize = 0;
     while i < places.len() {
         let at = side_place(order_at(book, places[i]));
-        let sum = sums[at] + lots[i] * (LOT_UNIT + prices[i]);
+        let sum = sums[at] + leg_amount(Lots(lots[i]), Kurus(prices[i]));
         sums[at] = sum;
         i += 1;
     }

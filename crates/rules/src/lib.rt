@@ -28,3 +28,6 @@ pub use units::Day;
 pub use units::DayNo;
 pub use units::Kurus;
 pub use units::Lots;
+pub use units::SignedLots;
+pub use units::Value;
+pub use units::Worth;

@@ -50,15 +50,15 @@ module _ (l : List ℕ) where
     lines-length k = flat-length 2 (linesWith o) (λ d. refl) (dealsIn k l) ∙ ap (λ n. n * 2) (deals-length k)
 
 -- ---- the worth of the first k deals
-pub record Worth (l : List ℕ) (k worth : ℕ) : Type 0 where
+pub record WorthTo (l : List ℕ) (k worth : ℕ) : Type 0 where
   pub sum : worth ≡ total worthOf (dealsIn k l)
   pub most : worth ≤ k * (mostLots * mostPrice)
 
-pub worth-start : (l : List ℕ) → Worth l 0 0
+pub worth-start : (l : List ℕ) → WorthTo l 0 0
 unfolding dealsIn from total
 worth-start l = record { sum = refl; most = omega arith }
 
-pub worth-next : (l : List ℕ) (n k worth : ℕ) → DealColumnFit n l → k < n → Worth l k worth → (d : Counterparty) → d ≡ dealAt l k → Worth l (k + 1) (worth + d .lots .0 * d .price .0)
+pub worth-next : (l : List ℕ) (n k worth : ℕ) → DealColumnFit n l → k < n → WorthTo l k worth → (d : Counterparty) → d ≡ dealAt l k → WorthTo l (k + 1) (worth + d .lots .0 * d .price .0)
 worth-next l n k worth f h w d e =
     rw e
     (record {

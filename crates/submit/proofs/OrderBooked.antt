@@ -44,7 +44,7 @@ module _ (head prices : List ℕ) (lots value : List ℤ) (book : List ℕ) (lin
 
   -- ---- after the deals
   module _ (m : Matched) (head₂ prices₂ book₂ deals : List ℕ) (x : Traded o head prices book m head₂ prices₂ book₂ deals) where
-    rests-is : isResting kind && ltb 0 (matched o os .left) ≡ isResting kind && ltb 0 (m .left)
+    rests-is : isResting kind && ltb 0 (matched o os .left) ≡ isResting kind && ltb 0 (m .left .0)
     rests-is = ap (λ n. isResting kind && ltb 0 n) (x .lots-left)
 
     count-after : orderCountIn head₂ ≡ length (matched o os .resting)
@@ -53,7 +53,7 @@ module _ (head prices : List ℕ) (lots value : List ℤ) (book : List ℕ) (lin
     pub deals-head : length head₂ ≡ length head
     deals-head = ap length (x .head-after) ∙ length-set head orderCountPlace _
 
-    pub room-left : isResting kind && ltb 0 (m .left) ≡ true → orderCountIn head₂ < mostOrders
+    pub room-left : isResting kind && ltb 0 (m .left .0) ≡ true → orderCountIn head₂ < mostOrders
     room-left w = omega (arith, count-after, p .place (rests-is ∙ w))
 
     lines-is : flatMap (dealLines o) (matched o os .deals) ≡ flatMap (linesWith o) (dealsIn (m .deals) deals)
@@ -66,19 +66,19 @@ module _ (head prices : List ℕ) (lots value : List ℤ) (book : List ℕ) (lin
     run-is = ap lineRun lines-is ∙ run-of-lines o (dealsIn (m .deals) deals)
 
     -- ---- what rests, and the lines
-    module _ (head₃ book₃ : List ℕ) (rests : head₃ ≡ cond (isResting kind && ltb 0 (m .left)) (withOrderCount (orderCountIn head₂ + 1) head₂) head₂)
-        (put : book₃ ≡ cond (isResting kind && ltb 0 (m .left)) (over (orderCountIn head₂ * orderWidth) (orderPlaces (withLots (m .left) o)) book₂) book₂) where
+    module _ (head₃ book₃ : List ℕ) (rests : head₃ ≡ cond (isResting kind && ltb 0 (m .left .0)) (withOrderCount (orderCountIn head₂ + 1) head₂) head₂)
+        (put : book₃ ≡ cond (isResting kind && ltb 0 (m .left .0)) (over (orderCountIn head₂ * orderWidth) (orderPlaces (withLots (m .left .0) o)) book₂) book₂) where
       kept-place : (i : ℕ) → (i ≡ orderCountPlace → ⊥) → getD head₃ i 0 ≡ getD head i 0
       kept-place i z =
           ap (λ l. getD l i 0) rests
-          ∙ by-bool (λ c. getD (cond c (withOrderCount (orderCountIn head₂ + 1) head₂) head₂) i 0 ≡ getD head₂ i 0) (isResting kind && ltb 0 (m .left))
+          ∙ by-bool (λ c. getD (cond c (withOrderCount (orderCountIn head₂ + 1) head₂) head₂) i 0 ≡ getD head₂ i 0) (isResting kind && ltb 0 (m .left .0))
           (λ _. getD-set-other head₂ orderCountPlace i _ 0 z) (λ _. refl)
           ∙ ap (λ l. getD l i 0) (x .head-after) ∙ getD-set-other head orderCountPlace i _ 0 z
 
       rest-length : length head₃ ≡ length head
       rest-length =
           ap length rests
-          ∙ by-bool (λ c. length (cond c (withOrderCount (orderCountIn head₂ + 1) head₂) head₂) ≡ length head₂) (isResting kind && ltb 0 (m .left))
+          ∙ by-bool (λ c. length (cond c (withOrderCount (orderCountIn head₂ + 1) head₂) head₂) ≡ length head₂) (isResting kind && ltb 0 (m .left .0))
           (λ _. length-set head₂ orderCountPlace _) (λ _. refl) ∙ deals-head
 
       pub rest-members : membersIn head₃ ≡ membersIn head
@@ -106,10 +106,10 @@ module _ (head prices : List ℕ) (lots value : List ℤ) (book : List ℕ) (lin
       tables-is t =
           let rs = matched o os .resting in
           let u = withPrices prices₂ (of t) in
-          let b = isResting kind && ltb 0 (m .left) in
+          let b = isResting kind && ltb 0 (m .left .0) in
           ap (λ l. withHead l (withBook book₃ u)) rests
           ∙ ap (λ l. withHead (cond b (withOrderCount (orderCountIn head₂ + 1) head₂) head₂) (withBook l u)) put
-          ∙ rest-written b rs (withLots (m .left) o) u head₂ book₂ (omega (arith, p .tradable .head-long)) (x .head-after) (x .book-after)
+          ∙ rest-written b rs (withLots (m .left .0) o) u head₂ book₂ (omega (arith, p .tradable .head-long)) (x .head-after) (x .book-after)
           ∙ ap (λ n. withOrders (cond b (rs ++ (withLots n o ∷ [])) rs) u) (sym (x .lots-left))
           ∙ ap (λ c. withOrders (cond c (rs ++ (withLots (matched o os .left) o ∷ [])) rs) u) (sym rests-is)
           ∙ ap (λ l. withOrders (cond (isResting kind && ltb 0 (matched o os .left)) (rs ++ (withLots (matched o os .left) o ∷ [])) rs) (withPrices l (of t))) (x .prices-after)
@@ -133,12 +133,12 @@ module _ (head prices : List ℕ) (lots value : List ℤ) (book : List ℕ) (lin
   -- ---- no lots cross
   module _ (none : crossingIn o os ≡ 0) where
     pub room : isResting kind && ltb 0 (o .lots .0) ≡ true → orderCountIn head < mostOrders
-    room = room-left (record { deals = 0; left = o .lots .0 }) head prices book [] (untraded head prices book o (p .tradable) none [])
+    room = room-left (record { deals = 0; left = o .lots }) head prices book [] (untraded head prices book o (p .tradable) none [])
 
     pub rested : (head₃ book₃ : List ℕ) → head₃ ≡ cond (isResting kind && ltb 0 (o .lots .0)) (withOrderCount (orderCountIn head + 1) head) head
         → book₃ ≡ cond (isResting kind && ltb 0 (o .lots .0)) (over (orderCountIn head * orderWidth) (orderPlaces (withLots (o .lots .0) o)) book) book
         → (t : Tables) → record { answer = Accepted 0; after = withHead head₃ (withPrices prices (withRows lots value (withBook book₃ (withLines lines t)))) } ≡ orderBooked kind o (of t)
     unfolding dealsIn from flatMap
     rested head₃ book₃ e f =
-        booked-is (record { deals = 0; left = o .lots .0 }) head prices book [] (untraded head prices book o (p .tradable) none []) head₃ book₃ e f head₃ lots value lines
+        booked-is (record { deals = 0; left = o .lots }) head prices book [] (untraded head prices book o (p .tradable) none []) head₃ book₃ e f head₃ lots value lines
         (λ u. sym (ap (λ y. y .after) (booked-none (withHead head₃ (withRows lots value (withLines lines u))))))

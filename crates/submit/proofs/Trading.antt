@@ -51,13 +51,13 @@ module _ (head prices book : List ℕ) (o : Order) (x : Tradable head prices boo
   -- ---- after the deals, which stand in a column
   module _ (m : Matched) (first left deals : List ℕ) (many : ℕ) (count : many ≡ n) (long : length deals ≡ length first) (room : mostLots * dealWidth ≤ length first)
       (made : MatchMade o book many first m left deals) where
-    pub ended : Ended o os left (m .left) (dealsIn (m .deals) deals)
+    pub ended : Ended o os left (m .left .0) (dealsIn (m .deals) deals)
     ended = rw count at (made .ended)
 
-    lots-dealt : total lotsDealt (dealsIn (m .deals) deals) + m .left ≡ o .lots .0
+    lots-dealt : total lotsDealt (dealsIn (m .deals) deals) + m .left .0 ≡ o .lots .0
     lots-dealt = omega (arith, dealt-and-left o os, lots-kept (matched o os .deals), ap (total lotsDealt) (ended .deals), ended .lots)
 
-    pub left-most : m .left ≤ o .lots .0
+    pub left-most : m .left .0 ≤ o .lots .0
     left-most = omega (arith, lots-dealt)
 
     pub deals-fit : DealColumnFit (m .deals) deals
@@ -70,13 +70,13 @@ module _ (head prices book : List ℕ) (o : Order) (x : Tradable head prices boo
         }
 
     pub traded : (head′ prices′ book′ : List ℕ) (worth : ℕ) → worth ≡ total worthOf (dealsIn (m .deals) deals)
-        → prices′ ≡ withDealt (o .contract) (getD prices (dayLotsPlace (o .contract)) 0 + (o .lots .0 - m .left)) (getD prices (dayValuePlace (o .contract)) 0 + worth) prices
+        → prices′ ≡ withDealt (o .contract) (getD prices (dayLotsPlace (o .contract)) 0 + (o .lots .0 - m .left .0)) (getD prices (dayValuePlace (o .contract)) 0 + worth) prices
         → ((t : Tables) → withHead head′ (withBook book′ t) ≡ withOrders (leftOver left os) (withHead head (withBook book t)))
         → Traded o head prices book m head′ prices′ book′ deals
     unfolding withOrders
     traded head′ prices′ book′ worth w p k =
         let ds = matched o os .deals in
-        let lots : o .lots .0 - m .left ≡ total (λ d. d .lots) ds = omega (arith, dealt-and-left o os, ended .lots) in
+        let lots : o .lots .0 - m .left .0 ≡ total (λ d. d .lots) ds = omega (arith, dealt-and-left o os, ended .lots) in
         let value : worth ≡ total (λ d. d .lots * d .resting .price .0) ds = w ∙ ap (total worthOf) (sym (ended .deals)) ∙ sym (worth-kept ds) in
         let kept = k zeroTables in
         record {
@@ -108,7 +108,7 @@ module _ (head prices book : List ℕ) (o : Order) (x : Tradable head prices boo
     unfolding total
     nothing ds e = (lots-kept ds ∙ ap (total lotsDealt) e, worth-kept ds ∙ ap (total worthOf) e)
 
-    pub untraded : (deals : List ℕ) → Traded o head prices book (record { deals = 0; left = o .lots .0 }) head prices book deals
+    pub untraded : (deals : List ℕ) → Traded o head prices book (record { deals = 0; left = o .lots }) head prices book deals
     unfolding dealsIn from
     untraded deals =
         let rs = resting-still o os ranked apart has-lots (x .least-lots) none in

@@ -57,6 +57,6 @@ pub record Traded (o : Order) (head prices book : List ℕ) (m : Matched) (head�
       prices
   pub book-after : book′ ≡ over 0 (flatMap orderPlaces (matched o (ordersIn (orderCountIn head) book) .resting)) book
   pub deals-kept : map counterpartyOf (matched o (ordersIn (orderCountIn head) book) .deals) ≡ dealsIn (m .deals) deals
-  pub lots-left : matched o (ordersIn (orderCountIn head) book) .left ≡ m .left
+  pub lots-left : matched o (ordersIn (orderCountIn head) book) .left ≡ m .left .0
   pub few : m .deals ≤ mostLots
   pub from-book : (j : ℕ) → j < m .deals → FromBook book (orderCountIn head) (dealAt deals j)

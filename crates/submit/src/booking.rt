@@ -10,7 +10,6 @@ ghost use Rattle.submit_causes.specs.Fit.{SubmissionFit, Acceptable};
 use crate::placing::place_order;
 use rules::Answer;
 use rules::DayNo;
-use rules::Kurus;
 use rules::Lots;
 use rules::Order;
 use rules::Submission;
@@ -24,13 +23,15 @@ pub fn order_of(head: &[u64], e: Submission) -> Order
     ensures { λ r. ⌜ ((t : Tables) → r ≡ incoming (withHead (now (head .entry)) t) e) ⌝ }
 {
     let side = e.side;
+    let price = e.price;
+    let lots = e.lots;
     Order {
         number: head[ACCEPTED_SUBMITS],
         member: e.member,
         contract: e.contract,
         side: side,
-        price: Kurus(e.price.0),
-        lots: Lots(e.lots.0),
+        price: price,
+        lots: lots,
         day: DayNo(head[DAY]),
         time: e.time,
     }
@@ -57,11 +58,11 @@ pub fn book_submit(
     book: &mut [u64],
     lines: &mut [i64],
     e: Submission,
-    crossing: u64,
+    crossing: Lots,
 ) -> Answer
     requires { ⌜ HeadFit (now head) × PricesFit (lotsRunIn (now head)) (now prices) × BookFit (now head) (now book) × SubmissionFit (now head) e × (linesLength ≤ length (now lines)) ⌝ }
     requires { ⌜ RowsFit (membersIn (now head)) (lotsRunIn (now head)) (now lots) × RowsFit (membersIn (now head)) (mostPrice * lotsRunIn (now head)) (now value) ⌝ }
-    requires { ⌜ ((t : Tables) → Acceptable (withHead (now head) (withPrices (now prices) (withRows (now lots) (now value) (withBook (now book) (withLines (now lines) t))))) e crossing) ⌝ }
+    requires { ⌜ ((t : Tables) → Acceptable (withHead (now head) (withPrices (now prices) (withRows (now lots) (now value) (withBook (now book) (withLines (now lines) t))))) e (crossing .0)) ⌝ }
     ensures { λ r. ⌜ ((t : Tables) → record {
       answer = r;
       after = withHead (now (head .exit)) (withPrices (now (prices .exit)) (withRows (now (lots .exit)) (now (value .exit))

@@ -14,24 +14,24 @@ use deal_lines::DealLine;
 use deal_lines::book_line;
 use matching::Counterparty;
 use matching::deal_at;
-use rules::Kurus;
-use rules::Lots;
 use rules::Order;
+use rules::Worth;
 use sides::other_side;
 
 // Lots times price over all deals.
-pub fn worth_of(deals: &[u64], count: usize) -> u64
+pub fn worth_of(deals: &[u64], count: usize) -> Worth
     requires { ⌜ DealColumnFit count (now deals) ⌝ }
-    ensures { λ r. ⌜ (r ≡ total worthOf (dealsIn count (now (deals .entry)))) × (r ≤ mostLots * (mostLots * mostPrice)) ⌝ }
+    ensures { λ r. ⌜ (r .0 ≡ total worthOf (dealsIn count (now (deals .entry)))) × (r .0 ≤ mostLots * (mostLots * mostPrice)) ⌝ }
 {
     let mut worth: u64 = 0;
     let mut k: usize = 0;
     while k < count {
         let d = deal_at(deals, k);
-        worth += d.lots.0 * d.price.0;
+        let lots = d.lots;
+        worth += lots.times(d.price).0;
         k += 1;
     }
-    worth
+    Worth(worth)
 }
 
 // The incoming member's line, then the resting member's.
@@ -52,20 +52,21 @@ fn book_deal(
 {
     let side = o.side;
     let against = other_side(side);
-    let price = d.price.0;
+    let lots_dealt = d.lots;
+    let price = d.price;
     let incoming = DealLine {
         member: o.member,
         contract: o.contract,
         side: side,
-        lots: Lots(d.lots.0),
-        price: Kurus(price),
+        lots: lots_dealt,
+        price: price,
     };
     let resting = DealLine {
         member: d.member,
         contract: o.contract,
         side: against,
-        lots: Lots(d.lots.0),
-        price: Kurus(price),
+        lots: lots_dealt,
+        price: price,
     };
     book_line(
         &mut *head,

@@ -15,6 +15,7 @@ use crate::deals::book_deals;
 use crate::trade::settle;
 use matching::DEAL_WIDTH;
 use rules::Answer;
+use rules::Lots;
 use rules::Order;
 use rules::OrderKind;
 use rules::layout::ORDER_COUNT;
@@ -26,13 +27,13 @@ use submit_causes::is_resting;
 const DEAL_PLACES: usize = MOST_LOTS as usize * DEAL_WIDTH;
 
 // What is left of an order that rests comes last in the book, under its own number.
-fn rest_order(head: &mut [u64], book: &mut [u64], kind: OrderKind, o: Order, left: u64)
-    requires { ⌜ (headLength ≤ length (now head)) × (bookLength ≤ length (now book)) × (isResting kind && ltb 0 left ≡ true → orderCountIn (now head) < mostOrders) ⌝ }
-    ensures { λ _. ⌜ now (head .exit) ≡ cond (isResting kind && ltb 0 left) (withOrderCount (orderCountIn (now (head .entry)) + 1) (now (head .entry))) (now (head .entry)) ⌝ }
+fn rest_order(head: &mut [u64], book: &mut [u64], kind: OrderKind, o: Order, left: Lots)
+    requires { ⌜ (headLength ≤ length (now head)) × (bookLength ≤ length (now book)) × (isResting kind && ltb 0 (left .0) ≡ true → orderCountIn (now head) < mostOrders) ⌝ }
+    ensures { λ _. ⌜ now (head .exit) ≡ cond (isResting kind && ltb 0 (left .0)) (withOrderCount (orderCountIn (now (head .entry)) + 1) (now (head .entry))) (now (head .entry)) ⌝ }
     ensures { λ _. ⌜ now (book .exit)
-        ≡ cond (isResting kind && ltb 0 left) (over (orderCountIn (now (head .entry)) * orderWidth) (orderPlaces (withLots left o)) (now (book .entry))) (now (book .entry)) ⌝ }
+        ≡ cond (isResting kind && ltb 0 (left .0)) (over (orderCountIn (now (head .entry)) * orderWidth) (orderPlaces (withLots (left .0) o)) (now (book .entry))) (now (book .entry)) ⌝ }
 {
-    if is_resting(kind) & (0 < left) {
+    if is_resting(kind) & (0 < left.0) {
         let count = head[ORDER_COUNT];
         order_book::put_order(&mut *book, count as usize, order_book::with_lots(o, left));
         head[ORDER_COUNT] = count + 1;
@@ -94,9 +95,9 @@ pub fn place_order(
     lines: &mut [i64],
     kind: OrderKind,
     o: Order,
-    crossing: u64,
+    crossing: Lots,
 ) -> Answer
-    requires { ⌜ Placeable (now head) (now prices) (now lots) (now value) (now book) (now lines) kind o × (crossing ≡ crossingIn o (ordersIn (orderCountIn (now head)) (now book))) ⌝ }
+    requires { ⌜ Placeable (now head) (now prices) (now lots) (now value) (now book) (now lines) kind o × (crossing .0 ≡ crossingIn o (ordersIn (orderCountIn (now head)) (now book))) ⌝ }
     ensures { λ r. ⌜ ((t : Tables) → record {
       answer = r;
       after = withHead (now (head .exit)) (withPrices (now (prices .exit)) (withRows (now (lots .exit)) (now (value .exit))
@@ -105,8 +106,8 @@ pub fn place_order(
         ≡ orderBooked kind o (withHead (now (head .entry)) (withPrices (now (prices .entry)) (withRows (now (lots .entry)) (now (value .entry))
         (withBook (now (book .entry)) (withLines (now (lines .entry)) t)))))) ⌝ }
 {
-    if crossing == 0 {
-        rest_order(&mut *head, &mut *book, kind, o, o.lots.0);
+    if crossing.0 == 0 {
+        rest_order(&mut *head, &mut *book, kind, o, o.lots);
         return Answer::Accepted(0);
     }
     trade(

@@ -12,21 +12,23 @@ ghost use Rattle.submit.specs.Deals.{DealColumnFit, Tradable, Traded};
 use crate::deals::worth_of;
 use matching::Matched;
 use matching::match_orders;
+use rules::Lots;
 use rules::Order;
+use rules::Worth;
 use rules::layout::DAY_LOTS;
 use rules::layout::DAY_VALUE;
 use rules::layout::PRICE_WIDTH;
 
 // M grows by the lots, V by their worth.
-fn add_dealt(prices: &mut [u64], contract: u64, lots: u64, worth: u64)
+fn add_dealt(prices: &mut [u64], contract: u64, lots: Lots, worth: Worth)
     requires { ⌜ (pricesLength ≤ length (now prices)) × (contract < contractCount) ⌝ }
-    requires { ⌜ (getD (now prices) (dayLotsPlace contract) 0 + lots ≤ mostPrice * mostLotsRun * 2) × (getD (now prices) (dayValuePlace contract) 0 + worth ≤ mostPrice * mostLotsRun * 2) ⌝ }
+    requires { ⌜ (getD (now prices) (dayLotsPlace contract) 0 + lots .0 ≤ mostPrice * mostLotsRun * 2) × (getD (now prices) (dayValuePlace contract) 0 + worth .0 ≤ mostPrice * mostLotsRun * 2) ⌝ }
     ensures { λ _. ⌜ now (prices .exit)
-        ≡ withDealt contract (getD (now (prices .entry)) (dayLotsPlace contract) 0 + lots) (getD (now (prices .entry)) (dayValuePlace contract) 0 + worth) (now (prices .entry)) ⌝ }
+        ≡ withDealt contract (getD (now (prices .entry)) (dayLotsPlace contract) 0 + lots .0) (getD (now (prices .entry)) (dayValuePlace contract) 0 + worth .0) (now (prices .entry)) ⌝ }
 {
     let at = contract as usize * PRICE_WIDTH;
-    let all_lots = prices[at + DAY_LOTS] + lots;
-    let all_worth = prices[at + DAY_VALUE] + worth;
+    let all_lots = prices[at + DAY_LOTS] + lots.0;
+    let all_worth = prices[at + DAY_VALUE] + worth.0;
     prices[at + DAY_LOTS] = all_lots;
     prices[at + DAY_VALUE] = all_worth;
 }
@@ -48,7 +50,8 @@ pub fn settle(
 {
     let m = match_orders(&*book, o, &mut *left, &mut *deals);
     let worth = worth_of(&*deals, m.deals);
-    add_dealt(&mut *prices, o.contract, o.lots.0 - m.left, worth);
+    let dealt = Lots(o.lots.0 - m.left.0);
+    add_dealt(&mut *prices, o.contract, dealt, worth);
     order_book::keep_orders(&mut *head, &mut *book, &*left);
     m
 }

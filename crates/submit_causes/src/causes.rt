@@ -16,6 +16,8 @@ use crate::position::position;
 use matching::Crossing;
 use numbers::smaller;
 use rules::Answer;
+use rules::Kurus;
+use rules::Lots;
 use rules::OrderKind;
 use rules::Submission;
 use rules::layout::ACCEPTED_SUBMITS;
@@ -59,12 +61,12 @@ pub fn is_resting(kind: OrderKind) -> bool
     }
 }
 
-fn is_price_outside(prices: &[u64], contract: u64, price: u64) -> bool
+fn is_price_outside(prices: &[u64], contract: u64, price: Kurus) -> bool
     requires { ⌜ (pricesLength ≤ length (now prices)) × (contract < contractCount) ⌝ }
-    ensures { λ r. ⌜ r ≡ ltb price (getD (now (prices .entry)) (lowPlace contract) 0) || ltb (getD (now (prices .entry)) (highPlace contract) 0) price ⌝ }
+    ensures { λ r. ⌜ r ≡ ltb (price .0) (getD (now (prices .entry)) (lowPlace contract) 0) || ltb (getD (now (prices .entry)) (highPlace contract) 0) (price .0) ⌝ }
 {
     let at = contract as usize * PRICE_WIDTH;
-    (price < prices[at + LOW]) | (prices[at + HIGH] < price)
+    (price.0 < prices[at + LOW]) | (prices[at + HIGH] < price.0)
 }
 
 // The member's accepted submits that bear this time; in a later second it has none yet.
@@ -96,7 +98,7 @@ pub fn first_cause(head: &[u64], prices: &[u64], e: Submission) -> Verdict
     if !tables::is_contract_open(head, contract) {
         return Verdict::Refused(Answer::ContractNotOpen(contract));
     }
-    if is_price_outside(prices, contract, e.price.0) {
+    if is_price_outside(prices, contract, e.price) {
         return Verdict::Refused(Answer::PriceOutsideLimits);
     }
     if MOST_SUBMITS_IN_SECOND <= submits_at(head, time, member) {
@@ -108,20 +110,20 @@ pub fn first_cause(head: &[u64], prices: &[u64], e: Submission) -> Verdict
 // The first that holds of the causes that need the book: the member's own lots there and the lots that cross.
 pub fn measured_cause(head: &[u64], lots: &[i64], e: Submission, found: Crossing) -> Verdict
     requires { ⌜ HeadFit (now head) × RowsFit (membersIn (now head)) (lotsRunIn (now head)) (now lots) × SubmissionFit (now head) e ⌝ }
-    requires { ⌜ found .own ≤ mostOrders * mostLots ⌝ }
+    requires { ⌜ found .own .0 ≤ mostOrders * mostLots ⌝ }
     ensures { λ r. ⌜ ((t : Tables) (b : Outcome Tables) → outcome r (withHead (now (head .entry)) (withRows (now (lots .entry)) (t .value) t)) b
-        ≡ decide (measuredCauses (found .own) (found .lots) (withHead (now (head .entry)) (withRows (now (lots .entry)) (t .value) t)) e)
+        ≡ decide (measuredCauses (found .own .0) (found .lots .0) (withHead (now (head .entry)) (withRows (now (lots .entry)) (t .value) t)) e)
         (withHead (now (head .entry)) (withRows (now (lots .entry)) (t .value) t)) b) ⌝ }
 {
     let kind = e.kind;
     let side = e.side;
     let wanted = e.lots.0;
-    let crossing = found.lots;
-    let limit = head[LIMITS + e.member as usize];
+    let crossing = found.lots.0;
+    let limit = Lots(head[LIMITS + e.member as usize]);
     if is_above(
         limit,
         position(lots, e.contract, e.member, side),
-        found.own + wanted,
+        Lots(found.own.0 + wanted),
     ) {
         return Verdict::Refused(Answer::AboveLimit);
     }

@@ -7,13 +7,13 @@ ghost use lib.Signed.{ltZ};
 ghost use Rattle.rules.specs.Ranges.{contractCount, mostMembers, mostLimit, mostLotsRun};
 ghost use Rattle.rules.specs.Ledger.{rowPlace, rowsLength};
 ghost use Rattle.rules.specs.Matching.{mirrored};
+use rules::Lots;
 use rules::Side;
+use rules::SignedLots;
 use rules::layout::ROW_WIDTH;
 
-// A member's buys less its sells; mirrored for a sell.
-pub struct NetLots(i64);
-
-pub fn position(lots: &[i64], contract: u64, member: u64, side: Side) -> NetLots
+// A member's net lots, its buys less its sells; mirrored for a sell.
+pub fn position(lots: &[i64], contract: u64, member: u64, side: Side) -> SignedLots
     requires { ⌜ (rowsLength ≤ length (now lots)) × (contract < contractCount) × (member < mostMembers) ⌝ }
     requires { ⌜ natAbs (getD (now lots) (rowPlace contract member) (pos 0)) ≤ mostLotsRun ⌝ }
     ensures { λ r. ⌜ (r .0 ≡ mirrored side (getD (now (lots .entry)) (rowPlace contract member) (pos 0))) × (natAbs (r .0) ≤ mostLotsRun) ⌝ }
@@ -21,18 +21,18 @@ pub fn position(lots: &[i64], contract: u64, member: u64, side: Side) -> NetLots
     let at = contract as usize * ROW_WIDTH + member as usize;
     let net = lots[at];
     match side {
-        Side::Buy => NetLots(net),
-        Side::Sell => NetLots(-net),
+        Side::Buy => SignedLots(net),
+        Side::Sell => SignedLots(-net),
     }
 }
 
 // Whether so many lots more would pass the limit.
-pub fn is_above(limit: u64, p: NetLots, more: u64) -> bool
-    requires { ⌜ (limit ≤ mostLimit) × (natAbs (p .0) ≤ mostLotsRun) × (more ≤ mostLotsRun) ⌝ }
-    ensures { λ r. ⌜ r ≡ ltZ (pos limit) (p .0 +ℤ pos more) ⌝ }
+pub fn is_above(limit: Lots, net: SignedLots, more: Lots) -> bool
+    requires { ⌜ (limit .0 ≤ mostLimit) × (natAbs (net .0) ≤ mostLotsRun) × (more .0 ≤ mostLotsRun) ⌝ }
+    ensures { λ r. ⌜ r ≡ ltZ (pos (limit .0)) (net .0 +ℤ pos (more .0)) ⌝ }
 {
-    let most = limit as i64;
-    let wanted = more as i64;
-    let net = p.0;
-    most < net + wanted
+    let most = limit.0 as i64;
+    let wanted = more.0 as i64;
+    let held = net.0;
+    most < held + wanted
 }

@@ -30,7 +30,7 @@ abbrev start : tie.Else1 → tie.Start
 start c = c .before .before .before .before .before .before .before .before .before .before .before
 
 abbrev accepted : tie.After-book-legs → tie.Else1
-accepted c = c .before .before .before .before .before .before .before .before .before
+accepted c = c .before .before .before .before .before .before .before .before .before .before
 
 ok : (c : tie.Else1) (t : Tables) → acceptable (tables (start c) t) (legs (start c)) ≡ true
 ok c t = sym (c .before .is-acceptable .ensures (tables (start c) t)) ∙ not-false _ (c .if1 .left)
@@ -61,17 +61,17 @@ total-lots-requires c κs =
 returns-2 : tie.Need-returns-2
 unfolding proposalSpec
 returns-2 c =
-    let k = c .before .before .before in
-    λ t. rw (ok k t, run-passes (named-at k t) (c .before .total-lots .result) (c .before .total-lots .ensures .0) (c .if2 .taken))
+    let k = c .before .before .before .before in
+    λ t. rw (ok k t, run-passes (named-at k t) (c .before .before .total-lots .result .0) (c .before .before .total-lots .ensures .0) (c .if2 .taken))
 
 book-legs-requires : tie.Need-book-legs-requires
 book-legs-requires c κs =
-    let k = c .before .before .before .before .before .before .before .before in
+    let k = c .before .before .before .before .before .before .before .before .before in
     let s = start k in
     let a = s .args in
     let fit = s .pre .1 .1 .0 in
     let many = named-at k zeroTables .many in
-    let sum = c .before .before .before .before .before .before .total-lots .ensures .0 ∙ ap (λ n. total (λ i. getD (a .leg-lots .now) i 0) (from 0 n)) (fit .lots-length ∙ sym many) in
+    let sum = c .before .before .before .before .before .before .before .total-lots .ensures .0 ∙ ap (λ n. total (λ i. getD (a .leg-lots .now) i 0) (from 0 n)) (fit .lots-length ∙ sym many) in
     let h = s .pre .0 .0 in
     let rows = s .pre .1 .0 in (
       (s .pre .0 .2, named-at k zeroTables .there, subst (λ n. LegsFit n (a .leg-lots .now) (a .leg-prices .now)) (sym many) fit),
@@ -106,7 +106,7 @@ returns-3 : tie.Need-returns-3
 unfolding proposalSpec proposalBooked orders
 returns-3 c =
     let b = c .before .before .before .before .before .before .before .before .before .before .before .before in
-    let total = b .before .before .before .before .before .before .before .total-lots in
+    let total = b .before .before .before .before .before .before .before .before .total-lots in
     let k = accepted b in
     let s = start k in
     let a = s .args in
@@ -117,7 +117,7 @@ returns-3 c =
     let n = named-at k t in
     let used = n .used each (s .pre .0 .2 .numbers-distinct) _ (count-at b) in
     let after = withHead (l .0) (withRows (l .1 .0) (l .1 .1 .0) (withLines (l .1 .1 .1 .0) (withPrices (a .prices .now) (withBook (a .book .now) t)))) in
-    rw (ok k t, run-fits n (total .result) (total .ensures .0) (b .before .before .before .before .before .before .if2 .left))
+    rw (ok k t, run-fits n (total .result .0) (total .ensures .0) (b .before .before .before .before .before .before .if2 .left))
     (all-booked (proposalLines u (legs s)) (usedByLegs (legs s) (orders u)) (length (a .orders .now)) u after _ (line-count n)
     (b .book-legs .ensures (withPrices (a .prices .now) (withBook (a .book .now) t)) ∙ ap (λ ls. booked ls u .after) (sym (n .lines-are)))
     (c .before .before .before .before .use-orders .ensures (withPrices (a .prices .now) (withRows (l .1 .0) (l .1 .1 .0) (withLines (l .1 .1 .1 .0) t))) ∙ ap (λ os. withOrders os after) used))

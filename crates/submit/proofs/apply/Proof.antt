@@ -25,7 +25,7 @@ measured c = c .before .before .before
 judged-at : (c : tie.After-measured-cause) (t : Tables) →
     let m = measured c in
     let s = start (first m) in
-    Judged (tables s t) (s .args .e) (first m .first-cause .result) (c .measured-cause .result) (m .measure .result .lots)
+    Judged (tables s t) (s .args .e) (first m .first-cause .result) (c .measured-cause .result) (m .measure .result .lots .0)
 judged-at c t =
     let m = measured c in
     let s = start (first m) in

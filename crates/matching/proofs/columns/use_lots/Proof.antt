@@ -12,12 +12,12 @@ lowest-of-block-requires c κs = simp length-set (omega arith)
 
 returns : tie.Need-returns
 returns c =
-    let start = c .before .before .before .before .before .before .before in
+    let start = c .before .before .before .before .before .before .before .before in
     (refl, (rw (eq-eqb _ 0 (c .before .before .if1 .taken)) refl, lows-renewed _ _ (start .pre .4) _ _ _ (omega arith) (c .lowest-of-block .ensures)))
 
 returns-2 : tie.Need-returns-2
 returns-2 c =
-    let start = c .before .before .before .before .before in
+    let start = c .before .before .before .before .before .before in
     (refl, (rw (ne-eqb _ 0 (c .if1 .left)) refl, start .pre .4))
 
 pub use-lots-spec : {M : Type 1} → statement M

@@ -5,7 +5,7 @@ use Rattle.matching.proofs.crossing.crossing_lots.Tie as tie
 
 returns : tie.Need-returns
 unfolding crossingLots
-returns c = rw (← (c .before .before .does-oppose .ensures), ← (c .before .does-meet .ensures), c .if1 .taken)
+returns c = rw (← (c .before .before .before .does-oppose .ensures), ← (c .before .before .does-meet .ensures), c .before .if1 .taken)
 
 returns-2 : tie.Need-returns-2
 unfolding crossingLots

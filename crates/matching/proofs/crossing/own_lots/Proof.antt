@@ -5,7 +5,7 @@ use Rattle.matching.proofs.crossing.own_lots.Tie as tie
 
 returns : tie.Need-returns
 unfolding ownLots
-returns c = rw (← (c .before .is-same-side .ensures), c .if1 .taken)
+returns c = rw (← (c .before .before .is-same-side .ensures), c .before .if1 .taken)
 
 returns-2 : tie.Need-returns-2
 unfolding ownLots

@@ -9,18 +9,18 @@ use Rattle.matching.proofs.levels.deal.Tie as tie
 
 returns : tie.Need-returns
 returns c =
-    let at-use-lots = c .before .before .before .before .before .before .before .before .before .before in
+    let at-use-lots = c .before .before .before .before .before .before .before .before .before .before .before .before in
     let at-smaller = at-use-lots .before .before .before .before in
-    let at-order-at = at-smaller .before .before in
+    let at-order-at = at-smaller .before .before .before in
     let start = at-order-at .before .before .before .before .before .before in
     let a = start .args in
-    let lots = min (a .wanted) (getD (a .left .now) (a .i) 0) in (
+    let lots = min (a .wanted .0) (getD (a .left .now) (a .i) 0) in (
       record {
-        still-wanted = ap (λ n. a .wanted - n) (at-smaller .smaller .ensures);
+        still-wanted = ap (λ n. a .wanted .0 - n) (at-smaller .smaller .ensures);
         left-after = rw (← (at-smaller .smaller .ensures)) (at-use-lots .use-lots .ensures .0);
         ranks-after = rw (← (at-smaller .smaller .ensures)) (at-use-lots .use-lots .ensures .1 .0);
         deals-after =
-            c .before .before .put-deal .ensures
+            c .before .before .before .before .put-deal .ensures
             ∙ ap (λ q. over (a .k * 3) (dealPlaces (counterparty (at-order-at .order-at .result) q)) (a .deals .now)) (at-smaller .smaller .ensures)
             ∙ ap (λ r. over (a .k * 3) (dealPlaces (counterparty r lots)) (a .deals .now)) (at-order-at .order-at .ensures);
       },

@@ -11,7 +11,7 @@ use Rattle.matching.proofs.levels.match_levels.Tie as tie
 
 abbrev Inv-orders : tie.InvT-orders
 Inv-orders book o left₀ ranks₀ lows₀ deals₀ count wanted₀ k₀ best₀ level left ranks lows deals wanted k best = Going o book count deals₀ left ranks lows deals wanted k ×
-    Next o book count left best level × (wanted ≤ wanted₀) × (k₀ ≤ k)
+    Next o book count left best (level .0) × (wanted ≤ wanted₀) × (k₀ ≤ k)
 
 abbrev μ-orders : tie.MeasureT-orders
 μ-orders book o left₀ ranks₀ lows₀ deals₀ count wanted₀ k₀ best₀ level left ranks lows deals wanted k best = wanted
@@ -36,12 +36,12 @@ order-at-requires c κs = let g = c .before .levels .inv .0 in omega (arith, g .
 
 orders-holds : tie.Need-orders-holds Inv-orders μ-orders Inv-levels μ-levels
 orders-holds c =
-    let at-levels-test = c .before .before .before in
+    let at-levels-test = c .before .before .before .before in
     let at-levels = at-levels-test .before in
     let g = at-levels .levels .inv .0 in
-    let crosses = sym (c .before .does-meet .ensures) ∙ not-false _ (c .if1 .left) in (
+    let crosses = sym (c .before .before .does-meet .ensures) ∙ not-false _ (c .before .if1 .left) in (
       going-from _ _ _ _ _ _ _ _ _ _ g _ (at-levels .levels .k) (omega arith) (sym (g .deals-length)) (sym (g .past)),
-      next-first _ _ _ _ _ _ _ _ _ _ g _ (at-levels .levels .inv .1) (at-levels-test .levels-test .taken) _ (c .before .before .order-at .ensures) crosses,
+      next-first _ _ _ _ _ _ _ _ _ _ g _ (at-levels .levels .inv .1) (at-levels-test .levels-test .taken) _ (c .before .before .before .order-at .ensures) crosses,
       omega arith,
       omega arith,
     )
@@ -85,7 +85,7 @@ levels-again c =
     let at-if2 = c .before .before .before .before in
     let at-deal = at-if2 .before .before .before .before .before .before .before .before .before in
     let at-orders = at-deal .before .before .before .before .before in
-    let at-levels = at-orders .before .before .before .before .before in
+    let at-levels = at-orders .before .before .before .before .before .before in
     let i = at-orders .orders .inv in
     let d = at-deal .deal .ensures in
     let whole = at-levels .levels .inv .0 in
@@ -169,21 +169,21 @@ same-length-10 : tie.Need-same-length-10 Inv-orders μ-orders Inv-levels μ-leve
 same-length-10 c =
     let at-deal = c .before .before .before .before .before .before .before .before .before in
     let at-orders = at-deal .before .before .before .before .before in
-    let start = at-orders .before .before .before .before .before .before .before .before .before .before .before .before .before in
+    let start = at-orders .before .before .before .before .before .before .before .before .before .before .before .before .before .before in
     let i = at-orders .orders .inv in
     let d = at-deal .deal .ensures in ranks-long _ _ _ _ _ _ _ _ _ _ (i .0) _ _ (i .1) _ _ _ _ _ (d .0) (d .1) ∙ sym (start .pre .1 .1 .long)
 
 same-length-11 : tie.Need-same-length-11 Inv-orders μ-orders Inv-levels μ-levels
 same-length-11 c =
     let at-deal = c .before .before .before .before .before .before .before .before .before in
-    let start = at-deal .before .before .before .before .before .before .before .before .before .before .before .before .before .before .before .before .before .before in
+    let start = at-deal .before .before .before .before .before .before .before .before .before .before .before .before .before .before .before .before .before .before .before in
     at-deal .deal .ensures .1 .long ∙ sym (start .pre .1 .2 .long)
 
 same-length-12 : tie.Need-same-length-12 Inv-orders μ-orders Inv-levels μ-levels
 same-length-12 c =
     let at-deal = c .before .before .before .before .before .before .before .before .before in
     let at-orders = at-deal .before .before .before .before .before in
-    let at-levels = at-orders .before .before .before .before .before in
+    let at-levels = at-orders .before .before .before .before .before .before in
     let i = at-orders .orders .inv in
     let d = at-deal .deal .ensures in deals-long _ _ _ _ _ _ _ _ _ _ (i .0) _ _ (i .1) _ _ _ _ _ (d .0) (d .1) ∙ at-levels .levels .inv .0 .deals-length
 
@@ -191,7 +191,7 @@ returns-3 : tie.Need-returns-3 Inv-orders μ-orders Inv-levels μ-levels
 returns-3 c =
     let at-deal = c .before .before .before .before .before .before .before .before .before in
     let at-orders = at-deal .before .before .before .before .before in
-    let at-levels = at-orders .before .before .before .before .before in
+    let at-levels = at-orders .before .before .before .before .before .before in
     let i = at-orders .orders .inv in
     let d = at-deal .deal .ensures in
     let whole = at-levels .levels .inv .0 in

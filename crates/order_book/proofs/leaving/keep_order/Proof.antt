@@ -11,8 +11,8 @@ returns c = rw (eq-eqb _ _ (c .if1 .taken)) (refl, refl)
 
 returns-2 : tie.Need-returns-2
 returns-2 c =
-    let start = c .before .before .before in
-    rw (ne-eqb _ _ (c .before .if1 .left), c .if2 .taken) (refl, lots-written (start .args .book .now) (start .args .i) (start .args .left) (omega arith) (start .pre .3))
+    let start = c .before .before .before .before in
+    rw (ne-eqb _ _ (c .before .if1 .left), c .if2 .taken) (refl, lots-written (start .args .book .now) (start .args .i) (start .args .left .0) (omega arith) (start .pre .3))
 
 returns-3 : tie.Need-returns-3
 returns-3 c =

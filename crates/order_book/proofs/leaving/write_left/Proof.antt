@@ -29,9 +29,9 @@ loop-again c =
     let l = c .before .before .before .loop in
     let n = length (a .left .now) in
     let all = staying (leaves (a .w)) (ordersIn n (a .book .now)) in
-    let here : c .left-of .result ≡ getD all (l .i) 0
+    let here : c .left-of .result .0 ≡ getD all (l .i) 0
     = c .left-of .ensures ∙ ap (λ o. cond (leaves (a .w) o) 0 (o .lots .0)) (c .before .order-at .ensures) ∙ sym (staying-at (leaves (a .w)) n (a .book .now) (l .i) (omega arith)) in (
-      length-set (l .left) (l .i) (c .left-of .result) ∙ l .inv .0,
+      length-set (l .left) (l .i) (c .left-of .result .0) ∙ l .inv .0,
       omega arith,
       rw (here, l .inv .2)
           (front-next (l .i) all (a .left .now) 0 (omega (arith, staying-length (leaves (a .w)) n (a .book .now))) (omega arith)),

@@ -18,13 +18,13 @@ loop-holds : tie.Need-loop-holds Inv-loop μ-loop
 unfolding leftAfter
 loop-holds c = (omega arith, refl, refl)
 
-mul-left-after : tie.Need-mul-left-after Inv-loop μ-loop
-mul-left-after c =
+mul-t6 : tie.Need-mul-t6 Inv-loop μ-loop
+mul-t6 c =
     let start = c .before .before .before .before .before .before in
     let l = c .before .before .loop in omega (arith, start .pre .1 .below (l .i) (c .before .loop-test .taken), start .pre .0, l .inv .1)
 
-slice-read-left-after : tie.Need-slice-read-left-after Inv-loop μ-loop
-slice-read-left-after c =
+slice-read-t12 : tie.Need-slice-read-t12 Inv-loop μ-loop
+slice-read-t12 c =
     let start = c .before .before .before .before .before .before .before in
     let l = c .before .before .before .loop in omega (arith, start .pre .1 .below (l .i) (c .before .before .loop-test .taken), start .pre .0, l .inv .1)
 
@@ -58,6 +58,6 @@ returns c = let a = c .before .before .before .before .before .args in let l = c
 pub take-lots-spec : {M : Type 1} → statement M
 take-lots-spec =
     tie.close
-    (tie.spec Inv-loop μ-loop loop-holds (λ c. search needs) (λ c. search needs) mul-left-after slice-read-left-after
+    (tie.spec Inv-loop μ-loop loop-holds (λ c. search needs) (λ c. search needs) mul-t6 slice-read-t12
     (λ c. search needs) (λ c. search needs) (λ c κs. search needs) mul-left slice-write-left (λ c. search needs)
     (λ c. search needs) loop-again (λ c. search needs) returns)

@@ -23,14 +23,14 @@ counted-at : (c : tie.After-count-submit) (t : Tables) →
 counted-at c t =
     let s = start (clocked c) in
     let f = s .pre .0 in
-    counted-is (tables s t) (s .args .e) (f .0) (f .1) (f .2) (f .3) (s .args .crossing) (s .pre .1 .1 t) _ (clocked c .set-time .ensures) _ (c .count-submit .ensures)
+    counted-is (tables s t) (s .args .e) (f .0) (f .1) (f .2) (f .3) (s .args .crossing .0) (s .pre .1 .1 t) _ (clocked c .set-time .ensures) _ (c .count-submit .ensures)
 
 count-submit-requires : tie.Need-count-submit-requires
 count-submit-requires c κs =
     let k = c .before .before .before in
     let s = start k in
     let f = s .pre .0 in
-    countable (tables s zeroTables) (s .args .e) (f .0) (f .1) (f .2) (f .3) (s .args .crossing) (s .pre .1 .1 zeroTables) _ (k .set-time .ensures)
+    countable (tables s zeroTables) (s .args .e) (f .0) (f .1) (f .2) (f .3) (s .args .crossing .0) (s .pre .1 .1 zeroTables) _ (k .set-time .ensures)
 
 place-order-requires : tie.Need-place-order-requires
 place-order-requires c κs =
@@ -39,7 +39,7 @@ place-order-requires c κs =
     let f = s .pre .0 in
     let rows = s .pre .1 .0 in
     let o = clocked k .before .before .order-of .ensures (tables s zeroTables) in
-    placed (tables s zeroTables) (s .args .e) (f .0) (f .1) (f .2) (f .3) _ (counted-at k zeroTables) _ o (s .args .crossing) (s .pre .1 .1 zeroTables) (rows .0) (rows .1) (f .4)
+    placed (tables s zeroTables) (s .args .e) (f .0) (f .1) (f .2) (f .3) _ (counted-at k zeroTables) _ o (s .args .crossing .0) (s .pre .1 .1 zeroTables) (rows .0) (rows .1) (f .4)
 
 returns : tie.Need-returns
 returns c =

@@ -12,21 +12,21 @@ use Rattle.submit.proofs.placing.rest_order.Tie as tie
 
 put-order-requires : tie.Need-put-order-requires
 put-order-requires c κs =
-    let at-is-resting = c .before .before .before .before in
+    let at-is-resting = c .before .before .before .before .before in
     let start = at-is-resting .before .before .before in
     (start .pre .2 (rw (← (at-is-resting .is-resting .ensures)) (c .before .before .before .if1 .taken)), start .pre .1)
 
 add-head : tie.Need-add-head
 add-head c =
     let at-if1 = c .before .before .before .before .before .before in
-    let at-is-resting = at-if1 .before in
+    let at-is-resting = at-if1 .before .before in
     let start = at-is-resting .before .before .before in
     omega (arith, start .pre .2 (rw (← (at-is-resting .is-resting .ensures)) (at-if1 .if1 .taken)))
 
 returns : tie.Need-returns
 returns c =
     let at-if1 = c .before .before .before .before .before .before in
-    let at-is-resting = at-if1 .before in
+    let at-is-resting = at-if1 .before .before in
     let start = at-is-resting .before .before .before in
     let a = start .args in (
       rw (← (at-is-resting .is-resting .ensures), at-if1 .if1 .taken) refl,
@@ -35,7 +35,7 @@ returns c =
     )
 
 returns-2 : tie.Need-returns-2
-returns-2 c = (rw (← (c .before .is-resting .ensures), c .if1 .left) refl, rw (← (c .before .is-resting .ensures), c .if1 .left) refl)
+returns-2 c = (rw (← (c .before .before .is-resting .ensures), c .if1 .left) refl, rw (← (c .before .before .is-resting .ensures), c .if1 .left) refl)
 
 pub rest-order-spec : {M : Type 1} → statement M
 rest-order-spec =

@@ -16,9 +16,9 @@ worth-of-requires c κs =
     let p = start .pre in
     deals-fit _ _ _ _ (p .0) _ _ _ _ _ (p .1) (at-match-orders .match-orders .kept .1 .1 .1 .0) (p .2) (at-match-orders .match-orders .ensures)
 
-sub-add-dealt : tie.Need-sub-add-dealt
-sub-add-dealt c =
-    let at-match-orders = c .before .before .before .before .before .before .before .before .before in
+sub-t18 : tie.Need-sub-t18
+sub-t18 c =
+    let at-match-orders = c .before .before .before .before .before .before .before .before in
     let start = at-match-orders .before .before .before .before .before .before .before .before .before in
     let p = start .pre in
     left-most _ _ _ _ (p .0) _ _ _ _ _ (p .1) (at-match-orders .match-orders .kept .1 .1 .1 .0) (p .2) (at-match-orders .match-orders .ensures)
@@ -55,5 +55,5 @@ returns c =
 pub settle-spec : {M : Type 1} → statement M
 settle-spec =
     tie.close
-    (tie.spec match-orders-requires worth-of-requires sub-add-dealt add-dealt-requires keep-orders-requires
+    (tie.spec match-orders-requires worth-of-requires sub-t18 add-dealt-requires keep-orders-requires
     (λ c. search needs) (λ c. search needs) (λ c. search needs) (λ c. search needs) (λ c. search needs) returns)

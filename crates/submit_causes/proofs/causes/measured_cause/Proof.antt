@@ -20,16 +20,16 @@ tables s t = withHead (s .args .head .now) (withRows (s .args .lots .now) (t .va
 abbrev Past : ℕ → tie.Start → Type 0
 Past n s = (t : Tables) (b o : Outcome Tables) →
     let a = s .args in
-    let causes = measuredCauses (a .found .own) (a .found .lots) (tables s t) (a .e) in o ≡ decide (drop n causes) (tables s t) b → o ≡ decide causes (tables s t) b
+    let causes = measuredCauses (a .found .own .0) (a .found .lots .0) (tables s t) (a .e) in o ≡ decide (drop n causes) (tables s t) b → o ≡ decide causes (tables s t) b
 
 above : (c : tie.After-is-above) (t : Tables) →
     let s = c .before .before .before .before .before in
     let e = s .args .e in
-    ltZ (pos (limit (tables s t) (e .member))) (mirrored (e .side) (lotsAt (tables s t) (e .contract) (e .member)) +ℤ pos (s .args .found .own + e .lots .0)) ≡ c .is-above .result
+    ltZ (pos (limit (tables s t) (e .member))) (mirrored (e .side) (lotsAt (tables s t) (e .contract) (e .member)) +ℤ pos (s .args .found .own .0 + e .lots .0)) ≡ c .is-above .result
 above c t =
     let s = c .before .before .before .before .before in
     let e = s .args .e in
-    ap (λ z. ltZ (pos (limit (tables s t) (e .member))) (z +ℤ pos (s .args .found .own + e .lots .0))) (sym (c .before .before .position .ensures .0)) ∙ sym (c .is-above .ensures)
+    ap (λ z. ltZ (pos (limit (tables s t) (e .member))) (z +ℤ pos (s .args .found .own .0 + e .lots .0))) (sym (c .before .before .position .ensures .0)) ∙ sym (c .is-above .ensures)
 
 past-limit : (c : tie.Else1) → Past 1 (c .before .before .before .before .before .before)
 past-limit c t b o h = rw (above (c .before) t, c .if1 .left) h

@@ -8,11 +8,11 @@ use Rattle.submit_causes.proofs.position.is_above.Tie as tie
 
 add-result : tie.Need-add-result
 add-result c =
-    let a = c .before .args in
-    rw (rd-pos (a .more) (omega arith), ← back (pos (a .more)) (omega arith)) (add-ok (a .p .0) (pos (a .more)) (omega arith))
+    let a = c .before .before .before .args in
+    rw (rd-pos (a .more .0) (omega arith), ← back (pos (a .more .0)) (omega arith)) (add-ok (a .net .0) (pos (a .more .0)) (omega arith))
 
 returns : tie.Need-returns
-returns c = let a = c .before .args in rw (rd-pos (a .limit) (omega arith), sum-is (a .p .0) (a .more) (omega arith))
+returns c = let a = c .before .before .before .args in rw (rd-pos (a .limit .0) (omega arith), sum-is (a .net .0) (a .more .0) (omega arith))
 
 pub is-above-spec : {M : Type 1} → statement M
 is-above-spec =
