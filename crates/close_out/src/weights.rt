@@ -18,7 +18,13 @@ use rules::CloseOutTerms;
 const PER_MILLE: u64 = 1000;
 
 // Weights by days if 1000 L ≥ ratio times the others' lots in the contract; else those lots.
-pub fn find_weights(head: &[u64], lots: &[i64], e: CloseOutTerms, remaining: u64, column: &mut [u64])
+pub fn find_weights(
+    head: &[u64],
+    lots: &[i64],
+    e: CloseOutTerms,
+    remaining: u64,
+    column: &mut [u64],
+)
     requires { ⌜ HeadFit (now head) × RowsFit (membersIn (now head)) mostLotsRun (now lots) × (length (now column) ≡ membersIn (now head)) ⌝ }
     requires { ⌜ (e .contract < contractCount) × (e .ratio ≤ mostRatio) × (remaining ≤ mostMembers * mostLotsRun) ⌝ }
     ensures { λ _. ⌜ ((t : Tables) (v : List ℤ) → lotsRemaining (withHead (now (head .entry)) (withRows (now (lots .entry)) v t)) (e .contract) ≡ remaining → now (column .exit)

@@ -108,8 +108,7 @@ fn match_levels(
                 k,
                 best,
                 Lots(wanted),
-            )
-            .0;
+            ).0;
             k += 1;
             if wanted == 0 {
                 break 'levels;

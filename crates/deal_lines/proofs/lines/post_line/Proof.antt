@@ -12,17 +12,16 @@ add-to-row-requires c κs =
     let first = c .before .before .before .before .before in
     let pre = first .pre in
     let l = first .args .line in
-    let signed = c .before .before .before .with-sign in
-    (
+    let signed = c .before .before .before .with-sign in (
       (omega arith, omega (arith, signed .ensures .1, pre .0 .0 .within (l .contract) (l .member) (omega arith) (omega arith))),
       (
         omega arith,
         rw (c .times .ensures, abs-times (signed .result .0) (pos (l .price .0)), signed .ensures .1)
-        (omega (
-          arith,
-          mul-le-mul (pre .1 .4) (pre .1 .3),
-          pre .0 .1 .within (l .contract) (l .member) (omega arith) (omega arith),
-        )),
+            (omega (
+              arith,
+              mul-le-mul (pre .1 .4) (pre .1 .3),
+              pre .0 .1 .within (l .contract) (l .member) (omega arith) (omega arith),
+            )),
       ),
     )
 
