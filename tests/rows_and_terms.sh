@@ -30,7 +30,7 @@ sed -i 's/0 ∷ 101 ∷ \[\], 102 ∷ \[\]/0 ∷ 102 ∷ [], 103 ∷ []/' crates
 # One contract more has five prices and 32 rows.
 sed -i -e 's/510/515/g' -e 's/3264/3296/g' crates/range_examples/specs/Fresh.antt crates/range_examples/specs/Lengths.antt
 sed -i -e 's/509/514/' -e 's/3263/3295/' crates/range_examples/specs/Lengths.antt
-sed -i -e '5s/^ 3$/submit 86399 0 102 buy resting 1000000 1 0 0 0 wrote 15 again/' \
-  -e '21s/^ 3$/limits 102 1 1000000 0 0 0 wrote 10 again/' \
-  -e '41s/^ 3$/close-out 102 1000 0 0 0 wrote 4 again/' crates/codec_cases/stdout
+sed -i -e '5s/^ 3$/kind 1 86399 0 102 0 0 1000000 1 0 0 0 wrote 15 again/' \
+  -e '21s/^ 3$/kind 3 102 1 1000000 0 0 0 wrote 10 again/' \
+  -e '41s/^ 3$/kind 6 102 1000 0 0 0 wrote 4 again/' crates/codec_cases/stdout
 rt check

@@ -12,6 +12,7 @@ ghost use Rattle.contract_phases.specs.Phases.{closingPhase, closes};
 ghost use Rattle.reference_price.specs.Columns.{BookReads};
 use contract_phases::CLOSED;
 use contract_phases::CLOSING;
+use rules::Lots;
 use rules::Order;
 use rules::layout::ORDER_COUNT;
 use rules::layout::ORDERS;
@@ -26,13 +27,13 @@ fn phase_at(column: &[u64], contract: usize) -> u64
     column[contract]
 }
 
-fn left_of(o: Order, phase: u64) -> u64
-    ensures { λ r. ⌜ r ≡ cond (eqb phase closingPhase) 0 (o .lots .0) ⌝ }
+fn left_of(o: Order, phase: u64) -> Lots
+    ensures { λ r. ⌜ r .0 ≡ cond (eqb phase closingPhase) 0 (o .lots .0) ⌝ }
 {
     if phase == CLOSING {
-        return 0;
+        return Lots(0);
     }
-    o.lots.0
+    o.lots
 }
 
 // What is left of each order: nothing of those of a closing contract.
@@ -44,7 +45,7 @@ fn write_left(book: &[u64], column: &[u64], left: &mut [u64])
     while i < left.len() {
         let o = order_book::order_at(book, i);
         let phase = phase_at(column, o.contract as usize);
-        left[i] = left_of(o, phase);
+        left[i] = left_of(o, phase).0;
         i += 1;
     }
 }

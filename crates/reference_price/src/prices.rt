@@ -13,7 +13,9 @@ use contract_phases::CLOSED;
 use contracts::contract_of;
 use contracts::contracts_in;
 use rules::ContractKind;
+use rules::Kurus;
 use rules::Lots;
+use rules::Worth;
 use rules::layout::CONTRACTS;
 use rules::layout::DAY_LOTS;
 use rules::layout::DAY_VALUE;
@@ -30,28 +32,35 @@ fn rounded(n: u64, d: u64) -> u64
 
 // The GGF where fewer lots than the threshold were dealt, from the best buy and the best sell that quote, each 0 where none
 // does.
-fn quoted_price(lots: u64, value: u64, former: u64, buy: u64, sell: u64) -> u64
-    requires { ⌜ (lots ≤ mostLotsRun) × (value ≤ mostPrice * mostLotsRun) × (buy ≤ mostPrice) × (sell ≤ mostPrice) ⌝ }
-    ensures { λ r. ⌜ r ≡ quotedFrom lots value former buy sell ⌝ }
+fn quoted_price(lots: Lots, worth: Worth, former: Kurus, buy: Kurus, sell: Kurus) -> Kurus
+    requires { ⌜ (lots .0 ≤ mostLotsRun) × (worth .0 ≤ mostPrice * mostLotsRun) × (buy .0 ≤ mostPrice) × (sell .0 ≤ mostPrice) ⌝ }
+    ensures { λ r. ⌜ r .0 ≡ quotedFrom (lots .0) (worth .0) (former .0) (buy .0) (sell .0) ⌝ }
 {
-    if (buy == 0) | (sell == 0) {
+    if (buy.0 == 0) | (sell.0 == 0) {
         return former;
     }
-    let both = buy + sell;
-    if 0 < lots {
-        return rounded(6 * value + lots * both, 8 * lots);
+    let both = Kurus(buy.0 + sell.0);
+    if 0 < lots.0 {
+        return Kurus(rounded(6 * worth.0 + lots.times(both).0, 8 * lots.0));
     }
-    rounded(both, 2)
+    Kurus(rounded(both.0, 2))
 }
 
-fn reference_price(threshold: Lots, lots: u64, value: u64, former: u64, buy: u64, sell: u64) -> u64
-    requires { ⌜ (1 ≤ threshold .0) × (lots ≤ mostLotsRun) × (value ≤ mostPrice * mostLotsRun) × (buy ≤ mostPrice) × (sell ≤ mostPrice) ⌝ }
-    ensures { λ r. ⌜ r ≡ priceFrom (threshold .0) lots value former buy sell ⌝ }
+fn reference_price(
+    threshold: Lots,
+    lots: Lots,
+    worth: Worth,
+    former: Kurus,
+    buy: Kurus,
+    sell: Kurus,
+) -> Kurus
+    requires { ⌜ (1 ≤ threshold .0) × (lots .0 ≤ mostLotsRun) × (worth .0 ≤ mostPrice * mostLotsRun) × (buy .0 ≤ mostPrice) × (sell .0 ≤ mostPrice) ⌝ }
+    ensures { λ r. ⌜ r .0 ≡ priceFrom (threshold .0) (lots .0) (worth .0) (former .0) (buy .0) (sell .0) ⌝ }
 {
-    if threshold.0 <= lots {
-        return rounded(value, lots);
+    if threshold.0 <= lots.0 {
+        return Kurus(rounded(worth.0, lots.0));
     }
-    quoted_price(lots, value, former, buy, sell)
+    quoted_price(lots, worth, former, buy, sell)
 }
 
 fn write_ggf(prices: &mut [u64], buys: &[u64], sells: &[u64], contract: usize)
@@ -63,13 +72,13 @@ fn write_ggf(prices: &mut [u64], buys: &[u64], sells: &[u64], contract: usize)
     let threshold = kind.threshold();
     let ggf = reference_price(
         threshold,
-        prices[at + DAY_LOTS],
-        prices[at + DAY_VALUE],
-        prices[at + GGF],
-        buys[contract],
-        sells[contract],
+        Lots(prices[at + DAY_LOTS]),
+        Worth(prices[at + DAY_VALUE]),
+        Kurus(prices[at + GGF]),
+        Kurus(buys[contract]),
+        Kurus(sells[contract]),
     );
-    prices[at + GGF] = ggf;
+    prices[at + GGF] = ggf.0;
 }
 
 // Writes the GGF of a contract that is still to close if more of its kind can be open. The answer is how many more can be then.

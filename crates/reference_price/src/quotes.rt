@@ -7,6 +7,7 @@ ghost use Rattle.rules.specs.Ranges.{contractCount, lastSecond};
 ghost use Rattle.tables.specs.Fit.{ordersIn};
 ghost use Rattle.reference_price.specs.Columns.{BookReads, quotesAt, bestPrice, betterQuote};
 use rules::DayNo;
+use rules::Kurus;
 use rules::Order;
 use rules::Side;
 use rules::ranges::SECONDS_TO_QUOTE;
@@ -24,21 +25,21 @@ fn does_quote(o: Order, side: Side, day: DayNo, time: u64) -> bool
     is_same_side(own, side) & (entered & (threshold.0 <= o.lots.0))
 }
 
-fn better_quote(side: Side, price: u64, held: u64) -> u64
-    ensures { λ r. ⌜ r ≡ betterQuote side price held ⌝ }
+fn better_quote(side: Side, price: Kurus, held: Kurus) -> Kurus
+    ensures { λ r. ⌜ r .0 ≡ betterQuote side (price .0) (held .0) ⌝ }
 {
-    if held == 0 {
+    if held.0 == 0 {
         return price;
     }
     match side {
         Side::Buy => {
-            if held < price {
+            if held.0 < price.0 {
                 return price;
             }
             held
         }
         Side::Sell => {
-            if price < held {
+            if price.0 < held.0 {
                 return price;
             }
             held
@@ -53,7 +54,7 @@ fn note_quote(quotes: &mut [u64], o: Order, side: Side, day: DayNo, time: u64)
 {
     if does_quote(o, side, day, time) {
         let contract = o.contract as usize;
-        quotes[contract] = better_quote(side, o.price.0, quotes[contract]);
+        quotes[contract] = better_quote(side, o.price, Kurus(quotes[contract])).0;
     }
 }
 

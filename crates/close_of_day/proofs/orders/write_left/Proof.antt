@@ -33,9 +33,9 @@ loop-again c =
     let n = length (a .left .now) in
     let p : Order → Bool = λ o. closes (a .column .now) (o .contract) in
     let all = staying p (ordersIn n (a .book .now)) in
-    let here : c .left-of .result ≡ getD all (l .i) 0
+    let here : c .left-of .result .0 ≡ getD all (l .i) 0
     = rw (c .before .phase-at .ensures) at (c .left-of .ensures) ∙ ap (λ o. cond (p o) 0 (o .lots .0)) (c .before .before .order-at .ensures) ∙ sym (staying-at p n (a .book .now) (l .i) (omega arith)) in (
-      length-set (l .left) (l .i) (c .left-of .result) ∙ l .inv .0,
+      length-set (l .left) (l .i) (c .left-of .result .0) ∙ l .inv .0,
       omega arith,
       rw (here, l .inv .2) (front-next (l .i) all (a .left .now) 0 (omega (arith, staying-length p n (a .book .now))) (omega arith)),
     )

@@ -10,25 +10,32 @@ returns : tie.Need-returns
 unfolding quotedFrom
 returns c = rw (c .if1 .taken)
 
-mul-rounded-2 : tie.Need-mul-rounded-2
-mul-rounded-2 c = let a = c .before .before .args in omega (arith, quoted-most (a .lots) (a .buy) (a .sell) (omega arith) (omega arith) (omega arith))
+times-requires : tie.Need-times-requires
+times-requires c κs =
+    let a = c .before .before .before .before .before .before .before .before .args in
+    omega (arith, quoted-most (a .lots .0) (a .buy .0) (a .sell .0) (omega arith) (omega arith) (omega arith))
 
 add-rounded : tie.Need-add-rounded
-add-rounded c = let a = c .before .before .args in omega (arith, quoted-most (a .lots) (a .buy) (a .sell) (omega arith) (omega arith) (omega arith))
+add-rounded c =
+    let a = c .before .before .before .before .before .before .before .before .before .before .args in
+    omega (arith, c .before .times .ensures, quoted-most (a .lots .0) (a .buy .0) (a .sell .0) (omega arith) (omega arith) (omega arith))
 
 rounded-requires : tie.Need-rounded-requires
-rounded-requires c κs = let a = c .before .before .args in let most = quoted-most (a .lots) (a .buy) (a .sell) (omega arith) (omega arith) (omega arith) in (omega arith, omega arith, omega arith)
+rounded-requires c κs =
+    let a = c .before .before .before .before .before .before .before .before .before .before .before .args in
+    let times = c .before .before .times .ensures in
+    let most = quoted-most (a .lots .0) (a .buy .0) (a .sell .0) (omega arith) (omega arith) (omega arith) in (omega arith, omega arith, omega arith)
 
 returns-2 : tie.Need-returns-2
 unfolding quotedFrom
-returns-2 c = rw (c .before .before .if1 .left, lt-ltb _ _ (c .before .if2 .taken)) (c .rounded .ensures)
+returns-2 c = rw (c .before .before .before .before .before .before .before .before .before .if1 .left, lt-ltb _ _ (c .before .before .before .before .before .if2 .taken)) (rw (c .before .before .before .times .ensures) at (c .rounded .ensures))
 
 returns-3 : tie.Need-returns-3
 unfolding quotedFrom
-returns-3 c = rw (c .before .before .if1 .left, le-ltb _ _ (c .before .if2 .left)) (c .rounded2 .ensures)
+returns-3 c = rw (c .before .before .before .before .before .if1 .left, le-ltb _ _ (c .before .if2 .left)) (c .rounded2 .ensures)
 
 pub quoted-price-spec : {M : Type 1} → statement M
 quoted-price-spec =
     tie.close
-    (tie.spec returns (λ c. search needs) (λ c. search needs) mul-rounded-2 add-rounded (λ c. search needs)
+    (tie.spec returns (λ c. search needs) (λ c. search needs) times-requires add-rounded (λ c. search needs)
     rounded-requires returns-2 (λ c κs. search needs) returns-3)
