@@ -1,5 +1,5 @@
 -- Document 01, "The two accounts of demand 3": tables, logs and days of which the statement does not hold. Each is refused by one part of
--- it, so that the part is asked of every hour and member, and of quarters as well as years.
+-- it, so that the part is asked of later hours and other members too, of value beside lots, and of quarters beside years.
 use Prim.Native.Nat.{ℕ, _≤_, _<_}
 use native.Mathlib.Omega.{arith}
 use mathlib.Core.Path.{_≡_, ap}
@@ -8,7 +8,7 @@ use lib.ListN.{take, drop, set}
 use lib.IntN.{pos, natAbs}
 use Rattle.arith.specs.Ints.{sum}
 use Rattle.rules.specs.Ledger.{Tables, Line, withRows}
-use Rattle.rules.specs.Accounts.{Agrees, lots, after, log, engineAccount, entered, otherAccount}
+use Rattle.rules.specs.Accounts.{Agrees, lots, value, after, log, engineAccount, entered, otherAccount}
 use Rattle.rules.specs.Computed.{computed}
 use Rattle.rules.specs.ExampleRecords.{line}
 use Rattle.account_examples.specs.TwoAccounts.{header, start, records, calls}
@@ -29,6 +29,16 @@ lines-missing a =
     let from : 0 ≤ 10199 = omega arith in
     let to : 10199 < 52608 = omega arith in
     let differ : _≡_ {A = ℕ} 0 1 = ap natAbs (a .same lots 1 10199 member (from, to)) in
+    absurd (omega arith)
+
+-- January's value of member 0, place 704, set to 0: in January's first hour the rows have no value of it, and the lines have -2000.
+value-missing : Agrees header (withRows (atEnd .lots) (set (atEnd .value) 704 (pos 0)) atEnd) wholeLog 364 → ⊥
+unfolding computed sum engineAccount entered otherAccount after log calls records start header atEnd wholeLog
+value-missing a =
+    let member : 0 < 3 = omega arith in
+    let from : 0 ≤ 8784 = omega arith in
+    let to : 8784 < 52608 = omega arith in
+    let differ : _≡_ {A = ℕ} 0 2000 = ap natAbs (a .same value 0 8784 member (from, to)) in
     absurd (omega arith)
 
 -- The tables before the last close, on the day after it: the first quarter has closed, and a lot of member 1 is left in it.

@@ -45,17 +45,17 @@ fn with_sign(side: Side, lots: Lots) -> SignedLots
     }
 }
 
-fn add_to_row(lots: &mut [i64], value: &mut [i64], at: usize, more: SignedLots, worth: Value)
+fn add_to_row(lots: &mut [i64], value: &mut [i64], at: usize, more: SignedLots, more_value: Value)
     requires { ⌜ (at < length (now lots)) × (natAbs (getD (now lots) at (pos 0)) + natAbs (more .0) < 2 ^ 63) ⌝ }
-    requires { ⌜ (at < length (now value)) × (natAbs (getD (now value) at (pos 0)) + natAbs (worth .0) < 2 ^ 63) ⌝ }
+    requires { ⌜ (at < length (now value)) × (natAbs (getD (now value) at (pos 0)) + natAbs («more_value» .0) < 2 ^ 63) ⌝ }
     ensures { λ _. ⌜ now (lots .exit) ≡ set (now (lots .entry)) at (getD (now (lots .entry)) at (pos 0) +ℤ more .0) ⌝ }
-    ensures { λ _. ⌜ now (value .exit) ≡ set (now (value .entry)) at (getD (now (value .entry)) at (pos 0) +ℤ worth .0) ⌝ }
+    ensures { λ _. ⌜ now (value .exit) ≡ set (now (value .entry)) at (getD (now (value .entry)) at (pos 0) +ℤ «more_value» .0) ⌝ }
 {
     let n = lots[at];
     let x = more.0;
     lots[at] = n + x;
     let v = value[at];
-    let y = worth.0;
+    let y = more_value.0;
     value[at] = v + y;
 }
 

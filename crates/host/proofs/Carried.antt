@@ -59,6 +59,7 @@ every-making t header number u e =
       refused = refused-makes-nothing t header;
       lengths = making-keeps-lengths t header;
       surplus = λ a. let well = made-well t header (eqb-true (replyOf (makeSpec t header .answer) .number) 0 a) in making-leaves-surplus header t (passes _ (well .1)) (passes _ (ap not (well .0))) .0;
+      book = λ a. let well = made-well t header (eqb-true (replyOf (makeSpec t header .answer) .number) 0 a) in making-leaves-surplus header t (passes _ (well .1)) (passes _ (ap not (well .0))) .1;
     })
     (record { number = number; detail = 0; after = u }) e
 

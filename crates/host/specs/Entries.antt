@@ -59,6 +59,7 @@ pub record OfMaking (t : Tables) (header : List ℕ) (o : Outcome Tables) : Type
   pub refused : LeavesIfRefused t o
   pub lengths : SameLengths t (o .after)
   pub surplus : isAccepted (o .answer) ≡ true → let h = headerOf header in SurplusUntouched (h .members) (length (h .holidays)) t (o .after)
+  pub book : isAccepted (o .answer) ≡ true → o .after .book ≡ t .book
 
 abbrev pub EveryRecord : Type 0
 EveryRecord = (t : Tables) (bytes : List ℕ) (number detail : ℕ) (u : Tables) → Applies t bytes number detail u → GotAs (OfRecord t bytes) number detail u

@@ -62,7 +62,7 @@ ranges =
     ∷ (lent, head 4, 0 ∷ 86399 ∷ [], 86400 ∷ [])
     ∷ (lent, head 5, 7 ∷ 4000000000 ∷ [], 6 ∷ 4000000001 ∷ [])
     ∷ (lent, head 6, 4 ∷ 5000000 ∷ [], 3 ∷ 5000001 ∷ [])
-    ∷ (with257Orders, head 7, 1 ∷ [], 257 ∷ [])
+    ∷ (with257Orders, head 7, 0 ∷ 256 ∷ [], 257 ∷ [])
     -- limit, mark and submits in the present second of the first and the last member; what a fourth has is surplus
     ∷ (lent, head 128, 0 ∷ 100000 ∷ [], 100001 ∷ [])
     ∷ (lent, head 130, 0 ∷ 100000 ∷ [], 100001 ∷ [])

@@ -4,7 +4,7 @@ ghost use Prim.Native.Nat.{_*_, _^_, _≤_, _<_};
 ghost use lib.IntN.{pos, natAbs, _*ℤ_};
 ghost use Rattle.rules.specs.Ranges.{mostPrice, mostLotsRun};
 
-// A number of lots: of an order, a leg or a deal, M, the lots run. One lot is 0.1 MWh in every hour of a contract's period.
+// A number of lots: of an order, a leg or a deal, and M. One lot is 0.1 MWh in every hour of a contract's period.
 pub struct Lots(pub u64);
 
 // Lots with the sign of their side, above 0 for a buy: the lots of a row and of a deal line.

@@ -9,13 +9,13 @@ add-lots : tie.Need-add-lots
 add-lots c = let first = c .before .before in let a = first .args in add-ok (getD (a .lots .now) (a .at) (pos 0)) (a .more .0) (first .pre .0 .1)
 
 add-value : tie.Need-add-value
-add-value c = let first = c .before .before .before .before in let a = first .args in add-ok (getD (a .value .now) (a .at) (pos 0)) (a .worth .0) (first .pre .1 .1)
+add-value c = let first = c .before .before .before .before in let a = first .args in add-ok (getD (a .value .now) (a .at) (pos 0)) (a .more-value .0) (first .pre .1 .1)
 
 returns : tie.Need-returns
 returns c =
     let first = c .before .before .before .before in
     let a = first .args in
-    (rw (add-is (getD (a .lots .now) (a .at) (pos 0)) (a .more .0) (first .pre .0 .1)), rw (add-is (getD (a .value .now) (a .at) (pos 0)) (a .worth .0) (first .pre .1 .1)))
+    (rw (add-is (getD (a .lots .now) (a .at) (pos 0)) (a .more .0) (first .pre .0 .1)), rw (add-is (getD (a .value .now) (a .at) (pos 0)) (a .more-value .0) (first .pre .1 .1)))
 
 pub add-to-row-spec : {M : Type 1} → statement M
 add-to-row-spec =
