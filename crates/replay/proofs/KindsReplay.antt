@@ -11,7 +11,7 @@ use Rattle.rules.specs.declared.event.Event.the-variants.{Submit, Cancel, DayLi
 use Rattle.rules.specs.declared.event.Leg.{Leg}
 use Rattle.rules.specs.declared.order.Order.{Order}
 use Rattle.rules.specs.Ranges.{mostMembers}
-use Rattle.rules.specs.Ledger.{Tables, members, holidayCount, orders, timed}
+use Rattle.rules.specs.Ledger.{Tables, members, holidayCount, orders}
 use Rattle.rules.specs.Records.{eventSound}
 use Rattle.rules.specs.Matching.{withDeals, counted, submitMatched, submitLines, submitOrders, submitBooked}
 use Rattle.rules.specs.Synthetic.{proposalLines, usedByLegs, proposalBooked}
@@ -21,7 +21,7 @@ use Rattle.rules.proofs.SoundEvents.{submission, new-day-limits, default-member
 use Rattle.rules.proofs.SoundTables.{Long, Undamaged}
 use Rattle.accounts.proofs.CloseOutLines.{close-out-fits}
 use Rattle.accounts.proofs.EachKind.{NoCause}
-use Rattle.accounts.proofs.KindsKeep.{Keeps, kind-keeps}
+use Rattle.accounts.proofs.KindsKeep.{kind-keeps}
 use Rattle.accounts.proofs.OrdersAfter.{submit-orders, cancel-orders, proposal-orders, default-orders}
 use Rattle.accounts.proofs.Proposals.{proposal-fits}
 use Rattle.accounts.proofs.Runs.{sound-of}
