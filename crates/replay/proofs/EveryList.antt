@@ -7,18 +7,14 @@ use lib.IntN.{ℤ}
 use Rattle.arith.proofs.Tests.{true-or}
 use Rattle.rules.specs.declared.answer.Answer.{Answer}
 use Rattle.rules.specs.declared.answer.Answer.the-variants.{RecordUnsound}
-use Rattle.rules.specs.declared.event.Event.{Event}
-use Rattle.rules.specs.declared.event.Event.the-variants.{Submit, Cancel, DayLimits, Proposal, Default, CloseOut, CloseOfDay}
-use Rattle.rules.specs.declared.event.Leg.{Leg}
 use Rattle.rules.specs.declared.event.Reading.{Reading}
 use Rattle.rules.specs.declared.event.Reading.the-variants.{Sound, Unsound}
 use Rattle.rules.specs.Answers.{Outcome, Cause, decide}
 use Rattle.rules.specs.Ledger.{Tables, members, holidayCount, orderCount, withLines, ledgerShort, linesShort}
-use Rattle.rules.specs.Records.{eventSound, legsOf, readOf}
+use Rattle.rules.specs.Records.{legsOf, readOf}
 use Rattle.rules.specs.Refusals.{unsound, kindCauses, kindBooked, eventSpec, readingSpec, applySpec}
 use Rattle.rules.specs.Accounts.{Column, lots, value, row, Call, callSpec, after, isAccepted, linesOf}
 use Rattle.rules.specs.Ranges.{contractCount}
-use Rattle.rules.proofs.SoundEvents.{submission, new-day-limits, default-member, close-out-contract}
 use Rattle.rules.proofs.SoundTables.{Long, Undamaged, undamaged}
 use Rattle.accounts.proofs.EachKind.{Refuses, causes-refuse, read-sound}
 use Rattle.accounts.proofs.LengthsStay.{lengths-stay}
@@ -28,8 +24,8 @@ use Rattle.replay.specs.Replay.{SameRecord, answered, ReplaysAlike}
 use Rattle.replay.proofs.Same.{same-members}
 use Rattle.replay.proofs.Damage.{same-unsound}
 use Rattle.replay.proofs.Alike.{Alike, alike-of, same-of}
-use Rattle.replay.proofs.EachKind.{OutcomesAlike, submit-causes, submit-alike, cancel-causes, cancel-alike, limits-causes, limits-alike, proposal-causes, proposal-alike}
-use Rattle.replay.proofs.EachKind.{default-causes, default-alike, close-out-causes, close-out-alike, close-causes, close-alike}
+use Rattle.replay.proofs.EachKind.{OutcomesAlike}
+use Rattle.replay.proofs.KindsReplay.{kind-replays}
 
 -- ---- one record
 module _ {n k q : ℕ} {t u : Tables} (a : Alike n k q t u) where
@@ -45,31 +41,13 @@ module _ (t u : Tables) (s : SameButSurplus t u) (a : Undamaged t) (l : Long u) 
   start : Alike (members t) (holidayCount t) (orderCount t) t u
   start = alike-of t u s (a .long) l
 
-  kind-causes : (e : Event) (legs : List Leg) → eventSound (members t) e legs ≡ true → kindCauses t e legs ≡ kindCauses u e legs
-  kind-causes (Submit e) legs q = submit-causes t u s a l e (submission (members t) e legs q)
-  kind-causes (Cancel e) legs q = cancel-causes t u s a l e
-  kind-causes (DayLimits e) legs q = limits-causes t u s a l e
-  kind-causes (Proposal n) legs q = proposal-causes t u s a l legs
-  kind-causes (Default m) legs q = default-causes t u s a l m (default-member (members t) m legs q)
-  kind-causes (CloseOut e) legs q = close-out-causes t u s a l e (close-out-contract (members t) e legs q)
-  kind-causes (CloseOfDay n) legs q = close-causes t u s a l n
-
-  kind-alike : (e : Event) (legs : List Leg) → eventSound (members t) e legs ≡ true → OutcomesAlike (members t) (holidayCount t) (kindBooked t e legs) (kindBooked u e legs)
-  kind-alike (Submit e) legs q = submit-alike t u s a l e (submission (members t) e legs q)
-  kind-alike (Cancel e) legs q = cancel-alike t u s a l e
-  kind-alike (DayLimits e) legs q = limits-alike t u s a l e (new-day-limits (members t) e legs q .contract<)
-  kind-alike (Proposal n) legs q = proposal-alike t u s a l legs
-  kind-alike (Default m) legs q = default-alike t u s a l m (default-member (members t) m legs q)
-  kind-alike (CloseOut e) legs q = close-out-alike t u s a l e (close-out-contract (members t) e legs q)
-  kind-alike (CloseOfDay n) legs q = close-alike t u s a l n
-
   reading-alike : (x : Reading) (bytes : List ℕ) → readOf (members t) bytes ≡ x → OutcomesAlike (members t) (holidayCount t) (readingSpec t x (legsOf bytes)) (readingSpec u x (legsOf bytes))
   unfolding readingSpec eventSpec
   reading-alike (Sound e) bytes r =
       let legs = legsOf bytes in
-      let q = read-sound (members t) bytes e r in
-      subst (λ causes. OutcomesAlike (members t) (holidayCount t) (decide (kindCauses t e legs) t (kindBooked t e legs)) (decide causes u (kindBooked u e legs))) (kind-causes e legs q)
-      (decide-alike start (kindCauses t e legs) (kindBooked t e legs) (kindBooked u e legs) (causes-refuse t e legs) (kind-alike e legs q))
+      let k = kind-replays e t legs a (read-sound (members t) bytes e r) in
+      subst (λ causes. OutcomesAlike (members t) (holidayCount t) (decide (kindCauses t e legs) t (kindBooked t e legs)) (decide causes u (kindBooked u e legs))) (k .causes u s l)
+      (decide-alike start (kindCauses t e legs) (kindBooked t e legs) (kindBooked u e legs) (causes-refuse t e legs) (k .alike u s l))
   reading-alike Unsound bytes r = refused-alike start RecordUnsound refl
 
 -- the same answer, the same lines, and ledgers that agree but for surplus

@@ -3,9 +3,12 @@ pub mod Damage
 pub mod Alike
 pub mod Closing
 pub mod EachKind
+pub mod SurplusParts
+pub mod SurplusTables
+pub mod Leaves
+pub mod KindsReplay
 pub mod EveryList
 pub mod Making
-pub mod SurplusParts
 pub mod SurplusStays
 pub mod EveryRun
 pub mod PastWritten
