@@ -59,15 +59,15 @@ module _ (c p : ℕ) where
       by-bool (λ b. length (cond b rest (change m z ∷ rest)) ≤ suc (length zs)) (eqb (natAbs z) 0)
       (λ e. omega (arith, changes-few (suc m) zs)) (λ e. omega (arith, changes-few (suc m) zs))
 
-  -- what holds of any change of a member below a + n holds of the lines
-  changes-all : (P : Line → Type 0) (a n : ℕ) (zs : List ℤ) → length zs ≡ n → ((m : ℕ) (z : ℤ) → m < a + n → P (change m z)) → All P (changeLines c p a zs)
+  -- what holds of any change but of nothing, of a member below a + n, holds of the lines
+  changes-all : (P : Line → Type 0) (a n : ℕ) (zs : List ℤ) → length zs ≡ n → ((m : ℕ) (z : ℤ) → m < a + n → 1 ≤ natAbs z → P (change m z)) → All P (changeLines c p a zs)
   unfolding changeLines
   changes-all P a n [] e f = tt
   changes-all P a zero (z ∷ zs) e f = absurd (omega arith)
   changes-all P a (suc n) (z ∷ zs) e f =
       let rest = changeLines c p (suc a) zs in
-      let r = changes-all P (suc a) n zs (omega arith) (λ m y h. f m y (omega arith)) in
-      by-bool (λ b. All P (cond b rest (change a z ∷ rest))) (eqb (natAbs z) 0) (λ _. r) (λ _. (f a z (omega arith), r))
+      let r = changes-all P (suc a) n zs (omega arith) (λ m y h k. f m y (omega arith) k) in
+      by-eqb (λ b. All P (cond b rest (change a z ∷ rest))) (natAbs z) 0 (λ _. r) (λ k. (f a z (omega arith) (omega (arith, k)), r))
 
   -- the lines of three lists of changes
   module _ (xs ys zs : List ℤ) where
@@ -80,9 +80,9 @@ module _ (c p : ℕ) where
     steps-few : length steps ≤ length xs + (length ys + length zs)
     steps-few = simp length-append (omega (arith, changes-few 0 xs, changes-few 0 ys, changes-few 0 zs))
 
-    steps-all : (P : Line → Type 0) (n : ℕ) → length xs ≡ n → length ys ≡ n → length zs ≡ n → ((m : ℕ) (z : ℤ) → m < n → P (change m z)) → All P steps
+    steps-all : (P : Line → Type 0) (n : ℕ) → length xs ≡ n → length ys ≡ n → length zs ≡ n → ((m : ℕ) (z : ℤ) → m < n → 1 ≤ natAbs z → P (change m z)) → All P steps
     steps-all P n x y z f =
-        let lines : (zs : List ℤ) → length zs ≡ n → All P (changeLines c p 0 zs) = λ zs e. changes-all P 0 n zs e (λ m z h. f m z (omega arith)) in
+        let lines : (zs : List ℤ) → length zs ≡ n → All P (changeLines c p 0 zs) = λ zs e. changes-all P 0 n zs e (λ m z h k. f m z (omega arith) k) in
         all-append P (changeLines c p 0 xs) (changeLines c p 0 ys ++ changeLines c p 0 zs) (lines xs x) (all-append P (changeLines c p 0 ys) (changeLines c p 0 zs) (lines ys y) (lines zs z))
 
 -- ---- sums of changes
@@ -208,21 +208,21 @@ module _ (t : Tables) (e : CloseOutTerms) where
       let b = ltb 0 (sumOf (longsRemaining t (e .contract))) in
       taken-net b (taken t e) ∙ ap (signed b) (all-dealt (lotsRemaining t (e .contract)) (weights t e) h)
 
-  -- what holds of any member's line in the contract at its GGF holds of all lines
-  close-out-all : (P : Line → Type 0) → ((m : ℕ) (z : ℤ) → m < members t → P (change (e .contract) (ggf t (e .contract)) m z)) → All P (closeOutLines t e)
+  -- what holds of any member's line of some lots in the contract at its GGF holds of all lines
+  pub close-out-all : (P : Line → Type 0) → ((m : ℕ) (z : ℤ) → m < members t → 1 ≤ natAbs z → P (change (e .contract) (ggf t (e .contract)) m z)) → All P (closeOutLines t e)
   unfolding closeOutLines
   close-out-all P f = steps-all (e .contract) (ggf t (e .contract)) _ _ _ P (members t) (netting-length t (e .contract)) (remaining-length t (e .contract)) taken-length f
 
   -- each line names a contract and a member of the ledger
   pub close-out-fits : e .contract < contractCount → All (Fits (members t)) (closeOutLines t e)
-  close-out-fits h = close-out-all (Fits (members t)) (λ m z l. record { contract< = h; member< = l })
+  close-out-fits h = close-out-all (Fits (members t)) (λ m z l k. record { contract< = h; member< = l })
 
   -- all are of the contract, at its GGF
   pub close-out-contract : All (λ l. l .contract ≡ e .contract) (closeOutLines t e)
-  close-out-contract = close-out-all (λ l. l .contract ≡ e .contract) (λ m z l. refl)
+  close-out-contract = close-out-all (λ l. l .contract ≡ e .contract) (λ m z l k. refl)
 
   pub close-out-price : All (λ l. l .price ≡ ggf t (e .contract)) (closeOutLines t e)
-  close-out-price = close-out-all (λ l. l .price ≡ ggf t (e .contract)) (λ m z l. refl)
+  close-out-price = close-out-all (λ l. l .price ≡ ggf t (e .contract)) (λ m z l k. refl)
 
   -- at most one line a member for each of the three parts
   pub close-out-few : length (closeOutLines t e) ≤ 3 * members t

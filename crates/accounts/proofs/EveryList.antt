@@ -17,7 +17,7 @@ use Rattle.rules.proofs.SoundHeaders.{SoundHeader, header-gives, begun}
 use Rattle.accounts.proofs.Fresh.{counts-of}
 use Rattle.accounts.proofs.Runs.{orders-same}
 use Rattle.accounts.proofs.TwoBookkeepers.{made, known}
-use Rattle.accounts.specs.EveryList.{Uncrossed, NoneDefaulted, NeverCrossed, DefaultedNeverRest, RunIsLogged, DayIsTheLists, GgfNeverLost}
+use Rattle.accounts.specs.EveryList.{Uncrossed, RisingNumbers, NoneDefaulted, NeverCrossed, NumbersRise, DefaultedNeverRest, RunIsLogged, DayIsTheLists, GgfNeverLost}
 use Rattle.accounts.proofs.EachKind.{every-call}
 use Rattle.accounts.proofs.KindsKeep.{kind-keeps}
 use Rattle.accounts.proofs.LotsRun.{run-after}
@@ -48,6 +48,12 @@ pub never-crossed : NeverCrossed
 never-crossed header t calls b long =
     kept-always (λ u. Uncrossed (orders u)) (λ l u a. rw (orders-same u (withLines l u) refl refl) a)
     (every-call (λ u o. Uncrossed (orders u) → Uncrossed (orders (o .after))) (λ u x q a. a) (λ e u legs v q n. kind-keeps e u legs v q n .uncrossed)) header t calls b long
+    (λ f l. rw (fresh-empty header t f l) tt)
+
+pub numbers-rise : NumbersRise
+numbers-rise header t calls b long =
+    kept-always (λ u. RisingNumbers (orders u)) (λ l u a. rw (orders-same u (withLines l u) refl refl) a)
+    (every-call (λ u o. RisingNumbers (orders u) → RisingNumbers (orders (o .after))) (λ u x q a. a) (λ e u legs v q n. kind-keeps e u legs v q n .rising)) header t calls b long
     (λ f l. rw (fresh-empty header t f l) tt)
 
 pub defaulted-never-rest : DefaultedNeverRest

@@ -25,7 +25,7 @@ use Rattle.rules.specs.Refusals.{headSound, pricesSound, isCancelled, kindBooke
 use Rattle.rules.specs.Accounts.{linesOf, dayAfterEvent}
 use Rattle.rules.proofs.SoundEvents.{submission, cancel-time, new-day-limits, proposal, default-member, close-out-contract}
 use Rattle.rules.proofs.SoundTables.{Undamaged}
-use Rattle.accounts.specs.EveryList.{Uncrossed, NoneDefaulted}
+use Rattle.accounts.specs.EveryList.{Uncrossed, RisingNumbers, NoneDefaulted}
 use Rattle.accounts.proofs.Runs as runs
 use Rattle.accounts.proofs.Runs.{Runs, sound-of}
 use Rattle.accounts.proofs.Calls.{Does}
@@ -41,6 +41,8 @@ use Rattle.accounts.proofs.RowsStay.{Posts, within-posted, submit-posts
 use Rattle.accounts.proofs.GgfStays.{Found, submit-found, cancel-found, limits-found, proposal-found, default-found, close-out-found, close-found}
 use Rattle.accounts.proofs.Marks.{submit-marks, cancel-marks, limits-marks, proposal-marks, default-marks, close-out-marks, close-marks}
 use Rattle.accounts.proofs.Crossed.{remain-uncrossed, submit-uncrossed}
+use Rattle.accounts.proofs.Remains.{remain-rising}
+use Rattle.accounts.proofs.Rising.{submit-rising}
 use Rattle.accounts.proofs.Submits.{submit-does}
 use Rattle.accounts.proofs.Proposals.{proposal-does}
 use Rattle.accounts.proofs.OtherKinds.{cancel-does, default-does, limits-does, close-out-does}
@@ -70,9 +72,10 @@ pub record Keeps (e : Event) (t : Tables) (o : Outcome Tables) : Type 0 where
   pub rows : RowsMove (isCloseOfDay e) t o
   -- GGFs that were found
   pub found : Found t (o .after)
-  -- no order of a defaulted member rests, and the book is not crossed
+  -- no order of a defaulted member rests, the book is not crossed, and its numbers rise
   pub marks : NoneDefaulted t → NoneDefaulted (o .after)
   pub uncrossed : Uncrossed (orders t) → Uncrossed (orders (o .after))
+  pub rising : RisingNumbers (orders t) → RisingNumbers (orders (o .after))
   -- what demand 3 asks
   pub does : (h : Header) (d : ℕ) → Runs h d t → Does h d (dayAfterEvent (calendarOf h) d (Sound e)) t o
 
@@ -117,6 +120,7 @@ kind-keeps e t legs u q n = go e q n
           found = submit-found t u e;
           marks = λ a. submit-marks t u a e (f .member<) (n .1 .0);
           uncrossed = submit-uncrossed t u e;
+          rising = submit-rising t u e;
           does = λ h d r. submit-does h d t r s e (not-false _ (n .1 .1 .0)) (f .contract<) (f .member<);
         }
     go (Cancel e) q n =
@@ -131,6 +135,7 @@ kind-keeps e t legs u q n = go e q n
           found = cancel-found t u (e .time) others;
           marks = λ a. cancel-marks t u a (e .time) others;
           uncrossed = remain-uncrossed (cancel-remain t u (e .time) others);
+          rising = remain-rising (cancel-remain t u (e .time) others);
           does = λ h d r. cancel-does h d t r s (e .time) others;
         }
     go (DayLimits e) q n =
@@ -144,6 +149,7 @@ kind-keeps e t legs u q n = go e q n
           found = limits-found t u e;
           marks = λ a. limits-marks t u a _;
           uncrossed = remain-uncrossed (limits-remain t u _);
+          rising = remain-rising (limits-remain t u _);
           does = λ h d r. limits-does h d t r s _;
         }
     go (Proposal i) q n =
@@ -157,6 +163,7 @@ kind-keeps e t legs u q n = go e q n
           found = proposal-found t u legs;
           marks = λ a. proposal-marks t u a legs;
           uncrossed = remain-uncrossed (proposal-remain t u legs);
+          rising = remain-rising (proposal-remain t u legs);
           does = λ h d r. proposal-does h d t r s legs (not-false _ (n .0));
         }
     go (Default m) q n =
@@ -170,6 +177,7 @@ kind-keeps e t legs u q n = go e q n
           found = default-found t u m;
           marks = λ a. default-marks t u a m;
           uncrossed = remain-uncrossed (default-remain t u m);
+          rising = remain-rising (default-remain t u m);
           does = λ h d r. default-does h d t r s m;
         }
     go (CloseOut e) q n =
@@ -183,6 +191,7 @@ kind-keeps e t legs u q n = go e q n
           found = close-out-found t u e;
           marks = λ a. close-out-marks t u a e;
           uncrossed = remain-uncrossed (close-out-remain t u e);
+          rising = remain-rising (close-out-remain t u e);
           does = λ h d r. close-out-does h d t r s e (not-false _ (n .0)) contract< (n .1 .1 .1 .0);
         }
     go (CloseOfDay i) q n = record {
@@ -194,5 +203,6 @@ kind-keeps e t legs u q n = go e q n
       found = close-found t u i;
       marks = λ a. close-marks t u a i;
       uncrossed = remain-uncrossed (close-remain t u i);
+      rising = remain-rising (close-remain t u i);
       does = close-shows t s i (not-false _ (n .1 .0));
     }

@@ -32,12 +32,14 @@ pub mod Places
 pub mod OrdersAfter
 pub mod Complete
 pub mod Crossed
+pub mod Rising
 pub mod Marks
 pub mod LotsRun
 pub mod GgfStays
 pub mod SameLengths
 pub mod KindsKeep
 pub mod LengthsStay
+pub mod LinesSound
 pub mod EveryList
 pub mod ClosedOut
 pub mod StaysSound

@@ -61,6 +61,16 @@ module _ (P : Order → Type 0) where
   legs-rest [] os f h = h
   legs-rest (g ∷ gs) os f h = legs-rest gs (used (g .order) (g .lots .0) os) f (used-all P (g .order) (g .lots .0) os h (λ o p _. f o _ p))
 
+-- what holds of each leg holds of those that name an order
+pub legs-all : (Q : Leg → Type 0) (os : List Order) (gs : List Leg) → All Q gs → All (λ n. Q (n .leg)) (namedLegs os gs)
+unfolding namedLegs
+legs-all Q os [] h = tt
+legs-all Q os (g ∷ gs) h = go (numbered (g .order) os) refl (legs-all Q os gs (h .1))
+  where
+    go : (b : Option Order) → numbered (g .order) os ≡ b → All (λ n. Q (n .leg)) (namedLegs os gs) → All (λ n. Q (n .leg)) (namedLegs os (g ∷ gs))
+    go none e ih = rw (e, namedLegs) ih
+    go (some o) e ih = rw (e, namedLegs) (h .0, ih)
+
 pub mapped-all : {A B : Type 0} (P : B → Type 0) (f : A → B) (l : List A) → All (λ a. P (f a)) l → All P (map f l)
 mapped-all P f [] h = tt
 mapped-all P f (x ∷ l) h = (h .0, mapped-all P f l (h .1))

@@ -15,6 +15,7 @@ use Rattle.rules.specs.declared.order.Order.{Order}
 use Rattle.rules.specs.Matching.{opposes, withLots, used, matching}
 use Rattle.rules.specs.Refusals.{distinct}
 use Rattle.rules.specs.Synthetic.{usedByLegs}
+use Rattle.accounts.specs.EveryList.{RisingNumbers}
 use Rattle.accounts.proofs.Matches.{best-all, by-deals}
 use Rattle.rules.proofs.Distinct.{Distinct}
 
@@ -58,6 +59,19 @@ pub distinct-more : (os : List Order) (n : Order) → All (λ o. eqb (o .number)
 distinct-more [] n h d = (tt, tt)
 distinct-more (o ∷ os) n h d = (all-append (λ x. eqb (o .number) (x .number) ≡ false) os (n ∷ []) (d .0) (h .0, tt), distinct-more os n (h .1) (d .1))
 
+-- ---- their numbers rise
+pub remain-rising : {os ls : List Order} → Remain os ls → RisingNumbers os → RisingNumbers ls
+remain-rising nothing d = tt
+remain-rising (gone x) d = remain-rising x (d .1)
+remain-rising (rests {o = o} q a b x) d =
+    (remain-all (λ y. o .number < y .number) (λ y. o .number < y .number) (λ y p u v e. e) x (d .0), remain-rising x (d .1))
+
+-- one more order, with a number above all
+pub rising-more : (os : List Order) (n : Order) → All (λ o. o .number < n .number) os → RisingNumbers os → RisingNumbers (os ++ (n ∷ []))
+rising-more [] n h d = (tt, tt)
+rising-more (o ∷ os) n h d = (all-append (λ x. o .number < x .number) os (n ∷ []) (d .0) (h .0, tt), rising-more os n (h .1) (d .1))
+
+-- ---- what the test of numbers says
 same-none : (n : ℕ) (os : List Order) → All (λ x. eqb n (x .number) ≡ false) os → any (eqb n) (map (λ o. o .number) os) ≡ false
 unfolding any
 same-none n [] h = refl

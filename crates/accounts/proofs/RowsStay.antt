@@ -2,7 +2,6 @@
 use mathlib.Core.Path.{_≡_, refl, sym, ap, subst₂, _∙_}
 use mathlib.Core.Bool.{Bool, true, not, cond, _&&_}
 use mathlib.Core.List.{List, [], _∷_}
-use mathlib.Core.Option.{Option, some, none}
 use Prim.Native.Nat.{ℕ, _+_, _*_, _≤_, _<_}
 use native.Mathlib.Omega.{arith}
 use native.Mathlib.Nat.{add-zero, mul-add}
@@ -27,7 +26,7 @@ use Rattle.rules.specs.Answers.{Outcome}
 use Rattle.rules.specs.Ledger.{membersPlace, dayPlace, timePlace, acceptedSubmitsPlace, lotsRunPlace, orderCountPlace, defaultMark, Tables, Line, withHead, withPrices, members, time, lotsRun, ggf, orders, withOrders, withoutSubmits, timed, lineRun, booked}
 use Rattle.rules.specs.Records.{numberSound, lotsSound, priceSound, legSound}
 use Rattle.rules.specs.Matching.{incoming, matching, matched, submitMatched, submitLines, submitOrders, withDeals, counted, submitBooked}
-use Rattle.rules.specs.Synthetic.{numbered, namedLegs, legLine, proposalLines, usedByLegs, proposalBooked}
+use Rattle.rules.specs.Synthetic.{namedLegs, legLine, proposalLines, usedByLegs, proposalBooked}
 use Rattle.rules.specs.CloseOfDay.{closingContracts, withClosed, priced, nextDay, onDay, closeBooked}
 use Rattle.rules.specs.Default.{closeOutLines, closeOutBooked, defaultBooked}
 use Rattle.rules.specs.Refusals.{contractPricesSound, pricesSound, orderSound, bookSound}
@@ -37,7 +36,7 @@ use Rattle.accounts.proofs.Runs.{Sound}
 use Rattle.accounts.proofs.Written.{lines-printed}
 use Rattle.accounts.proofs.Calls.{booked-row}
 use Rattle.accounts.proofs.Submits.{timed-rows, submit-fits, dealt-all, deals-each}
-use Rattle.accounts.proofs.Proposals.{mapped-all, proposal-fits}
+use Rattle.accounts.proofs.Proposals.{legs-all, mapped-all, proposal-fits}
 use Rattle.accounts.proofs.CloseOutLines.{close-out-fits, close-out-price}
 use Rattle.accounts.proofs.Closes.{closing-today}
 use Rattle.accounts.proofs.Bounds.{Bounded, bounded-same, bounded-posted, lines-one, weight, lines-weigh, bounded-closed, WithinRun, RowsWithin}
@@ -140,16 +139,13 @@ orders-priced t e =
 
 -- of legs, if they are sound
 legs-priced : (os : List Order) (gs : List Leg) → All (λ g. legSound g ≡ true) gs → All (λ n. n .leg .price .0 ≤ mostPrice) (namedLegs os gs)
-unfolding namedLegs
-legs-priced os [] h = tt
-legs-priced os (g ∷ gs) h = go (numbered (g .order) os) refl (legs-priced os gs (h .1))
-  where
-    go : (b : Option Order) → numbered (g .order) os ≡ b → All (λ n. n .leg .price .0 ≤ mostPrice) (namedLegs os gs) → All (λ n. n .leg .price .0 ≤ mostPrice) (namedLegs os (g ∷ gs))
-    go none e ih = rw (e, namedLegs) ih
-    go (some o) e ih = rw (e, namedLegs) (price-most (g .price .0) (and-right (numberSound (g .order) && lotsSound (g .lots .0)) (priceSound (g .price .0)) (h .0)), ih)
+legs-priced os gs h =
+    legs-all (λ g. g .price .0 ≤ mostPrice) os gs
+    (all-map (λ g. legSound g ≡ true) (λ g. g .price .0 ≤ mostPrice) gs
+    (λ g q. price-most (g .price .0) (and-right (numberSound (g .order) && lotsSound (g .lots .0)) (priceSound (g .price .0)) q)) h)
 
 -- a GGF of sound prices is at most the most price
-ggf-most : (t : Tables) (c : ℕ) → pricesSound t ≡ true → c < contractCount → ggf t c ≤ mostPrice
+pub ggf-most : (t : Tables) (c : ℕ) → pricesSound t ≡ true → c < contractCount → ggf t c ≤ mostPrice
 unfolding pricesSound contractPricesSound
 ggf-most t c e h =
     let five = block-at priceWidth c 0 (t .prices) 0 (omega arith) ∙ ap (λ i. getD (t .prices) i 0) (add-zero (c * priceWidth)) in

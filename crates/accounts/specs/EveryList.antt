@@ -2,7 +2,7 @@
 use Prim.Native.Nat.{ℕ, _<_}
 use mathlib.Core.Path.{_≡_}
 use mathlib.Core.Bool.{true, false, not}
-use mathlib.Core.List.{List}
+use mathlib.Core.List.{List, [], _∷_}
 use lib.Dec.{T}
 use Rattle.arith.specs.Lists.{All}
 use Rattle.rules.specs.Ranges.{contractCount}
@@ -57,6 +57,14 @@ Uncrossed os = All (λ buy. All (Below buy) os) os
 
 abbrev pub NeverCrossed : Type 0
 NeverCrossed = AfterEveryList (λ h t ls d. Uncrossed (resting t))
+
+-- Each order's number is below those of the orders past it in the book.
+abbrev pub RisingNumbers : List Order → Type 0
+RisingNumbers [] = Unit {0}
+RisingNumbers (o ∷ os) = All (λ x. o .number < x .number) os × RisingNumbers os
+
+abbrev pub NumbersRise : Type 0
+NumbersRise = AfterEveryList (λ h t ls d. RisingNumbers (orders t))
 
 -- No order of a defaulted member rests.
 abbrev pub NoneDefaulted : Tables → Type 0

@@ -1,6 +1,7 @@
 pub mod Answered
 pub mod Refused
 pub mod Lengths
+pub mod Lines
 pub mod Complete
 pub mod EveryList
 pub mod ClosedOut

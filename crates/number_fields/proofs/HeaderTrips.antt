@@ -138,10 +138,11 @@ header-read-is-written s row out k after b room w =
     write-header-by after out long ∙ rw (back, ← columns-read s) (header.read-is-written s out k (headerColumns h) b read room)
 
 pub header-written-is-read : HeaderWrittenIsRead
-header-written-is-read row out k after w =
+header-written-is-read row out other k after room w =
     le-or-lt headerFields (length row) (λ h. long h (w ∙ write-header-by row out h)) (λ h. refused (w ∙ sym (write-header-row-short row out h)) (λ z. omega arith))
   where
-    long : headerFields ≤ length row → record { answer = Accepted k; after = after } ≡ writeHeaderSpec (headerIn row) out → readHeaderFields after row ≡ record { answer = Accepted k; after = row }
+    long : headerFields ≤ length row → record { answer = Accepted k; after = after } ≡ writeHeaderSpec (headerIn row) out
+        → (withHeader (headerIn row) row ≡ row) × (readHeaderFields after other ≡ record { answer = Accepted k; after = withHeader (headerIn row) other })
     long h x =
         let columns = headerColumns (headerIn row) in
         let same : headerFrom columns ≡ headerIn row = columns-in row out h in
@@ -151,5 +152,5 @@ header-written-is-read row out k after w =
         let sound : headerSound (headerIn row) ≡ true = rw (← back) (header.begun after (replyOf .0) .2) in
         let most = counts (headerIn row) sound in
         let days : getD row holidayCountField 0 ≤ mostHolidays = rw (length-numbers row holidaysField (getD row holidayCountField 0)) at (most .2) in
-        let kept : withHeader (headerOf after) row ≡ row = rw back (header-gives-numbers row h days (most .1)) in
-        sym (read-header-whole after row h (replyOf .0) (Accepted k) row (ap Accepted (replyOf .1)) (sym kept))
+        let put : withHeader (headerOf after) other ≡ withHeader (headerIn row) other = ap (λ y. withHeader y other) back in
+        (header-gives-numbers row h days (most .1), sym (read-header-whole after other room (replyOf .0) (Accepted k) (withHeader (headerIn row) other) (ap Accepted (replyOf .1)) (sym put)))

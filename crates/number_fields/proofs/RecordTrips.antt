@@ -152,6 +152,7 @@ read-to n s row k after w =
 record WrittenFrom (n : ℕ) (row out : List ℕ) (o : Outcome (List ℕ)) : Type 0 where
   event : Event
   long : recordFields ≤ length row
+  says : eventIn row ≡ Sound event
   given : Given row event
   wrote : o ≡ writeSpec n event (legsIn row) out
 
@@ -161,7 +162,7 @@ written-from n row out k after w =
     le-or-lt recordFields (length row) (λ h. go h (eventIn row) refl) (λ h. refused (w ∙ sym (write-short n row out h)) (λ z. omega arith))
   where
     go : recordFields ≤ length row → (r : Reading) → r ≡ eventIn row → WrittenFrom n row out (record { answer = Accepted k; after = after })
-    go h (Sound e) q = record { event = e; long = h; given = given row e h (sym q); wrote = w ∙ write-by n row out q h }
+    go h (Sound e) q = record { event = e; long = h; says = sym q; given = given row e h (sym q); wrote = w ∙ write-by n row out q h }
     go h Unsound q = refused (w ∙ write-by n row out q h) (λ z. omega arith)
 
 -- ---- the promises
@@ -191,7 +192,7 @@ pub over-self : (xs l : List ℕ) → take (length xs) l ≡ xs → over 0 xs l 
 over-self xs l e = over-front xs l ∙ (ap (λ t. t ++ drop (length xs) l) (sym e) ∙ take-append-drop (length xs) l)
 
 pub written-is-read : WrittenIsRead
-written-is-read n row out k after w =
+written-is-read n row out other k after room w =
     let x = written-from n row out k after w in
     let e = x .event in
     let legs = legsIn row in
@@ -199,7 +200,5 @@ written-is-read n row out k after w =
     let rows : legRows (legCount e) (legColumns legs) ≡ legs = rw counted at (rows-of-columns legs) in
     let s = take k after in
     let read = codec.written-is-read n e (legColumns legs) out k after (rw rows (x .wrote)) in
-    let same : legsOf s ≡ legs = sym (rows-read n s row refl (read .0)) ∙ (read .1 ∙ rows) in
-    let numbers = numbersOf e legs in
-    let back : over 0 numbers row ≡ row = over-self numbers row (again row e (x .long) (x .given)) in
-    (length numbers, read-by n s row (sym (read .0)) (x .long) ∙ rw (same, back) refl)
+    let same : legsOf s ≡ legs = sym (rows-read n s other refl (read .0)) ∙ (read .1 ∙ rows) in
+    (e, (x .says, (again row e (x .long) (x .given), read-by n s other (sym (read .0)) room ∙ rw same refl)))

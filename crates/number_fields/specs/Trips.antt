@@ -48,11 +48,15 @@ ReadIsWritten =
     → record { answer = Accepted k; after = after } ≡ readFields n s row
     → writeFields n after out ≡ record { answer = Accepted (length s); after = over 0 s out }
 
--- What write_record_fields wrote, read_record_fields reads back into the row as it was.
+-- What write_record_fields wrote from a row, read_record_fields reads into any row: the numbers of the event that the first row says,
+-- as they stood there, over the other's front. The answer is how many they are.
 abbrev pub WrittenIsRead : Type 0
 WrittenIsRead =
-    (n : ℕ) (row out : List ℕ) (k : ℕ) (after : List ℕ) → record { answer = Accepted k; after = after } ≡ writeFields n row out
-    → (j : ℕ) × (readFields n (take k after) row ≡ record { answer = Accepted j; after = row })
+    (n : ℕ) (row out other : List ℕ) (k : ℕ) (after : List ℕ) → recordFields ≤ length other → record { answer = Accepted k; after = after } ≡ writeFields n row out
+    → (e : Event)
+    × ((eventIn row ≡ Sound e)
+    × ((take (length (numbersOf e (legsIn row))) row ≡ numbersOf e (legsIn row))
+    × (readFields n (take k after) other ≡ record { answer = Accepted (length (numbersOf e (legsIn row))); after = over 0 (numbersOf e (legsIn row)) other })))
 
 -- The same of a header.
 abbrev pub HeaderReadIsWritten : Type 0
@@ -61,7 +65,9 @@ HeaderReadIsWritten =
     → record { answer = Accepted k; after = after } ≡ readHeaderFields s row
     → writeHeaderFields after out ≡ record { answer = Accepted k; after = over 0 (take k s) out }
 
+-- The numbers of a header that was written stand in the row in their places, and are read into the same places of any row.
 abbrev pub HeaderWrittenIsRead : Type 0
 HeaderWrittenIsRead =
-    (row out : List ℕ) (k : ℕ) (after : List ℕ) → record { answer = Accepted k; after = after } ≡ writeHeaderFields row out
-    → readHeaderFields after row ≡ record { answer = Accepted k; after = row }
+    (row out other : List ℕ) (k : ℕ) (after : List ℕ) → headerFields ≤ length other → record { answer = Accepted k; after = after } ≡ writeHeaderFields row out
+    → (withHeader (headerIn row) row ≡ row)
+    × (readHeaderFields after other ≡ record { answer = Accepted k; after = withHeader (headerIn row) other })
