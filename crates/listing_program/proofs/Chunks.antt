@@ -11,18 +11,22 @@ use lib.Seq.{drop-append-le, take-append-le}
 use Rattle.arith.proofs.Tests.{le-or-lt, never, true-or}
 use Rattle.rules.specs.declared.event.Front.{Front}
 use Rattle.rules.specs.declared.event.Front.the-variants.{Whole, Cut, UnknownKind}
+use Rattle.rules.specs.Header.{headerOf, headerLength}
 use Rattle.rules.specs.Journal.{nextLength}
 use Rattle.rules.specs.Records.{frontOf}
 use Rattle.journal.specs.Stages.{lengthByNow, lengthNow}
-use Rattle.journal.proofs.Fronts.{next-some, now-fits, now-next}
+use Rattle.journal.proofs.Fronts.{next-some, now-next}
+use Rattle.journal.proofs.Headers.{length-more, header-more}
 use Rattle.listing.specs.declared.pieces.Piece.{Piece}
 use Rattle.listing.specs.declared.pieces.Piece.the-variants.{Record, More, End}
 use Rattle.listing.specs.Pieces.{pieceOf}
 use Rattle.listing.proofs.Fronts.{front-fits}
-use Rattle.listing_words.specs.Fields.{isNone, faultOf}
-use Rattle.listing_words.specs.Words.{recordLine}
-use Rattle.listing_program.specs.Listings.{linesWithin, recordLines, soundWithin, recordsSound}
-use Rattle.listing_program.specs.Chunks.{Turns, start, read, line, ChunkByChunk, AllListed, ListedToFault}
+use Rattle.listing.proofs.HeaderSizes.{header-fits}
+use Rattle.listing_words.specs.Fields.{isNone, faultOf, headerFault}
+use Rattle.listing_words.specs.Words.{headerLine, recordLine}
+use Rattle.listing_program.specs.Listings.{linesWithin, recordLines, soundWithin, recordsSound, recordsEnding, listingText, listingEnding}
+use Rattle.listing_program.specs.Chunks.{Turns, start, read, line, ChunkByChunk, AllListed, ListedToFault, HeaderAtFault}
+use Rattle.listing_program.proofs.Headers.{header-line-more, header-fault-more}
 
 -- ---- record by record
 behind-short : (s : List ℕ) → 0 < length s → length (drop (nextLength s) s) < length s
@@ -147,30 +151,57 @@ module _ (n first k b : ℕ) (last : Bool) (s : List ℕ) (m : ℕ) (piece : pie
       let taken = piece-taken last s m piece more ends in
       (lines-first n first k b (s ++ more) some ∙ rw (taken, bad) (append-nil (recordLine n first (k + 1) b (take m s))), sound-first n first (s ++ more) some ∙ rw (taken, bad) refl)
 
+-- ---- the header
+module _ (s : List ℕ) (sound : isNone (headerFault s) ≡ true) (more : List ℕ) where
+  header-inside : headerLength s ≤ length s
+  unfolding headerLength
+  header-inside = omega (arith, header-fits s sound)
+
+  header-sound : (listingText (s ++ more)
+      ≡ headerLine s ++ recordLines (headerOf s .members) (headerOf s .firstYear) 0 (headerLength s) (drop (headerLength s) s ++ more))
+      × (listingEnding (s ++ more) ≡ recordsEnding (headerOf s .members) (drop (headerLength s) s ++ more))
+  unfolding listingText listingEnding
+  header-sound =
+      let fits = header-inside in
+      let behind = drop-append-le (headerLength s) s more fits in
+      let of = header-more s more fits in
+      let size = length-more s more fits in
+      let fault = header-fault-more s more fits in
+      (rw (header-line-more s more fits, fault, of, size, behind, sound) refl, rw (fault, of, size, behind, sound) refl)
+
+pub header-at-fault : HeaderAtFault
+unfolding listingText listingEnding
+header-at-fault last s bad whole more ends =
+    true-or last
+    (λ e. rw (ends e, append-nil s, bad) (append-nil (headerLine s), refl))
+    (λ e. let fits = whole e in rw (header-line-more s more fits, header-fault-more s more fits, bad) (append-nil (headerLine s), refl))
+
 -- ---- the chain
-so-far : {n first header : ℕ} {last : Bool} {came printed left : List ℕ} {records base : ℕ} → Turns n first header last came printed records base left
+so-far : {n first : ℕ} {last : Bool} {came printed left : List ℕ} {records base : ℕ} → Turns n first last came printed records base left
     → (more : List ℕ) → (last ≡ true → more ≡ [])
-    → (recordLines n first 0 header (came ++ more) ≡ printed ++ recordLines n first records base (left ++ more)) × (recordsSound n (came ++ more) ≡ recordsSound n (left ++ more))
-so-far (start last s) more ends = (refl, refl)
+    → (listingText (came ++ more) ≡ printed ++ recordLines n first records base (left ++ more)) × (listingEnding (came ++ more) ≡ recordsEnding n (left ++ more))
+so-far (start last s members year sound) more ends = rw (members, year) (header-sound s sound more)
 so-far (read {came = before} {left = kept} new last turns) more ends =
     rw (append-assoc before new more, append-assoc kept new more) (so-far turns (new ++ more) (λ e. never (sym e)))
 so-far {n} {first} (line {last} {printed = before} {left = kept} {records = k} {base = b} m turns piece sound) more ends =
     let earlier = so-far turns more ends in
     let on = line-sound n first k b last kept m piece more ends sound in
-    (earlier .0 ∙ (ap (λ x. before ++ x) (on .0) ∙ sym (append-assoc before _ _)), earlier .1 ∙ on .1)
+    (earlier .0 ∙ (ap (λ x. before ++ x) (on .0) ∙ sym (append-assoc before _ _)), earlier .1 ∙ rw (on .1) refl)
 
 pub chunk-by-chunk : ChunkByChunk
-chunk-by-chunk n first header last came printed left records base turns = so-far turns
+chunk-by-chunk n first last came printed left records base turns = so-far turns
 
 pub all-listed : AllListed
-all-listed n first header last came printed left records base turns end more ends =
+all-listed n first last came printed left records base turns end more ends =
     let earlier = so-far turns more ends in
     let none = piece-is last left end in
-    let empty : length (left ++ more) ≡ 0 = rw (ends (none .0), append-nil left) (none .1) in
-    (earlier .0 ∙ (ap (λ x. printed ++ x) (lines-none n first records base (left ++ more) empty) ∙ append-nil printed), earlier .1 ∙ sound-none n first (left ++ more) empty)
+    let empty : length (left ++ more) ≡ 0 = rw (ends (none .0), append-nil left) (none .1) in (
+      earlier .0 ∙ (ap (λ x. printed ++ x) (lines-none n first records base (left ++ more) empty) ∙ append-nil printed),
+      earlier .1 ∙ rw (sound-none n first (left ++ more) empty) refl,
+    )
 
 pub listed-to-fault : ListedToFault
-listed-to-fault n first header last came printed left records base m turns piece bad more ends =
+listed-to-fault n first last came printed left records base m turns piece bad more ends =
     let earlier = so-far turns more ends in
     let at = line-at-fault n first records base last left m piece more ends bad in
-    (earlier .0 ∙ ap (λ x. printed ++ x) (at .0), earlier .1 ∙ at .1)
+    (earlier .0 ∙ ap (λ x. printed ++ x) (at .0), earlier .1 ∙ rw (at .1) refl)

@@ -8,6 +8,8 @@ use Rattle.rules.specs.Header.{headerOf, headerLength}
 use Rattle.rules.specs.Journal.{nextLength}
 use Rattle.listing_words.specs.Fields.{isNone, faultOf, headerFault}
 use Rattle.listing_words.specs.Words.{headerLine, recordLine}
+use Rattle.streams.specs.declared.ending.Ending.{Ending}
+use Rattle.streams.specs.declared.ending.Ending.the-variants.{ReadToEnd, HeaderUnsound, RecordUnsound}
 
 -- The lines of these bytes, in a ledger of n members and this first year, where so many records and bytes came before them.
 unfoldable pub linesWithin : ℕ → ℕ → ℕ → ℕ → ℕ → List ℕ → List ℕ
@@ -35,3 +37,10 @@ unfoldable pub listingText : List ℕ → List ℕ
 listingText s =
     headerLine s
     ++ cond (isNone (headerFault s)) (recordLines (headerOf s .members) (headerOf s .firstYear) 0 (headerLength s) (drop (headerLength s) s)) []
+
+-- ---- how a listing ends that is read and written
+abbrev pub recordsEnding : ℕ → List ℕ → Ending
+recordsEnding n s = cond (recordsSound n s) ReadToEnd RecordUnsound
+
+unfoldable pub listingEnding : List ℕ → Ending
+listingEnding s = cond (isNone (headerFault s)) (recordsEnding (headerOf s .members) (drop (headerLength s) s)) HeaderUnsound
