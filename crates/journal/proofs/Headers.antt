@@ -22,14 +22,14 @@ map-alike f g a zero e = refl
 map-alike f g a (suc n) e = rw (e a (omega arith) (omega arith), map-alike f g (suc a) n (λ j h k. e j (omega arith) (omega arith))) refl
 
 module _ (s more : List ℕ) where
-  byte : (i : ℕ) → i < length s → getD (s ++ more) i 0 ≡ getD s i 0
+  pub byte : (i : ℕ) → i < length s → getD (s ++ more) i 0 ≡ getD s i 0
   byte i h = List·getD-append s more 0 i h
 
-  u16-more : (i : ℕ) → i + 2 ≤ length s → u16At (s ++ more) i ≡ u16At s i
+  pub u16-more : (i : ℕ) → i + 2 ≤ length s → u16At (s ++ more) i ≡ u16At s i
   unfolding u16At
   u16-more i h = rw (byte i (omega arith), byte (i + 1) (omega arith)) refl
 
-  u32-more : (i : ℕ) → i + 4 ≤ length s → u32At (s ++ more) i ≡ u32At s i
+  pub u32-more : (i : ℕ) → i + 4 ≤ length s → u32At (s ++ more) i ≡ u32At s i
   unfolding u32At
   u32-more i h = rw (u16-more i (omega arith), u16-more (i + 2) (omega arith)) refl
 
@@ -55,7 +55,7 @@ module _ (s more : List ℕ) (fits : headerLength s ≤ length s) where
   unfolding headerLength
   fields = fits
 
-  header-more : headerOf (s ++ more) ≡ headerOf s
+  pub header-more : headerOf (s ++ more) ≡ headerOf s
   unfolding headerOf
   header-more =
       let f = fields in

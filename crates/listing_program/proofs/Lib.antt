@@ -1,2 +1,4 @@
 pub mod Turning
 pub mod Endings
+pub mod Headers
+pub mod Chunks

@@ -1,2 +1,4 @@
 pub mod Places
+pub mod Listings
+pub mod Chunks
 pub mod Runs
