@@ -1,16 +1,18 @@
 -- Each line of an accepted record is in range: a deal and a leg are of some lots at a sound price, a close-out prints only what changes,
 -- at a GGF that is not 0. Assumes nothing.
 use Prim.Native.Nat.{ℕ, zero, suc, _≤_, _<_}
-use mathlib.Core.Path.{_≡_, refl}
+use mathlib.Core.Path.{_≡_, refl, ap, _∙_}
 use mathlib.Core.Bool.{true, _&&_}
-use mathlib.Core.List.{List, [], _∷_}
+use mathlib.Core.List.{List, [], _∷_, flatMap}
 use native.Mathlib.Omega.{arith}
-use lib.ListN.{length}
+use lib.ListN.{length, take, drop}
+use lib.Seq.{take-append-seam}
 use lib.IntN.{natAbs}
 use borrow.Author.Tests.{eqb-false}
 use Rattle.arith.specs.Lists.{All, from}
 use Rattle.arith.proofs.Alls.{all-map, all-both}
 use Rattle.arith.proofs.Tests.{and-left, and-right}
+use Rattle.arith.proofs.Writes.{over-front}
 use Rattle.rules.specs.Ranges.{contractCount, mostPrice}
 use Rattle.rules.specs.declared.event.CloseOutTerms.{CloseOutTerms}
 use Rattle.rules.specs.declared.event.Event.{Event}
@@ -20,7 +22,7 @@ use Rattle.rules.specs.declared.event.Submission.{Submission}
 use Rattle.rules.specs.declared.order.Order.{Order}
 use Rattle.rules.specs.declared.order.Side.{Side}
 use Rattle.rules.specs.declared.order.Side.the-variants.{Buy, Sell}
-use Rattle.rules.specs.Ledger.{Tables, Line, members, ggf, orders, booked, firstLines}
+use Rattle.rules.specs.Ledger.{Tables, Line, linePlaces, members, ggf, orders, booked, firstLines}
 use Rattle.rules.specs.Records.{numberSound, lotsSound, priceSound, legSound, eventSound}
 use Rattle.rules.specs.Sides.{signed, otherSide}
 use Rattle.rules.specs.Matching.{opposes, matching, matched, dealLines, incoming, submitMatched, submitLines, submitBooked}
@@ -28,7 +30,6 @@ use Rattle.rules.specs.Synthetic.{namedLegs, legLine, proposalLines, proposalBo
 use Rattle.rules.specs.CloseOfDay.{closeBooked}
 use Rattle.rules.specs.Default.{closeOutLines, closeOutBooked, defaultBooked}
 use Rattle.rules.specs.Refusals.{kindBooked}
-use Rattle.rules.specs.Accounts.{linesOf}
 use Rattle.rules.proofs.SoundEvents.{InRange, lots-in-range, price-in-range, SoundSubmission, submission, proposal, close-out-contract}
 use Rattle.rules.proofs.SoundTables.{Undamaged, SoundOrder, book-gives}
 use Rattle.accounts.specs.Lines.{SoundLine, LinesSound, EveryLineSound}
@@ -105,22 +106,25 @@ module _ (t : Tables) (u : Undamaged t) where
       (λ m z m< some. record { member< = m<; contract< = c<; lots≥ = some; price≥ = found; price≤ = ggf-most t (e .contract) (u .prices-sound) c< })
 
 -- ---- every call
--- what is booked with lines prints them
-booked-sound : (n : ℕ) (ls : List Line) (u : Tables) → All (SoundLine n) ls → All (SoundLine n) (linesOf (booked ls u .answer) (booked ls u .after .lines))
+-- what is booked with lines prints them, from the first place on
+booked-sound : (t : Tables) (ls : List Line) (u : Tables) → All (SoundLine (members t)) ls → LinesSound t (booked ls u)
 unfolding booked
-booked-sound n ls u h = rw (lines-printed ls (u .lines)) h
+booked-sound t ls u h =
+    let xs = flatMap linePlaces ls in
+    rw (lines-printed ls (u .lines)) (h, ap (take (length xs)) (over-front xs (u .lines)) ∙ take-append-seam xs (drop (length xs) (u .lines)))
 
 kind-lines : (e : Event) (t : Tables) (legs : List Leg) → Undamaged t → eventSound (members t) e legs ≡ true → NoCause t e legs → LinesSound t (kindBooked t e legs)
-unfolding submitBooked proposalBooked defaultBooked closeOutBooked closeBooked firstLines from
-kind-lines (Submit e) t legs u q n = booked-sound (members t) (submitLines t e) _ (submit-lines t u e (submission (members t) e legs q))
-kind-lines (Cancel e) t legs u q n = booked-sound (members t) [] _ tt
-kind-lines (DayLimits e) t legs u q n = booked-sound (members t) [] _ tt
-kind-lines (Proposal i) t legs u q n = booked-sound (members t) (proposalLines t legs) _ (proposal-lines t u legs (proposal (members t) i legs q .each))
-kind-lines (Default m) t legs u q n = booked-sound (members t) [] _ tt
+unfolding submitBooked proposalBooked defaultBooked closeOutBooked closeBooked firstLines from flatMap
+kind-lines (Submit e) t legs u q n = booked-sound t (submitLines t e) _ (submit-lines t u e (submission (members t) e legs q))
+kind-lines (Cancel e) t legs u q n = booked-sound t [] _ tt
+kind-lines (DayLimits e) t legs u q n = booked-sound t [] _ tt
+kind-lines (Proposal i) t legs u q n = booked-sound t (proposalLines t legs) _ (proposal-lines t u legs (proposal (members t) i legs q .each))
+kind-lines (Default m) t legs u q n = booked-sound t [] _ tt
 kind-lines (CloseOut e) t legs u q n =
     let found = eqb-false (ggf t (e .contract)) 0 (n .1 .0) in
-    booked-sound (members t) (closeOutLines t e) _ (close-out-lines t u e (close-out-contract (members t) e legs q) (omega (arith, found)))
-kind-lines (CloseOfDay i) t legs u q n = tt
+    booked-sound t (closeOutLines t e) _ (close-out-lines t u e (close-out-contract (members t) e legs q) (omega (arith, found)))
+kind-lines (CloseOfDay i) t legs u q n = (tt, refl)
 
 pub every-line-sound : EveryLineSound
-every-line-sound = every-call LinesSound (λ t a q. rw q tt) kind-lines
+unfolding flatMap
+every-line-sound = every-call LinesSound (λ t a q. rw q (tt, refl)) kind-lines

@@ -17,9 +17,10 @@ use Rattle.accounts.specs.Refused.{acceptedCalls, SameLedger}
 use Rattle.accounts.proofs.Answered.{answers-exactly}
 use Rattle.accounts.proofs.ClosedOut.{defaulted-are-closed-out}
 use Rattle.accounts.proofs.Complete.{matching-is-complete, nobody-is-passed-over}
-use Rattle.accounts.proofs.EveryList.{never-crossed, defaulted-never-rest, day-is-the-lists, run-is-logged, ggf-never-lost}
+use Rattle.accounts.proofs.EveryList.{never-crossed, numbers-rise, defaulted-never-rest, day-is-the-lists, run-is-logged, ggf-never-lost}
 use Rattle.accounts.proofs.ListsToRuns.{made-well, SameAsList, same-as-list, after-every-run}
 use Rattle.accounts.proofs.LengthsStay.{lengths-stay, making-keeps-lengths, at-most-200-lines}
+use Rattle.accounts.proofs.LinesSound.{every-line-sound}
 use Rattle.accounts.proofs.NeverDamaged.{never-damaged, one-for-lines-alone}
 use Rattle.accounts.proofs.Refused.{refused-changes-nothing, refused-makes-nothing, striking-changes-nothing}
 use Rattle.accounts.proofs.StaysSound.{stays-sound, only-rows-change}
@@ -40,6 +41,7 @@ of-record t bytes = record {
   refused = refused-changes-nothing t bytes;
   lengths = lengths-stay t bytes;
   few-lines = at-most-200-lines t bytes;
+  lines-sound = every-line-sound t bytes;
   complete = matching-is-complete t bytes;
   none-passed-over = nobody-is-passed-over t bytes;
   closed-out = defaulted-are-closed-out t bytes;
@@ -85,6 +87,7 @@ after-list header t calls b long = record {
   no-damage = no-damage (after (makeSpec t header .after) calls) (one-for-lines-alone header t calls b long);
   rest-in-open = orders-rest-in-open header t calls b long;
   uncrossed = never-crossed header t calls b long;
+  rising = numbers-rise header t calls b long;
   none-defaulted = defaulted-never-rest header t calls b long;
   run-is-logged = run-is-logged header t calls b long;
   day-is-the-lists = day-is-the-lists header t calls b long;

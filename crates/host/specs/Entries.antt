@@ -8,15 +8,16 @@ use lib.IntN.{ℤ}
 use Rattle.rules.specs.declared.answer.Answer.{Answer}
 use Rattle.rules.specs.Answers.{Outcome, Reply, replyOf}
 use Rattle.rules.specs.Header.{Header, headerOf}
-use Rattle.rules.specs.Ledger.{Tables, Line, day, lotsRun, lineRun, resting, withLines, linesShort}
+use Rattle.rules.specs.Ledger.{Tables, Line, day, lotsRun, lineRun, orders, resting, withLines, linesShort}
 use Rattle.rules.specs.Refusals.{makeSpec, applySpec}
 use Rattle.rules.specs.Accounts.{Call, Agrees, isAccepted}
 use Rattle.accounts.specs.Answered.{callCauses, Exact}
 use Rattle.accounts.specs.ClosedOut.{NoLotsOfDefaulted}
 use Rattle.accounts.specs.Complete.{MatchedInFull, NonePassedOver}
-use Rattle.accounts.specs.EveryList.{NotDamaged, RestInOpen, Uncrossed, NoneDefaulted, GgfsKept}
+use Rattle.accounts.specs.EveryList.{NotDamaged, RestInOpen, Uncrossed, RisingNumbers, NoneDefaulted, GgfsKept}
 use Rattle.accounts.specs.EveryRun.{Applied, calls, standing, Kept, printed, acceptedOf, AfterEveryRun}
 use Rattle.accounts.specs.Lengths.{SameLengths, FewLines}
+use Rattle.accounts.specs.Lines.{LinesSound}
 use Rattle.accounts.specs.Refused.{LeavesIfRefused, SameLedger}
 use Rattle.accounts.specs.StaysSound.{SoundAfter, SoundButRows}
 use Rattle.replay.specs.Surplus.{SurplusUntouched, LinesUntouched, BookUntouched}
@@ -46,6 +47,7 @@ pub record OfRecord (t : Tables) (bytes : List ℕ) (o : Outcome Tables) : Type 
   pub refused : LeavesIfRefused t o
   pub lengths : SameLengths t (o .after)
   pub few-lines : FewLines o
+  pub lines-sound : LinesSound t o
   pub complete : MatchedInFull t bytes o
   pub none-passed-over : NonePassedOver t bytes o
   pub closed-out : NoLotsOfDefaulted t bytes o
@@ -95,6 +97,7 @@ pub record AfterRun (h : Header) (t : Tables) (ls : List Line) (d : ℕ) : Type 
   pub no-damage : AnswersNoDamage t
   pub rest-in-open : RestInOpen h t d
   pub uncrossed : Uncrossed (resting t)
+  pub rising : RisingNumbers (orders t)
   pub none-defaulted : NoneDefaulted t
   pub run-is-logged : lotsRun t ≡ lineRun ls
   pub day-is-the-lists : day t ≡ d
