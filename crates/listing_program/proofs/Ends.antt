@@ -1,19 +1,18 @@
 -- From record to record, and after the header: a listing ends as the journal does. Assumes nothing.
-use Prim.Native.Nat.{ℕ, zero, suc, _+_, _<_, _≤_}
-use mathlib.Core.Bool.{Bool, true, false, not, cond}
+use Prim.Native.Nat.{ℕ, zero, suc, _<_, _≤_}
+use mathlib.Core.Bool.{Bool, true, false, not}
 use mathlib.Core.List.{List, [], _∷_, _++_}
 use mathlib.Core.Path.{_≡_, refl, sym, ap, _∙_}
 use native.Mathlib.Omega.{arith}
 use borrow.Author.Tests.{le-leb}
-use lib.Dec.{T, ltb}
+use lib.Dec.{T}
 use lib.ListN.{length, take, drop, length-drop}
 use Rattle.arith.proofs.Tests.{true-or, le-or-lt}
-use Rattle.rules.specs.Accounts.{Call, callSpec, after, dayAfterEvent}
-use Rattle.rules.specs.Header.{headerOf, headerLength, calendarOf, membersSound, beginsWithHeader}
+use Rattle.rules.specs.Accounts.{Call, callSpec, after}
+use Rattle.rules.specs.Header.{headerOf, headerLength, membersSound, beginsWithHeader}
 use Rattle.rules.specs.Journal.{nextLength}
 use Rattle.rules.specs.Ledger.{Tables, members, ledgerShort, linesShort}
 use Rattle.rules.specs.Ranges.{mostMembers}
-use Rattle.rules.specs.Records.{readOf}
 use Rattle.rules.specs.Refusals.{ledgerUnsound, unsound, applySpec, makeSpec}
 use Rattle.rules.proofs.SoundHeaders.{header-gives, begun}
 use Rattle.rules.proofs.SoundTables.{long-enough}

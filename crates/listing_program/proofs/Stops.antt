@@ -1,22 +1,22 @@
 -- A listing stops where the journal stops. Assumes nothing.
-use Prim.Native.Nat.{ℕ, zero, suc, _+_, _<_, _≤_}
-use mathlib.Core.Bool.{Bool, true, false, not, cond, _&&_}
-use mathlib.Core.List.{List, [], _∷_, _++_}
+use Prim.Native.Nat.{ℕ, _<_, _≤_}
+use mathlib.Core.Bool.{true, false, not}
+use mathlib.Core.List.{List, [], _∷_}
 use mathlib.Core.Path.{_≡_, refl, sym, ap, _∙_}
 use native.Mathlib.Omega.{arith}
 use borrow.Author.Tests.{ne-eqb, eqb-true, eqb-false, le-leb, le-ltb, leb-true, leb-false}
-use lib.Dec.{T, eqb, leb}
-use lib.ListN.{length, take, drop, length-drop, take-append-drop, List·getD-append}
+use lib.Dec.{eqb, leb}
+use lib.ListN.{length, take, drop, take-append-drop, List·getD-append}
 use lib.ListN.{getD}
 use lib.Seq.{length-take-le, take-all}
 use Rattle.arith.specs.Lists.{All}
-use Rattle.arith.proofs.Tests.{same-or, le-or-lt, true-or, and-left, and-right, and-true}
+use Rattle.arith.proofs.Tests.{true-or, and-true}
 use Rattle.rules.specs.declared.event.Leg.{Leg}
 use Rattle.rules.specs.declared.event.Reading.{Reading}
 use Rattle.rules.specs.declared.event.Reading.the-variants.{Sound, Unsound}
 use Rattle.rules.specs.declared.answer.Answer.the-variants.{RecordUnsound}
 use Rattle.rules.specs.Accounts.{isAccepted}
-use Rattle.rules.specs.Answers.{Outcome, replyOf, ranking, placeFrom, rankOf, rank, Cause, decide}
+use Rattle.rules.specs.Answers.{Outcome, replyOf, rankOf, rank, Cause, decide}
 use Rattle.rules.specs.Fields.{kindFields, widths, numberAt}
 use Rattle.rules.specs.Header.{membersSound}
 use Rattle.rules.specs.Journal.{stops, lengthByFront, nextLength}
