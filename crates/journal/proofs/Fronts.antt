@@ -60,7 +60,7 @@ none-of (f ∷ fs) m n h = let two = above-kind (widthOf f) (widths fs) m (some-
 abbrev legsLength : ℕ → ℕ → ℕ
 legsLength kind legs = cond (hasLegs kind) (widths legFields * legs) 0
 
-two-at-least : (s : List ℕ) → (frontLength s ≡ 0 → ⊥) → 2 ≤ frontLength s
+pub two-at-least : (s : List ℕ) → (frontLength s ≡ 0 → ⊥) → 2 ≤ frontLength s
 unfolding recordLength
 two-at-least s h = at-least (kindFields (getD s 0 0)) (legsLength (getD s 0 0) (getD s 1 0)) h
 

@@ -171,7 +171,7 @@ above-four k h a b c d = omega arith
 above-seven : (k : ℕ) → 4 < k → (k ≡ 5 → ⊥) → (k ≡ 6 → ⊥) → (k ≡ 7 → ⊥) → 7 < k
 above-seven k h e f g = omega arith
 
-kind-out : (k : ℕ) → (k ≡ 1 → ⊥) → (k ≡ 2 → ⊥) → (k ≡ 3 → ⊥) → (k ≡ 4 → ⊥) → (k ≡ 5 → ⊥) → (k ≡ 6 → ⊥) → (k ≡ 7 → ⊥) → within (range 1 7) k ≡ false
+pub kind-out : (k : ℕ) → (k ≡ 1 → ⊥) → (k ≡ 2 → ⊥) → (k ≡ 3 → ⊥) → (k ≡ 4 → ⊥) → (k ≡ 5 → ⊥) → (k ≡ 6 → ⊥) → (k ≡ 7 → ⊥) → within (range 1 7) k ≡ false
 unfolding within
 kind-out k a b c d e f g = le-or-lt 1 k (λ h. rw (le-leb 1 k h, lt-leb k 7 (above-seven k (above-four k h a b c d) e f g)) refl) (λ h. rw (lt-leb 1 k h) refl)
 

@@ -1,11 +1,11 @@
 -- The header's line, when more bytes come behind a whole header. Assumes nothing.
-use Prim.Native.Nat.{ℕ, _+_, _-_, _*_, _<_, _≤_}
+use Prim.Native.Nat.{ℕ, _+_, _-_, _≤_}
 use mathlib.Core.Bool.{Bool, true, false, cond, _||_}
 use mathlib.Core.List.{List, [], _∷_, _++_}
-use mathlib.Core.Path.{_≡_, refl, sym, ap, _∙_}
+use mathlib.Core.Path.{_≡_, refl, sym, _∙_}
 use native.Mathlib.Omega.{arith}
 use borrow.Author.Tests.{le-ltb, le-leb, lt-leb}
-use lib.Dec.{eqb, leb}
+use lib.Dec.{eqb}
 use lib.ListN.{length, getD, length-append}
 use Rattle.arith.proofs.Tests.{true-or, le-or-lt}
 use Rattle.rules.specs.declared.field.Field.{Field}
@@ -16,9 +16,8 @@ use Rattle.rules.specs.Fields.{widthOf, widths, numberAt}
 use Rattle.rules.specs.Header.{u16At, headerLength}
 use Rattle.journal.proofs.Headers.{byte, u16-more, u32-more}
 use Rattle.listing.proofs.HeaderSizes.{header-widths}
-use Rattle.listing_words.specs.declared.field.Verdict.{Verdict}
 use Rattle.listing_words.specs.declared.field.Verdict.the-variants.{Passes, OutOfRange, NoBusinessDay, OnStartDay}
-use Rattle.listing_words.specs.Fields.{fieldsIn, headerShape, quantityOf, holidayRange, rangeOf, within, dayVerdict, verdictOf, passes, faultPlace, faultIn, headerFault}
+use Rattle.listing_words.specs.Fields.{fieldsIn, headerShape, quantityOf, holidayRange, rangeOf, within, dayVerdict, verdictOf, faultPlace, faultIn, headerFault}
 use Rattle.listing_words.specs.Words.{faultWords, wordsIn, headerLine}
 
 module _ (s more : List ℕ) (eleven : 11 ≤ length s) where

@@ -2,3 +2,5 @@ pub mod Turning
 pub mod Endings
 pub mod Headers
 pub mod Chunks
+pub mod Stops
+pub mod Ends

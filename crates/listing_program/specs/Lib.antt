@@ -1,4 +1,5 @@
 pub mod Places
 pub mod Listings
 pub mod Chunks
+pub mod Stops
 pub mod Runs
