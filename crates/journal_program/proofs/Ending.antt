@@ -6,13 +6,13 @@ use mathlib.Core.Path.{_≡_, refl}
 use native.Mathlib.Omega.{arith}
 use types.Run.{OneOf, miss}
 use denote.Enum.Declared.{tagOf}
-use lib.ListN.{length}
+use lib.ListN.{length, drop}
 use Rattle.rules.specs.Ledger.{Tables}
 use Rattle.journal.specs.declared.stage.Progress.{Progress}
 use Rattle.journal.specs.declared.stage.Stage.{Stage}
 use Rattle.journal.specs.declared.stage.Stage.the-variants.{Header, Records, Read, Stopped, ReadToEnd, RecordUnsound, HeaderUnsound}
-use Rattle.journal.specs.declared.stage.Wants.the-variants.{Bytes}
-use Rattle.journal.specs.Stages.{Advanced, Asks, rank, countedAt}
+use Rattle.journal.specs.declared.stage.Wants.the-variants.{Nothing, Bytes, Room}
+use Rattle.journal.specs.Stages.{Advanced, Asks, Short, rank, countedAt}
 use Rattle.journal.proofs.stage.Stage.{the-type}
 use Rattle.streams.specs.declared.ending.Ending.{Ending}
 use Rattle.streams.specs.declared.ending.Ending.the-variants.{WriteFailed}
@@ -39,19 +39,19 @@ none-counted ReadToEnd h = refl
 none-counted RecordUnsound h = refl
 none-counted HeaderUnsound h = refl
 
--- Bytes are wanted only where more can come.
+-- Bytes are wanted only where more can come, and less than a header or record is left.
 pub wants-bytes : {stage : Stage} {t after : Tables} {bytes entry exit : List ℕ} {last : Bool} {filled : ℕ} {r : Progress}
-    → Advanced stage t bytes last filled entry exit after r → r .wants ≡ Bytes → last ≡ false
-wants-bytes {entry = entry} {r = r} a e = (rw e at (a .asks (length entry - r .end) (omega (arith, a .within)))) .0
+    → Advanced stage t bytes last filled entry exit after r → r .wants ≡ Bytes → (last ≡ false) × Short (r .stage) (drop (r .used) bytes)
+wants-bytes {entry = entry} {r = r} a e = rw e at (a .asks (length entry - r .end) (omega (arith, a .within)))
 
 -- ---- how a run ends
-pub ends-finished : {stage last : Stage} {ending r : Ending} → stage ≡ last → Ends last ending → finished ending r → Ends stage r
-ends-finished is h (true, e) = rw (is, e) h
-ends-finished is h (false, e) = rw e not-written
+pub ends-finished : {stage last : Stage} {ending r : Ending} → stage ≡ last → rank last ≡ 3 → Ends Nothing last ending → finished ending r → Ends Nothing stage r
+ends-finished is top h (true, e) = rw (is, e) h
+ends-finished is top h (false, e) = rw (is, e) (not-written top)
 
-pub ends-failed : (stage : Stage) (r : Ending) → failed r → Ends stage r
+pub ends-failed : (stage : Stage) (r : Ending) → failed r → Ends Bytes stage r
 ends-failed stage r (true, e) = rw e not-read
-ends-failed stage r (false, e) = rw e not-written
+ends-failed stage r (false, e) = rw e (not-written tt)
 
-pub ends-unwritten : (stage : Stage) (r : Ending) → r ≡ WriteFailed → Ends stage r
-ends-unwritten stage r e = rw e not-written
+pub ends-unwritten : (stage : Stage) (r : Ending) → r ≡ WriteFailed → Ends Room stage r
+ends-unwritten stage r e = rw e (not-written tt)

@@ -8,7 +8,7 @@ ghost use lib.ListN.{length, take, drop};
 ghost use mathlib.Core.Bool.{false};
 ghost use Rattle.rules.specs.Ledger.{lent, headLength, linesLength, rowsLength, zeroTables};
 ghost use Rattle.journal.specs.declared.stage.Stage.the-variants.{Header};
-ghost use Rattle.journal.specs.declared.stage.Wants.the-variants.{Bytes};
+ghost use Rattle.journal.specs.declared.stage.Wants.the-variants.{Nothing, Bytes, Room};
 ghost use Rattle.journal.specs.Stages.{countedAt};
 ghost use Rattle.streams.specs.declared.ending.Ending.{Ending};
 ghost use Rattle.streams.specs.Windows.{statusOf};
@@ -88,7 +88,7 @@ fn counted_by(stage: Stage) -> u64
 // What is printed goes out, then more bytes come.
 fn read_on(place: Place, input: &mut [u8], output: &[u8]) -> Next
     requires { ⌜ Stands place × (length (now input) ≡ bufferLength) × (length (now output) ≡ bufferLength) × (place .window .«is_last» ≡ false) ⌝ }
-    ensures { λ r. ⌜ nextStands (place .turns) r × Follows place (now (input .entry)) (now (input .exit)) r ⌝ }
+    ensures { λ r. ⌜ nextStands (place .turns) r × Follows Bytes place (now (input .entry)) (now (input .exit)) r ⌝ }
 {
     let stage = place.stage;
     match read_more(place.window, counted_by(stage), input, output) {
@@ -104,7 +104,7 @@ fn read_on(place: Place, input: &mut [u8], output: &[u8]) -> Next
 // What is printed so far goes out.
 fn write_on(place: Place, output: &[u8]) -> Next
     requires { ⌜ Stands place × (length (now output) ≡ bufferLength) ⌝ }
-    ensures { λ r. ⌜ nextStands (place .turns) r × ((input : List ℕ) → Follows place input input r) ⌝ }
+    ensures { λ r. ⌜ nextStands (place .turns) r × ((input : List ℕ) → Follows Room place input input r) ⌝ }
 {
     let stage = place.stage;
     match write_out(place.window, output) {
@@ -120,7 +120,7 @@ fn write_on(place: Place, output: &[u8]) -> Next
 // The next stage, or the end, when what is printed goes out.
 fn go_on(place: Place, output: &[u8]) -> Next
     requires { ⌜ Stands place × (length (now output) ≡ bufferLength) ⌝ }
-    ensures { λ r. ⌜ nextStands (place .turns) r × ((input : List ℕ) → Follows place input input r) ⌝ }
+    ensures { λ r. ⌜ nextStands (place .turns) r × ((input : List ℕ) → Follows Nothing place input input r) ⌝ }
 {
     let window = place.window;
     let filled = window.filled;
@@ -136,7 +136,7 @@ fn go_on(place: Place, output: &[u8]) -> Next
 // What an advance wants is done.
 fn follow(wants: Wants, place: Place, input: &mut [u8], output: &[u8]) -> Next
     requires { ⌜ Stands place × (length (now input) ≡ bufferLength) × (length (now output) ≡ bufferLength) × (wants ≡ Bytes → place .window .«is_last» ≡ false) ⌝ }
-    ensures { λ r. ⌜ nextStands (place .turns) r × Follows place (now (input .entry)) (now (input .exit)) r ⌝ }
+    ensures { λ r. ⌜ nextStands (place .turns) r × Follows wants place (now (input .entry)) (now (input .exit)) r ⌝ }
 {
     match wants {
         Wants::Nothing => go_on(place, output),
@@ -299,8 +299,9 @@ fn run(progress: Progress) -> Ending
 }
 
 // The exit status: 0 if the journal was read to its end, 2 after a header and 3 after a record that is unsound, and, with a
-// message on standard error, 4 if it could not be read, 5 if not written. It is promised of the bytes that came, whichever these
-// are. If is_said, progress goes to standard error; size is how many bytes there are to read, 0 if not known.
+// message on standard error, 4 if it could not be read, 5 if not written. The promise is one of these five: no contract of C's
+// read says which bytes came, so `turn` and `run_turns` say which one it is of the bytes that the input holds.
+// If is_said, progress goes to standard error; size is how many bytes there are to read, 0 if not known.
 #[no_mangle]
 pub extern "C" fn journal_run(is_said: bool, size: u64) -> i32
     ensures { λ r. ⌜ ((ending : Ending) × (r ≡ statusOf ending) × JournalRan zeroTables ending) ⌝ }

@@ -6,13 +6,13 @@ use Rattle.journal_program.proofs.shell.go_on.Statement.{statement}
 use Rattle.journal_program.proofs.shell.go_on.Tie as tie
 
 returns : tie.Need-returns
-returns c = (tt, λ input. ends-finished (c .before .enum-told .given .1) read-to-end (c .finish .ensures))
+returns c = (tt, λ input. ends-finished (c .before .enum-told .given .1) refl read-to-end (c .finish .ensures))
 
 returns-2 : tie.Need-returns-2
-returns-2 c = (tt, λ input. ends-finished (c .before .enum-told2 .given .1) record-unsound (c .finish2 .ensures))
+returns-2 c = (tt, λ input. ends-finished (c .before .enum-told2 .given .1) refl record-unsound (c .finish2 .ensures))
 
 returns-3 : tie.Need-returns-3
-returns-3 c = (tt, λ input. ends-finished (c .before .enum-told3 .given .1) header-unsound (c .finish3 .ensures))
+returns-3 c = (tt, λ input. ends-finished (c .before .enum-told3 .given .1) refl header-unsound (c .finish3 .ensures))
 
 returns-4 : tie.Need-returns-4
 returns-4 c = (search needs, λ input. (refl, stays (below-last (c .before .before .before .args .place .stage) (c .match .keys4)) refl refl))

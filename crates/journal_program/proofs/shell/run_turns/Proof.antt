@@ -5,7 +5,7 @@ use lib.ListN.{length}
 use Rattle.journal_program.specs.Places.{mostTurns, Stands}
 use Rattle.rules.specs.Ledger.{lent}
 use Rattle.streams.specs.Windows.{held}
-use Rattle.journal_program.specs.Runs.{not-read, Reached}
+use Rattle.journal_program.specs.Runs.{too-many, Reached}
 use Rattle.journal_program.proofs.Turning.{going-stands}
 use Rattle.journal_program.proofs.Running.{reached-first, turned-on, turned-end}
 use borrow.Author.Needs.{needs}
@@ -23,7 +23,7 @@ Inv-loop input₀ output₀ head₀ prices₀ lots₀ value₀ book₀ lines₀ 
     × (length value ≡ length value₀)
     × (length book ≡ length book₀)
     × (length lines ≡ length lines₀)
-    × Reached (lent head₀ prices₀ lots₀ value₀ book₀ lines₀) (lent head prices lots value book lines) output (place .window .«is_last») (place .stage)
+    × Reached (lent head₀ prices₀ lots₀ value₀ book₀ lines₀) (lent head prices lots value book lines) output turns (place .window .«is_last») (place .stage)
     (place .window .filled) (held (place .window) input)
 
 abbrev μ-loop : tie.MeasureT-loop
@@ -130,7 +130,15 @@ returns-2 : tie.Need-returns-2 Inv-loop μ-loop
 returns-2 c =
     let l = c .before .before .before .loop in
     let w = l .place .window in
-    record { last = w .«is_last»; stage = l .place .stage; filled = w .filled; left = held w (l .input); reached = l .inv .11; ends = not-read }
+    record {
+      count = l .turns;
+      last = w .«is_last»;
+      stage = l .place .stage;
+      filled = w .filled;
+      left = held w (l .input);
+      reached = l .inv .11;
+      ends = too-many (omega (arith, l .inv .2, c .before .before .loop-test .left));
+    }
 
 pub run-turns-spec : {M : Type 1} → statement M
 run-turns-spec =

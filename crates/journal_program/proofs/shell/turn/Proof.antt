@@ -20,7 +20,7 @@ follow-requires c κs =
     let start = ran .before .before .before .before .before .before .before .before .before .before .before .before .before .before .before .before in
     let pre = start .pre in
     let a = ran .advance .ensures in
-    (turn-stands (start .args .place) (start .args .input .now) (pre .0) (pre .1) _ _ _ (pre .3) (a .inside) (a .within) (a .counts), pre .2, ran .advance .kept .1 .1 .1 .0 ∙ pre .3, wants-bytes a)
+    (turn-stands (start .args .place) (start .args .input .now) (pre .0) (pre .1) _ _ _ (pre .3) (a .inside) (a .within) (a .counts), pre .2, ran .advance .kept .1 .1 .1 .0 ∙ pre .3, λ e. wants-bytes a e .0)
 
 add-t37 : tie.Need-add-t37
 add-t37 c = omega (arith, c .before .before .before .before .before .before .before .before .before .before .before .before .before .before .before .before .before .before .before .before .before .before .before .before .before .before .before .before .before .pre .1)
