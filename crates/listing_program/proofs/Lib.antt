@@ -1,6 +1,2 @@
 pub mod Turning
 pub mod Endings
-pub mod Headers
-pub mod Chunks
-pub mod Stops
-pub mod Ends

@@ -1,5 +1,2 @@
 pub mod Places
-pub mod Listings
-pub mod Chunks
-pub mod Stops
 pub mod Runs

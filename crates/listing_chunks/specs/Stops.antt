@@ -9,7 +9,7 @@ use Rattle.journal.specs.declared.stage.Stage.the-variants.{ReadToEnd, RecordUn
 use Rattle.journal.specs.Stages.{journalEndOn}
 use Rattle.streams.specs.declared.ending.Ending.{Ending}
 use Rattle.streams.specs.declared.ending.Ending.the-variants.{ReadToEnd as EndedRead, HeaderUnsound as EndedHeader, RecordUnsound as EndedRecord}
-use Rattle.listing_program.specs.Listings.{listingEnding}
+use Rattle.listing_chunks.specs.Listings.{listingEnding}
 
 -- The journal's last stage, and how its listing ends.
 pub data SameEnd : Stage → Ending → Type 0 where

@@ -24,9 +24,9 @@ use Rattle.listing.proofs.Fronts.{front-fits}
 use Rattle.listing.proofs.HeaderSizes.{header-fits}
 use Rattle.listing_words.specs.Fields.{isNone, faultOf, headerFault}
 use Rattle.listing_words.specs.Words.{headerLine, recordLine}
-use Rattle.listing_program.specs.Listings.{linesWithin, recordLines, soundWithin, recordsSound, recordsEnding, listingText, listingEnding}
-use Rattle.listing_program.specs.Chunks.{Turns, start, read, line, ChunkByChunk, AllListed, ListedToFault, HeaderAtFault}
-use Rattle.listing_program.proofs.Headers.{header-line-more, header-fault-more}
+use Rattle.listing_chunks.specs.Listings.{linesWithin, recordLines, soundWithin, recordsSound, recordsEnding, listingText, listingEnding}
+use Rattle.listing_chunks.specs.Chunks.{Turns, start, read, line, ChunkByChunk, AllListed, ListedToFault, HeaderAtFault}
+use Rattle.listing_chunks.proofs.Headers.{header-line-more, header-fault-more}
 
 -- ---- record by record
 behind-short : (s : List ℕ) → 0 < length s → length (drop (nextLength s) s) < length s

@@ -27,10 +27,10 @@ use Rattle.journal.proofs.Fronts.{next-some}
 use Rattle.journal.proofs.Texts.{ends-none, ends-next}
 use Rattle.listing.proofs.HeaderFaults.{header-exact}
 use Rattle.listing_words.specs.Fields.{isNone, faultOf, headerFault}
-use Rattle.listing_program.specs.Listings.{recordsEnding, listingEnding}
-use Rattle.listing_program.specs.Stops.{SameEnd, read-to-end, header-unsound, record-unsound, StopsWithTheJournal}
-use Rattle.listing_program.proofs.Chunks.{sound-none, sound-first}
-use Rattle.listing_program.proofs.Stops.{stops-at-fault}
+use Rattle.listing_chunks.specs.Listings.{recordsEnding, listingEnding}
+use Rattle.listing_chunks.specs.Stops.{SameEnd, read-to-end, header-unsound, record-unsound, StopsWithTheJournal}
+use Rattle.listing_chunks.proofs.Chunks.{sound-none, sound-first}
+use Rattle.listing_chunks.proofs.Stops.{stops-at-fault}
 
 is-true : {b : Bool} → b ≡ true → T b
 is-true e = rw e tt

@@ -10,7 +10,7 @@ use Rattle.listing.specs.Pieces.{pieceOf}
 use Rattle.listing_words.specs.Fields.{isNone, faultOf, headerFault}
 use Rattle.listing_words.specs.Words.{headerLine, recordLine}
 use Rattle.streams.specs.declared.ending.Ending.the-variants.{ReadToEnd, HeaderUnsound, RecordUnsound}
-use Rattle.listing_program.specs.Listings.{recordLines, recordsEnding, listingText, listingEnding}
+use Rattle.listing_chunks.specs.Listings.{recordLines, recordsEnding, listingText, listingEnding}
 
 -- Turns of a listing in a ledger of n members and this first year: the line of a sound header is printed, then bytes come behind those
 -- that are left, or the line of the next record is printed. What is known after them: whether no more bytes come, which bytes came,

@@ -1,0 +1,4 @@
+pub mod Headers
+pub mod Chunks
+pub mod Stops
+pub mod Ends
