@@ -7,6 +7,7 @@ use mathlib.Core.List.{List, [], _∷_, _++_}
 use lib.ListN.{take, drop, set}
 use lib.IntN.{pos, natAbs}
 use Rattle.arith.specs.Ints.{sum}
+use Rattle.rules.specs.Ranges.{contractCount}
 use Rattle.rules.specs.Ledger.{Tables, Line, withRows}
 use Rattle.rules.specs.Accounts.{Agrees, lots, value, after, log, engineAccount, entered, otherAccount}
 use Rattle.rules.specs.Computed.{computed}
@@ -45,7 +46,7 @@ value-missing a =
 quarter-left : Agrees header (after start (take 18 calls)) wholeLog 364 → ⊥
 unfolding computed after log calls records start header wholeLog
 quarter-left a =
-    let contract : 18 < 102 = omega arith in
+    let contract : 18 < contractCount = omega arith in
     let member : 1 < 3 = omega arith in
     let differ : _≡_ {A = ℕ} 1 0 = ap natAbs (a .nothing-left lots 18 1 contract member tt) in
     absurd (omega arith)
