@@ -16,6 +16,7 @@ import sys
 RENAMED_MODULE = ("Contracts", "ContractTerms")
 NAME_PART = r"[\w'-]"
 DECLARED = re.compile(r"^(?:(?:unfoldable|abbrev|opaque|pub)\s+)*([a-z][\w'-]*)(?:\s+[({].*?[)}])*\s+:\s")
+IN_MODULE = re.compile(r"^  (?:(?:unfoldable|abbrev|opaque|pub)\s+)*([a-z][\w'-]*)(?:\s+[({].*?[)}])*\s+:\s")
 MEMBER = re.compile(r"^\s+(?:pub\s+)?([a-z][\w'-]*)\s+:\s")
 
 
@@ -54,13 +55,12 @@ def declared_names(crates):
                 of_libraries.update(names)
         if not is_lemma_or_definition(path):
             continue
-        in_members = False
+        in_members = in_module = False
         for line in text.splitlines():
-            if re.match(r"^(pub )?(record|data)\b", line):
-                in_members = True
-            elif line[:1].strip():
-                in_members = False
-            match = DECLARED.match(line) or (MEMBER.match(line) if in_members else None)
+            if line[:1].strip() and not line.startswith("--"):
+                in_members = bool(re.match(r"^(pub )?(record|data)\b", line))
+                in_module = line.startswith("module")
+            match = DECLARED.match(line) or (MEMBER.match(line) if in_members else IN_MODULE.match(line) if in_module else None)
             if match:
                 found.setdefault(match.group(1), set()).add("member" if in_members else "definition")
     return {n: kinds for n, kinds in found.items() if n not in of_libraries}, of_libraries

@@ -6,7 +6,7 @@ use mathlib.Core.List.Memᴰ
 use mathlib.Core.List.{List, [], ◌∷◌, ◌++◌, append-nil}
 use native.Mathlib.Omega.{arith}
 use borrow.Author.Tests.{ne_eqb}
-use Rattle.arith.proofs.Alls.{all_map, all-member}
+use Rattle.arith.proofs.Alls.{all_map, all_member}
 use Rattle.arith.proofs.Tests.{never}
 use Rattle.rules.specs.declared.answer.Answer.{Answer}
 use Rattle.rules.specs.declared.answer.Answer.TheVariants.{TableUnsound, RecordUnsound}
@@ -79,7 +79,7 @@ one_is_unsound t bytes e =
     let a = (apply_spec t bytes).answer in
     let later = reading_causes t (read_of (members t) bytes) (legs_of bytes) in
     let Says : Cause → Type 0 = λ cause. (reply_of cause.1).number ≡ 1 → cause.0 ≡ true → unsound t ≡ true in
-    all-member Says ((answers_exactly t bytes).holds (ne_eqb (reply_of a).number 0 (λ z. omega arith))) (
+    all_member Says ((answers_exactly t bytes).holds (ne_eqb (reply_of a).number 0 (λ z. omega arith))) (
       λ _ q. q,
       all_map (λ cause. rank_of 1 < rank cause.1) Says later (λ cause h q _. absurd (omega (arith, ap rank_of q)))
           (all_above (rank_of 1) later (reading_rising t (read_of (members t) bytes) (legs_of bytes))),

@@ -9,9 +9,9 @@ use lib.ListN.{length, get_or, set, take, drop, replicate, length-map, length-ap
 use lib.Seq.{get_or-append-add, get_or-set_other, get_or-set_same}
 use borrow.Author.Tests.{leb-false, ltb-true, ne_eqb}
 use Rattle.arith.specs.Lists.{All, every, kept, from, over}
-use Rattle.arith.proofs.Alls.{hold_all, all-every, all_map, all_append}
+use Rattle.arith.proofs.Alls.{hold_all, all_every, all_map, all_append}
 use Rattle.arith.proofs.Among.{from_every}
-use Rattle.arith.proofs.Overs.{over-outside}
+use Rattle.arith.proofs.Overs.{over_outside}
 use Rattle.arith.proofs.Tests.{by_bool, passed, and_right}
 use Rattle.rules.specs.Ranges.{most_members, most_orders}
 use Rattle.rules.specs.Ledger.{head_length, marks_from, order_count_place, order_width, submits_from, first_year_place, members_place, holiday_count_place, day_place, time_place, lots_run_place, holidays_from, default_mark, accepted_submits_place}
@@ -107,7 +107,7 @@ orders_count t = length-map (from 0 (order_count t)) _ ∙ from_length 0 (order_
 sound_book : (t : Tables) → sides_sound t ≡ true → All (SoundOrder t) (orders t) → Distinct (orders t) → length (orders t) ≤ most_orders → BookKept t
 unfolding book_sound
 sound_book t s a d f = record {
-  sound = hold_all _ (s, (all-every (order_sound t) (orders t) (all_map (SoundOrder t) (λ o. order_sound t o ≡ true) (orders t) (order_sound_lem t) a), (orders_distinct (orders t) d, tt)));
+  sound = hold_all _ (s, (all_every (order_sound t) (orders t) (all_map (SoundOrder t) (λ o. order_sound t o ≡ true) (orders t) (order_sound_lem t) a), (orders_distinct (orders t) d, tt)));
   few = omega (arith, orders_count t);
 }
 
@@ -152,7 +152,7 @@ written_accepted os t = get_or-set_other t.head order_count_place accepted_submi
 -- the second's counts lie behind the other places
 pub without_place : (t : Tables) (i : ℕ) → head_length ≤ length t.head → members t ≤ most_members → i < submits_from → get_or (without_submits t).head i 0 ≡ get_or t.head i 0
 unfolding without_submits
-without_place t i b m l = over-outside submits_from (replicate (members t) 0) t.head (omega (arith, length-replicate {A = ℕ} (members t) 0)) i 0 (λ q. absurd (omega arith))
+without_place t i b m l = over_outside submits_from (replicate (members t) 0) t.head (omega (arith, length-replicate {A = ℕ} (members t) 0)) i 0 (λ q. absurd (omega arith))
 
 -- a later time leaves the count of accepted submits
 timed_accepted : (n : ℕ) (t : Tables) → Sound t → accepted_submits (timed n t) ≡ accepted_submits t
@@ -169,48 +169,48 @@ module _ (ls : List Line) (os : List Order) (t u : Tables) (s : Sound t) (a : Sa
   long : order_count_place < length u.head
   long = omega (arith, a.longer, s.head_long)
 
-  count-stays : order_count after ≡ order_count (with_orders os u)
-  count-stays = booked_place ls (with_orders os u) order_count_place (λ e. omega arith)
+  count_stays : order_count after ≡ order_count (with_orders os u)
+  count_stays = booked_place ls (with_orders os u) order_count_place (λ e. omega arith)
 
-  orders-after : orders after ≡ os
+  orders_after : orders after ≡ os
   unfolding booked
-  orders-after = orders_same (with_orders os u) after count-stays refl ∙ orders_written os u long
+  orders_after = orders_same (with_orders os u) after count_stays refl ∙ orders_written os u long
 
-  sides-after : sides_sound after ≡ true
+  sides_after : sides_sound after ≡ true
   unfolding booked
-  sides-after = sides_same (with_orders os u) after count-stays refl ∙ sides_written os u long
+  sides_after = sides_same (with_orders os u) after count_stays refl ∙ sides_written os u long
 
-  accepted-after : accepted_submits after ≡ accepted_submits u
-  accepted-after = booked_place ls (with_orders os u) accepted_submits_place (λ e. omega arith) ∙ written_accepted os u
+  accepted_after : accepted_submits after ≡ accepted_submits u
+  accepted_after = booked_place ls (with_orders os u) accepted_submits_place (λ e. omega arith) ∙ written_accepted os u
 
-  terms-after : accepted_submits t ≤ accepted_submits u → SameTerms t after
-  terms-after b = header_terms t after (omega arith) s (then_same a (then_same (written_header os u) (booked_header ls (with_orders os u)))) (omega (arith, accepted-after))
+  terms_after : accepted_submits t ≤ accepted_submits u → SameTerms t after
+  terms_after b = header_terms t after (omega arith) s (then_same a (then_same (written_header os u) (booked_header ls (with_orders os u)))) (omega (arith, accepted_after))
 
 -- ---- records that take orders out of the book, or use lots of them, or leave it
 module _ (t : Tables) (s : Sound t) (k : BookKept t) where
   -- os: what remains of the orders; u: tables with the header and the accepted submits of t
-  taken-book : (ls : List Line) (os : List Order) (u : Tables) → SameHeader time_place t.head u.head → accepted_submits u ≡ accepted_submits t → Remain (orders t) os
+  taken_book : (ls : List Line) (os : List Order) (u : Tables) → SameHeader time_place t.head u.head → accepted_submits u ≡ accepted_submits t → Remain (orders t) os
       → BookKept (booked ls (with_orders os u)).after
-  taken-book ls os u a same x =
-      remains_kept t (booked ls (with_orders os u)).after (terms-after ls os t u s a (omega arith)) k (sides-after ls os t u s a) (rw (orders-after ls os t u s a) x)
+  taken_book ls os u a same x =
+      remains_kept t (booked ls (with_orders os u)).after (terms_after ls os t u s a (omega arith)) k (sides_after ls os t u s a) (rw (orders_after ls os t u s a) x)
 
-  pub cancel-book : (n : ℕ) (p : Order → Bool) → BookKept (booked [] (with_orders (kept p (orders t)) (timed n t))).after
-  cancel-book n p = taken-book [] (kept p (orders t)) (timed n t) (timed_same n t s) (timed_accepted n t s) (kept_remain p (orders t))
+  pub cancel_book : (n : ℕ) (p : Order → Bool) → BookKept (booked [] (with_orders (kept p (orders t)) (timed n t))).after
+  cancel_book n p = taken_book [] (kept p (orders t)) (timed n t) (timed_same n t s) (timed_accepted n t s) (kept_remain p (orders t))
 
-  pub default-book : (m : ℕ) → BookKept (default_booked t m).after
+  pub default_book : (m : ℕ) → BookKept (default_booked t m).after
   unfolding default_booked
-  default-book m =
-      taken-book [] (kept (λ o. not (eqb o.member m)) (orders t)) (with_head (set t.head (marks_from + m) default_mark) t) (set_other time_place t.head (marks_from + m) 1 (omega arith) (of_member (omega arith)))
+  default_book m =
+      taken_book [] (kept (λ o. not (eqb o.member m)) (orders t)) (with_head (set t.head (marks_from + m) default_mark) t) (set_other time_place t.head (marks_from + m) 1 (omega arith) (of_member (omega arith)))
       (get_or-set_other t.head (marks_from + m) accepted_submits_place default_mark 0 (λ e. omega arith)) (kept_remain _ (orders t))
 
-  pub proposal-book : (legs : List Leg) → BookKept (proposal_booked t legs).after
+  pub proposal_book : (legs : List Leg) → BookKept (proposal_booked t legs).after
   unfolding proposal_booked
-  proposal-book legs = taken-book (proposal_lines t legs) (used_by_legs legs (orders t)) t (same_header time_place t.head) refl (legs_remain legs (orders t))
+  proposal_book legs = taken_book (proposal_lines t legs) (used_by_legs legs (orders t)) t (same_header time_place t.head) refl (legs_remain legs (orders t))
 
   -- u: tables with the head and the book of t
-  left-book : (ls : List Line) (u : Tables) → u.head ≡ t.head → u.book ≡ t.book → BookKept (booked ls u).after
+  left_book : (ls : List Line) (u : Tables) → u.head ≡ t.head → u.book ≡ t.book → BookKept (booked ls u).after
   unfolding booked
-  left-book ls u head book =
+  left_book ls u head book =
       let t' = (booked ls u).after in
       let at : (i : ℕ) → (i ≡ lots_run_place → ⊥) → get_or t'.head i 0 ≡ get_or t.head i 0 = λ i z. booked_place ls u i z ∙ ap (λ l. get_or l i 0) head in
       let same : SameHeader time_place t.head t'.head = subst (λ l. SameHeader time_place l t'.head) head (booked_header ls u) in
@@ -218,12 +218,12 @@ module _ (t : Tables) (s : Sound t) (k : BookKept t) where
       remains_kept t t' (header_terms t t' (omega arith) s same (omega (arith, at accepted_submits_place (λ e. omega arith)))) k
       (sides_same t t' count book ∙ book_sides t k.sound) (rw (orders_same t t' count book) (remain_same (orders t)))
 
-  pub limits-book : (l : List ℕ) → BookKept (booked [] (with_prices l t)).after
-  limits-book l = left-book [] (with_prices l t) refl refl
+  pub limits_book : (l : List ℕ) → BookKept (booked [] (with_prices l t)).after
+  limits_book l = left_book [] (with_prices l t) refl refl
 
-  pub close-out-book : (e : CloseOutTerms) → BookKept (close_out_booked t e).after
+  pub close_out_book : (e : CloseOutTerms) → BookKept (close_out_booked t e).after
   unfolding close_out_booked
-  close-out-book e = left-book (close_out_lines t e) t refl refl
+  close_out_book e = left_book (close_out_lines t e) t refl refl
 
 -- ---- a submit
 -- on a sound book it has no more deals than lots
@@ -243,21 +243,21 @@ module _ (t t' : Tables) (terms : SameTerms t t') (later : accepted_submits t < 
   abbrev new : Order
   new = with_lots m.left (incoming t e)
 
-  resting-remain : Remain (orders t) m.resting
+  resting_remain : Remain (orders t) m.resting
   unfolding submit_matched matched
-  resting-remain = matching_remain (length (orders t)) (incoming t e) (orders t)
+  resting_remain = matching_remain (length (orders t)) (incoming t e) (orders t)
 
   left_most : m.left ≤ e.lots.0
   unfolding submit_matched matched
   left_most = omega (arith, deals_total (length (orders t)) (incoming t e) (orders t))
 
-  left-some : would_rest t e ≡ true → 0 < m.left
+  left_some : would_rest t e ≡ true → 0 < m.left
   unfolding would_rest
-  left-some w = ltb-true 0 m.left (and_right (is_resting e.kind) (ltb 0 m.left) w)
+  left_some w = ltb-true 0 m.left (and_right (is_resting e.kind) (ltb 0 m.left) w)
 
   -- the order that rests is sound
-  new-sound : 0 < m.left → SoundOrder t' new
-  new-sound some = record {
+  new_sound : 0 < m.left → SoundOrder t' new
+  new_sound some = record {
     number< = later;
     member< = rw terms.size fine.member<;
     contract< = fine.contract<;
@@ -267,32 +267,32 @@ module _ (t t' : Tables) (terms : SameTerms t t') (later : accepted_submits t < 
     time≤ = fine.time≤;
   }
 
-  resting-sound : All (SoundOrder t') m.resting
-  resting-sound = remain_all (SoundOrder t) (SoundOrder t') (order_stays t t' terms) resting-remain (book_orders t k.sound)
+  resting_sound : All (SoundOrder t') m.resting
+  resting_sound = remain_all (SoundOrder t) (SoundOrder t') (order_stays t t' terms) resting_remain (book_orders t k.sound)
 
   -- no other has its number
-  number-new : (o : Order) (q : ℕ) → (0 < o.lots.0 → 0 < q) → q ≤ o.lots.0 → SoundOrder t o → eqb o.number (accepted_submits t) ≡ false
-  number-new o q u v a = ne_eqb o.number (accepted_submits t) (omega (arith, a.number<))
+  number_new : (o : Order) (q : ℕ) → (0 < o.lots.0 → 0 < q) → q ≤ o.lots.0 → SoundOrder t o → eqb o.number (accepted_submits t) ≡ false
+  number_new o q u v a = ne_eqb o.number (accepted_submits t) (omega (arith, a.number<))
 
-  submit-sound : All (SoundOrder t') (submit_orders t e)
+  submit_sound : All (SoundOrder t') (submit_orders t e)
   unfolding submit_orders
-  submit-sound =
+  submit_sound =
       by_bool (λ b. All (SoundOrder t') (cond b (m.resting ++ (new ∷ [])) m.resting)) (would_rest t e)
-      (λ w. all_append (SoundOrder t') m.resting (new ∷ []) resting-sound (new-sound (left-some w), tt)) (λ _. resting-sound)
+      (λ w. all_append (SoundOrder t') m.resting (new ∷ []) resting_sound (new_sound (left_some w), tt)) (λ _. resting_sound)
 
-  submit-distinct : Distinct (submit_orders t e)
+  submit_distinct : Distinct (submit_orders t e)
   unfolding submit_orders
-  submit-distinct =
-      let d = remain_distinct resting-remain (book_distinct t k.sound) in
+  submit_distinct =
+      let d = remain_distinct resting_remain (book_distinct t k.sound) in
       by_bool (λ b. Distinct (cond b (m.resting ++ (new ∷ [])) m.resting)) (would_rest t e)
-      (λ _. distinct_more m.resting new (remain_all (SoundOrder t) (λ o. eqb o.number (accepted_submits t) ≡ false) number-new resting-remain (book_orders t k.sound)) d)
+      (λ _. distinct_more m.resting new (remain_all (SoundOrder t) (λ o. eqb o.number (accepted_submits t) ≡ false) number_new resting_remain (book_orders t k.sound)) d)
       (λ _. d)
 
-  submit-few : length (submit_orders t e) ≤ most_orders
+  submit_few : length (submit_orders t e) ≤ most_orders
   unfolding submit_orders
-  submit-few =
+  submit_few =
       by_bool (λ b. b && leb most_orders (length m.resting) ≡ false → length (cond b (m.resting ++ (new ∷ [])) m.resting) ≤ most_orders) (would_rest t e)
-      (λ _ f. simp length-append (omega (arith, leb-false most_orders (length m.resting) f))) (λ _ _. omega (arith, remain_length resting-remain, orders_count t, k.few)) room
+      (λ _ f. simp length-append (omega (arith, leb-false most_orders (length m.resting) f))) (λ _ _. omega (arith, remain_length resting_remain, orders_count t, k.few)) room
 
 pub submit_book : (t : Tables) → Sound t → BookKept t → (e : Submission) → SoundSubmission (members t) e → in_span (calendar t) (day t) ≡ true
     → would_rest t e && leb most_orders (length (submit_matched t e).resting) ≡ false → BookKept (submit_booked t e).after
@@ -308,11 +308,11 @@ submit_book t s k e fine today room =
     let a = then_same (timed_same e.time t s) (set_other time_place u.head (submits_from + e.member) one (omega arith) (of_member (omega arith))) in
     let b = then_same a (set_other time_place l accepted_submits_place (accepted_submits u + 1) (omega arith) (changing (omega arith) (omega arith))) in
     let one_more : accepted_submits v ≡ accepted_submits t + 1 = get_or-set_same l accepted_submits_place (accepted_submits u + 1) 0 (omega (arith, a.longer, s.head_long)) ∙ ap (λ n. n + 1) (timed_accepted e.time t s) in
-    let terms : SameTerms t t' = terms-after ls os t v s b (omega arith) in
-    let later : accepted_submits t < accepted_submits t' = omega (arith, accepted-after ls os t v s b) in
-    let is = orders-after ls os t v s b in
-    sound_book t' (sides-after ls os t v s b) (rw is (submit-sound t t' terms later k e fine today room)) (rw is (submit-distinct t t' terms later k e fine today room))
-    (rw is (submit-few t t' terms later k e fine today room))
+    let terms : SameTerms t t' = terms_after ls os t v s b (omega arith) in
+    let later : accepted_submits t < accepted_submits t' = omega (arith, accepted_after ls os t v s b) in
+    let is = orders_after ls os t v s b in
+    sound_book t' (sides_after ls os t v s b) (rw is (submit_sound t t' terms later k e fine today room)) (rw is (submit_distinct t t' terms later k e fine today room))
+    (rw is (submit_few t t' terms later k e fine today room))
 
 -- ---- the close of day
 -- v: the tables u with some contracts closed

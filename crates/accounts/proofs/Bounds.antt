@@ -12,8 +12,8 @@ use lib.Seq.{get_or-take}
 use lib.IntN.{ℤ, pos, nat_abs, ◌+ℤ◌}
 use borrow.Author.Tests.{le-leb, leb-true, eqb-true, eq-eqb, ne_eqb}
 use Rattle.arith.specs.Lists.{All, any, every, total}
-use Rattle.arith.proofs.Alls.{all_map, every-place, all-place, every-all}
-use Rattle.arith.proofs.EachBlock.{block, every-block, block_at, block-passes}
+use Rattle.arith.proofs.Alls.{all_map, every_place, all_place, every_all}
+use Rattle.arith.proofs.EachBlock.{block, every_block_lem, block_at, block_passes}
 use Rattle.arith.specs.Ints.{when}
 use Rattle.arith.proofs.Sizes.{abs_plus, abs_times, abs_when}
 use Rattle.arith.proofs.Tests.{le_or_lt, same_or, and_left, and_right}
@@ -29,8 +29,8 @@ use Rattle.rules.specs.Refusals.{every_row, rows_sound}
 use Rattle.rules.specs.Accounts.{Column, lots, value, row, amount}
 use Rattle.rules.proofs.SoundHeaders.{SoundHeader}
 use Rattle.accounts.proofs.Lines.{row_total}
-use Rattle.rules.proofs.Cascade.{cascaded_month, cascaded-length, cascaded-row}
-use Rattle.accounts.proofs.Cascade.{year-no-child, quarter-child, month-child, no-term-child}
+use Rattle.rules.proofs.Cascade.{cascaded_month, cascaded_length, cascaded_row}
+use Rattle.accounts.proofs.Cascade.{year_no_child, quarter_child, month_child, no_term_child}
 use Rattle.accounts.proofs.Fresh.{fresh_zero, fresh_runs}
 
 -- ---- the bound
@@ -77,10 +77,10 @@ module _ (amount : Line → ℤ) (w : ℕ) where
   abbrev pub Weighs : Line → Type 0
   Weighs l = nat_abs (amount l) ≤ w * nat_abs l.lots
 
-  lines-three : (ls : List Line) (m i : ℕ) → All Weighs ls → three_rows (λ c. row_total amount c m ls) i ≤ w * line_run ls
+  lines_three : (ls : List Line) (m i : ℕ) → All Weighs ls → three_rows (λ c. row_total amount c m ls) i ≤ w * line_run ls
   unfolding row_total line_run total
-  lines-three [] m i h = omega arith
-  lines-three (l ∷ ls) m i h =
+  lines_three [] m i h = omega arith
+  lines_three (l ∷ ls) m i h =
       let v = when (eqb l.member m) (amount l) in
       omega (
         arith,
@@ -88,15 +88,15 @@ module _ (amount : Line → ℤ) (w : ℕ) where
         one_of_three l.contract i v,
         abs_when (eqb l.member m) (amount l),
         h.0,
-        lines-three ls m i h.1,
+        lines_three ls m i h.1,
         mul-add w (nat_abs l.lots) (line_run ls),
       )
 
   -- what lines add to one row is at most their run times w
-  pub lines-one : (ls : List Line) (c m : ℕ) → All Weighs ls → nat_abs (row_total amount c m ls) ≤ w * line_run ls
+  pub lines_one : (ls : List Line) (c m : ℕ) → All Weighs ls → nat_abs (row_total amount c m ls) ≤ w * line_run ls
   unfolding row_total line_run total
-  lines-one [] c m h = omega arith
-  lines-one (l ∷ ls) c m h =
+  lines_one [] c m h = omega arith
+  lines_one (l ∷ ls) c m h =
       let v = when (eqb l.member m) (amount l) in
       omega (
         arith,
@@ -104,15 +104,15 @@ module _ (amount : Line → ℤ) (w : ℕ) where
         abs_when (eqb l.contract c) v,
         abs_when (eqb l.member m) (amount l),
         h.0,
-        lines-one ls c m h.1,
+        lines_one ls c m h.1,
         mul-add w (nat_abs l.lots) (line_run ls),
       )
 
-  pub bounded-posted : {n : ℕ} {R : ℕ → ℕ → ℤ} (run : ℕ) (ls : List Line) → All Weighs ls → Bounded n (w * run) R
+  pub bounded_posted : {n : ℕ} {R : ℕ → ℕ → ℤ} (run : ℕ) (ls : List Line) → All Weighs ls → Bounded n (w * run) R
       → Bounded n (w * (run + line_run ls)) (λ c m. R c m +ℤ row_total amount c m ls)
-  bounded-posted {R = R} run ls h a = record {
-    within = λ m i q k. omega (arith, three_plus (λ c. R c m) (λ c. row_total amount c m ls) i, lines-three ls m i h, a.within m i q k, mul-add w run (line_run ls));
-    apart = λ c m q k l. omega (arith, abs_plus (R c m) (row_total amount c m ls), lines-one ls c m h, a.apart c m q k l, mul-add w run (line_run ls));
+  bounded_posted {R = R} run ls h a = record {
+    within = λ m i q k. omega (arith, three_plus (λ c. R c m) (λ c. row_total amount c m ls) i, lines_three ls m i h, a.within m i q k, mul-add w run (line_run ls));
+    apart = λ c m q k l. omega (arith, abs_plus (R c m) (row_total amount c m ls), lines_one ls c m h, a.apart c m q k l, mul-add w run (line_run ls));
   }
 
 -- what a row may reach for each lot run: its lots one, its value the highest price
@@ -141,11 +141,11 @@ bounded_cascaded c R R' t h after a = record {
   within = λ m i q k.
       let o = cascading c t h in
       le_trans
-      (rw (after (year_of i) m q, after (quarter_of i) m q, after (month_of i) m q, year-no-child c i o, quarter-child c i o, month-child c i o, ne_eqb c (month_of i) (omega arith))
+      (rw (after (year_of i) m q, after (quarter_of i) m q, after (month_of i) m q, year_no_child c i o, quarter_child c i o, month_child c i o, ne_eqb c (month_of i) (omega arith))
       (to_next (eqb c (year_of i)) (eqb c (quarter_of i)) (R (year_of i) m) (R (quarter_of i) m) (R (month_of i) m) (R c m)
       (λ t. ap (λ d. R d m) (eqb-true c (year_of i) t)) (λ t. ap (λ d. R d m) (eqb-true c (quarter_of i) t)) (λ t. ne_eqb c (quarter_of i) (omega (arith, eqb-true c (year_of i) t)))))
       (a.within m i q k);
-  apart = λ d m q k l. rw (after d m q, ne_eqb c d (omega arith), no-term-child c d (cascading c t h) t k) (omega (arith, abs_plus (R d m) (pos 0), a.apart d m q k l));
+  apart = λ d m q k l. rw (after d m q, ne_eqb c d (omega arith), no_term_child c d (cascading c t h) t k) (omega (arith, abs_plus (R d m) (pos 0), a.apart d m q k l));
 }
 
 -- in a column of rows
@@ -155,7 +155,7 @@ rows_in l c m = get_or l (row_place c m) (pos 0)
 column_cascaded : {b : ℕ} (n c : ℕ) (l : List ℤ) → c < term_count → n ≤ most_members → rows_length ≤ length l → Bounded n b (rows_in l) → Bounded n b (rows_in (cascaded n c l))
 column_cascaded n c l k q s a =
     le_or_lt january (c % contracts_in_year) (λ h. rw (cascaded_month n c l h) a)
-    (λ h. bounded_cascaded c (rows_in l) (rows_in (cascaded n c l)) k h (λ d m p. cascaded-row n c l s k q d m h p) a)
+    (λ h. bounded_cascaded c (rows_in l) (rows_in (cascaded n c l)) k h (λ d m p. cascaded_row n c l s k q d m h p) a)
 
 -- tables with rows for their n members
 pub record Roomy (n : ℕ) (t : Tables) : Type 0 where
@@ -164,16 +164,16 @@ pub record Roomy (n : ℕ) (t : Tables) : Type 0 where
   pub value_long : rows_length ≤ length t.value
 
 module _ (n : ℕ) (few : n ≤ most_members) where
-  columns-cascaded : {b : ℕ} (cs : List ℕ) (l : List ℤ) → All (λ c. c < term_count) cs → rows_length ≤ length l → Bounded n b (rows_in l) → Bounded n b (rows_in (all_cascaded n cs l))
+  columns_cascaded : {b : ℕ} (cs : List ℕ) (l : List ℤ) → All (λ c. c < term_count) cs → rows_length ≤ length l → Bounded n b (rows_in l) → Bounded n b (rows_in (all_cascaded n cs l))
   unfolding all_cascaded
-  columns-cascaded [] l h r a = a
-  columns-cascaded (c ∷ cs) l h r a =
-      columns-cascaded cs (cascaded n c l) h.1 (omega (arith, cascaded-length n c l r h.0 few)) (column_cascaded n c l h.0 few r a)
+  columns_cascaded [] l h r a = a
+  columns_cascaded (c ∷ cs) l h r a =
+      columns_cascaded cs (cascaded n c l) h.1 (omega (arith, cascaded_length n c l r h.0 few)) (column_cascaded n c l h.0 few r a)
 
   pub bounded_closed : {b : ℕ} (x : Column) (cs : List ℕ) (t : Tables) → All (λ c. c < term_count) cs → Roomy n t → Bounded n b (row x t) → Bounded n b (row x (with_closed cs t))
   unfolding with_closed
-  bounded_closed {b} lots cs t h r a = subst (λ s. Bounded n b (rows_in (all_cascaded s cs t.lots))) (sym r.size) (columns-cascaded cs t.lots h r.lots_long a)
-  bounded_closed {b} value cs t h r a = subst (λ s. Bounded n b (rows_in (all_cascaded s cs t.value))) (sym r.size) (columns-cascaded cs t.value h r.value_long a)
+  bounded_closed {b} lots cs t h r a = subst (λ s. Bounded n b (rows_in (all_cascaded s cs t.lots))) (sym r.size) (columns_cascaded cs t.lots h r.lots_long a)
+  bounded_closed {b} value cs t h r a = subst (λ s. Bounded n b (rows_in (all_cascaded s cs t.value))) (sym r.size) (columns_cascaded cs t.value h r.value_long a)
 
 -- ---- the lots run, and the test of damage
 -- each column's rows do not pass the lots run
@@ -190,8 +190,8 @@ each_within t a x = bounded_row (a x)
 column_sound : (n b : ℕ) (l : List ℤ) → ((c m : ℕ) → c < contract_count → m < n → nat_abs (rows_in l c m) ≤ b) → every_row (λ z. leb (nat_abs z) b) n l ≡ true
 unfolding every_row
 column_sound n b l a =
-    every-block 32 _ contract_count l
-    (λ c k. every-place (λ z. leb (nat_abs z) b) (pos 0) (take n (block row_width c l))
+    every_block_lem 32 _ contract_count l
+    (λ c k. every_place (λ z. leb (nat_abs z) b) (pos 0) (take n (block row_width c l))
     (λ m h. let q : (m < n) × (m < row_width) = omega (arith, simp length-take at h) in
     rw (get_or-take n (block row_width c l) m (pos 0) q.0, block_at row_width c m l (pos 0) q.1) (le-leb (nat_abs (rows_in l c m)) b (a c m k q.0))))
 
@@ -200,7 +200,7 @@ unfolding every_row
 column_gives n b l few long e c m k q =
     let p : ℤ → Bool = λ z. leb (nat_abs z) b in
     let rows = take n (block row_width c l) in
-    let one = all-place (λ z. p z ≡ true) (pos 0) rows (every-all p rows (block-passes 32 (λ r. every p (take n r)) contract_count l e c k)) m (simp (length-take, length-drop) (omega arith)) in
+    let one = all_place (λ z. p z ≡ true) (pos 0) rows (every_all p rows (block_passes 32 (λ r. every p (take n r)) contract_count l e c k)) m (simp (length-take, length-drop) (omega arith)) in
     leb-true (nat_abs (rows_in l c m)) b (rw (get_or-take n (block row_width c l) m (pos 0) q, block_at row_width c m l (pos 0) (omega arith)) at one)
 
 pub rows_sound_holds : (t : Tables) → RowsWithin t → rows_sound t ≡ true

@@ -17,7 +17,7 @@ use Rattle.rules.specs.Days.{Calendar}
 use Rattle.rules.specs.ContractTerms.{children_of}
 use Rattle.rules.specs.Accounts.{engine_account, DeliveryHour}
 use Rattle.rules.specs.OtherForms.{first_month_of, year_of, quarter_of, month_of, holds_month}
-use Rattle.rules.proofs.HourLaws.{InMonth, month_of_hour, holds-hour, Cascading, year, quarter, cascading}
+use Rattle.rules.proofs.HourLaws.{InMonth, month_of_hour, holds_hour_lem, Cascading, year, quarter, cascading}
 
 abbrev pub is_child : ℕ → ℕ → Bool
 is_child c d = any (λ x. eqb x d) (children_of c)
@@ -31,30 +31,30 @@ one_to_next false false x y z w e f g = simp sorted
 
 -- Of the three, the quarter alone is a child of the year, and the month alone one of the quarter.
 module _ (c i : ℕ) where
-  pub year-no-child : Cascading c → is_child c (year_of i) ≡ false
-  year-no-child (year z e) = rw e (not_among (c + first_quarter) quarters_in_year (year_of i) (omega arith))
-  year-no-child (quarter z y e) = rw e (not_among (first_month_of c) months_in_quarter (year_of i) (λ h k. le_or_lt (i / months_in_year) (c / contracts_in_year) (omega arith) (omega arith)))
+  pub year_no_child : Cascading c → is_child c (year_of i) ≡ false
+  year_no_child (year z e) = rw e (not_among (c + first_quarter) quarters_in_year (year_of i) (omega arith))
+  year_no_child (quarter z y e) = rw e (not_among (first_month_of c) months_in_quarter (year_of i) (λ h k. le_or_lt (i / months_in_year) (c / contracts_in_year) (omega arith) (omega arith)))
 
-  pub quarter-child : Cascading c → is_child c (quarter_of i) ≡ eqb c (year_of i)
-  quarter-child (year z e) = rw e (among_if (c + first_quarter) quarters_in_year (quarter_of i) c (year_of i) (omega arith) (omega arith))
-  quarter-child (quarter z y e) = rw e (among_if (first_month_of c) months_in_quarter (quarter_of i) c (year_of i) (λ h k. le_or_lt (i / months_in_year) (c / contracts_in_year) (omega arith) (omega arith)) (omega arith))
+  pub quarter_child : Cascading c → is_child c (quarter_of i) ≡ eqb c (year_of i)
+  quarter_child (year z e) = rw e (among_if (c + first_quarter) quarters_in_year (quarter_of i) c (year_of i) (omega arith) (omega arith))
+  quarter_child (quarter z y e) = rw e (among_if (first_month_of c) months_in_quarter (quarter_of i) c (year_of i) (λ h k. le_or_lt (i / months_in_year) (c / contracts_in_year) (omega arith) (omega arith)) (omega arith))
 
-  pub month-child : Cascading c → is_child c (month_of i) ≡ eqb c (quarter_of i)
-  month-child (year z e) = rw e (among_if (c + first_quarter) quarters_in_year (month_of i) c (quarter_of i) (λ h k. le_or_lt (c / contracts_in_year) (i / months_in_year) (omega arith) (omega arith)) (omega arith))
-  month-child (quarter z y e) =
+  pub month_child : Cascading c → is_child c (month_of i) ≡ eqb c (quarter_of i)
+  month_child (year z e) = rw e (among_if (c + first_quarter) quarters_in_year (month_of i) c (quarter_of i) (λ h k. le_or_lt (c / contracts_in_year) (i / months_in_year) (omega arith) (omega arith)) (omega arith))
+  month_child (quarter z y e) =
       rw e (among_if (first_month_of c) months_in_quarter (month_of i) c (quarter_of i) (λ h k. let same : c / contracts_in_year ≡ i / months_in_year = omega arith in omega arith) (omega arith))
 
   -- A contract without a term is no child.
-  pub no-term-child : Cascading c → c < term_count → term_count ≤ i → is_child c i ≡ false
-  no-term-child (year z e) l u = rw e (not_among (c + 1) 4 i (omega arith))
-  no-term-child (quarter z y e) l u = rw e (not_among (first_month_of c) 3 i (omega arith))
+  pub no_term_child : Cascading c → c < term_count → term_count ≤ i → is_child c i ≡ false
+  no_term_child (year z e) l u = rw e (not_among (c + 1) 4 i (omega arith))
+  no_term_child (quarter z y e) l u = rw e (not_among (first_month_of c) 3 i (omega arith))
 
   -- So c's row goes from one of them to the next, and their sum stays.
   moved : c < term_count → c % contracts_in_year < january → (r : ℕ → ℤ) → let r' : ℕ → ℤ = λ d. cond (eqb c d) (pos 0) (r d +ℤ when (is_child c d) (r c)) in
       r' (year_of i) +ℤ (r' (quarter_of i) +ℤ r' (month_of i)) ≡ r (year_of i) +ℤ (r (quarter_of i) +ℤ r (month_of i))
   moved w h r =
       let k = cascading c w h in
-      rw (year-no-child k, quarter-child k, month-child k, ne_eqb c (month_of i) (omega arith))
+      rw (year_no_child k, quarter_child k, month_child k, ne_eqb c (month_of i) (omega arith))
       (one_to_next (eqb c (year_of i)) (eqb c (quarter_of i)) (r (year_of i)) (r (quarter_of i)) (r (month_of i)) (r c)
       (λ t. ap r (eqb-true c (year_of i) t)) (λ t. ap r (eqb-true c (quarter_of i) t)) (λ t. ne_eqb c (quarter_of i) (omega (arith, eqb-true c (year_of i) t))))
 
@@ -63,7 +63,7 @@ account_three : (k : Calendar) (R : ℕ → ℕ → ℤ) (m h i : ℕ) → InMon
 unfolding engine_account holds_month
 account_three k R m h i lies =
     let l = lies.month< in
-    sum_ext contract_count _ _ (λ c _. ap (λ b. when b (R c m)) (holds-hour k i h lies c))
+    sum_ext contract_count _ _ (λ c _. ap (λ b. when b (R c m)) (holds_hour_lem k i h lies c))
     ∙ sum_three contract_count (λ c. R c m) (year_of i) (quarter_of i) (month_of i) (omega arith) (omega arith) (omega arith)
 
 -- R' are the rows after a cascade of the year or quarter c, R those before it.

@@ -22,8 +22,8 @@ use Rattle.rules.specs.Accounts.{Column, amount}
 use Rattle.rules.specs.Default.{by_member, sum_of, defaulted_longs, defaulted_shorts, given_up, less, change_lines, smaller_total, netted_longs, netted_shorts, netting_changes, longs_remaining}
 use Rattle.rules.specs.Default.{shorts_remaining, lots_remaining, others_lots, open_weight, weights, taken, defaulted_changes, taker_changes, close_out_lines}
 use Rattle.accounts.proofs.Lines.{Fits, hour_total}
-use Rattle.accounts.proofs.OnePrice.{net_lots, net_append, balanced-at-price}
-use Rattle.accounts.proofs.DealtOut.{dealt-length, dealt-none, all-dealt}
+use Rattle.accounts.proofs.OnePrice.{net_lots, net_append, balanced_at_price}
+use Rattle.accounts.proofs.DealtOut.{dealt_length, dealt_none, all_dealt}
 use Rattle.arith.proofs.Appends.{from_length}
 use Rattle.rules.proofs.Netting.{given_length, given_sum}
 
@@ -42,31 +42,31 @@ module _ (c p : ℕ) where
   change m z = record { member = m; contract = c; lots = z; price = p }
 
   -- only changes of nothing have no line
-  changes-net : (m : ℕ) (zs : List ℤ) → net_lots (change_lines c p m zs) ≡ net_of zs
+  changes_net : (m : ℕ) (zs : List ℤ) → net_lots (change_lines c p m zs) ≡ net_of zs
   unfolding change_lines net_lots net_of
-  changes-net m [] = refl
-  changes-net m (z ∷ zs) =
+  changes_net m [] = refl
+  changes_net m (z ∷ zs) =
       let rest = change_lines c p (suc m) zs in
       by_eqb (λ b. net_lots (cond b rest (change m z ∷ rest)) ≡ z +ℤ net_of zs) (nat_abs z) 0
-      (λ e. changes-net (suc m) zs ∙ sym (ap (λ y. y +ℤ net_of zs) (no_change z e) ∙ +ℤ_idl (net_of zs)))
-      (λ n. ap (λ y. z +ℤ y) (changes-net (suc m) zs))
+      (λ e. changes_net (suc m) zs ∙ sym (ap (λ y. y +ℤ net_of zs) (no_change z e) ∙ +ℤ_idl (net_of zs)))
+      (λ n. ap (λ y. z +ℤ y) (changes_net (suc m) zs))
 
-  changes-few : (m : ℕ) (zs : List ℤ) → length (change_lines c p m zs) ≤ length zs
+  changes_few : (m : ℕ) (zs : List ℤ) → length (change_lines c p m zs) ≤ length zs
   unfolding change_lines
-  changes-few m [] = omega arith
-  changes-few m (z ∷ zs) =
+  changes_few m [] = omega arith
+  changes_few m (z ∷ zs) =
       let rest = change_lines c p (suc m) zs in
       by_bool (λ b. length (cond b rest (change m z ∷ rest)) ≤ suc (length zs)) (eqb (nat_abs z) 0)
-      (λ e. omega (arith, changes-few (suc m) zs)) (λ e. omega (arith, changes-few (suc m) zs))
+      (λ e. omega (arith, changes_few (suc m) zs)) (λ e. omega (arith, changes_few (suc m) zs))
 
   -- what holds of any change but of nothing, of a member below a + n, holds of the lines
-  changes-all : (P : Line → Type 0) (a n : ℕ) (zs : List ℤ) → length zs ≡ n → ((m : ℕ) (z : ℤ) → m < a + n → 1 ≤ nat_abs z → P (change m z)) → All P (change_lines c p a zs)
+  changes_all : (P : Line → Type 0) (a n : ℕ) (zs : List ℤ) → length zs ≡ n → ((m : ℕ) (z : ℤ) → m < a + n → 1 ≤ nat_abs z → P (change m z)) → All P (change_lines c p a zs)
   unfolding change_lines
-  changes-all P a n [] e f = tt
-  changes-all P a zero (z ∷ zs) e f = absurd (omega arith)
-  changes-all P a (suc n) (z ∷ zs) e f =
+  changes_all P a n [] e f = tt
+  changes_all P a zero (z ∷ zs) e f = absurd (omega arith)
+  changes_all P a (suc n) (z ∷ zs) e f =
       let rest = change_lines c p (suc a) zs in
-      let r = changes-all P (suc a) n zs (omega arith) (λ m y h k. f m y (omega arith) k) in
+      let r = changes_all P (suc a) n zs (omega arith) (λ m y h k. f m y (omega arith) k) in
       by_eqb (λ b. All P (cond b rest (change a z ∷ rest))) (nat_abs z) 0 (λ _. r) (λ k. (f a z (omega arith) (omega (arith, k)), r))
 
   -- the lines of three lists of changes
@@ -75,14 +75,14 @@ module _ (c p : ℕ) where
     steps = change_lines c p 0 xs ++ (change_lines c p 0 ys ++ change_lines c p 0 zs)
 
     steps-net : net_lots steps ≡ net_of xs +ℤ (net_of ys +ℤ net_of zs)
-    steps-net = simp (net_append, changes-net)
+    steps-net = simp (net_append, changes_net)
 
     steps-few : length steps ≤ length xs + (length ys + length zs)
-    steps-few = simp length-append (omega (arith, changes-few 0 xs, changes-few 0 ys, changes-few 0 zs))
+    steps-few = simp length-append (omega (arith, changes_few 0 xs, changes_few 0 ys, changes_few 0 zs))
 
     steps_all : (P : Line → Type 0) (n : ℕ) → length xs ≡ n → length ys ≡ n → length zs ≡ n → ((m : ℕ) (z : ℤ) → m < n → 1 ≤ nat_abs z → P (change m z)) → All P steps
     steps_all P n x y z f =
-        let lines : (zs : List ℤ) → length zs ≡ n → All P (change_lines c p 0 zs) = λ zs e. changes-all P 0 n zs e (λ m z h k. f m z (omega arith) k) in
+        let lines : (zs : List ℤ) → length zs ≡ n → All P (change_lines c p 0 zs) = λ zs e. changes_all P 0 n zs e (λ m z h k. f m z (omega arith) k) in
         all_append P (change_lines c p 0 xs) (change_lines c p 0 ys ++ change_lines c p 0 zs) (lines xs x) (all_append P (change_lines c p 0 ys) (change_lines c p 0 zs) (lines ys y) (lines zs z))
 
 -- ---- sums of changes
@@ -143,26 +143,26 @@ module _ (t : Tables) (c : ℕ) where
   unfolding defaulted_shorts
   shorts_length = member_length t _
 
-  pub netted-length : (xs : List ℕ) → length xs ≡ members t → length (given_up (smaller_total t c) xs) ≡ members t
-  netted-length xs e = given_length (smaller_total t c) xs ∙ e
+  pub netted_length : (xs : List ℕ) → length xs ≡ members t → length (given_up (smaller_total t c) xs) ≡ members t
+  netted_length xs e = given_length (smaller_total t c) xs ∙ e
 
-  pub after-netting-length : (xs : List ℕ) → length xs ≡ members t → length (less xs (given_up (smaller_total t c) xs)) ≡ members t
-  after-netting-length xs e = zip_length _ xs _ (e ∙ sym (netted-length xs e)) ∙ e
+  pub after_netting_length : (xs : List ℕ) → length xs ≡ members t → length (less xs (given_up (smaller_total t c) xs)) ≡ members t
+  after_netting_length xs e = zip_length _ xs _ (e ∙ sym (netted_length xs e)) ∙ e
 
-  netting-length : length (netting_changes t c) ≡ members t
+  netting_length : length (netting_changes t c) ≡ members t
   unfolding netting_changes netted_longs netted_shorts
-  netting-length =
-      let shorts = netted-length _ shorts_length in
-      zip_length _ (netted_shorts t c) (netted_longs t c) (shorts ∙ sym (netted-length _ longs_length)) ∙ shorts
+  netting_length =
+      let shorts = netted_length _ shorts_length in
+      zip_length _ (netted_shorts t c) (netted_longs t c) (shorts ∙ sym (netted_length _ longs_length)) ∙ shorts
 
   -- step 1: as many lots come back as are given up
-  netting-net : net_of (netting_changes t c) ≡ pos 0
+  netting_net : net_of (netting_changes t c) ≡ pos 0
   unfolding netting_changes netted_longs netted_shorts smaller_total
-  netting-net =
+  netting_net =
       let q = smaller_total t c in
       let s : sum_of (netted_shorts t c) ≡ q = omega (arith, given_sum q (defaulted_shorts t c)) in
       let l : sum_of (netted_longs t c) ≡ q = omega (arith, given_sum q (defaulted_longs t c)) in
-      back_less_given (netted_shorts t c) (netted_longs t c) (netted-length _ shorts_length ∙ sym (netted-length _ longs_length))
+      back_less_given (netted_shorts t c) (netted_longs t c) (netted_length _ shorts_length ∙ sym (netted_length _ longs_length))
       ∙ ap₂ (λ x y. pos x -ℤ pos y) s l
       ∙ +ℤ_invr (pos q)
 
@@ -178,12 +178,12 @@ module _ (t : Tables) (c : ℕ) where
   remaining_length : length (defaulted_changes t c) ≡ members t
   unfolding defaulted_changes longs_remaining shorts_remaining netted_longs netted_shorts
   remaining_length =
-      let shorts = after-netting-length _ shorts_length in
-      zip_length _ (shorts_remaining t c) (longs_remaining t c) (shorts ∙ sym (after-netting-length _ longs_length)) ∙ shorts
+      let shorts = after_netting_length _ shorts_length in
+      zip_length _ (shorts_remaining t c) (longs_remaining t c) (shorts ∙ sym (after_netting_length _ longs_length)) ∙ shorts
 
-  remaining-net : net_of (defaulted_changes t c) ≡ pos (sum_of (shorts_remaining t c)) -ℤ pos (sum_of (longs_remaining t c))
+  remaining_net : net_of (defaulted_changes t c) ≡ pos (sum_of (shorts_remaining t c)) -ℤ pos (sum_of (longs_remaining t c))
   unfolding defaulted_changes longs_remaining shorts_remaining netted_longs netted_shorts
-  remaining-net = back_less_given (shorts_remaining t c) (longs_remaining t c) (after-netting-length _ shorts_length ∙ sym (after-netting-length _ longs_length))
+  remaining_net = back_less_given (shorts_remaining t c) (longs_remaining t c) (after_netting_length _ shorts_length ∙ sym (after_netting_length _ longs_length))
 
 -- ---- the laws
 module _ (t : Tables) (e : CloseOutTerms) where
@@ -198,53 +198,53 @@ module _ (t : Tables) (e : CloseOutTerms) where
   weights_length : length (weights t e) ≡ members t
   weights_length = by_weights (λ ws. length ws ≡ members t) (λ f. member_length t _)
 
-  pub taken-length : length (taker_changes t e) ≡ members t
+  pub taken_length : length (taker_changes t e) ≡ members t
   unfolding taker_changes taken
-  taken-length = length-map (taken t e) _ ∙ dealt-length (lots_remaining t e.contract) (weights t e) ∙ weights_length
+  taken_length = length-map (taken t e) _ ∙ dealt_length (lots_remaining t e.contract) (weights t e) ∙ weights_length
 
-  takers-net : (ltb 0 (lots_remaining t e.contract) && eqb (sum_of (weights t e)) 0) ≡ false → net_of (taker_changes t e) ≡ signed (ltb 0 (sum_of (longs_remaining t e.contract))) (lots_remaining t e.contract)
+  takers_net : (ltb 0 (lots_remaining t e.contract) && eqb (sum_of (weights t e)) 0) ≡ false → net_of (taker_changes t e) ≡ signed (ltb 0 (sum_of (longs_remaining t e.contract))) (lots_remaining t e.contract)
   unfolding taker_changes taken
-  takers-net h =
+  takers_net h =
       let b = ltb 0 (sum_of (longs_remaining t e.contract)) in
-      taken_net b (taken t e) ∙ ap (signed b) (all-dealt (lots_remaining t e.contract) (weights t e) h)
+      taken_net b (taken t e) ∙ ap (signed b) (all_dealt (lots_remaining t e.contract) (weights t e) h)
 
   -- what holds of any member's line of some lots in the contract at its GGF holds of all lines
-  pub close-out-all : (P : Line → Type 0) → ((m : ℕ) (z : ℤ) → m < members t → 1 ≤ nat_abs z → P (change e.contract (ggf t e.contract) m z)) → All P (close_out_lines t e)
+  pub close_out_all : (P : Line → Type 0) → ((m : ℕ) (z : ℤ) → m < members t → 1 ≤ nat_abs z → P (change e.contract (ggf t e.contract) m z)) → All P (close_out_lines t e)
   unfolding close_out_lines
-  close-out-all P f = steps_all e.contract (ggf t e.contract) _ _ _ P (members t) (netting-length t e.contract) (remaining_length t e.contract) taken-length f
+  close_out_all P f = steps_all e.contract (ggf t e.contract) _ _ _ P (members t) (netting_length t e.contract) (remaining_length t e.contract) taken_length f
 
   -- each line names a contract and a member of the ledger
-  pub close-out-fits : e.contract < contract_count → All (Fits (members t)) (close_out_lines t e)
-  close-out-fits h = close-out-all (Fits (members t)) (λ m z l k. record { contract< = h; member< = l })
+  pub close_out_fits : e.contract < contract_count → All (Fits (members t)) (close_out_lines t e)
+  close_out_fits h = close_out_all (Fits (members t)) (λ m z l k. record { contract< = h; member< = l })
 
   -- all are of the contract, at its GGF
   pub close_out_contract : All (λ l. l.contract ≡ e.contract) (close_out_lines t e)
-  close_out_contract = close-out-all (λ l. l.contract ≡ e.contract) (λ m z l k. refl)
+  close_out_contract = close_out_all (λ l. l.contract ≡ e.contract) (λ m z l k. refl)
 
-  pub close-out-price : All (λ l. l.price ≡ ggf t e.contract) (close_out_lines t e)
-  close-out-price = close-out-all (λ l. l.price ≡ ggf t e.contract) (λ m z l k. refl)
+  pub close_out_price : All (λ l. l.price ≡ ggf t e.contract) (close_out_lines t e)
+  close_out_price = close_out_all (λ l. l.price ≡ ggf t e.contract) (λ m z l k. refl)
 
   -- at most one line a member for each of the three parts
-  pub close-out-few : length (close_out_lines t e) ≤ 3 * members t
+  pub close_out_few : length (close_out_lines t e) ≤ 3 * members t
   unfolding close_out_lines
-  close-out-few =
+  close_out_few =
       let c = e.contract in
-      omega (arith, steps-few c (ggf t c) (netting_changes t c) (defaulted_changes t c) (taker_changes t e), netting-length t c, remaining_length t c, taken-length)
+      omega (arith, steps-few c (ggf t c) (netting_changes t c) (defaulted_changes t c) (taker_changes t e), netting_length t c, remaining_length t c, taken_length)
 
   -- their lots sum to nothing, if the takers have any weight or nothing remains for them
-  pub close-out-net : (ltb 0 (lots_remaining t e.contract) && eqb (sum_of (weights t e)) 0) ≡ false → net_lots (close_out_lines t e) ≡ pos 0
+  pub close_out_net : (ltb 0 (lots_remaining t e.contract) && eqb (sum_of (weights t e)) 0) ≡ false → net_lots (close_out_lines t e) ≡ pos 0
   unfolding close_out_lines lots_remaining
-  close-out-net h =
+  close_out_net h =
       let c = e.contract in
       steps-net c (ggf t c) (netting_changes t c) (defaulted_changes t c) (taker_changes t e)
-      ∙ ap₂ (λ x y. x +ℤ y) (netting-net t c) (ap₂ (λ x y. x +ℤ y) (remaining-net t c) (takers-net h) ∙ remainder_net (sum_of (longs_remaining t c)) (sum_of (shorts_remaining t c)) (one_side t c))
+      ∙ ap₂ (λ x y. x +ℤ y) (netting_net t c) (ap₂ (λ x y. x +ℤ y) (remaining_net t c) (takers_net h) ∙ remainder_net (sum_of (longs_remaining t c)) (sum_of (shorts_remaining t c)) (one_side t c))
 
   -- a close-out's lots and value add up to nothing in every hour
-  pub close-out-balanced : (ltb 0 (lots_remaining t e.contract) && eqb (sum_of (weights t e)) 0) ≡ false → (k : Calendar) (x : Column) (h : ℕ) → hour_total k (amount x) h (close_out_lines t e) ≡ pos 0
-  close-out-balanced w k x h = balanced-at-price k x h e.contract (ggf t e.contract) (close_out_lines t e) close_out_contract close-out-price (close-out-net w)
+  pub close_out_balanced : (ltb 0 (lots_remaining t e.contract) && eqb (sum_of (weights t e)) 0) ≡ false → (k : Calendar) (x : Column) (h : ℕ) → hour_total k (amount x) h (close_out_lines t e) ≡ pos 0
+  close_out_balanced w k x h = balanced_at_price k x h e.contract (ggf t e.contract) (close_out_lines t e) close_out_contract close_out_price (close_out_net w)
 
   -- a defaulted member takes nothing
-  pub defaulted-take-none : (m : ℕ) → defaulted t m ≡ true → get_or (taken t e) m 0 ≡ 0
+  pub defaulted_take_none : (m : ℕ) → defaulted t m ≡ true → get_or (taken t e) m 0 ≡ 0
   unfolding taken
-  defaulted-take-none m d =
-      dealt-none (lots_remaining t e.contract) (weights t e) m (by_weights (λ ws. get_or ws m 0 ≡ 0) (λ f. none_at _ 0 (members t) m (rw (zero-add m, d))))
+  defaulted_take_none m d =
+      dealt_none (lots_remaining t e.contract) (weights t e) m (by_weights (λ ws. get_or ws m 0 ≡ 0) (λ f. none_at _ 0 (members t) m (rw (zero-add m, d))))

@@ -29,7 +29,7 @@ use Rattle.accounts.proofs.Runs.{sound_of}
 use Rattle.accounts.proofs.Lines.{row_total}
 use Rattle.accounts.proofs.Calls.{booked_row}
 use Rattle.accounts.proofs.Books.{booked_place}
-use Rattle.accounts.proofs.CloseOutLines.{no_change, longs_length, shorts_length, netted-length, after-netting-length, close-out-fits, defaulted-take-none, regroup}
+use Rattle.accounts.proofs.CloseOutLines.{no_change, longs_length, shorts_length, netted_length, after_netting_length, close_out_fits, defaulted_take_none, regroup}
 use Rattle.accounts.proofs.EachKind.{accepted_call}
 
 -- ---- what the lines of changes add to a row
@@ -42,29 +42,29 @@ row_append amount c m (x ∷ xs) ys =
 
 module _ (c p : ℕ) where
   -- nothing to a member before the first
-  before-first : (a m : ℕ) (zs : List ℤ) → m < a → row_total line_lots c m (change_lines c p a zs) ≡ pos 0
+  before_first : (a m : ℕ) (zs : List ℤ) → m < a → row_total line_lots c m (change_lines c p a zs) ≡ pos 0
   unfolding row_total change_lines
-  before-first a m [] h = refl
-  before-first a m (z ∷ zs) h =
+  before_first a m [] h = refl
+  before_first a m (z ∷ zs) h =
       let rest = change_lines c p (suc a) zs in
       by_bool (λ b. row_total line_lots c m (cond b rest (record { member = a; contract = c; lots = z; price = p } ∷ rest)) ≡ pos 0) (eqb (nat_abs z) 0)
-      (λ _. before-first (suc a) m zs (omega arith))
-      (λ _. rw (eq-eqb c c refl, ne_eqb a m (omega arith), before-first (suc a) m zs (omega arith)))
+      (λ _. before_first (suc a) m zs (omega arith))
+      (λ _. rw (eq-eqb c c refl, ne_eqb a m (omega arith), before_first (suc a) m zs (omega arith)))
 
   -- the lines of changes add to each member's row its change
-  change-row : (a i : ℕ) (zs : List ℤ) → row_total line_lots c (a + i) (change_lines c p a zs) ≡ get_or zs i (pos 0)
+  change_row : (a i : ℕ) (zs : List ℤ) → row_total line_lots c (a + i) (change_lines c p a zs) ≡ get_or zs i (pos 0)
   unfolding row_total change_lines
-  change-row a i [] = refl
-  change-row a zero (z ∷ zs) =
+  change_row a i [] = refl
+  change_row a zero (z ∷ zs) =
       let rest = change_lines c p (suc a) zs in
-      let none = before-first (suc a) (a + 0) zs (omega arith) in
+      let none = before_first (suc a) (a + 0) zs (omega arith) in
       by_eqb (λ b. row_total line_lots c (a + 0) (cond b rest (record { member = a; contract = c; lots = z; price = p } ∷ rest)) ≡ z) (nat_abs z) 0
       (λ e. none ∙ sym (no_change z e))
       (λ _. rw (eq-eqb c c refl, eq-eqb a (a + 0) (omega arith), none) (+ℤ_idr z))
-  change-row a (suc i) (z ∷ zs) =
+  change_row a (suc i) (z ∷ zs) =
       let rest = change_lines c p (suc a) zs in
       let next : suc a + i ≡ a + suc i = omega arith in
-      let more = rw next at (change-row (suc a) i zs) in
+      let more = rw next at (change_row (suc a) i zs) in
       by_bool (λ b. row_total line_lots c (a + suc i) (cond b rest (record { member = a; contract = c; lots = z; price = p } ∷ rest)) ≡ get_or zs i (pos 0)) (eqb (nat_abs z) 0)
       (λ _. more) (λ _. rw (eq-eqb c c refl, ne_eqb a (a + suc i) (omega arith), more) (+ℤ_idl _))
 
@@ -114,16 +114,16 @@ module _ (t : Tables) (e : CloseOutTerms) (m : ℕ) (member< : m < members t) (d
 
   netting : get_or (netting_changes t c) m (pos 0) ≡ pos (get_or (netted_shorts t c) m 0) -ℤ pos (get_or (netted_longs t c) m 0)
   unfolding netting_changes netted_shorts netted_longs
-  netting = back_less_given_at (netted_shorts t c) (netted_longs t c) m (netted-length t c _ (shorts_length t c) ∙ sym (netted-length t c _ (longs_length t c)))
+  netting = back_less_given_at (netted_shorts t c) (netted_longs t c) m (netted_length t c _ (shorts_length t c) ∙ sym (netted_length t c _ (longs_length t c)))
 
   remaining : get_or (defaulted_changes t c) m (pos 0) ≡ pos (get_or (shorts_remaining t c) m 0) -ℤ pos (get_or (longs_remaining t c) m 0)
   unfolding defaulted_changes shorts_remaining longs_remaining netted_shorts netted_longs
-  remaining = back_less_given_at (shorts_remaining t c) (longs_remaining t c) m (after-netting-length t c _ (shorts_length t c) ∙ sym (after-netting-length t c _ (longs_length t c)))
+  remaining = back_less_given_at (shorts_remaining t c) (longs_remaining t c) m (after_netting_length t c _ (shorts_length t c) ∙ sym (after_netting_length t c _ (longs_length t c)))
 
   -- both steps together
-  given-up : get_or (netting_changes t c) m (pos 0) +ℤ get_or (defaulted_changes t c) m (pos 0) ≡ pos (dn (lots_at t c m)) -ℤ pos (up (lots_at t c m))
+  given_up_lem : get_or (netting_changes t c) m (pos 0) +ℤ get_or (defaulted_changes t c) m (pos 0) ≡ pos (dn (lots_at t c m)) -ℤ pos (up (lots_at t c m))
   unfolding shorts_remaining longs_remaining netted_shorts netted_longs
-  given-up =
+  given_up_lem =
       let q = smaller_total t c in
       let ss : get_or (netted_shorts t c) m 0 + get_or (shorts_remaining t c) m 0 ≡ dn (lots_at t c m) = omega (arith, remaining_at q (defaulted_shorts t c) m, shorts) in
       let ls : get_or (netted_longs t c) m 0 + get_or (longs_remaining t c) m 0 ≡ up (lots_at t c m) = omega (arith, remaining_at q (defaulted_longs t c) m, longs) in
@@ -136,19 +136,19 @@ module _ (t : Tables) (e : CloseOutTerms) (m : ℕ) (member< : m < members t) (d
       let b = ltb 0 (sum_of (longs_remaining t c)) in
       let f : ℕ → ℤ = λ q. cond b (pos q) (neg_ℤ (pos q)) in
       let nothing : f 0 ≡ pos 0 = by_bool (λ b. cond b (pos 0) (neg_ℤ (pos 0)) ≡ pos 0) b (λ _. refl) (λ _. refl) in
-      ap (get_or (map f (taken t e)) m) (sym nothing) ∙ get_or-map f (taken t e) m 0 ∙ ap f (defaulted-take-none t e m d) ∙ nothing
+      ap (get_or (map f (taken t e)) m) (sym nothing) ∙ get_or-map f (taken t e) m 0 ∙ ap f (defaulted_take_none t e m d) ∙ nothing
 
-  lines-close : lots_at t c m +ℤ row_total line_lots c m (close_out_lines t e) ≡ pos 0
+  lines_close : lots_at t c m +ℤ row_total line_lots c m (close_out_lines t e) ≡ pos 0
   unfolding close_out_lines
-  lines-close =
+  lines_close =
       let p = ggf t c in
       let ns = netting_changes t c in
       let ds = defaulted_changes t c in
       let ts = taker_changes t e in
-      let at : (zs : List ℤ) → row_total line_lots c m (change_lines c p 0 zs) ≡ get_or zs m (pos 0) = λ zs. rw (zero-add m) at (change-row c p 0 m zs) in
+      let at : (zs : List ℤ) → row_total line_lots c m (change_lines c p 0 zs) ≡ get_or zs m (pos 0) = λ zs. rw (zero-add m) at (change_row c p 0 m zs) in
       let steps = row_append line_lots c m (change_lines c p 0 ns) (change_lines c p 0 ds ++ change_lines c p 0 ts)
       ∙ ap₂ ◌+ℤ◌ (at ns) (row_append line_lots c m (change_lines c p 0 ds) (change_lines c p 0 ts) ∙ ap₂ ◌+ℤ◌ (at ds) (at ts ∙ takes_none) ∙ +ℤ_idr _) in
-      ap (λ z. lots_at t c m +ℤ z) (steps ∙ given-up) ∙ closed (lots_at t c m)
+      ap (λ z. lots_at t c m +ℤ z) (steps ∙ given_up_lem) ∙ closed (lots_at t c m)
 
 pub defaulted_are_closed_out : DefaultedAreClosedOut
 unfolding close_out_booked
@@ -158,8 +158,8 @@ defaulted_are_closed_out t bytes e r a m h d =
     let ls = close_out_lines t e in
     let c< : e.contract < contract_count = close_out_contract (members t) e (legs_of bytes) k.event in
     let same : (apply_spec t bytes).after ≡ (booked ls t).after = ap (λ o. o.after) k.leads in
-    let members-same : members (apply_spec t bytes).after ≡ members t = ap members same ∙ booked_place ls t 1 (λ q. omega arith) in
+    let members_same : members (apply_spec t bytes).after ≡ members t = ap members same ∙ booked_place ls t 1 (λ q. omega arith) in
     let mark-same : mark (apply_spec t bytes).after m ≡ mark t m = ap (λ u. mark u m) same ∙ booked_place ls t (marks_from + m) (λ q. omega arith) in
     ap (λ u. lots_at u e.contract m) same
-    ∙ booked_row (members t) ls t t s s.few_members (close-out-fits t e c<) refl refl lots e.contract m (omega (arith, s.few_members))
-    ∙ lines-close t e m (omega arith) (ap (λ n. eqb n 1) (sym mark-same) ∙ d)
+    ∙ booked_row (members t) ls t t s s.few_members (close_out_fits t e c<) refl refl lots e.contract m (omega (arith, s.few_members))
+    ∙ lines_close t e m (omega arith) (ap (λ n. eqb n 1) (sym mark-same) ∙ d)

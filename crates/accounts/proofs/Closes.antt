@@ -10,10 +10,10 @@ use lib.Seq.{get_or-set_other, get_or-set_same}
 use lib.IntN.{pos, ◌+ℤ◌}
 use borrow.Author.Tests.{leb-true, ltb-true, lt-ltb, le-leb, lt-leb, eqb-true, eq-eqb, not-false}
 use Rattle.arith.specs.Lists.{All, every, any, kept, over, from}
-use Rattle.arith.proofs.Alls.{every-all, all_map, all-kept}
+use Rattle.arith.proofs.Alls.{every_all, all_map, all_kept}
 use Rattle.arith.proofs.Among.{by_among, every_from}
 use Rattle.arith.specs.Ints.{when}
-use Rattle.arith.proofs.Overs.{over-outside}
+use Rattle.arith.proofs.Overs.{over_outside}
 use Rattle.arith.proofs.Tests.{never, by_eqb, le_or_lt, true_or, and_left, and_right, passed}
 use Rattle.rules.specs.Ledger.{head_length, row_width, rows_length}
 use Rattle.rules.specs.Ranges.{contract_count, term_count, contracts_in_year, last_quarter, first_quarter, january, most_members, quarters_in_year, months_in_quarter}
@@ -25,7 +25,7 @@ use Rattle.rules.specs.declared.units.DayNo.{DayNo}
 use Rattle.rules.specs.Days.{Calendar, next_business_day}
 use Rattle.rules.specs.ContractTerms.{has_term, is_parent, term_of, contracts_of, children_of, term_closing_day, closes_on, closes_before, not_before, is_on, is_before, still_to_close, has_cascaded}
 use Rattle.rules.specs.OtherForms.{first_month_of}
-use Rattle.rules.proofs.CalendarLaws.{next-business, before_or_not, closes-today, closed-by-next, quarter-later-by-number, open_stays, open-in-ledger, open-to-close}
+use Rattle.rules.proofs.CalendarLaws.{next_business, before_or_not, closes_today, closed_by_next, quarter_later_by_number, open_stays, open_in_ledger, open_to_close}
 use Rattle.rules.proofs.HourLaws.{Cascading, year, quarter, cascading}
 use Rattle.rules.specs.Header.{Header, calendar_of}
 use Rattle.rules.specs.Ledger.{members_place, day_place, time_place, order_count_place, submits_from, Tables, Line, with_rows, members, day, calendar, orders, with_orders, without_submits, first_lines}
@@ -34,7 +34,7 @@ use Rattle.rules.specs.Accounts.{Column, lots, value, row, day_reached}
 use Rattle.accounts.proofs.Cascade.{cascade_keeps}
 use Rattle.accounts.proofs.Heads.{SameHeader, field, changing, same_header, then_same, set_other, over_other, but_the_day}
 use Rattle.accounts.proofs.Holds.{Rows, Holds, holds_same}
-use Rattle.rules.proofs.Cascade.{cascaded_month, cascaded-length, cascaded-row}
+use Rattle.rules.proofs.Cascade.{cascaded_month, cascaded_length, cascaded_row}
 use Rattle.accounts.proofs.Runs.{InOpen, Runs, Sound, runs_calendar, runs_with, orders_same}
 use Rattle.accounts.proofs.Calls.{rows_of, Does}
 use Rattle.accounts.proofs.Written.{orders_written}
@@ -73,28 +73,28 @@ module _ (k : Calendar) (d : ℕ) where
   Closed K = (e : ℕ) → K e ≡ true → (e % contracts_in_year < january) × (still_to_close k (suc d) (term_of e) ≡ false)
 
   -- what 'has cascaded' says of a contract
-  cascaded-parent : (e : ℕ) → has_cascaded k d e ≡ true → (e < term_count) × (leb (e % contracts_in_year) last_quarter ≡ true)
+  cascaded_parent : (e : ℕ) → has_cascaded k d e ≡ true → (e < term_count) × (leb (e % contracts_in_year) last_quarter ≡ true)
   unfolding has_cascaded
-  cascaded-parent e t =
+  cascaded_parent e t =
       let parent = and_left (is_parent e) (closes_before k e d) t in
       (ltb-true e term_count (and_left (has_term e) (leb (e % contracts_in_year) last_quarter) parent), and_right (has_term e) (leb (e % contracts_in_year) last_quarter) parent)
 
-  cascaded-closed : (e : ℕ) → has_cascaded k d e ≡ true → is_before (term_closing_day k (term_of e)) d ≡ true
+  cascaded_closed : (e : ℕ) → has_cascaded k d e ≡ true → is_before (term_closing_day k (term_of e)) d ≡ true
   unfolding has_cascaded
-  cascaded-closed e t = and_right (has_term e) (is_before (term_closing_day k (term_of e)) d) (and_right (is_parent e) (closes_before k e d) t)
+  cascaded_closed e t = and_right (has_term e) (is_before (term_closing_day k (term_of e)) d) (and_right (is_parent e) (closes_before k e d) t)
 
-  closed-before : Closed (has_cascaded k d)
+  closed_before : Closed (has_cascaded k d)
   unfolding still_to_close
-  closed-before e t = (omega (arith, leb-true (e % contracts_in_year) last_quarter (cascaded-parent e t).1), before_closed d (term_closing_day k (term_of e)) (cascaded-closed e t))
+  closed_before e t = (omega (arith, leb-true (e % contracts_in_year) last_quarter (cascaded_parent e t).1), before_closed d (term_closing_day k (term_of e)) (cascaded_closed e t))
 
   -- no child of a contract that closes this evening has closed before
-  children-clear : (K : ℕ → Bool) (c : ℕ) → c < term_count → Closed K → is_on (term_closing_day k (term_of c)) d ≡ true → c % contracts_in_year < january → (e : ℕ) → child_of c e ≡ true → K e ≡ false
-  children-clear K c w z o b e v = true_or (K e) (λ t. never (absurd (go (cascading c w b) (z e t)))) (λ t. t)
+  children_clear : (K : ℕ → Bool) (c : ℕ) → c < term_count → Closed K → is_on (term_closing_day k (term_of c)) d ≡ true → c % contracts_in_year < january → (e : ℕ) → child_of c e ≡ true → K e ≡ false
+  children_clear K c w z o b e v = true_or (K e) (λ t. never (absurd (go (cascading c w b) (z e t)))) (λ t. t)
     where
       go : Cascading c → (e % contracts_in_year < january) × (still_to_close k (suc d) (term_of e) ≡ false) → ⊥
       go (year y is) f =
-          let today = closes-today k d (term_of c) o in
-          by_among (λ q. q ≡ true → ⊥) (c + first_quarter) quarters_in_year e (λ l u _. never (sym (quarter-later-by-number k d c e y (omega arith) (omega arith) today) ∙ f.1)) (λ _ q. never (sym q)) (rw is at v)
+          let today = closes_today k d (term_of c) o in
+          by_among (λ q. q ≡ true → ⊥) (c + first_quarter) quarters_in_year e (λ l u _. never (sym (quarter_later_by_number k d c e y (omega arith) (omega arith) today) ∙ f.1)) (λ _ q. never (sym q)) (rw is at v)
       go (quarter p q is) f =
           by_among (λ w. w ≡ true → ⊥) (first_month_of c) months_in_quarter e (λ l u _. let same : e / contracts_in_year ≡ c / contracts_in_year = omega arith in omega (arith, f.0)) (λ _ w. never (sym w)) (rw is at v)
 
@@ -160,17 +160,17 @@ module _ (h : Header) (d : ℕ) (t : Tables) (r : Runs h d t) (s : Sound t) (log
   few : h.members ≤ most_members
   few = rw r.size at s.few_members
 
-  evening-next : (c : ℕ) (u : Tables) (K : ℕ → Bool) → c < term_count → is_on (term_closing_day k (term_of c)) d ≡ true → Evening u K
+  evening_next : (c : ℕ) (u : Tables) (K : ℕ → Bool) → c < term_count → is_on (term_closing_day k (term_of c)) d ≡ true → Evening u K
       → Evening (rows_cascaded c u) (λ e. (eqb c e && leb (c % contracts_in_year) last_quarter) || K e)
   unfolding still_to_close
-  evening-next c u K b o v = record {
+  evening_next c u K b o v = record {
     header = v.header;
-    lots_long = omega (arith, cascaded-length (members u) c u.lots v.lots_long b same32);
-    value_long = omega (arith, cascaded-length (members u) c u.value v.value_long b same32);
+    lots_long = omega (arith, cascaded_length (members u) c u.lots v.lots_long b same32);
+    value_long = omega (arith, cascaded_length (members u) c u.value v.value_long b same32);
     holds = le_or_lt january (c % contracts_in_year)
         (λ l. holds_fewer h _ log K _ (λ e _ q. only (eqb c e) (leb (c % contracts_in_year) last_quarter) (K e) (lt-leb (c % contracts_in_year) last_quarter l) q) (holds_same h (rows_of u) _ log K (λ x e m _ _. stays x e m l) v.holds))
         (λ l. holds_fewer h _ log (λ e. eqb c e || K e) _ (λ e _ q. either (eqb c e) (leb (c % contracts_in_year) last_quarter) (K e) q)
-        (holds_cascaded h c (rows_of u) _ log K b l (children-clear k d K c b v.closed o l) (λ x e m q. moved x e m q l) v.holds));
+        (holds_cascaded h c (rows_of u) _ log K b l (children_clear k d K c b v.closed o l) (λ x e m q. moved x e m q l) v.holds));
     closed = λ e q. true_or (K e) (λ w. v.closed e w) (λ w. new e (first (eqb c e && leb (c % contracts_in_year) last_quarter) (K e) w q));
   }
     where
@@ -190,14 +190,14 @@ module _ (h : Header) (d : ℕ) (t : Tables) (r : Runs h d t) (s : Sound t) (log
       stays value e m l = ap (λ z. get_or z (e * row_width + m) (pos 0)) (cascaded_month (members u) c u.value l)
 
       moved : (x : Column) (e m : ℕ) → m < h.members → c % contracts_in_year < january → row x (rows_cascaded c u) e m ≡ cond (eqb c e) (pos 0) (row x u e m +ℤ when (child_of c e) (row x u c m))
-      moved lots e m q l = cascaded-row (members u) c u.lots v.lots_long b same32 e m l (omega (arith, size))
-      moved value e m q l = cascaded-row (members u) c u.value v.value_long b same32 e m l (omega (arith, size))
+      moved lots e m q l = cascaded_row (members u) c u.lots v.lots_long b same32 e m l (omega (arith, size))
+      moved value e m q l = cascaded_row (members u) c u.value v.value_long b same32 e m l (omega (arith, size))
 
-  evening-all : (cs : List ℕ) (u : Tables) (K : ℕ → Bool) → All (λ c. (c < term_count) × (is_on (term_closing_day k (term_of c)) d ≡ true)) cs → Evening u K
+  evening_all : (cs : List ℕ) (u : Tables) (K : ℕ → Bool) → All (λ c. (c < term_count) × (is_on (term_closing_day k (term_of c)) d ≡ true)) cs → Evening u K
       → Evening (all_rows_cascaded cs u) (closed_by cs K)
   unfolding all_rows_cascaded closed_by
-  evening-all [] u K a v = v
-  evening-all (c ∷ cs) u K a v = evening-all cs (rows_cascaded c u) _ a.1 (evening-next c u K a.0.0 a.0.1 v)
+  evening_all [] u K a v = v
+  evening_all (c ∷ cs) u K a v = evening_all cs (rows_cascaded c u) _ a.1 (evening_next c u K a.0.0 a.0.1 v)
 
 -- the orders that are left are of none of the contracts
 orders_closed : (P : Order → Type 0) (cs : List ℕ) (u : Tables) → order_count_place < length u.head → All P (orders u) → All (λ o. P o × (is_of_any cs o ≡ false)) (orders (with_closed cs u))
@@ -205,7 +205,7 @@ unfolding with_closed
 orders_closed P cs u b a =
     let stays : Order → Bool = λ o. not (is_of_any cs o) in
     rw (orders_same (with_orders (kept stays (orders u)) u) (with_closed cs u) refl refl ∙ orders_written (kept stays (orders u)) u b)
-    (all_map (λ o. P o × (stays o ≡ true)) (λ o. P o × (is_of_any cs o ≡ false)) (kept stays (orders u)) (λ o p. (p.0, not-true (is_of_any cs o) p.1)) (all-kept P stays (orders u) a))
+    (all_map (λ o. P o × (stays o ≡ true)) (λ o. P o × (is_of_any cs o ≡ false)) (kept stays (orders u)) (λ o p. (p.0, not-true (is_of_any cs o) p.1)) (all_kept P stays (orders u) a))
   where
     not-true : (b : Bool) → not b ≡ true → b ≡ false
     not-true true e = never (sym e)
@@ -226,7 +226,7 @@ closing_today t =
     let p : ℕ → Bool = λ c. closes_on (calendar t) c (day t) in
     let today : ℕ → Bool = λ c. is_on (term_closing_day (calendar t) (term_of c)) (day t) in
     all_map (λ c. (has_term c ≡ true) × (p c ≡ true)) (λ c. (c < term_count) × (today c ≡ true)) (kept p all_contracts) (λ c q. (ltb-true c term_count q.0, and_right (has_term c) (today c) q.1))
-    (all-kept (λ c. has_term c ≡ true) p all_contracts (every-all has_term all_contracts contracts_below))
+    (all_kept (λ c. has_term c ≡ true) p all_contracts (every_all has_term all_contracts contracts_below))
 
 contracts_listed : T (every (λ c. any (λ x. eqb x c) all_contracts) (from 0 term_count))
 unfolding contracts_of kept from every any term_of
@@ -265,7 +265,7 @@ day_orders x v b m =
     let l = over submits_from (replicate (members v) 0) v.head in
     orders_same v (on_day x v)
     (get_or-set_other (set l day_place x) time_place order_count_place 0 0 (λ e. omega arith) ∙ get_or-set_other l day_place order_count_place x 0 (λ e. omega arith)
-    ∙ over-outside submits_from (replicate (members v) 0) v.head (omega (arith, length-replicate {A = ℕ} (members v) 0)) order_count_place 0 (λ q. absurd (omega arith))) refl
+    ∙ over_outside submits_from (replicate (members v) 0) v.head (omega (arith, length-replicate {A = ℕ} (members v) 0)) order_count_place 0 (λ q. absurd (omega arith))) refl
 
 -- ---- the close of day
 module _ (h : Header) (d : ℕ) (t : Tables) (r : Runs h d t) (s : Sound t) (n : ℕ) where
@@ -276,12 +276,12 @@ module _ (h : Header) (d : ℕ) (t : Tables) (r : Runs h d t) (s : Sound t) (n :
   unfolding closes
   closes_here c = ap (λ k. is_on (term_closing_day k (term_of c)) (day t)) (runs_calendar r) ∙ ap (λ x. is_on (term_closing_day (calendar_of h) (term_of c)) x) r.today
 
-  closing-all : All (λ c. (c < term_count) × (closes c ≡ true)) (closing_contracts t)
-  closing-all = all_map _ (λ c. (c < term_count) × (closes c ≡ true)) (closing_contracts t) (λ c q. (q.0, sym (closes_here c) ∙ q.1)) (closing_today t)
+  closing_all : All (λ c. (c < term_count) × (closes c ≡ true)) (closing_contracts t)
+  closing_all = all_map _ (λ c. (c < term_count) × (closes c ≡ true)) (closing_contracts t) (λ c q. (q.0, sym (closes_here c) ∙ q.1)) (closing_today t)
 
-  closing-listed : (c : ℕ) → c < term_count → closes c ≡ true → any (λ x. eqb x c) (closing_contracts t) ≡ true
+  closing_listed : (c : ℕ) → c < term_count → closes c ≡ true → any (λ x. eqb x c) (closing_contracts t) ≡ true
   unfolding closing_contracts
-  closing-listed c b e = any_kept (λ c. closes_on (calendar t) c (day t)) all_contracts c
+  closing_listed c b e = any_kept (λ c. closes_on (calendar t) c (day t)) all_contracts c
       (passed _ (every_from (λ c. any (λ x. eqb x c) all_contracts) 0 term_count contracts_listed c (omega arith) (omega arith))) (rw (lt-ltb c term_count b) (closes_here c ∙ e))
 
   evening : (log : List Line) → Holds h (rows_of t) log (has_cascaded (calendar_of h) d) → Evening h d t r s log (priced n t) (has_cascaded (calendar_of h) d)
@@ -291,7 +291,7 @@ module _ (h : Header) (d : ℕ) (t : Tables) (r : Runs h d t) (s : Sound t) (n :
     lots_long = s.lots_long;
     value_long = s.value_long;
     holds = holds_same h (rows_of t) (rows_of (priced n t)) log (has_cascaded (calendar_of h) d) (λ x c m _ _. as_before x c m) a;
-    closed = closed-before (calendar_of h) d;
+    closed = closed_before (calendar_of h) d;
   }
     where
       as_before : (x : Column) (c m : ℕ) → row x (priced n t) c m ≡ row x t c m
@@ -308,10 +308,10 @@ module _ (h : Header) (d : ℕ) (t : Tables) (r : Runs h d t) (s : Sound t) (n :
     unfolding has_cascaded closes
     cascaded-next e b q =
         let z = term_closing_day (calendar_of h) (term_of e) in
-        let parent = cascaded-parent (calendar_of h) x.0 e q in
-        let past = sym (closed-by-next (calendar_of h) d x (term_of e) next) ∙ cascaded-closed (calendar_of h) x.0 e q in
+        let parent = cascaded_parent (calendar_of h) x.0 e q in
+        let past = sym (closed_by_next (calendar_of h) d x (term_of e) next) ∙ cascaded_closed (calendar_of h) x.0 e q in
         true_or (is_before z d) (λ p. closed_keeps (closing_contracts t) (has_cascaded (calendar_of h) d) e (rw (lt-ltb e term_count parent.0, parent.1, p)))
-        (λ p. closed_has (closing_contracts t) (has_cascaded (calendar_of h) d) e (closing-listed e parent.0 (rw p at past)) (omega (arith, leb-true (e % contracts_in_year) last_quarter parent.1)))
+        (λ p. closed_has (closing_contracts t) (has_cascaded (calendar_of h) d) e (closing_listed e parent.0 (rw p at past)) (omega (arith, leb-true (e % contracts_in_year) last_quarter parent.1)))
 
     -- an order that is left is of a contract that is open on the next day
     open_next : (o : Order) → InOpen h d o → is_of_any (closing_contracts t) o ≡ false → InOpen h x.0 o
@@ -319,10 +319,10 @@ module _ (h : Header) (d : ℕ) (t : Tables) (r : Runs h d t) (s : Sound t) (n :
     open_next o p q =
         let c = o.contract in
         let z = term_closing_day (calendar_of h) (term_of c) in
-        let later : is_on z d ≡ false = true_or (is_on z d) (λ e. never (sym (closing-listed c (open-in-ledger (calendar_of h) d c p) e) ∙ q)) (λ e. e) in
-        let still : is_before z d ≡ false = before_or_not d z ∙ ap not (open-to-close (calendar_of h) d c p) in
-        let ahead : is_before z x.0 ≡ false = closed-by-next (calendar_of h) d x (term_of c) next ∙ rw (still, later) in
-        open_stays (calendar_of h) d x.0 c (omega (arith, (next-business (calendar_of h) d x next).0)) p (not-false _ (sym (before_or_not x.0 z) ∙ ahead))
+        let later : is_on z d ≡ false = true_or (is_on z d) (λ e. never (sym (closing_listed c (open_in_ledger (calendar_of h) d c p) e) ∙ q)) (λ e. e) in
+        let still : is_before z d ≡ false = before_or_not d z ∙ ap not (open_to_close (calendar_of h) d c p) in
+        let ahead : is_before z x.0 ≡ false = closed_by_next (calendar_of h) d x (term_of c) next ∙ rw (still, later) in
+        open_stays (calendar_of h) d x.0 c (omega (arith, (next_business (calendar_of h) d x next).0)) p (not-false _ (sym (before_or_not x.0 z) ∙ ahead))
 
     day-rows : (y : ℕ) (v : Tables) (q : Column) (c m : ℕ) → row q (on_day y v) c m ≡ row q v c m
     unfolding on_day
@@ -346,7 +346,7 @@ module _ (h : Header) (d : ℕ) (t : Tables) (r : Runs h d t) (s : Sound t) (n :
               (holds_fewer h (rows_of (on_day (next_day t) v)) log (closed_by cs (has_cascaded (calendar_of h) d)) (has_cascaded (calendar_of h) x.0) cascaded-next
               (holds_same h (rows_of (all_rows_cascaded cs u)) (rows_of (on_day (next_day t) v)) log (closed_by cs (has_cascaded (calendar_of h) d))
               (λ q c m _ _. day-rows (next_day t) v q c m ∙ closed_rows cs u q c m)
-              (evening-all h d t r s log cs u (has_cascaded (calendar_of h) d) closing-all (evening log p)).holds));
+              (evening_all h d t r s log cs u (has_cascaded (calendar_of h) d) closing_all (evening log p)).holds));
         }
 
 -- the list's day is then the next business day

@@ -11,7 +11,7 @@ use lib.Dec.{eqb, leb, ltb}
 use lib.ListN.{length}
 use borrow.Author.Tests.{le-leb, lt-leb, leb-false, lt-ltb, le-ltb, eq-eqb}
 use Rattle.arith.specs.Lists.{All}
-use Rattle.arith.proofs.Alls.{all_map, all-always, all_append, all_there}
+use Rattle.arith.proofs.Alls.{all_map, all_always, all_append, all_there}
 use Rattle.arith.proofs.Tests.{never, by_bool, le_or_lt, and_false}
 use Rattle.rules.specs.declared.order.Order.{Order}
 use Rattle.rules.specs.declared.order.Side.{Side}
@@ -22,12 +22,12 @@ use Rattle.rules.specs.Ledger.{Tables, orders}
 use Rattle.rules.specs.Sides.{same_side, other_side}
 use Rattle.rules.specs.Matching.{precedes, best, opposes, meets_price, meets, with_lots, used, Matched, stopped, after_deal, matching, matched, incoming, submit_matched, would_rest, submit_orders}
 use Rattle.rules.specs.Refusals.{apply_spec}
-use Rattle.accounts.proofs.Matches.{best-all, used_length}
+use Rattle.accounts.proofs.Matches.{best_all, used_length}
 use Rattle.accounts.proofs.Remains.{Remain, remain_all, used_remain, matching_remain, remain_then}
-use Rattle.rules.proofs.Priority.{Behind, lower, higher, same, After, after_not_before, best_none, best-is}
+use Rattle.rules.proofs.Priority.{Behind, lower, higher, same, After, after_not_before, best_none, best_is}
 use Rattle.accounts.specs.Complete.{AcceptedSubmit, MatchingIsComplete, NobodyIsPassedOver}
 use Rattle.accounts.proofs.EachKind.{accepted_call}
-use Rattle.accounts.proofs.OrdersAfter.{submit-orders}
+use Rattle.accounts.proofs.OrdersAfter.{submit_orders_lem}
 use Rattle.rules.proofs.Sides.{opposing_side}
 
 -- ---- what matching ends with
@@ -77,7 +77,7 @@ used_up q r (o ∷ os) h (Memᴰ.tail m) =
 -- ---- one deal, with the best order r
 module _ (o r : Order) (os : List Order) (is : best (opposes o) os ≡ some r) where
   opposing : All (λ x. opposes o x ≡ true → x.side ≡ other_side o.side) os
-  opposing = all-always (λ x. opposes o x ≡ true → x.side ≡ other_side o.side) os (opposing_side o)
+  opposing = all_always (λ x. opposes o x ≡ true → x.side ≡ other_side o.side) os (opposing_side o)
 
   -- each that opposes is behind it
   abbrev Worse : Order → Type 0
@@ -85,34 +85,34 @@ module _ (o r : Order) (os : List Order) (is : best (opposes o) os ≡ some r) w
 
   worse : All Worse os
   worse =
-      let b = best-is (opposes o) (other_side o.side) os opposing r is in
+      let b = best_is (opposes o) (other_side o.side) os opposing r is in
       all_map (λ x. opposes o x ≡ true → (x.side ≡ other_side o.side) × After x r) Worse os (λ x f h. ((f h).0 ∙ sym b.side, (f h).1)) b.first
 
-  best-unmet : meets o r ≡ false → All (λ x. opposes o x ≡ true → meets o x ≡ false) os
+  best_unmet : meets o r ≡ false → All (λ x. opposes o x ≡ true → meets o x ≡ false) os
   unfolding meets
-  best-unmet e =
+  best_unmet e =
       all_map Worse (λ x. opposes o x ≡ true → meets o x ≡ false) os
       (λ x f h. behind_unmet o.side o.price.0 x.price.0 x.number r.price.0 r.number
       (subst (λ s. Behind s x.price.0 x.number r.price.0 r.number) (opposing_side o x h) (f h).1) e) worse
 
   there : Memᴰ r os
-  there = best-all (λ x. Memᴰ x os) (opposes o) os (all_map (λ x. Memᴰ x os) (λ x. opposes o x ≡ true → Memᴰ x os) os (λ x m _. m) (all_there os)) r is
+  there = best_all (λ x. Memᴰ x os) (opposes o) os (all_map (λ x. Memᴰ x os) (λ x. opposes o x ≡ true → Memᴰ x os) os (λ x m _. m) (all_there os)) r is
 
   -- what is left of orders that are no better is no better
-  worse-left : (os' : List Order) → Remain os os' → All Worse os'
+  worse_left : (os' : List Order) → Remain os os' → All Worse os'
   unfolding opposes
-  worse-left os' x = remain_all Worse Worse (λ b q u v f. f) x worse
+  worse_left os' x = remain_all Worse Worse (λ b q u v f. f) x worse
 
-  deal-ends : (q : ℕ) (m : Matched) → Remain os m.resting → Ends (with_lots (o.lots.0 - q) o) m → Ends o (after_deal (record { resting = r; lots = q }) m)
+  deal_ends : (q : ℕ) (m : Matched) → Remain os m.resting → Ends (with_lots (o.lots.0 - q) o) m → Ends o (after_deal (record { resting = r; lots = q }) m)
   unfolding opposes meets
-  deal-ends q m x e = record { unmet = e.unmet; passed = (worse-left m.resting x, e.passed) }
+  deal_ends q m x e = record { unmet = e.unmet; passed = (worse_left m.resting x, e.passed) }
 
   -- the order is used up, or nothing is left to match
-  next-ends : (n : ℕ) → length os ≤ suc n → ((o' : Order) (os' : List Order) → length os' ≤ n → Ends o' (matching n o' os'))
+  next_ends : (n : ℕ) → length os ≤ suc n → ((o' : Order) (os' : List Order) → length os' ≤ n → Ends o' (matching n o' os'))
       → let q = min o.lots.0 r.lots.0 in
       let o' = with_lots (o.lots.0 - q) o in
       Ends o' (matching n o' (used r.number q os))
-  next-ends n h ih =
+  next_ends n h ih =
       let q = min o.lots.0 r.lots.0 in
       let o' = with_lots (o.lots.0 - q) o in
       let os' = used r.number q os in
@@ -135,8 +135,8 @@ matching_ends (suc n) o os h = go (best (opposes o) os) refl (λ o' os' k. match
         let next = matching n o' os' in
         rw (f, matching)
         (by_bool (λ c. Ends o (cond c (after_deal (record { resting = r; lots = q }) next) (stopped o os))) (ltb 0 o.lots.0 && meets o r)
-        (λ _. deal-ends o r os f q next (remain_then (used_remain r.number q os) (matching_remain n o' os')) (next-ends o r os f n h ih))
-        (λ e. record { unmet = λ l. best-unmet o r os f (ap (λ b. b && meets o r) (sym (lt-ltb 0 o.lots.0 l)) ∙ e); passed = tt }))
+        (λ _. deal_ends o r os f q next (remain_then (used_remain r.number q os) (matching_remain n o' os')) (next_ends o r os f n h ih))
+        (λ e. record { unmet = λ l. best_unmet o r os f (ap (λ b. b && meets o r) (sym (lt-ltb 0 o.lots.0 l)) ∙ e); passed = tt }))
 
 -- ---- an accepted submit
 module _ (t : Tables) (e : Submission) where
@@ -146,51 +146,51 @@ module _ (t : Tables) (e : Submission) where
   abbrev m : Matched
   m = submit_matched t e
 
-  pub submit-ends : Ends new m
+  pub submit_ends : Ends new m
   unfolding submit_matched matched
-  submit-ends = matching_ends (length (orders t)) new (orders t) (omega arith)
+  submit_ends = matching_ends (length (orders t)) new (orders t) (omega arith)
 
   -- what holds of the orders that rest after the deals, and of the remainder, holds of all
-  pub submit-all : (P : Order → Type 0) → All P m.resting → (would_rest t e ≡ true → P (with_lots m.left new)) → All P (submit_orders t e)
+  pub submit_all : (P : Order → Type 0) → All P m.resting → (would_rest t e ≡ true → P (with_lots m.left new)) → All P (submit_orders t e)
   unfolding submit_orders
-  submit-all P a f =
+  submit_all P a f =
       by_bool (λ b. All P (cond b (m.resting ++ (with_lots m.left new ∷ [])) m.resting)) (would_rest t e)
       (λ w. all_append P m.resting (with_lots m.left new ∷ []) a (f w, tt)) (λ _. a)
 
   -- the remainder does not oppose its own order
-  own-side : (q : ℕ) → opposes new (with_lots q new) ≡ false
+  own_side : (q : ℕ) → opposes new (with_lots q new) ≡ false
   unfolding opposes
-  own-side q = rw (not_own e.side) (and_false (eqb e.contract e.contract))
+  own_side q = rw (not_own e.side) (and_false (eqb e.contract e.contract))
 
-  opposing-none : (f : Order → Bool) → All (λ r. opposes new r ≡ true → f r ≡ false) m.resting → All (λ r. opposes new r && f r ≡ false) (submit_orders t e)
-  opposing-none f a =
-      submit-all (λ r. opposes new r && f r ≡ false) (all_map (λ r. opposes new r ≡ true → f r ≡ false) (λ r. opposes new r && f r ≡ false) m.resting (λ r. not_both (opposes new r) (f r)) a)
-      (λ _. rw (own-side m.left))
+  opposing_none : (f : Order → Bool) → All (λ r. opposes new r ≡ true → f r ≡ false) m.resting → All (λ r. opposes new r && f r ≡ false) (submit_orders t e)
+  opposing_none f a =
+      submit_all (λ r. opposes new r && f r ≡ false) (all_map (λ r. opposes new r ≡ true → f r ≡ false) (λ r. opposes new r && f r ≡ false) m.resting (λ r. not_both (opposes new r) (f r)) a)
+      (λ _. rw (own_side m.left))
 
 module _ (t : Tables) (bytes : List ℕ) (e : Submission) (a : AcceptedSubmit t bytes (apply_spec t bytes) e) where
   -- the orders after it
   now : orders (apply_spec t bytes).after ≡ submit_orders t e
-  now = let c = accepted_call t bytes (Submit e) a.0 a.1 in ap (λ o. orders o.after) c.leads ∙ submit-orders t c.tables e
+  now = let c = accepted_call t bytes (Submit e) a.0 a.1 in ap (λ o. orders o.after) c.leads ∙ submit_orders_lem t c.tables e
 
   complete : ((submit_matched t e).left ≡ 0) ⊎ All (λ r. opposes (incoming t e) r && meets (incoming t e) r ≡ false) (orders (apply_spec t bytes).after)
   complete =
       le_or_lt (submit_matched t e).left 0 (λ l. inl (omega arith))
-      (λ l. inr (rw now (opposing-none t e (meets (incoming t e)) ((submit-ends t e).unmet l))))
+      (λ l. inr (rw now (opposing_none t e (meets (incoming t e)) ((submit_ends t e).unmet l))))
 
-  not-passed : All (λ deal. All (λ r. opposes (incoming t e) r && precedes r deal.resting ≡ false) (orders (apply_spec t bytes).after)) (submit_matched t e).deals
-  not-passed =
+  not_passed : All (λ deal. All (λ r. opposes (incoming t e) r && precedes r deal.resting ≡ false) (orders (apply_spec t bytes).after)) (submit_matched t e).deals
+  not_passed =
       let o = incoming t e in
       let m = submit_matched t e in
       rw now
       (all_map (λ d. All (λ r. opposes o r ≡ true → (r.side ≡ d.resting.side) × After r d.resting) m.resting)
       (λ d. All (λ r. opposes o r && precedes r d.resting ≡ false) (submit_orders t e)) m.deals
-      (λ d x. opposing-none t e (λ r. precedes r d.resting)
+      (λ d x. opposing_none t e (λ r. precedes r d.resting)
       (all_map (λ r. opposes o r ≡ true → (r.side ≡ d.resting.side) × After r d.resting) (λ r. opposes o r ≡ true → precedes r d.resting ≡ false) m.resting
       (λ r f h. after_not_before r d.resting (f h).1) x))
-      (submit-ends t e).passed)
+      (submit_ends t e).passed)
 
 pub matching_is_complete : MatchingIsComplete
 matching_is_complete = complete
 
 pub nobody_is_passed_over : NobodyIsPassedOver
-nobody_is_passed_over = not-passed
+nobody_is_passed_over = not_passed

@@ -134,22 +134,22 @@ accepted_call t bytes e r a =
 -- ---- every call, with what its bytes say
 module _ (P : Reading → Tables → Outcome Tables → Type 0) (refused : (x : Reading) (t : Tables) (a : Answer) → is_accepted a ≡ false → P x t (record { answer = a; after = t }))
     (shows : (e : Event) (t : Tables) (legs : List Leg) → Undamaged t → event_sound (members t) e legs ≡ true → NoCause t e legs → P (Sound e) t (kind_booked t e legs)) where
-  reading-shows : (t : Tables) (x : Reading) (bytes : List ℕ) → read_of (members t) bytes ≡ x → Undamaged t → P x t (reading_spec t x (legs_of bytes))
+  reading_shows : (t : Tables) (x : Reading) (bytes : List ℕ) → read_of (members t) bytes ≡ x → Undamaged t → P x t (reading_spec t x (legs_of bytes))
   unfolding reading_spec event_spec
-  reading-shows t (Sound e) bytes q u =
+  reading_shows t (Sound e) bytes q u =
       decide_shows (P (Sound e) t) t (kind_booked t e (legs_of bytes)) (kind_causes t e (legs_of bytes)) (refused (Sound e) t) (causes_refuse t e (legs_of bytes))
       (λ none. shows e t (legs_of bytes) u (read_sound (members t) bytes e q) none)
-  reading-shows t Unsound bytes q u = refused Unsound t RecordUnsound refl
+  reading_shows t Unsound bytes q u = refused Unsound t RecordUnsound refl
 
-  pub every-reading : (t : Tables) (bytes : List ℕ) → P (read_of (members t) bytes) t (apply_spec t bytes)
+  pub every_reading : (t : Tables) (bytes : List ℕ) → P (read_of (members t) bytes) t (apply_spec t bytes)
   unfolding apply_spec
-  every-reading t bytes =
+  every_reading t bytes =
       let x = read_of (members t) bytes in
       decide_shows (P x t) t (reading_spec t x (legs_of bytes)) ((unsound t, TableUnsound) ∷ []) (refused x t) (refl, tt)
-      (λ sound. reading-shows t x bytes refl (undamaged t sound.0))
+      (λ sound. reading_shows t x bytes refl (undamaged t sound.0))
 
 -- the same where it does not matter what they say
 pub every_call : (P : Tables → Outcome Tables → Type 0) → ((t : Tables) (a : Answer) → is_accepted a ≡ false → P t (record { answer = a; after = t }))
     → ((e : Event) (t : Tables) (legs : List Leg) → Undamaged t → event_sound (members t) e legs ≡ true → NoCause t e legs → P t (kind_booked t e legs))
     → (t : Tables) (bytes : List ℕ) → P t (apply_spec t bytes)
-every_call P refused shows = every-reading (λ _. P) (λ _. refused) shows
+every_call P refused shows = every_reading (λ _. P) (λ _. refused) shows

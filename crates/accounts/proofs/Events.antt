@@ -11,11 +11,11 @@ use Rattle.rules.specs.Refusals.{apply_spec}
 use Rattle.rules.specs.Accounts.{day_after_event}
 use Rattle.accounts.proofs.Runs.{Runs}
 use Rattle.accounts.proofs.Calls.{Does, refused_does}
-use Rattle.accounts.proofs.EachKind.{every-reading}
+use Rattle.accounts.proofs.EachKind.{every_reading}
 use Rattle.accounts.proofs.KindsKeep.{kind_keeps}
 
 pub apply_shows : (h : Header) (d : ℕ) (t : Tables) (bytes : List ℕ) → Runs h d t → Does h d (day_after_event (calendar_of h) d (read_of h.members bytes)) t (apply_spec t bytes)
 apply_shows h d t bytes r =
     let Shows : Reading → Tables → Outcome Tables → Type 0 = λ x t o. Runs h d t → Does h d (day_after_event (calendar_of h) d x) t o in
     subst (λ n. Does h d (day_after_event (calendar_of h) d (read_of n bytes)) t (apply_spec t bytes)) r.size
-    (every-reading Shows (λ x t a q r. refused_does h d _ t a q r) (λ e t legs u q n. (kind_keeps e t legs u q n).does h d) t bytes r)
+    (every_reading Shows (λ x t a q r. refused_does h d _ t a q r) (λ e t legs u q n. (kind_keeps e t legs u q n).does h d) t bytes r)

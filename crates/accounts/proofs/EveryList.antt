@@ -24,15 +24,15 @@ use Rattle.accounts.proofs.LotsRun.{run_after}
 use Rattle.accounts.proofs.GgfStays.{Found}
 
 module _ (I : Tables → Type 0) (lent : (l : List ℤ) (t : Tables) → I t → I (with_lines l t)) (kept : (t : Tables) (bytes : List ℕ) → I t → I (apply_spec t bytes).after) where
-  pub kept-after : (calls : List Call) (t : Tables) → I t → I (after t calls)
+  pub kept_after : (calls : List Call) (t : Tables) → I t → I (after t calls)
   unfolding after
-  kept-after [] t a = a
-  kept-after (call ∷ calls) t a = kept-after calls (call_spec t call).after (kept (with_lines call.lines t) call.bytes (lent call.lines t a))
+  kept_after [] t a = a
+  kept_after (call ∷ calls) t a = kept_after calls (call_spec t call).after (kept (with_lines call.lines t) call.bytes (lent call.lines t a))
 
-  pub kept-always : (header : List ℕ) (t : Tables) (calls : List Call) (b : T (begins_with_header header)) (long : T (not (ledger_short t)))
+  pub kept_always : (header : List ℕ) (t : Tables) (calls : List Call) (b : T (begins_with_header header)) (long : T (not (ledger_short t)))
       → (SoundHeader (header_of header) → Long t → I (fresh (header_of header) t)) → I (after (make_spec t header).after calls)
-  kept-always header t calls b long f =
-      kept-after calls (make_spec t header).after
+  kept_always header t calls b long f =
+      kept_after calls (make_spec t header).after
       (subst I (sym (made header t b long)) (f (header_gives (header_of header) (begun header (passed _ b))) (long_enough t (failed (ledger_short t) long))))
 
 -- no order rests in a fresh ledger
@@ -46,19 +46,19 @@ fresh_run header t f l = (counts_of (header_of header) f t.head l.head).2
 
 pub never_crossed : NeverCrossed
 never_crossed header t calls b long =
-    kept-always (λ u. Uncrossed (orders u)) (λ l u a. rw (orders_same u (with_lines l u) refl refl) a)
+    kept_always (λ u. Uncrossed (orders u)) (λ l u a. rw (orders_same u (with_lines l u) refl refl) a)
     (every_call (λ u o. Uncrossed (orders u) → Uncrossed (orders o.after)) (λ u x q a. a) (λ e u legs v q n. (kind_keeps e u legs v q n).uncrossed)) header t calls b long
     (λ f l. rw (fresh_empty header t f l) tt)
 
 pub numbers_rise : NumbersRise
 numbers_rise header t calls b long =
-    kept-always (λ u. RisingNumbers (orders u)) (λ l u a. rw (orders_same u (with_lines l u) refl refl) a)
+    kept_always (λ u. RisingNumbers (orders u)) (λ l u a. rw (orders_same u (with_lines l u) refl refl) a)
     (every_call (λ u o. RisingNumbers (orders u) → RisingNumbers (orders o.after)) (λ u x q a. a) (λ e u legs v q n. (kind_keeps e u legs v q n).rising)) header t calls b long
     (λ f l. rw (fresh_empty header t f l) tt)
 
 pub defaulted_never_rest : DefaultedNeverRest
 defaulted_never_rest header t calls b long =
-    kept-always NoneDefaulted (λ l u a. rw (orders_same u (with_lines l u) refl refl) a)
+    kept_always NoneDefaulted (λ l u a. rw (orders_same u (with_lines l u) refl refl) a)
     (every_call (λ u o. NoneDefaulted u → NoneDefaulted o.after) (λ u x q a. a) (λ e u legs v q n. (kind_keeps e u legs v q n).marks)) header t calls b long (λ f l. rw (fresh_empty header t f l) tt)
 
 pub day_is_the_lists : DayIsTheLists
@@ -73,5 +73,5 @@ run_is_logged header t calls b long =
 
 pub ggf_never_lost : GgfNeverLost
 ggf_never_lost t calls c h =
-    kept-after (λ u. 0 < ggf u c) (λ l u g. g)
+    kept_after (λ u. 0 < ggf u c) (λ l u g. g)
     (λ u bytes. every_call (λ u o. Found u o.after) (λ u x q c h g. g) (λ e u legs v q n. (kind_keeps e u legs v q n).found) u bytes c h) calls t

@@ -7,8 +7,8 @@ use native.Mathlib.Nat.{suc-mul, zero-add}
 use lib.ListN.{length, get_or, take, drop, replicate, length-take, length-drop, length-replicate, get_or-replicate, get_or-append}
 use lib.Seq.{get_or-append-add, get_or-take, get_or-drop, ext_get_or}
 use lib.IntN.{ℤ, pos}
-use Rattle.arith.specs.Lists.{over, inEachBlock, from}
-use Rattle.arith.proofs.Overs.{over-length, over-inside, over-outside}
+use Rattle.arith.specs.Lists.{over, in_each_block, from}
+use Rattle.arith.proofs.Overs.{over_length, over_inside, over_outside}
 use Rattle.rules.specs.Ledger.{head_length, limits_from, marks_from, row_width, rows_length, submits_from, holidays_from, first_year_place, members_place, holiday_count_place, day_place, time_place, accepted_submits_place, lots_run_place, order_count_place}
 use Rattle.rules.specs.Ranges.{contract_count, most_members}
 use Rattle.rules.specs.Header.{Header}
@@ -19,24 +19,24 @@ use Rattle.accounts.proofs.Runs.{Runs}
 
 -- ---- rows
 module _ (n : ℕ) (l : List ℤ) (b : n ≤ most_members) (s : row_width ≤ length l) where
-  block-fits : 0 + length (replicate n (pos 0)) ≤ length (take row_width l)
-  block-fits = simp (length-take, length-replicate) (omega arith)
+  block_fits : 0 + length (replicate n (pos 0)) ≤ length (take row_width l)
+  block_fits = simp (length-take, length-replicate) (omega arith)
 
-  zero-block : length (over 0 (replicate n (pos 0)) (take row_width l)) ≡ row_width
-  zero-block = over-length 0 (replicate n (pos 0)) (take row_width l) block-fits ∙ simp length-take (omega arith)
+  zero_block : length (over 0 (replicate n (pos 0)) (take row_width l)) ≡ row_width
+  zero_block = over_length 0 (replicate n (pos 0)) (take row_width l) block_fits ∙ simp length-take (omega arith)
 
-fresh_row : (n cs : ℕ) (l : List ℤ) (c m : ℕ) → n ≤ most_members → cs * row_width ≤ length l → c < cs → m < n → get_or (inEachBlock row_width (over 0 (replicate n (pos 0))) cs l) (c * row_width + m) (pos 0) ≡ pos 0
-unfolding inEachBlock
+fresh_row : (n cs : ℕ) (l : List ℤ) (c m : ℕ) → n ≤ most_members → cs * row_width ≤ length l → c < cs → m < n → get_or (in_each_block row_width (over 0 (replicate n (pos 0))) cs l) (c * row_width + m) (pos 0) ≡ pos 0
+unfolding in_each_block
 fresh_row n zero l c m b s k q = absurd (omega arith)
 fresh_row n (suc cs) l zero m b s k q =
     let long : row_width ≤ length l = omega (arith, suc-mul cs row_width) in
-    get_or-append (over 0 (replicate n (pos 0)) (take row_width l)) (inEachBlock row_width (over 0 (replicate n (pos 0))) cs (drop row_width l)) (pos 0) (0 + m) (omega (arith, zero-block n l b long))
-    ∙ over-inside 0 (replicate n (pos 0)) (take row_width l) (block-fits n l b long) m (pos 0) (omega (arith, length-replicate n (pos 0))) ∙ get_or-replicate n m (pos 0) (pos 0) q
+    get_or-append (over 0 (replicate n (pos 0)) (take row_width l)) (in_each_block row_width (over 0 (replicate n (pos 0))) cs (drop row_width l)) (pos 0) (0 + m) (omega (arith, zero_block n l b long))
+    ∙ over_inside 0 (replicate n (pos 0)) (take row_width l) (block_fits n l b long) m (pos 0) (omega (arith, length-replicate n (pos 0))) ∙ get_or-replicate n m (pos 0) (pos 0) q
 fresh_row n (suc cs) l (suc c) m b s k q =
     let long : row_width ≤ length l = omega (arith, suc-mul cs row_width) in
     let first = over 0 (replicate n (pos 0)) (take row_width l) in
-    let rest = inEachBlock row_width (over 0 (replicate n (pos 0))) cs (drop row_width l) in
-    ap (λ p. get_or (first ++ rest) p (pos 0)) (omega (arith, zero-block n l b long, suc-mul c row_width)) ∙ get_or-append-add first rest (c * row_width + m) (pos 0)
+    let rest = in_each_block row_width (over 0 (replicate n (pos 0))) cs (drop row_width l) in
+    ap (λ p. get_or (first ++ rest) p (pos 0)) (omega (arith, zero_block n l b long, suc-mul c row_width)) ∙ get_or-append-add first rest (c * row_width + m) (pos 0)
     ∙ fresh_row n cs (drop row_width l) c m b (simp length-drop (omega (arith, suc-mul cs row_width))) (omega arith) q
 
 pub fresh_zero : (h : Header) (t : Tables) → SoundHeader h → rows_length ≤ length t.lots → rows_length ≤ length t.value → (x : Column) (c m : ℕ) → c < contract_count → m < h.members
@@ -65,82 +65,82 @@ module _ (h : Header) (f : SoundHeader h) (l : List ℕ) (long : head_length ≤
   h₃ : List ℕ
   h₃ = over marks_from zeros h₂
 
-  zeros-length : length zeros ≡ h.members
+  zeros_length : length zeros ≡ h.members
   unfolding zeros
-  zeros-length = length-replicate {A = ℕ} h.members 0
+  zeros_length = length-replicate {A = ℕ} h.members 0
 
   length₀ : length h₀ ≡ length l
   unfolding h₀ fields
-  length₀ = over-length 0 fields l (omega arith)
+  length₀ = over_length 0 fields l (omega arith)
 
   length₁ : length h₁ ≡ length l
   unfolding h₁
-  length₁ = over-length holidays_from h.holidays h₀ (omega (arith, f.holidays≤, length₀)) ∙ length₀
+  length₁ = over_length holidays_from h.holidays h₀ (omega (arith, f.holidays≤, length₀)) ∙ length₀
 
   length₂ : length h₂ ≡ length l
   unfolding h₂
-  length₂ = over-length limits_from h.limits h₁ (omega (arith, f.members_range.to, f.one_limit, length₁)) ∙ length₁
+  length₂ = over_length limits_from h.limits h₁ (omega (arith, f.members_range.to, f.one_limit, length₁)) ∙ length₁
 
   length₃ : length h₃ ≡ length l
   unfolding h₃
-  length₃ = over-length marks_from zeros h₂ (omega (arith, f.members_range.to, zeros-length, length₂)) ∙ length₂
+  length₃ = over_length marks_from zeros h₂ (omega (arith, f.members_range.to, zeros_length, length₂)) ∙ length₂
 
-  pub head-length : length (fresh_head h l) ≡ length l
+  pub head_length_lem : length (fresh_head h l) ≡ length l
   unfolding fresh_head h₃ h₂ h₁ h₀ zeros fields
-  head-length = over-length submits_from zeros h₃ (omega (arith, f.members_range.to, zeros-length, length₃)) ∙ length₃
+  head_length_lem = over_length submits_from zeros h₃ (omega (arith, f.members_range.to, zeros_length, length₃)) ∙ length₃
 
   -- below the limits' places
   front_of : (i : ℕ) → i < limits_from → get_or (fresh_head h l) i 0 ≡ get_or h₁ i 0
   unfolding fresh_head h₃ h₂ h₁ h₀ zeros fields
   front_of i b =
-      over-outside submits_from zeros h₃ (omega (arith, f.members_range.to, zeros-length, length₃)) i 0 (λ q. absurd (omega arith))
-      ∙ over-outside marks_from zeros h₂ (omega (arith, f.members_range.to, zeros-length, length₂)) i 0 (λ q. absurd (omega arith))
-      ∙ over-outside limits_from h.limits h₁ (omega (arith, f.members_range.to, f.one_limit, length₁)) i 0 (λ q. absurd (omega arith))
+      over_outside submits_from zeros h₃ (omega (arith, f.members_range.to, zeros_length, length₃)) i 0 (λ q. absurd (omega arith))
+      ∙ over_outside marks_from zeros h₂ (omega (arith, f.members_range.to, zeros_length, length₂)) i 0 (λ q. absurd (omega arith))
+      ∙ over_outside limits_from h.limits h₁ (omega (arith, f.members_range.to, f.one_limit, length₁)) i 0 (λ q. absurd (omega arith))
 
   field_of : (i : ℕ) → i < holidays_from → get_or (fresh_head h l) i 0 ≡ get_or fields i 0
   unfolding h₁ h₀ fields
   field_of i b =
-      front_of i (omega arith) ∙ over-outside holidays_from h.holidays h₀ (omega (arith, f.holidays≤, length₀)) i 0 (λ q. absurd (omega arith))
-      ∙ ap (λ p. get_or h₀ p 0) (sym (zero-add i)) ∙ over-inside 0 fields l (omega arith) i 0 (omega arith)
+      front_of i (omega arith) ∙ over_outside holidays_from h.holidays h₀ (omega (arith, f.holidays≤, length₀)) i 0 (λ q. absurd (omega arith))
+      ∙ ap (λ p. get_or h₀ p 0) (sym (zero-add i)) ∙ over_inside 0 fields l (omega arith) i 0 (omega arith)
 
-  holidays-of : take (length h.holidays) (drop holidays_from (fresh_head h l)) ≡ h.holidays
+  holidays_of : take (length h.holidays) (drop holidays_from (fresh_head h l)) ≡ h.holidays
   unfolding h₁
-  holidays-of =
+  holidays_of =
       ext_get_or 0 (take (length h.holidays) (drop holidays_from (fresh_head h l))) h.holidays length-of
       (λ i b. let q : i < length h.holidays = omega (arith, length-of) in
       get_or-take (length h.holidays) (drop holidays_from (fresh_head h l)) i 0 q ∙ get_or-drop holidays_from (fresh_head h l) i 0 ∙ front_of (holidays_from + i) (omega (arith, f.holidays≤))
-      ∙ over-inside holidays_from h.holidays h₀ (omega (arith, f.holidays≤, length₀)) i 0 q)
+      ∙ over_inside holidays_from h.holidays h₀ (omega (arith, f.holidays≤, length₀)) i 0 q)
     where
       length-of : length (take (length h.holidays) (drop holidays_from (fresh_head h l))) ≡ length h.holidays
-      length-of = simp (length-take, length-drop) (omega (arith, f.holidays≤, head-length))
+      length-of = simp (length-take, length-drop) (omega (arith, f.holidays≤, head_length_lem))
 
   -- time and counts are 0
   pub counts_of : (get_or (fresh_head h l) time_place 0 ≡ 0) × (get_or (fresh_head h l) accepted_submits_place 0 ≡ 0) × (get_or (fresh_head h l) lots_run_place 0 ≡ 0) × (get_or (fresh_head h l) order_count_place 0 ≡ 0)
   unfolding fields
   counts_of = (field_of time_place (omega arith), field_of accepted_submits_place (omega arith), field_of lots_run_place (omega arith), field_of order_count_place (omega arith))
 
-  pub holiday-count-of : get_or (fresh_head h l) 2 0 ≡ length h.holidays
+  pub holiday_count_of : get_or (fresh_head h l) 2 0 ≡ length h.holidays
   unfolding fields
-  holiday-count-of = field_of holiday_count_place (omega arith)
+  holiday_count_of = field_of holiday_count_place (omega arith)
 
   -- a member has the header's limit, no mark and no submits
   module _ (m : ℕ) (m< : m < h.members) where
     pub limit-of : get_or (fresh_head h l) (limits_from + m) 0 ≡ get_or h.limits m 0
     unfolding fresh_head h₃ h₂ h₁ h₀ zeros fields
     limit-of =
-        over-outside submits_from zeros h₃ (omega (arith, f.members_range.to, zeros-length, length₃)) (limits_from + m) 0 (λ q. absurd (omega (arith, f.members_range.to)))
-        ∙ over-outside marks_from zeros h₂ (omega (arith, f.members_range.to, zeros-length, length₂)) (limits_from + m) 0 (λ q. absurd (omega (arith, f.members_range.to)))
-        ∙ over-inside limits_from h.limits h₁ (omega (arith, f.members_range.to, f.one_limit, length₁)) m 0 (omega (arith, f.one_limit))
+        over_outside submits_from zeros h₃ (omega (arith, f.members_range.to, zeros_length, length₃)) (limits_from + m) 0 (λ q. absurd (omega (arith, f.members_range.to)))
+        ∙ over_outside marks_from zeros h₂ (omega (arith, f.members_range.to, zeros_length, length₂)) (limits_from + m) 0 (λ q. absurd (omega (arith, f.members_range.to)))
+        ∙ over_inside limits_from h.limits h₁ (omega (arith, f.members_range.to, f.one_limit, length₁)) m 0 (omega (arith, f.one_limit))
 
     pub mark_of : get_or (fresh_head h l) (marks_from + m) 0 ≡ 0
     unfolding fresh_head h₃ h₂ h₁ h₀ zeros fields
     mark_of =
-        over-outside submits_from zeros h₃ (omega (arith, f.members_range.to, zeros-length, length₃)) (marks_from + m) 0 (λ q. absurd (omega (arith, f.members_range.to)))
-        ∙ over-inside marks_from zeros h₂ (omega (arith, f.members_range.to, zeros-length, length₂)) m 0 (omega (arith, zeros-length)) ∙ get_or-replicate h.members m 0 0 m<
+        over_outside submits_from zeros h₃ (omega (arith, f.members_range.to, zeros_length, length₃)) (marks_from + m) 0 (λ q. absurd (omega (arith, f.members_range.to)))
+        ∙ over_inside marks_from zeros h₂ (omega (arith, f.members_range.to, zeros_length, length₂)) m 0 (omega (arith, zeros_length)) ∙ get_or-replicate h.members m 0 0 m<
 
     pub submits-of : get_or (fresh_head h l) (submits_from + m) 0 ≡ 0
     unfolding fresh_head h₃ h₂ h₁ h₀ zeros fields
-    submits-of = over-inside submits_from zeros h₃ (omega (arith, f.members_range.to, zeros-length, length₃)) m 0 (omega (arith, zeros-length)) ∙ get_or-replicate h.members m 0 0 m<
+    submits-of = over_inside submits_from zeros h₃ (omega (arith, f.members_range.to, zeros_length, length₃)) m 0 (omega (arith, zeros_length)) ∙ get_or-replicate h.members m 0 0 m<
 
 -- the fresh ledger, on its start day
 pub fresh_runs : (h : Header) (t : Tables) → SoundHeader h → head_length ≤ length t.head → Runs h h.start_day (fresh h t)
@@ -150,7 +150,7 @@ fresh_runs h t f b =
     record {
       year = field first_year_place (omega arith);
       size = field members_place (omega arith);
-      days = ap (λ n. take n (drop holidays_from (fresh_head h t.head))) (field holiday_count_place (omega arith)) ∙ holidays-of h f t.head b;
+      days = ap (λ n. take n (drop holidays_from (fresh_head h t.head))) (field holiday_count_place (omega arith)) ∙ holidays_of h f t.head b;
       today = field day_place (omega arith);
       resting = rw (field order_count_place (omega arith)) tt;
     }

@@ -9,9 +9,9 @@ use lib.ListN.{length, get_or, set, take, drop, replicate, length-append, length
 use lib.Seq.{get_or-set_same, get_or-set_other, set_out}
 use borrow.Author.Tests.{leb-true, leb-false, ltb-false, le-leb, lt-ltb, le-ltb, not-false}
 use Rattle.arith.specs.Lists.{All, kept, total, over}
-use Rattle.arith.proofs.Alls.{all_hold, hold_all, all-place}
+use Rattle.arith.proofs.Alls.{all_hold, hold_all, all_place}
 use Rattle.arith.proofs.Among.{every_from, from_every}
-use Rattle.arith.proofs.Overs.{over-inside, over-outside}
+use Rattle.arith.proofs.Overs.{over_inside, over_outside}
 use Rattle.arith.proofs.Tests.{never, by_bool, le_or_lt, same_or, and_left, and_right, passed, passes, or_left, or_right}
 use Rattle.rules.specs.Ledger.{head_length, limits_from, marks_from, submits_from, first_year_place, members_place, holiday_count_place, day_place, time_place, accepted_submits_place, lots_run_place, order_count_place, holidays_from, default_mark}
 use Rattle.rules.specs.Ranges.{last_second, most_accepted_submits, most_limit, most_lots_run, most_members, most_orders, most_holidays, most_submits_in_second}
@@ -22,7 +22,7 @@ use Rattle.rules.specs.declared.order.Order.{Order}
 use Rattle.rules.specs.declared.units.Day.{Day}
 use Rattle.rules.specs.declared.units.Day.TheVariants.{On, NoDay}
 use Rattle.rules.specs.Days.{business_day, span_start, day_after_span, in_span, next_business_day}
-use Rattle.rules.proofs.CalendarLaws.{next-business}
+use Rattle.rules.proofs.CalendarLaws.{next_business}
 use Rattle.rules.specs.Header.{Header, calendar_of, calendar_sound, members_sound, day_sound}
 use Rattle.rules.specs.Ledger.{Tables, Line, with_head, with_prices, members, holiday_count, day, time, accepted_submits, lots_run, order_count, limit, mark, submits_this_second, calendar}
 use Rattle.rules.specs.Ledger.{orders, with_orders, line_run, booked, without_submits, timed, fresh_head, fresh}
@@ -37,7 +37,7 @@ use Rattle.accounts.proofs.Runs.{runs_calendar}
 use Rattle.accounts.proofs.Remains.{Remain, remain_length, kept_remain, legs_remain, matching_remain}
 use Rattle.accounts.proofs.Books.{orders_count}
 use Rattle.accounts.proofs.Closes.{day_is}
-use Rattle.accounts.proofs.Fresh.{counts_of, holiday-count-of, limit-of, mark_of, submits-of, fresh_runs}
+use Rattle.accounts.proofs.Fresh.{counts_of, holiday_count_of, limit-of, mark_of, submits-of, fresh_runs}
 
 -- ---- the places that records change, and the most that may stand at each
 pub data Place (n i : ℕ) : Type 0 where
@@ -110,48 +110,48 @@ module _ (n : ℕ) (u : List ℕ) (few : n ≤ most_members) (long : head_length
   zeros_fit : submits_from + length (zeros n) ≤ length u
   zeros_fit = omega (arith, length-replicate {A = ℕ} n 0)
 
-  zeros-other : (i : ℕ) → i < submits_from → get_or (over submits_from (zeros n) u) i 0 ≡ get_or u i 0
-  zeros-other i h = over-outside submits_from (zeros n) u zeros_fit i 0 (λ a. absurd (omega arith))
+  zeros_other : (i : ℕ) → i < submits_from → get_or (over submits_from (zeros n) u) i 0 ≡ get_or u i 0
+  zeros_other i h = over_outside submits_from (zeros n) u zeros_fit i 0 (λ a. absurd (omega arith))
 
-  zeros-here : (m : ℕ) → m < n → get_or (over submits_from (zeros n) u) (submits_from + m) 0 ≡ 0
-  zeros-here m h = over-inside submits_from (zeros n) u zeros_fit m 0 (omega (arith, length-replicate {A = ℕ} n 0)) ∙ get_or-replicate n m 0 0 h
+  zeros_here : (m : ℕ) → m < n → get_or (over submits_from (zeros n) u) (submits_from + m) 0 ≡ 0
+  zeros_here m h = over_inside submits_from (zeros n) u zeros_fit m 0 (omega (arith, length-replicate {A = ℕ} n 0)) ∙ get_or-replicate n m 0 0 h
 
-  zeros-lower : (i : ℕ) → get_or (over submits_from (zeros n) u) i 0 ≤ get_or u i 0
-  zeros-lower i =
+  zeros_lower : (i : ℕ) → get_or (over submits_from (zeros n) u) i 0 ≤ get_or u i 0
+  zeros_lower i =
       le_or_lt submits_from i
-      (λ a. le_or_lt (submits_from + n) i (λ b. omega (arith, over-outside submits_from (zeros n) u zeros_fit i 0 (λ _. omega (arith, length-replicate {A = ℕ} n 0))))
-      (λ b. let e : i ≡ submits_from + (i - submits_from) = omega arith in rw e (omega (arith, zeros-here (i - submits_from) (omega arith)))))
-      (λ a. omega (arith, zeros-other i a))
+      (λ a. le_or_lt (submits_from + n) i (λ b. omega (arith, over_outside submits_from (zeros n) u zeros_fit i 0 (λ _. omega (arith, length-replicate {A = ℕ} n 0))))
+      (λ b. let e : i ≡ submits_from + (i - submits_from) = omega arith in rw e (omega (arith, zeros_here (i - submits_from) (omega arith)))))
+      (λ a. omega (arith, zeros_other i a))
 
 stays_zeros : {f n : ℕ} {l u : List ℕ} → f ≤ time_place → n ≤ most_members → head_length ≤ length l → Stays f n l u → Stays f n l (over submits_from (zeros n) u)
 stays_zeros {f} {n} {l} {u} q few long k =
     let longer : head_length ≤ length u = omega (arith, k.header.longer) in
     record {
       header = then_same k.header (over_other f u (zeros n) submits_from q (omega arith) (omega arith));
-      ranges = λ i p. omega (arith, zeros-lower n u few longer i, k.ranges i p);
-      run = zeros-other n u few longer lots_run_place (omega arith) ∙ k.run;
+      ranges = λ i p. omega (arith, zeros_lower n u few longer i, k.ranges i p);
+      run = zeros_other n u few longer lots_run_place (omega arith) ∙ k.run;
     }
 
 -- ---- what is asked of a head
 module _ (t : Tables) (holidays≤ : leb (holiday_count t) most_holidays ≡ true) (calendarIs : calendar_sound (calendar t) ≡ true) (membersAre : members_sound (members t) ≡ true)
     (dayIs : day_sound (calendar t) (day t) ≡ true) (b : InRange (members t) t.head) where
-  member-shows : (m : ℕ) → m < members t → member_sound t m ≡ true
+  member_shows : (m : ℕ) → m < members t → member_sound t m ≡ true
   unfolding member_sound
-  member-shows m h =
+  member_shows m h =
       let few : m < most_members = omega (arith, leb-true (members t) most_members (and_right (leb 1 (members t)) (leb (members t) most_members) membersAre)) in
       let limitIs = le-leb (limit t m) most_limit (rw (most_limit_holds m few) at (b (limits_from + m) (of_limit m h refl))) in
       let markIs = le-leb (mark t m) default_mark (rw (most_mark m few) at (b (marks_from + m) (of_mark m h refl))) in
       let submitsAre = le-leb (submits_this_second t m) most_submits_in_second (rw (most_submits m few) at (b (submits_from + m) (of_submits m h refl))) in
       hold_all _ (limitIs, (markIs, (submitsAre, tt)))
 
-  head-shows : head_sound t ≡ true
+  head_shows : head_sound t ≡ true
   unfolding head_sound most
-  head-shows =
+  head_shows =
       let timeIs = le-leb (time t) last_second (b time_place (of_time refl)) in
       let acceptedAre = le-leb (accepted_submits t) most_accepted_submits (b accepted_submits_place (of_accepted refl)) in
       let runIs = le-leb (lots_run t) most_lots_run (b lots_run_place (of_run refl)) in
       let ordersAre = le-leb (order_count t) most_orders (b order_count_place (of_orders refl)) in
-      let each = passed _ (from_every (member_sound t) 0 (members t) (λ m _ h. passes _ (member-shows m (omega arith)))) in
+      let each = passed _ (from_every (member_sound t) 0 (members t) (λ m _ h. passes _ (member_shows m (omega arith)))) in
       hold_all _ (holidays≤, (calendarIs, (membersAre, (dayIs, (timeIs, (acceptedAre, (runIs, (ordersAre, (each, tt)))))))))
 
 -- ---- a sound head is in its ranges, and a head in its ranges with the same header and a sound day is sound
@@ -160,23 +160,23 @@ module _ (t : Tables) (sound : head_sound t ≡ true) where
   unfolding head_sound
   few_members = leb-true (members t) most_members (and_right (leb 1 (members t)) (leb (members t) most_members) (all_hold _ sound).1.1.0)
 
-  member-sound : (m : ℕ) → m < members t → member_sound t m ≡ true
+  member_sound_lem : (m : ℕ) → m < members t → member_sound t m ≡ true
   unfolding head_sound
-  member-sound m h = passed _ (every_from (member_sound t) 0 (members t) (passes _ (all_hold _ sound).1.1.1.1.1.1.1.1.0) m (omega arith) (omega arith))
+  member_sound_lem m h = passed _ (every_from (member_sound t) 0 (members t) (passes _ (all_hold _ sound).1.1.1.1.1.1.1.1.0) m (omega arith) (omega arith))
 
-  head-in-range : InRange (members t) t.head
+  head_in_range : InRange (members t) t.head
   unfolding head_sound member_sound most
-  head-in-range i (of_time e) = rw e (leb-true (time t) last_second (all_hold _ sound).1.1.1.1.0)
-  head-in-range i (of_accepted e) = rw e (leb-true (accepted_submits t) most_accepted_submits (all_hold _ sound).1.1.1.1.1.0)
-  head-in-range i (of_run e) = rw e (leb-true (lots_run t) most_lots_run (all_hold _ sound).1.1.1.1.1.1.0)
-  head-in-range i (of_orders e) = rw e (leb-true (order_count t) most_orders (all_hold _ sound).1.1.1.1.1.1.1.0)
-  head-in-range i (of_limit m h e) = rw (e, most_limit_holds m (omega (arith, few_members))) (leb-true (limit t m) most_limit (all_hold _ (member-sound m h)).0)
-  head-in-range i (of_mark m h e) = rw (e, most_mark m (omega (arith, few_members))) (leb-true (mark t m) default_mark (all_hold _ (member-sound m h)).1.0)
-  head-in-range i (of_submits m h e) = rw (e, most_submits m (omega (arith, few_members))) (leb-true (submits_this_second t m) most_submits_in_second (all_hold _ (member-sound m h)).1.1.0)
+  head_in_range i (of_time e) = rw e (leb-true (time t) last_second (all_hold _ sound).1.1.1.1.0)
+  head_in_range i (of_accepted e) = rw e (leb-true (accepted_submits t) most_accepted_submits (all_hold _ sound).1.1.1.1.1.0)
+  head_in_range i (of_run e) = rw e (leb-true (lots_run t) most_lots_run (all_hold _ sound).1.1.1.1.1.1.0)
+  head_in_range i (of_orders e) = rw e (leb-true (order_count t) most_orders (all_hold _ sound).1.1.1.1.1.1.1.0)
+  head_in_range i (of_limit m h e) = rw (e, most_limit_holds m (omega (arith, few_members))) (leb-true (limit t m) most_limit (all_hold _ (member_sound_lem m h)).0)
+  head_in_range i (of_mark m h e) = rw (e, most_mark m (omega (arith, few_members))) (leb-true (mark t m) default_mark (all_hold _ (member_sound_lem m h)).1.0)
+  head_in_range i (of_submits m h e) = rw (e, most_submits m (omega (arith, few_members))) (leb-true (submits_this_second t m) most_submits_in_second (all_hold _ (member_sound_lem m h)).1.1.0)
 
   module _ (f : ℕ) (t' : Tables) (f≥ : day_place ≤ f) (long : head_length ≤ length t.head) (header : SameHeader f t.head t'.head) where
-    same-members : members t' ≡ members t
-    same-members = header.places members_place (field (omega arith))
+    same_members : members t' ≡ members t
+    same_members = header.places members_place (field (omega arith))
 
     same-calendar : calendar t' ≡ calendar t
     unfolding head_sound
@@ -190,8 +190,8 @@ module _ (t : Tables) (sound : head_sound t ≡ true) where
     unfolding head_sound
     head-again b d =
         let a = all_hold _ sound in
-        head-shows t' (ap (λ n. leb n most_holidays) (header.places holiday_count_place (field (omega arith))) ∙ a.0) (ap calendar_sound same-calendar ∙ a.1.0) (ap members_sound same-members ∙ a.1.1.0)
-        (ap (λ k. day_sound k (day t')) same-calendar ∙ d) (rw same-members b)
+        head_shows t' (ap (λ n. leb n most_holidays) (header.places holiday_count_place (field (omega arith))) ∙ a.0) (ap calendar_sound same-calendar ∙ a.1.0) (ap members_sound same_members ∙ a.1.1.0)
+        (ap (λ k. day_sound k (day t')) same-calendar ∙ d) (rw same_members b)
 
 -- ---- orders that remain are no more than the orders
 remain_few : (t : Tables) (os : List Order) → Remain (orders t) os → length os ≤ order_count t
@@ -207,38 +207,38 @@ default_unbooked t m = with_orders (kept (λ o. not (eqb o.member m)) (orders t)
 
 module _ (t : Tables) (sound : head_sound t ≡ true) (long : head_length ≤ length t.head) where
   bounds : InRange (members t) t.head
-  bounds = head-in-range t sound
+  bounds = head_in_range t sound
 
   pub unchanged : (f : ℕ) → Stays f (members t) t.head t.head
   unchanged f = stays_start f bounds
 
   -- other orders are written
-  stays-orders : {u : List ℕ} (f k : ℕ) → f ≤ time_place → k ≤ most_orders → Stays f (members t) t.head u → Stays f (members t) t.head (set u order_count_place k)
+  stays_orders : {u : List ℕ} (f k : ℕ) → f ≤ time_place → k ≤ most_orders → Stays f (members t) t.head u → Stays f (members t) t.head (set u order_count_place k)
   unfolding most
-  stays-orders f k q h w = stays_set order_count_place k q (changing (omega arith) (omega arith)) (λ e. omega arith) (λ _. h) w
+  stays_orders f k q h w = stays_set order_count_place k q (changing (omega arith) (omega arith)) (λ e. omega arith) (λ _. h) w
 
   -- a record with lines: t' is what they are booked in
-  head-booked : (ls : List Line) (t' : Tables) → Stays time_place (members t) t.head t'.head → lots_run t + line_run ls ≤ most_lots_run → head_sound (booked ls t').after ≡ true
+  head_booked : (ls : List Line) (t' : Tables) → Stays time_place (members t) t.head t'.head → lots_run t + line_run ls ≤ most_lots_run → head_sound (booked ls t').after ≡ true
   unfolding booked most head_sound
-  head-booked ls t' w b =
+  head_booked ls t' w b =
       let after = (booked ls t').after in
       let header = then_same w.header (set_other time_place t'.head lots_run_place (lots_run t' + line_run ls) (omega arith) (changing (omega arith) (omega arith))) in
       head-again t sound time_place after (omega arith) long header (set_in_range (members t) t'.head lots_run_place (lots_run t' + line_run ls) (λ _. omega (arith, w.run)) w.ranges)
       (ap (day_sound (calendar t)) (header.places day_place (field (omega arith))) ∙ (all_hold _ sound).1.1.1.0)
 
-  pub run-booked : (ls : List Line) (t' : Tables) → Stays time_place (members t) t.head t'.head → lots_run (booked ls t').after ≡ lots_run t + line_run ls
+  pub run_booked : (ls : List Line) (t' : Tables) → Stays time_place (members t) t.head t'.head → lots_run (booked ls t').after ≡ lots_run t + line_run ls
   unfolding booked
-  run-booked ls t' w = get_or-set_same t'.head lots_run_place (lots_run t' + line_run ls) 0 (omega (arith, w.header.longer)) ∙ ap (λ n. n + line_run ls) w.run
+  run_booked ls t' w = get_or-set_same t'.head lots_run_place (lots_run t' + line_run ls) 0 (omega (arith, w.header.longer)) ∙ ap (λ n. n + line_run ls) w.run
 
   -- a record without lines keeps a sound head
-  head-without : (t' : Tables) → Stays time_place (members t) t.head t'.head → head_sound (booked [] t').after ≡ true
+  head_without : (t' : Tables) → Stays time_place (members t) t.head t'.head → head_sound (booked [] t').after ≡ true
   unfolding line_run total most
-  head-without t' w = head-booked [] t' w (omega (arith, bounds lots_run_place (of_run refl)))
+  head_without t' w = head_booked [] t' w (omega (arith, bounds lots_run_place (of_run refl)))
 
   -- a record's time is written
-  stays-timed : (s : ℕ) → s ≤ last_second → Stays time_place (members t) t.head (timed s t).head
+  stays_timed : (s : ℕ) → s ≤ last_second → Stays time_place (members t) t.head (timed s t).head
   unfolding timed without_submits most
-  stays-timed s h =
+  stays_timed s h =
       by_bool (λ b. Stays time_place (members t) t.head (cond b (with_head (set (without_submits t).head time_place s) t) t).head) (ltb (time t) s)
       (λ _. stays_set time_place s (omega arith) (changing (omega arith) (omega arith)) (λ e. omega arith) (λ _. h) (stays_zeros (omega arith) (few_members t sound) long (unchanged time_place)))
       (λ _. unchanged time_place)
@@ -247,13 +247,13 @@ module _ (t : Tables) (sound : head_sound t ≡ true) (long : head_length ≤ le
   unfolding timed without_submits
   timed_accepted s =
       by_bool (λ b. accepted_submits (cond b (with_head (set (without_submits t).head time_place s) t) t) ≡ accepted_submits t) (ltb (time t) s)
-      (λ _. get_or-set_other (without_submits t).head time_place accepted_submits_place s 0 (λ e. omega arith) ∙ zeros-other (members t) t.head (few_members t sound) long accepted_submits_place (omega arith)) (λ _. refl)
+      (λ _. get_or-set_other (without_submits t).head time_place accepted_submits_place s 0 (λ e. omega arith) ∙ zeros_other (members t) t.head (few_members t sound) long accepted_submits_place (omega arith)) (λ _. refl)
 
   timed_submits : (s m : ℕ) → m < members t → submits_this_second (timed s t) m ≡ submits_at t s m
   unfolding timed without_submits submits_at
   timed_submits s m h =
       by_bool (λ b. submits_this_second (cond b (with_head (set (without_submits t).head time_place s) t) t) m ≡ cond b 0 (submits_this_second t m)) (ltb (time t) s)
-      (λ _. get_or-set_other (without_submits t).head time_place (submits_from + m) s 0 (λ e. omega arith) ∙ zeros-here (members t) t.head (few_members t sound) long m h) (λ _. refl)
+      (λ _. get_or-set_other (without_submits t).head time_place (submits_from + m) s 0 (λ e. omega arith) ∙ zeros_here (members t) t.head (few_members t sound) long m h) (λ _. refl)
 
   -- a submit: below five in the second and below 4,000,000,000 in all before it
   module _ (e : Submission) (time≤ : e.time ≤ last_second) (member< : e.member < members t) (f : All (λ c. c.0 ≡ false) (submit_causes t e)) where
@@ -265,9 +265,9 @@ module _ (t : Tables) (sound : head_sound t ≡ true) (long : head_length ≤ le
         (ltb-false _ _ (or_left runs counts passed), leb-false most_accepted_submits (accepted_submits t) (or_right runs counts passed))
 
     -- one more order rests only where there is room
-    pub submit-few : length (submit_orders t e) ≤ most_orders
+    pub submit_few : length (submit_orders t e) ≤ most_orders
     unfolding submit_orders submit_matched matched most
-    submit-few =
+    submit_few =
         let m = submit_matched t e in
         let rest = remain_few t m.resting (matching_remain (length (orders t)) (incoming t e) (orders t)) in
         by_bool (λ b. b && leb most_orders (length m.resting) ≡ false → length (cond b (m.resting ++ (with_lots m.left (incoming t e) ∷ [])) m.resting) ≤ most_orders) (would_rest t e)
@@ -278,67 +278,67 @@ module _ (t : Tables) (sound : head_sound t ≡ true) (long : head_length ≤ le
     submit-stays =
         let m = e.member in
         let u = timed e.time t in
-        stays-orders time_place (length (submit_orders t e)) (omega arith) submit-few
+        stays_orders time_place (length (submit_orders t e)) (omega arith) submit_few
         (stays_set accepted_submits_place (accepted_submits u + 1) (omega arith) (changing (omega arith) (omega arith)) (λ q. omega arith) (λ _. omega (arith, timed_accepted e.time, totals.1))
         (stays_set (submits_from + m) (submits_this_second u m + 1) (omega arith) (of_member (omega arith)) (λ q. omega arith)
         (λ _. rw (most_submits m (omega (arith, few_members t sound))) (omega (arith, timed_submits e.time m member<, leb-false most_submits_in_second (submits_at t e.time m) f.1.1.1.1.0)))
-        (stays-timed e.time time≤)))
+        (stays_timed e.time time≤)))
 
     pub submit-head : head_sound (submit_booked t e).after ≡ true
     unfolding submit_booked submit_unbooked
-    submit-head = head-booked (submit_lines t e) (submit_unbooked t e) submit-stays totals.0
+    submit-head = head_booked (submit_lines t e) (submit_unbooked t e) submit-stays totals.0
 
-  pub cancel-stays : (n : ℕ) (p : Order → Bool) → n ≤ last_second → Stays time_place (members t) t.head (with_orders (kept p (orders t)) (timed n t)).head
+  pub cancel_stays : (n : ℕ) (p : Order → Bool) → n ≤ last_second → Stays time_place (members t) t.head (with_orders (kept p (orders t)) (timed n t)).head
   unfolding with_orders most
-  cancel-stays n p h = stays-orders time_place (length (kept p (orders t))) (omega arith) (omega (arith, remain_few t _ (kept_remain p (orders t)), bounds order_count_place (of_orders refl))) (stays-timed n h)
+  cancel_stays n p h = stays_orders time_place (length (kept p (orders t))) (omega arith) (omega (arith, remain_few t _ (kept_remain p (orders t)), bounds order_count_place (of_orders refl))) (stays_timed n h)
 
-  pub cancel-head : (n : ℕ) (p : Order → Bool) → n ≤ last_second → head_sound (booked [] (with_orders (kept p (orders t)) (timed n t))).after ≡ true
-  cancel-head n p h = head-without (with_orders (kept p (orders t)) (timed n t)) (cancel-stays n p h)
+  pub cancel_head : (n : ℕ) (p : Order → Bool) → n ≤ last_second → head_sound (booked [] (with_orders (kept p (orders t)) (timed n t))).after ≡ true
+  cancel_head n p h = head_without (with_orders (kept p (orders t)) (timed n t)) (cancel_stays n p h)
 
-  pub limits-head : (l : List ℕ) → head_sound (booked [] (with_prices l t)).after ≡ true
-  limits-head l = head-without (with_prices l t) (unchanged time_place)
+  pub limits_head : (l : List ℕ) → head_sound (booked [] (with_prices l t)).after ≡ true
+  limits_head l = head_without (with_prices l t) (unchanged time_place)
 
-  pub proposal-stays : (legs : List Leg) → Stays time_place (members t) t.head (with_orders (used_by_legs legs (orders t)) t).head
+  pub proposal_stays : (legs : List Leg) → Stays time_place (members t) t.head (with_orders (used_by_legs legs (orders t)) t).head
   unfolding with_orders most
-  proposal-stays legs = stays-orders time_place (length (used_by_legs legs (orders t))) (omega arith) (omega (arith, remain_few t _ (legs_remain legs (orders t)), bounds order_count_place (of_orders refl))) (unchanged time_place)
+  proposal_stays legs = stays_orders time_place (length (used_by_legs legs (orders t))) (omega arith) (omega (arith, remain_few t _ (legs_remain legs (orders t)), bounds order_count_place (of_orders refl))) (unchanged time_place)
 
-  pub proposal-head : (legs : List Leg) → All (λ c. c.0 ≡ false) (proposal_causes t legs) → head_sound (proposal_booked t legs).after ≡ true
+  pub proposal_head : (legs : List Leg) → All (λ c. c.0 ≡ false) (proposal_causes t legs) → head_sound (proposal_booked t legs).after ≡ true
   unfolding proposal_booked
-  proposal-head legs f = head-booked (proposal_lines t legs) (with_orders (used_by_legs legs (orders t)) t) (proposal-stays legs) (ltb-false _ _ f.1.0)
+  proposal_head legs f = head_booked (proposal_lines t legs) (with_orders (used_by_legs legs (orders t)) t) (proposal_stays legs) (ltb-false _ _ f.1.0)
 
-  pub default-stays : (m : ℕ) → m < members t → Stays time_place (members t) t.head (default_unbooked t m).head
+  pub default_stays : (m : ℕ) → m < members t → Stays time_place (members t) t.head (default_unbooked t m).head
   unfolding default_unbooked with_orders most
-  default-stays m h =
+  default_stays m h =
       let others : Order → Bool = λ o. not (eqb o.member m) in
-      stays-orders time_place (length (kept others (orders t))) (omega arith) (omega (arith, remain_few t _ (kept_remain others (orders t)), bounds order_count_place (of_orders refl)))
+      stays_orders time_place (length (kept others (orders t))) (omega arith) (omega (arith, remain_few t _ (kept_remain others (orders t)), bounds order_count_place (of_orders refl)))
       (stays_set (marks_from + m) default_mark (omega arith) (of_member (omega arith)) (λ e. omega arith) (λ _. omega (arith, most_mark m (omega (arith, few_members t sound)))) (unchanged time_place))
 
-  pub default-head : (m : ℕ) → m < members t → head_sound (default_booked t m).after ≡ true
+  pub default_head : (m : ℕ) → m < members t → head_sound (default_booked t m).after ≡ true
   unfolding default_booked default_unbooked
-  default-head m h = head-without (default_unbooked t m) (default-stays m h)
+  default_head m h = head_without (default_unbooked t m) (default_stays m h)
 
-  pub close-out-head : (e : CloseOutTerms) → All (λ c. c.0 ≡ false) (close_out_causes t e) → head_sound (close_out_booked t e).after ≡ true
+  pub close_out_head : (e : CloseOutTerms) → All (λ c. c.0 ≡ false) (close_out_causes t e) → head_sound (close_out_booked t e).after ≡ true
   unfolding close_out_booked
-  close-out-head e f = head-booked (close_out_lines t e) t (unchanged time_place) (ltb-false _ _ f.1.1.1.1.0)
+  close_out_head e f = head_booked (close_out_lines t e) t (unchanged time_place) (ltb-false _ _ f.1.1.1.1.0)
 
   -- ---- the close of day
   stays_closed : (cs : List ℕ) (u : Tables) → Stays day_place (members t) t.head u.head → Stays day_place (members t) t.head (with_closed cs u).head
   unfolding with_closed with_orders most
   stays_closed cs u w =
       let others : Order → Bool = λ o. not (is_of_any cs o) in
-      stays-orders day_place (length (kept others (orders u))) (omega arith) (omega (arith, remain_few u _ (kept_remain others (orders u)), w.ranges order_count_place (of_orders refl))) w
+      stays_orders day_place (length (kept others (orders u))) (omega arith) (omega (arith, remain_few u _ (kept_remain others (orders u)), w.ranges order_count_place (of_orders refl))) w
 
-  stays-day : (d : ℕ) (u : Tables) → members u ≡ members t → Stays day_place (members t) t.head u.head → Stays day_place (members t) t.head (on_day d u).head
+  stays_day : (d : ℕ) (u : Tables) → members u ≡ members t → Stays day_place (members t) t.head u.head → Stays day_place (members t) t.head (on_day d u).head
   unfolding on_day without_submits most
-  stays-day d u e w =
+  stays_day d u e w =
       let counts : Stays day_place (members t) t.head (over submits_from (zeros (members u)) u.head) = rw e (stays_zeros (omega arith) (few_members t sound) long w) in
       stays_set time_place 0 (omega arith) (changing (omega arith) (omega arith)) (λ q. omega arith) (λ _. omega arith)
       (stays_set day_place d (omega arith) (changing (omega arith) (omega arith)) (λ q. omega arith) (λ p. absurd (omega (arith, past_day (members t) day_place p))) counts)
 
   -- the next business day is in the span, since the day before it is
-  next-sound : has_next_day t ≡ true → day_sound (calendar t) (next_day t) ≡ true
+  next_sound : has_next_day t ≡ true → day_sound (calendar t) (next_day t) ≡ true
   unfolding head_sound day_sound in_span has_next_day next_day
-  next-sound h = go (next_business_day (calendar t) (day t)) refl
+  next_sound h = go (next_business_day (calendar t) (day t)) refl
     where
       first : span_start (calendar t) ≤ day t
       first =
@@ -347,22 +347,22 @@ module _ (t : Tables) (sound : head_sound t ≡ true) (long : head_length ≤ le
 
       go : (z : Day) → next_business_day (calendar t) (day t) ≡ z → day_sound (calendar t) (next_day t) ≡ true
       go (On x) e =
-          let w = next-business (calendar t) (day t) x e in
+          let w = next_business (calendar t) (day t) x e in
           rw (e, next_day, le-leb (span_start (calendar t)) x.0 (omega (arith, first, w.0)), lt-ltb x.0 (day_after_span (calendar t)) w.2, w.1)
       go NoDay e = never (sym h ∙ rw (e, has_next_day))
 
-  pub close-stays : (n : ℕ) → Stays day_place (members t) t.head (close_booked t n).after.head
+  pub close_stays : (n : ℕ) → Stays day_place (members t) t.head (close_booked t n).after.head
   unfolding close_booked priced
-  close-stays n =
+  close_stays n =
       let w = stays_closed (closing_contracts t) (priced n t) (unchanged day_place) in
-      stays-day (next_day t) (with_closed (closing_contracts t) (priced n t)) (w.header.places members_place (field (omega arith))) w
+      stays_day (next_day t) (with_closed (closing_contracts t) (priced n t)) (w.header.places members_place (field (omega arith))) w
 
-  pub close-head : (n : ℕ) → All (λ c. c.0 ≡ false) (close_causes t n) → head_sound (close_booked t n).after ≡ true
+  pub close_head : (n : ℕ) → All (λ c. c.0 ≡ false) (close_causes t n) → head_sound (close_booked t n).after ≡ true
   unfolding close_booked priced
-  close-head n f =
+  close_head n f =
       let v = with_closed (closing_contracts t) (priced n t) in
-      head-again t sound day_place (on_day (next_day t) v) (omega arith) long (close-stays n).header (close-stays n).ranges
-      (ap (day_sound (calendar t)) (day_is (next_day t) v (omega (arith, (stays_closed (closing_contracts t) (priced n t) (unchanged day_place)).header.longer))) ∙ next-sound (not-false _ f.1.0))
+      head-again t sound day_place (on_day (next_day t) v) (omega arith) long (close_stays n).header (close_stays n).ranges
+      (ap (day_sound (calendar t)) (day_is (next_day t) v (omega (arith, (stays_closed (closing_contracts t) (priced n t) (unchanged day_place)).header.longer))) ∙ next_sound (not-false _ f.1.0))
 
 -- ---- the fresh ledger
 fresh_in_range : (h : Header) (l : List ℕ) → SoundHeader h → head_length ≤ length l → InRange h.members (fresh_head h l)
@@ -372,7 +372,7 @@ fresh_in_range h l f long i (of_accepted e) = rw (e, (counts_of h f l long).1) (
 fresh_in_range h l f long i (of_run e) = rw (e, (counts_of h f l long).2) (omega arith)
 fresh_in_range h l f long i (of_orders e) = rw (e, (counts_of h f l long).3) (omega arith)
 fresh_in_range h l f long i (of_limit m b e) =
-    rw (e, most_limit_holds m (omega (arith, f.members_range.to)), limit-of h f l long m b) (all-place (λ x. x ≤ most_limit) 0 h.limits f.limits≤ m (omega (arith, f.one_limit)))
+    rw (e, most_limit_holds m (omega (arith, f.members_range.to)), limit-of h f l long m b) (all_place (λ x. x ≤ most_limit) 0 h.limits f.limits≤ m (omega (arith, f.one_limit)))
 fresh_in_range h l f long i (of_mark m b e) = rw (e, mark_of h f l long m b) (omega arith)
 fresh_in_range h l f long i (of_submits m b e) = rw (e, submits-of h f l long m b) (omega arith)
 
@@ -383,6 +383,6 @@ fresh_head_lem h t f long =
     let r = fresh_runs h t f long in
     let m = h.members in
     let size : members_sound m ≡ true = rw (le-leb 1 m f.members_range.from) (le-leb m most_members f.members_range.to) in
-    head-shows (fresh h t) (le-leb (holiday_count (fresh h t)) most_holidays (omega (arith, holiday-count-of h f t.head long, f.holidays≤)))
+    head_shows (fresh h t) (le-leb (holiday_count (fresh h t)) most_holidays (omega (arith, holiday_count_of h f t.head long, f.holidays≤)))
     (ap calendar_sound (runs_calendar r) ∙ f.calendar_sound_holds) (ap members_sound r.size ∙ size)
     (ap (λ x. day_sound x (day (fresh h t))) (runs_calendar r) ∙ ap (day_sound k) r.today ∙ f.start_sound) (rw r.size (fresh_in_range h t.head f long))

@@ -13,7 +13,7 @@ use Rattle.rules.specs.Header.{Header, calendar_of}
 use Rattle.rules.specs.Ledger.{Line}
 use Rattle.rules.specs.Accounts.{Column, amount, DeliveryHour, engine_account, other_account}
 use Rattle.accounts.proofs.Lines.{Fits, hour_total, member_total, row_total}
-use Rattle.accounts.proofs.Posting.{engine-posted, other-entered, members-total, row-untouched}
+use Rattle.accounts.proofs.Posting.{engine_posted, other_entered, members_total, row_untouched}
 
 abbrev pub Rows : Type 0
 Rows = Column → ℕ → ℕ → ℤ
@@ -44,12 +44,12 @@ holds_same h R R' log K e a = record {
 pub holds_posted : (h : Header) (R : Rows) (log ls : List Line) (K : ℕ → Bool) → Fair h K ls → Holds h R log K
     → Holds h (λ x c m. R x c m +ℤ row_total (amount x) c m ls) (log ++ ls) K
 holds_posted h R log ls K f a = record {
-  same = λ x m hour b d. engine-posted (calendar_of h) (amount x) h.members (R x) ls m hour f.fits
+  same = λ x m hour b d. engine_posted (calendar_of h) (amount x) h.members (R x) ls m hour f.fits
       ∙ ap (λ z. z +ℤ member_total (calendar_of h) (amount x) m hour ls) (a.same x m hour b d)
-      ∙ sym (other-entered (calendar_of h) (amount x) h.members log ls m hour);
+      ∙ sym (other_entered (calendar_of h) (amount x) h.members log ls m hour);
   zero = λ x hour d. sum_ext h.members _ (λ m. other_account (calendar_of h) (amount x) log m hour +ℤ member_total (calendar_of h) (amount x) m hour ls)
-      (λ m _. other-entered (calendar_of h) (amount x) h.members log ls m hour)
+      (λ m _. other_entered (calendar_of h) (amount x) h.members log ls m hour)
       ∙ sum_add h.members (λ m. other_account (calendar_of h) (amount x) log m hour) (λ m. member_total (calendar_of h) (amount x) m hour ls)
-      ∙ rw (a.zero x hour d, members-total (calendar_of h) (amount x) h.members ls hour f.fits, f.balanced x hour d);
-  empty = λ x c m l b t. rw (a.empty x c m l b t, row-untouched (calendar_of h) (amount x) h.members K ls c m f.clear t);
+      ∙ rw (a.zero x hour d, members_total (calendar_of h) (amount x) h.members ls hour f.fits, f.balanced x hour d);
+  empty = λ x c m l b t. rw (a.empty x c m l b t, row_untouched (calendar_of h) (amount x) h.members K ls c m f.clear t);
 }

@@ -8,7 +8,7 @@ use native.Mathlib.Omega.{arith}
 use lib.ListN.{length, length-set}
 use borrow.Author.Tests.{not-false}
 use Rattle.arith.specs.Lists.{from}
-use Rattle.arith.proofs.Alls.{all-every}
+use Rattle.arith.proofs.Alls.{all_every}
 use Rattle.arith.proofs.Tests.{and_left}
 use Rattle.rules.specs.declared.event.Event.{Event}
 use Rattle.rules.specs.declared.event.Event.TheVariants.{Submit, Cancel, DayLimits, Proposal, Default, CloseOut, CloseOfDay}
@@ -30,22 +30,22 @@ use Rattle.accounts.proofs.Runs as runs
 use Rattle.accounts.proofs.Runs.{Runs, sound_of}
 use Rattle.accounts.proofs.Calls.{Does}
 use Rattle.accounts.proofs.EachKind.{NoCause}
-use Rattle.accounts.proofs.Places.{close-place}
-use Rattle.accounts.proofs.OrdersAfter.{cancel-remain, limits-remain, proposal-remain, default-remain, close-out-remain, close-remain}
+use Rattle.accounts.proofs.Places.{close_place}
+use Rattle.accounts.proofs.OrdersAfter.{cancel_remain, limits_remain, proposal_remain, default_remain, close_out_remain, close_remain}
 use Rattle.accounts.proofs.Bounds.{WithinRun}
-use Rattle.accounts.proofs.SameLengths.{Fits, submit-lengths, cancel-lengths, limits-lengths, proposal-lengths, default-lengths, close-out-lengths, close-lengths}
-use Rattle.accounts.proofs.HeadStays.{submit-head, cancel-head, limits-head, proposal-head, default-head, close-out-head, close-head}
-use Rattle.accounts.proofs.PricesStay.{orders_priced, submit-prices, cancel-prices, limits-prices, proposal-prices, default-prices, close-out-prices, close-prices}
-use Rattle.accounts.proofs.Books.{BookKept, submit_book, cancel-book, limits-book, proposal-book, default-book, close-out-book, close_book}
-use Rattle.accounts.proofs.RowsStay.{Posts, within_posted, submit-posts, cancel-posts, limits-posts, proposal-posts, default-posts, close-out-posts, close-rows}
-use Rattle.accounts.proofs.GgfStays.{Found, submit-found, cancel-found, limits-found, proposal-found, default-found, close-out-found, close-found}
-use Rattle.accounts.proofs.Marks.{submit-marks, cancel-marks, limits-marks, proposal-marks, default-marks, close-out-marks, close-marks}
+use Rattle.accounts.proofs.SameLengths.{Fits, submit_lengths, cancel_lengths, limits_lengths, proposal_lengths, default_lengths, close_out_lengths, close_lengths}
+use Rattle.accounts.proofs.HeadStays.{submit-head, cancel_head, limits_head, proposal_head, default_head, close_out_head, close_head}
+use Rattle.accounts.proofs.PricesStay.{orders_priced, submit-prices, cancel_prices, limits-prices, proposal_prices, default_prices, close_out_prices, close-prices}
+use Rattle.accounts.proofs.Books.{BookKept, submit_book, cancel_book, limits_book, proposal_book, default_book, close_out_book, close_book}
+use Rattle.accounts.proofs.RowsStay.{Posts, within_posted, submit_posts, cancel_posts, limits_posts, proposal_posts, default_posts, close_out_posts, close_rows}
+use Rattle.accounts.proofs.GgfStays.{Found, submit_found, cancel_found, limits_found, proposal_found, default_found, close_out_found, close_found}
+use Rattle.accounts.proofs.Marks.{submit_marks, cancel_marks, limits_marks, proposal_marks, default_marks, close_out_marks, close_marks}
 use Rattle.accounts.proofs.Crossed.{remain_uncrossed, submit_uncrossed}
 use Rattle.accounts.proofs.Remains.{remain_rising}
-use Rattle.accounts.proofs.Rising.{submit-rising}
+use Rattle.accounts.proofs.Rising.{submit_rising}
 use Rattle.accounts.proofs.Submits.{submit-does}
-use Rattle.accounts.proofs.Proposals.{proposal-does}
-use Rattle.accounts.proofs.OtherKinds.{cancel-does, default-does, limits-does, close-out-does}
+use Rattle.accounts.proofs.Proposals.{proposal_does}
+use Rattle.accounts.proofs.OtherKinds.{cancel_does, default_does, limits_does, close_out_does}
 use Rattle.accounts.proofs.Closes.{close_shows}
 
 -- a call that adds rows to rows: it prints nothing, the lots run stands, and the bound that cascades keep is kept
@@ -81,7 +81,7 @@ pub record Keeps (e : Event) (t : Tables) (o : Outcome Tables) : Type 0 where
 
 close_cascades : (t : Tables) → Undamaged t → (n : ℕ) → Cascades t (close_booked t n)
 unfolding close_booked first_lines from
-close_cascades t u n = record { printed = refl; run = close-place t u n lots_run_place (omega arith) (λ q. omega arith) (omega arith); within = close-rows t (sound_of u) n }
+close_cascades t u n = record { printed = refl; run = close_place t u n lots_run_place (omega arith) (λ q. omega arith) (omega arith); within = close_rows t (sound_of u) n }
 
 today : (t : Tables) → Undamaged t → in_span (calendar t) (day t) ≡ true
 unfolding day_sound
@@ -112,97 +112,97 @@ kind_keeps e t legs u q n = go e q n
     go (Submit e) q n =
         let f = submission (members t) e legs q in
         record {
-          fits = submit-lengths t u e f n;
+          fits = submit_lengths t u e f n;
           head = submit-head t head long e f.time≤ f.member< n;
           prices = submit-prices t head long prices wide (orders_priced t u.book_sound_holds) e f.time≤ f.member< f.contract< n;
           book = submit_book t s book e f (today t u) n.1.1.1.1.1.1.1.0;
-          rows = submit-posts t s e f.contract< f.member< u.book_sound_holds;
-          found = submit-found t u e;
-          marks = λ a. submit-marks t u a e f.member< n.1.0;
+          rows = submit_posts t s e f.contract< f.member< u.book_sound_holds;
+          found = submit_found t u e;
+          marks = λ a. submit_marks t u a e f.member< n.1.0;
           uncrossed = submit_uncrossed t u e;
-          rising = submit-rising t u e;
+          rising = submit_rising t u e;
           does = λ h d r. submit-does h d t r s e (not-false _ n.1.1.0) f.contract< f.member<;
         }
     go (Cancel e) q n =
         let time≤ = cancel_time (members t) e legs q in
         let others : Order → Bool = λ o. not (is_cancelled e o) in
         record {
-          fits = cancel-lengths t u e.time others;
-          head = cancel-head t head long e.time others time≤;
-          prices = cancel-prices t head long prices e.time others time≤;
-          book = cancel-book t s book e.time others;
-          rows = cancel-posts t s e.time others;
-          found = cancel-found t u e.time others;
-          marks = λ a. cancel-marks t u a e.time others;
-          uncrossed = remain_uncrossed (cancel-remain t u e.time others);
-          rising = remain_rising (cancel-remain t u e.time others);
-          does = λ h d r. cancel-does h d t r s e.time others;
+          fits = cancel_lengths t u e.time others;
+          head = cancel_head t head long e.time others time≤;
+          prices = cancel_prices t head long prices e.time others time≤;
+          book = cancel_book t s book e.time others;
+          rows = cancel_posts t s e.time others;
+          found = cancel_found t u e.time others;
+          marks = λ a. cancel_marks t u a e.time others;
+          uncrossed = remain_uncrossed (cancel_remain t u e.time others);
+          rising = remain_rising (cancel_remain t u e.time others);
+          does = λ h d r. cancel_does h d t r s e.time others;
         }
     go (DayLimits e) q n =
         let f = new_day_limits (members t) e legs q in
         record {
-          fits = limits-lengths t u _ (simp length-set);
-          head = limits-head t head long _;
+          fits = limits_lengths t u _ (simp length-set);
+          head = limits_head t head long _;
           prices = limits-prices t head long prices wide e f.contract< f.low≥ f.ordered f.high≤;
-          book = limits-book t s book _;
-          rows = limits-posts t s _;
-          found = limits-found t u e;
-          marks = λ a. limits-marks t u a _;
-          uncrossed = remain_uncrossed (limits-remain t u _);
-          rising = remain_rising (limits-remain t u _);
-          does = λ h d r. limits-does h d t r s _;
+          book = limits_book t s book _;
+          rows = limits_posts t s _;
+          found = limits_found t u e;
+          marks = λ a. limits_marks t u a _;
+          uncrossed = remain_uncrossed (limits_remain t u _);
+          rising = remain_rising (limits_remain t u _);
+          does = λ h d r. limits_does h d t r s _;
         }
     go (Proposal i) q n =
         let f = proposal (members t) i legs q in
         record {
-          fits = proposal-lengths t u legs f.few;
-          head = proposal-head t head long legs n;
-          prices = proposal-prices t head long prices legs;
-          book = proposal-book t s book legs;
-          rows = proposal-posts t s legs (all-every leg_sound legs f.each);
-          found = proposal-found t u legs;
-          marks = λ a. proposal-marks t u a legs;
-          uncrossed = remain_uncrossed (proposal-remain t u legs);
-          rising = remain_rising (proposal-remain t u legs);
-          does = λ h d r. proposal-does h d t r s legs (not-false _ n.0);
+          fits = proposal_lengths t u legs f.few;
+          head = proposal_head t head long legs n;
+          prices = proposal_prices t head long prices legs;
+          book = proposal_book t s book legs;
+          rows = proposal_posts t s legs (all_every leg_sound legs f.each);
+          found = proposal_found t u legs;
+          marks = λ a. proposal_marks t u a legs;
+          uncrossed = remain_uncrossed (proposal_remain t u legs);
+          rising = remain_rising (proposal_remain t u legs);
+          does = λ h d r. proposal_does h d t r s legs (not-false _ n.0);
         }
     go (Default m) q n =
         let member< = default_member (members t) m legs q in
         record {
-          fits = default-lengths t u m;
-          head = default-head t head long m member<;
-          prices = default-prices t head long prices m member<;
-          book = default-book t s book m;
-          rows = default-posts t s m;
-          found = default-found t u m;
-          marks = λ a. default-marks t u a m;
-          uncrossed = remain_uncrossed (default-remain t u m);
-          rising = remain_rising (default-remain t u m);
-          does = λ h d r. default-does h d t r s m;
+          fits = default_lengths t u m;
+          head = default_head t head long m member<;
+          prices = default_prices t head long prices m member<;
+          book = default_book t s book m;
+          rows = default_posts t s m;
+          found = default_found t u m;
+          marks = λ a. default_marks t u a m;
+          uncrossed = remain_uncrossed (default_remain t u m);
+          rising = remain_rising (default_remain t u m);
+          does = λ h d r. default_does h d t r s m;
         }
     go (CloseOut e) q n =
         let contract< = close_out_contract (members t) e legs q in
         record {
-          fits = close-out-lengths t u e;
-          head = close-out-head t head long e n;
-          prices = close-out-prices t head long prices e;
-          book = close-out-book t s book e;
-          rows = close-out-posts t s e contract< prices;
-          found = close-out-found t u e;
-          marks = λ a. close-out-marks t u a e;
-          uncrossed = remain_uncrossed (close-out-remain t u e);
-          rising = remain_rising (close-out-remain t u e);
-          does = λ h d r. close-out-does h d t r s e (not-false _ n.0) contract< n.1.1.1.0;
+          fits = close_out_lengths t u e;
+          head = close_out_head t head long e n;
+          prices = close_out_prices t head long prices e;
+          book = close_out_book t s book e;
+          rows = close_out_posts t s e contract< prices;
+          found = close_out_found t u e;
+          marks = λ a. close_out_marks t u a e;
+          uncrossed = remain_uncrossed (close_out_remain t u e);
+          rising = remain_rising (close_out_remain t u e);
+          does = λ h d r. close_out_does h d t r s e (not-false _ n.0) contract< n.1.1.1.0;
         }
     go (CloseOfDay i) q n = record {
-      fits = close-lengths t u i;
-      head = close-head t head long i n;
+      fits = close_lengths t u i;
+      head = close_head t head long i n;
       prices = close-prices t head long prices wide (orders_priced t u.book_sound_holds) i;
       book = close_book t s book i;
       rows = close_cascades t u i;
-      found = close-found t u i;
-      marks = λ a. close-marks t u a i;
-      uncrossed = remain_uncrossed (close-remain t u i);
-      rising = remain_rising (close-remain t u i);
+      found = close_found t u i;
+      marks = λ a. close_marks t u a i;
+      uncrossed = remain_uncrossed (close_remain t u i);
+      rising = remain_rising (close_remain t u i);
       does = close_shows t s i (not-false _ n.1.0);
     }

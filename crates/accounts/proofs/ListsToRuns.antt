@@ -14,7 +14,7 @@ use Rattle.rules.specs.Refusals.{make_spec}
 use Rattle.rules.specs.Accounts.{call_spec, after, log, lists_day, day_after_event}
 use Rattle.accounts.specs.EveryList.{AfterEveryList}
 use Rattle.accounts.specs.Refused.{accepted_calls}
-use Rattle.accounts.specs.EveryRun.{Applied, calls, standing, Kept, lines_of_reply, printed, dayOf, acceptedOf, MakesByRules, AppliesByRules, AfterEveryRun}
+use Rattle.accounts.specs.EveryRun.{Applied, calls, standing, Kept, lines_of_reply, printed, day_of, accepted_of, MakesByRules, AppliesByRules, AfterEveryRun}
 
 -- a ledger is made only from a sound header, in tables that are long enough
 pub made_well : (t : Tables) (header : List ℕ) → (reply_of (make_spec t header).answer).number ≡ 0 → (ledger_short t ≡ false) × (begins_with_header header ≡ true)
@@ -32,17 +32,17 @@ module _ {A : Type 0} (reply : A → Reply) (Apply : Tables → List ℕ → A �
   pub record SameAsList (h : Header) (d : ℕ) (t : Tables) (run : List (Applied A)) : Type 0 where
     pub tables : after t (calls run) ≡ standing t run
     pub lines : log t (calls run) ≡ printed reply run
-    pub days : lists_day h d t (calls run) ≡ dayOf reply h d run
-    pub accepted : accepted_calls t (calls run) ≡ acceptedOf reply run
+    pub days : lists_day h d t (calls run) ≡ day_of reply h d run
+    pub accepted : accepted_calls t (calls run) ≡ accepted_of reply run
 
-  pub same-as-list : (h : Header) (run : List (Applied A)) (d : ℕ) (t : Tables) → Kept Apply t run → SameAsList h d t run
-  unfolding Kept standing printed dayOf acceptedOf after log lists_day accepted_calls
-  same-as-list h [] d t k = record { tables = refl; lines = refl; days = refl; accepted = refl }
-  same-as-list h (a ∷ run) d t k =
+  pub same_as_list : (h : Header) (run : List (Applied A)) (d : ℕ) (t : Tables) → Kept Apply t run → SameAsList h d t run
+  unfolding Kept standing printed day_of accepted_of after log lists_day accepted_calls
+  same_as_list h [] d t k = record { tables = refl; lines = refl; days = refl; accepted = refl }
+  same_as_list h (a ∷ run) d t k =
       let is = applies _ a.call.bytes a.answer a.left k.0 in
       let as-kept : told (call_spec t a.call) ≡ (reply a.answer, a.left) = λ i. (sym is.0 i, sym is.1 i) in
       let next = cond (eqb (reply a.answer).number 0) (day_after_event (calendar_of h) d (read_of h.members a.call.bytes)) d in
-      let rest = same-as-list h run next a.left k.1 in
+      let rest = same_as_list h run next a.left k.1 in
       record {
         tables = ap (λ (o : Reply × Tables). after o.1 (calls run)) as-kept ∙ rest.tables;
         lines =
@@ -56,12 +56,12 @@ module _ {A : Type 0} (reply : A → Reply) (Apply : Tables → List ℕ → A �
             ∙ ap (λ others. cond (eqb (reply a.answer).number 0) (a.call ∷ others) others) rest.accepted;
       }
 
-  pub after-every-run : (Make : Tables → List ℕ → A → Tables → Type 0) → MakesByRules reply Make → (P : Header → Tables → List Line → ℕ → Type 0)
+  pub after_every_run : (Make : Tables → List ℕ → A → Tables → Type 0) → MakesByRules reply Make → (P : Header → Tables → List Line → ℕ → Type 0)
       → AfterEveryList P → AfterEveryRun reply Make Apply P
-  after-every-run Make makes P every header t made answer run m e k =
+  after_every_run Make makes P every header t made answer run m e k =
       let h = header_of header in
       let is = makes t header answer made m in
       let well = made_well t header (sym is.0 ∙ e) in
-      let same = same-as-list h run h.start_day made k in
+      let same = same_as_list h run h.start_day made k in
       rw (← same.tables, ← same.lines, ← same.days, is.1)
       (every header t (calls run) (passes _ well.1) (passes _ (ap not well.0)))

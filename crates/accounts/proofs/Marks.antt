@@ -10,7 +10,7 @@ use lib.ListN.{length}
 use lib.Seq.{get_or-set_other}
 use borrow.Author.Tests.{eq-eqb}
 use Rattle.arith.specs.Lists.{All, kept}
-use Rattle.arith.proofs.Alls.{all_map, all_both, all-kept}
+use Rattle.arith.proofs.Alls.{all_map, all_both, all_kept}
 use Rattle.arith.proofs.Tests.{never}
 use Rattle.rules.specs.Ledger.{marks_from}
 use Rattle.rules.specs.Ranges.{contract_count, most_members}
@@ -29,9 +29,9 @@ use Rattle.accounts.proofs.Runs.{sound_of}
 use Rattle.accounts.proofs.Books.{booked_place}
 use Rattle.accounts.proofs.HeadStays.{submit_unbooked}
 use Rattle.accounts.proofs.Remains.{Remain, remain_all, matching_remain}
-use Rattle.accounts.proofs.OrdersAfter.{submit-orders, default-orders, cancel-remain, limits-remain, proposal-remain, close-out-remain, close-remain}
-use Rattle.accounts.proofs.Places.{written_place, timed-place, submit-place, close-place}
-use Rattle.accounts.proofs.Complete.{submit-all}
+use Rattle.accounts.proofs.OrdersAfter.{submit_orders_lem, default_orders, cancel_remain, limits_remain, proposal_remain, close_out_remain, close_remain}
+use Rattle.accounts.proofs.Places.{written_place, timed_place, submit_place, close_place}
+use Rattle.accounts.proofs.Complete.{submit_all}
 
 -- the marks of t' are those of t
 abbrev SameMarks : Tables → Tables → Type 0
@@ -52,52 +52,52 @@ fine_kept : (t t' : Tables) → SameMarks t t' → (o : Order) → Fine t o → 
 fine_kept t t' same o f = ap (λ n. eqb n 1) (same o.member f.1) ∙ f.0
 
 module _ (t : Tables) (u : Undamaged t) (a : NoneDefaulted t) where
-  all-fine : All (Fine t) (orders t)
-  all-fine =
+  all_fine : All (Fine t) (orders t)
+  all_fine =
       all_both (λ o. defaulted t o.member ≡ false) (λ o. o.member < most_members) (orders t) a
       (all_map (λ o. (o.contract < contract_count) × (o.member < members t)) (λ o. o.member < 32) (orders t) (λ o p. omega (arith, u.head.members_range.to)) (sound_of u).placed)
 
   remaining : (t' : Tables) → SameMarks t t' → Remain (orders t) (orders t') → NoneDefaulted t'
-  remaining t' same x = remain_all (Fine t) (λ o. defaulted t' o.member ≡ false) (λ o q _ _ f. fine_kept t t' same o f) x all-fine
+  remaining t' same x = remain_all (Fine t) (λ o. defaulted t' o.member ≡ false) (λ o q _ _ f. fine_kept t t' same o f) x all_fine
 
-  pub submit-marks : (e : Submission) → e.member < members t → defaulted t e.member ≡ false → NoneDefaulted (submit_booked t e).after
+  pub submit_marks : (e : Submission) → e.member < members t → defaulted t e.member ≡ false → NoneDefaulted (submit_booked t e).after
   unfolding submit_booked submit_unbooked submit_matched matched
-  submit-marks e m< d =
+  submit_marks e m< d =
       let t' = (submit_booked t e).after in
       let same : SameMarks t t' = λ m h.
-      booked_marks (submit_lines t e) (submit_unbooked t e) m h ∙ submit-place t u e (marks_from + m) (λ q. omega arith) (λ q. omega arith) (λ q. omega arith) (omega arith) in
-      rw (submit-orders t u e)
-      (submit-all t e (λ o. defaulted t' o.member ≡ false)
-      (remain_all (Fine t) (λ o. defaulted t' o.member ≡ false) (λ o q _ _ f. fine_kept t t' same o f) (matching_remain (length (orders t)) (incoming t e) (orders t)) all-fine)
+      booked_marks (submit_lines t e) (submit_unbooked t e) m h ∙ submit_place t u e (marks_from + m) (λ q. omega arith) (λ q. omega arith) (λ q. omega arith) (omega arith) in
+      rw (submit_orders_lem t u e)
+      (submit_all t e (λ o. defaulted t' o.member ≡ false)
+      (remain_all (Fine t) (λ o. defaulted t' o.member ≡ false) (λ o q _ _ f. fine_kept t t' same o f) (matching_remain (length (orders t)) (incoming t e) (orders t)) all_fine)
       (λ _. fine_kept t t' same (incoming t e) (d, omega (arith, u.head.members_range.to))))
 
   -- the member's orders are gone, and no other mark is set
-  default-mark : (m k : ℕ) → k < most_members → (k ≡ m → ⊥) → mark (default_booked t m).after k ≡ mark t k
+  default_mark_lem : (m k : ℕ) → k < most_members → (k ≡ m → ⊥) → mark (default_booked t m).after k ≡ mark t k
   unfolding default_booked
-  default-mark m k h d = booked_marks [] _ k h ∙ written_marks _ _ k h ∙ get_or-set_other t.head (marks_from + m) (marks_from + k) 1 0 (λ e. d (omega arith))
+  default_mark_lem m k h d = booked_marks [] _ k h ∙ written_marks _ _ k h ∙ get_or-set_other t.head (marks_from + m) (marks_from + k) 1 0 (λ e. d (omega arith))
 
-  pub default-marks : (m : ℕ) → NoneDefaulted (default_booked t m).after
-  default-marks m =
+  pub default_marks : (m : ℕ) → NoneDefaulted (default_booked t m).after
+  default_marks m =
       let t' = (default_booked t m).after in
       let others : Order → Bool = λ o. not (eqb o.member m) in
-      rw (default-orders t u m)
+      rw (default_orders t u m)
       (all_map (λ o. Fine t o × (others o ≡ true)) (λ o. defaulted t' o.member ≡ false) (kept others (orders t))
-      (λ o f. ap (λ n. eqb n 1) (default-mark m o.member f.0.1 (λ e. never (sym f.1 ∙ ap not (eq-eqb o.member m e)))) ∙ f.0.0) (all-kept (Fine t) others (orders t) all-fine))
+      (λ o f. ap (λ n. eqb n 1) (default_mark_lem m o.member f.0.1 (λ e. never (sym f.1 ∙ ap not (eq-eqb o.member m e)))) ∙ f.0.0) (all_kept (Fine t) others (orders t) all_fine))
 
-  pub cancel-marks : (n : ℕ) (p : Order → Bool) → NoneDefaulted (booked [] (with_orders (kept p (orders t)) (timed n t))).after
-  cancel-marks n p =
-      remaining _ (λ m h. booked_marks [] _ m h ∙ written_marks (kept p (orders t)) (timed n t) m h ∙ timed-place t u n (marks_from + m) (λ q. omega arith) (omega arith)) (cancel-remain t u n p)
+  pub cancel_marks : (n : ℕ) (p : Order → Bool) → NoneDefaulted (booked [] (with_orders (kept p (orders t)) (timed n t))).after
+  cancel_marks n p =
+      remaining _ (λ m h. booked_marks [] _ m h ∙ written_marks (kept p (orders t)) (timed n t) m h ∙ timed_place t u n (marks_from + m) (λ q. omega arith) (omega arith)) (cancel_remain t u n p)
 
-  pub limits-marks : (l : List ℕ) → NoneDefaulted (booked [] (with_prices l t)).after
-  limits-marks l = remaining _ (booked_marks [] (with_prices l t)) (limits-remain t u l)
+  pub limits_marks : (l : List ℕ) → NoneDefaulted (booked [] (with_prices l t)).after
+  limits_marks l = remaining _ (booked_marks [] (with_prices l t)) (limits_remain t u l)
 
-  pub proposal-marks : (legs : List Leg) → NoneDefaulted (proposal_booked t legs).after
+  pub proposal_marks : (legs : List Leg) → NoneDefaulted (proposal_booked t legs).after
   unfolding proposal_booked
-  proposal-marks legs = remaining _ (λ m h. booked_marks (proposal_lines t legs) _ m h ∙ written_marks (used_by_legs legs (orders t)) t m h) (proposal-remain t u legs)
+  proposal_marks legs = remaining _ (λ m h. booked_marks (proposal_lines t legs) _ m h ∙ written_marks (used_by_legs legs (orders t)) t m h) (proposal_remain t u legs)
 
-  pub close-out-marks : (e : CloseOutTerms) → NoneDefaulted (close_out_booked t e).after
+  pub close_out_marks : (e : CloseOutTerms) → NoneDefaulted (close_out_booked t e).after
   unfolding close_out_booked
-  close-out-marks e = remaining _ (booked_marks (close_out_lines t e) t) (close-out-remain t u e)
+  close_out_marks e = remaining _ (booked_marks (close_out_lines t e) t) (close_out_remain t u e)
 
-  pub close-marks : (n : ℕ) → NoneDefaulted (close_booked t n).after
-  close-marks n = remaining _ (λ m h. close-place t u n (marks_from + m) (omega arith) (λ q. omega arith) (omega arith)) (close-remain t u n)
+  pub close_marks : (n : ℕ) → NoneDefaulted (close_booked t n).after
+  close_marks n = remaining _ (λ m h. close_place t u n (marks_from + m) (omega arith) (λ q. omega arith) (omega arith)) (close_remain t u n)

@@ -15,17 +15,17 @@ use Rattle.rules.specs.Matching.{precedes, better, best, opposes, meets, with_lo
 
 -- ---- the best order is one of the orders, and passes the test
 module _ (P : Order → Type 0) (p : Order → Bool) where
-  better-all : (o : Order) (rest : Option Order) (r : Order) → P o → ((b : Order) → rest ≡ some b → P b) → better o rest ≡ some r → P r
-  better-all o none r ho hr e = let same : o ≡ r = cc in subst P same ho
-  better-all o (some b) r ho hr e =
+  better_all : (o : Order) (rest : Option Order) (r : Order) → P o → ((b : Order) → rest ≡ some b → P b) → better o rest ≡ some r → P r
+  better_all o none r ho hr e = let same : o ≡ r = cc in subst P same ho
+  better_all o (some b) r ho hr e =
       by_bool (λ c. cond c (some b) (some o) ≡ some r → P r) (precedes b o) (λ _ f. let same : b ≡ r = cc in subst P same (hr b refl)) (λ _ f. let same : o ≡ r = cc in subst P same ho) e
 
-  pub best-all : (os : List Order) → All (λ o. p o ≡ true → P o) os → (r : Order) → best p os ≡ some r → P r
+  pub best_all : (os : List Order) → All (λ o. p o ≡ true → P o) os → (r : Order) → best p os ≡ some r → P r
   unfolding best
-  best-all [] h r e = absurd (let z : ◌≡◌ {A = ℕ} 0 1 = cc in omega arith)
-  best-all (o ∷ os) h r e =
+  best_all [] h r e = absurd (let z : ◌≡◌ {A = ℕ} 0 1 = cc in omega arith)
+  best_all (o ∷ os) h r e =
       by_bool (λ c. cond c (better o (best p os)) (best p os) ≡ some r → P r) (p o)
-      (λ c f. better-all o (best p os) r (h.0 c) (λ b g. best-all os h.1 b g) f) (λ c f. best-all os h.1 r f) e
+      (λ c f. better_all o (best p os) r (h.0 c) (λ b g. best_all os h.1 b g) f) (λ c f. best_all os h.1 r f) e
 
 -- ---- used lots leave the other orders and a remainder
 module _ (P : Order → Type 0) where
@@ -52,10 +52,10 @@ module _ (Q : Order → List Order → Matched → Type 0) (stop : (o : Order) (
     (deal : (o r : Order) (os : List Order) (m : Matched) → best (opposes o) os ≡ some r → 0 < o.lots.0
     → Q (with_lots (o.lots.0 - min o.lots.0 r.lots.0) o) (used r.number (min o.lots.0 r.lots.0) os) m
     → Q o os (after_deal (record { resting = r; lots = min o.lots.0 r.lots.0 }) m)) where
-  pub by-deals : (n : ℕ) (o : Order) (os : List Order) → Q o os (matching n o os)
+  pub by_deals : (n : ℕ) (o : Order) (os : List Order) → Q o os (matching n o os)
   unfolding matching
-  by-deals zero o os = stop o os
-  by-deals (suc n) o os = go (best (opposes o) os) refl (λ r. by-deals n (with_lots (o.lots.0 - min o.lots.0 r.lots.0) o) (used r.number (min o.lots.0 r.lots.0) os))
+  by_deals zero o os = stop o os
+  by_deals (suc n) o os = go (best (opposes o) os) refl (λ r. by_deals n (with_lots (o.lots.0 - min o.lots.0 r.lots.0) o) (used r.number (min o.lots.0 r.lots.0) os))
     where
       next : Order → Matched
       next r = matching n (with_lots (o.lots.0 - min o.lots.0 r.lots.0) o) (used r.number (min o.lots.0 r.lots.0) os)

@@ -41,13 +41,13 @@ line_worth value p l e = ap (λ n. l.lots *ℤ pos n) e
 
 module _ (k : Calendar) (x : Column) (h c p : ℕ) where
   -- the hour's total is what the net lots are worth, if the contract's period holds the hour
-  hour-total : (ls : List Line) → All (λ l. l.contract ≡ c) ls → All (λ l. l.price ≡ p) ls → hour_total k (amount x) h ls ≡ when (holds_hour k c h) (worth x p (net_lots ls))
+  hour_total_lem : (ls : List Line) → All (λ l. l.contract ≡ c) ls → All (λ l. l.price ≡ p) ls → hour_total k (amount x) h ls ≡ when (holds_hour k c h) (worth x p (net_lots ls))
   unfolding hour_total net_lots
-  hour-total [] cs ps = sym (ap (when (holds_hour k c h)) (worth_zero x p) ∙ when_zero (holds_hour k c h))
-  hour-total (l ∷ ls) cs ps =
-      ap₂ (λ a b. a +ℤ b) (ap₂ (λ d a. when (holds_hour k d h) a) cs.0 (line_worth x p l ps.0)) (hour-total ls cs.1 ps.1)
+  hour_total_lem [] cs ps = sym (ap (when (holds_hour k c h)) (worth_zero x p) ∙ when_zero (holds_hour k c h))
+  hour_total_lem (l ∷ ls) cs ps =
+      ap₂ (λ a b. a +ℤ b) (ap₂ (λ d a. when (holds_hour k d h) a) cs.0 (line_worth x p l ps.0)) (hour_total_lem ls cs.1 ps.1)
       ∙ sym (ap (when (holds_hour k c h)) (worth_add x p l.lots (net_lots ls)) ∙ when_add (holds_hour k c h) (worth x p l.lots) (worth x p (net_lots ls)))
 
   -- lots that sum to nothing leave nothing in any hour, in lots and in value
-  pub balanced-at-price : (ls : List Line) → All (λ l. l.contract ≡ c) ls → All (λ l. l.price ≡ p) ls → net_lots ls ≡ pos 0 → hour_total k (amount x) h ls ≡ pos 0
-  balanced-at-price ls cs ps e = hour-total ls cs ps ∙ rw (e, worth_zero x p) (when_zero (holds_hour k c h))
+  pub balanced_at_price : (ls : List Line) → All (λ l. l.contract ≡ c) ls → All (λ l. l.price ≡ p) ls → net_lots ls ≡ pos 0 → hour_total k (amount x) h ls ≡ pos 0
+  balanced_at_price ls cs ps e = hour_total_lem ls cs ps ∙ rw (e, worth_zero x p) (when_zero (holds_hour k c h))

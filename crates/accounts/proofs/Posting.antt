@@ -18,62 +18,62 @@ use Rattle.accounts.proofs.Lines.{Fits, hour_total, member_total, row_total}
 
 module _ (k : Calendar) (amount : Line → ℤ) (n : ℕ) where
   -- a line's amount stands in one contract's row
-  line-in-hour : (l : Line) (m h : ℕ) → l.contract < contract_count
+  line_in_hour : (l : Line) (m h : ℕ) → l.contract < contract_count
       → sum contract_count (λ c. when (holds_hour k c h) (when (eqb l.contract c) (when (eqb l.member m) (amount l))))
       ≡ when (eqb l.member m) (when (holds_hour k l.contract h) (amount l))
-  line-in-hour l m h b =
+  line_in_hour l m h b =
       let w : ℤ = when (eqb l.member m) (amount l) in
       sum_ext contract_count (λ c. when (holds_hour k c h) (when (eqb l.contract c) w)) (λ c. when (eqb l.contract c) (when (holds_hour k l.contract h) w))
       (λ c _. by_eqb (λ x. when (holds_hour k c h) (when x w) ≡ when x (when (holds_hour k l.contract h) w)) l.contract c (λ e. rw e) (λ _. when_zero (holds_hour k c h)))
       ∙ sum_at_lem contract_count l.contract (when (holds_hour k l.contract h) w) b
       ∙ when_comm (holds_hour k l.contract h) (eqb l.member m) (amount l)
 
-  rows-in-hour : (ls : List Line) (m h : ℕ) → All (Fits n) ls → sum contract_count (λ c. when (holds_hour k c h) (row_total amount c m ls)) ≡ member_total k amount m h ls
+  rows_in_hour : (ls : List Line) (m h : ℕ) → All (Fits n) ls → sum contract_count (λ c. when (holds_hour k c h) (row_total amount c m ls)) ≡ member_total k amount m h ls
   unfolding row_total member_total
-  rows-in-hour [] m h f = sum_ext contract_count _ (λ c. pos 0) (λ c _. when_zero (holds_hour k c h)) ∙ sum_zero contract_count
-  rows-in-hour (l ∷ ls) m h f =
+  rows_in_hour [] m h f = sum_ext contract_count _ (λ c. pos 0) (λ c _. when_zero (holds_hour k c h)) ∙ sum_zero contract_count
+  rows_in_hour (l ∷ ls) m h f =
       let w : ℕ → ℤ = λ c. when (eqb l.contract c) (when (eqb l.member m) (amount l)) in
       sum_ext contract_count _ (λ c. when (holds_hour k c h) (w c) +ℤ when (holds_hour k c h) (row_total amount c m ls)) (λ c _. when_add (holds_hour k c h) (w c) (row_total amount c m ls))
       ∙ sum_add contract_count (λ c. when (holds_hour k c h) (w c)) (λ c. when (holds_hour k c h) (row_total amount c m ls))
-      ∙ rw (line-in-hour l m h f.0.contract<, rows-in-hour ls m h f.1)
+      ∙ rw (line_in_hour l m h f.0.contract<, rows_in_hour ls m h f.1)
 
   -- the engine's account
-  pub engine-posted : (row : ℕ → ℕ → ℤ) (ls : List Line) (m h : ℕ) → All (Fits n) ls
+  pub engine_posted : (row : ℕ → ℕ → ℤ) (ls : List Line) (m h : ℕ) → All (Fits n) ls
       → engine_account k (λ c m. row c m +ℤ row_total amount c m ls) m h ≡ engine_account k row m h +ℤ member_total k amount m h ls
   unfolding engine_account
-  engine-posted row ls m h f =
+  engine_posted row ls m h f =
       sum_ext contract_count _ (λ c. when (holds_hour k c h) (row c m) +ℤ when (holds_hour k c h) (row_total amount c m ls)) (λ c _. when_add (holds_hour k c h) (row c m) (row_total amount c m ls))
       ∙ sum_add contract_count (λ c. when (holds_hour k c h) (row c m)) (λ c. when (holds_hour k c h) (row_total amount c m ls))
-      ∙ rw (rows-in-hour ls m h f)
+      ∙ rw (rows_in_hour ls m h f)
 
   -- the other account
-  entered-total : (ls : List Line) (A : ℕ → ℕ → ℤ) (m h : ℕ) → entered k amount ls A m h ≡ A m h +ℤ member_total k amount m h ls
+  entered_total : (ls : List Line) (A : ℕ → ℕ → ℤ) (m h : ℕ) → entered k amount ls A m h ≡ A m h +ℤ member_total k amount m h ls
   unfolding entered member_total
-  entered-total [] A m h = sym (+ℤ_idr (A m h))
-  entered-total (l ∷ ls) A m h = entered-total ls _ m h ∙ simp +ℤ_assoc
+  entered_total [] A m h = sym (+ℤ_idr (A m h))
+  entered_total (l ∷ ls) A m h = entered_total ls _ m h ∙ simp +ℤ_assoc
 
   total_append : (xs ys : List Line) (m h : ℕ) → member_total k amount m h (xs ++ ys) ≡ member_total k amount m h xs +ℤ member_total k amount m h ys
   unfolding member_total
   total_append [] ys m h = sym (+ℤ_idl (member_total k amount m h ys))
   total_append (l ∷ xs) ys m h = simp (total_append xs ys m h, +ℤ_assoc)
 
-  pub other-entered : (log ls : List Line) (m h : ℕ) → other_account k amount (log ++ ls) m h ≡ other_account k amount log m h +ℤ member_total k amount m h ls
+  pub other_entered : (log ls : List Line) (m h : ℕ) → other_account k amount (log ++ ls) m h ≡ other_account k amount log m h +ℤ member_total k amount m h ls
   unfolding other_account
-  other-entered log ls m h =
-      rw (entered-total (log ++ ls) (λ m h. pos 0) m h, entered-total log (λ m h. pos 0) m h, total_append log ls m h) (simp sorted)
+  other_entered log ls m h =
+      rw (entered_total (log ++ ls) (λ m h. pos 0) m h, entered_total log (λ m h. pos 0) m h, total_append log ls m h) (simp sorted)
 
   -- over all members a line counts once
-  pub members-total : (ls : List Line) (h : ℕ) → All (Fits n) ls → sum n (λ m. member_total k amount m h ls) ≡ hour_total k amount h ls
+  pub members_total : (ls : List Line) (h : ℕ) → All (Fits n) ls → sum n (λ m. member_total k amount m h ls) ≡ hour_total k amount h ls
   unfolding member_total hour_total
-  members-total [] h f = sum_zero n
-  members-total (l ∷ ls) h f =
+  members_total [] h f = sum_zero n
+  members_total (l ∷ ls) h f =
       let w : ℤ = when (holds_hour k l.contract h) (amount l) in
-      sum_add n (λ m. when (eqb l.member m) w) (λ m. member_total k amount m h ls) ∙ rw (sum_at_lem n l.member w f.0.member<, members-total ls h f.1)
+      sum_add n (λ m. when (eqb l.member m) w) (λ m. member_total k amount m h ls) ∙ rw (sum_at_lem n l.member w f.0.member<, members_total ls h f.1)
 
   -- a contract that no line names gets nothing
-  pub row-untouched : (K : ℕ → Bool) (ls : List Line) (c m : ℕ) → All (λ l. K l.contract ≡ false) ls → K c ≡ true → row_total amount c m ls ≡ pos 0
+  pub row_untouched : (K : ℕ → Bool) (ls : List Line) (c m : ℕ) → All (λ l. K l.contract ≡ false) ls → K c ≡ true → row_total amount c m ls ≡ pos 0
   unfolding row_total
-  row-untouched K [] c m f e = refl
-  row-untouched K (l ∷ ls) c m f e =
+  row_untouched K [] c m f e = refl
+  row_untouched K (l ∷ ls) c m f e =
       by_eqb (λ b. when b (when (eqb l.member m) (amount l)) +ℤ row_total amount c m ls ≡ pos 0) l.contract c
-      (λ q. never (sym e ∙ ap K (sym q) ∙ f.0)) (λ q. rw (row-untouched K ls c m f.1 e))
+      (λ q. never (sym e ∙ ap K (sym q) ∙ f.0)) (λ q. rw (row_untouched K ls c m f.1 e))

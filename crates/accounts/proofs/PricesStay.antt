@@ -10,10 +10,10 @@ use lib.Dec.{leb, ltb}
 use lib.ListN.{length, get_or, set, length-set}
 use lib.Seq.{get_or-set_same, get_or-set_other}
 use borrow.Author.Tests.{leb-true, le-leb}
-use Rattle.arith.specs.Lists.{All, kept, total, over, everyBlock}
+use Rattle.arith.specs.Lists.{All, kept, total, over, every_block}
 use Rattle.arith.proofs.Alls.{all_hold, hold_all, all_map}
-use Rattle.arith.proofs.EachBlock.{block, block_at, block-passes, every-block, blocks-done}
-use Rattle.arith.proofs.Overs.{over-length, over-inside, over-outside}
+use Rattle.arith.proofs.EachBlock.{block, block_at, block_passes, every_block_lem, blocks_done}
+use Rattle.arith.proofs.Overs.{over_length, over_inside, over_outside}
 use Rattle.arith.proofs.Tests.{by_bool, same_or, and_left, and_right}
 use Rattle.rules.specs.Ledger.{head_length, price_width, prices_length, time_place, day_lots_place}
 use Rattle.rules.specs.Ranges.{contract_count, last_second, most_price}
@@ -35,9 +35,9 @@ use Rattle.rules.specs.Default.{default_booked, close_out_lines, close_out_booke
 use Rattle.rules.specs.CloseOfDay.{rounded_half_up, quotes, best_quote, quoted_price, ggf_at_close, with_ggfs, without_deals, closing_contracts, with_closed, priced, on_day, close_booked}
 use Rattle.rules.specs.Refusals.{contract_prices_sound, prices_sound, head_sound, book_sound, submit_causes}
 use Rattle.rules.proofs.SoundTables.{SoundOrder, book_gives}
-use Rattle.accounts.proofs.Matches.{best-all}
-use Rattle.accounts.proofs.Submits.{dealt-all}
-use Rattle.accounts.proofs.HeadStays.{Stays, unchanged, run-booked, submit_unbooked, submit-stays, cancel-stays, proposal-stays, default_unbooked, default-stays}
+use Rattle.accounts.proofs.Matches.{best_all}
+use Rattle.accounts.proofs.Submits.{dealt_all}
+use Rattle.accounts.proofs.HeadStays.{Stays, unchanged, run_booked, submit_unbooked, submit-stays, cancel_stays, proposal_stays, default_unbooked, default_stays}
 use Rattle.rules.proofs.Sides.{abs_signed}
 
 -- ---- a contract's five numbers: GGF, low, high, M and V
@@ -92,12 +92,12 @@ module _ (run : ℕ) (l : List ℕ) where
   read : (c j : ℕ) → j < price_width → get_or (block price_width c l) j 0 ≡ at l c j
   read c j h = block_at price_width c j l 0 h
 
-  pub prices-of : everyBlock 5 (contract_prices_sound run) contract_count l ≡ true → Prices run l
-  prices-of e c h = rw (read c 0 (omega arith), read c 1 (omega arith), read c 2 (omega arith), read c 3 (omega arith), read c 4 (omega arith))
-      at (five_of run (block 5 c l) (block-passes 5 (contract_prices_sound run) contract_count l e c h))
+  pub prices_of : every_block 5 (contract_prices_sound run) contract_count l ≡ true → Prices run l
+  prices_of e c h = rw (read c 0 (omega arith), read c 1 (omega arith), read c 2 (omega arith), read c 3 (omega arith), read c 4 (omega arith))
+      at (five_of run (block 5 c l) (block_passes 5 (contract_prices_sound run) contract_count l e c h))
 
-  prices_sound_holds : Prices run l → everyBlock 5 (contract_prices_sound run) contract_count l ≡ true
-  prices_sound_holds f = every-block 5 (contract_prices_sound run) contract_count l (λ c h. five_sound run (block 5 c l)
+  prices_sound_holds : Prices run l → every_block 5 (contract_prices_sound run) contract_count l ≡ true
+  prices_sound_holds f = every_block_lem 5 (contract_prices_sound run) contract_count l (λ c h. five_sound run (block 5 c l)
       (rw (read c 0 (omega arith), read c 1 (omega arith), read c 2 (omega arith), read c 3 (omega arith), read c 4 (omega arith)) (f c h)))
 
 -- the lots run only grows
@@ -122,26 +122,26 @@ module _ (l : List ℕ) (wide : prices_length ≤ length l) (c : ℕ) (c< : c < 
   two_first : at two c j ≡ x
   two_first = get_or-set_other (set l (c * price_width + j) x) (c * price_width + k) (c * price_width + j) y 0 (λ e. omega arith) ∙ get_or-set_same l (c * price_width + j) x 0 (omega arith)
 
-  two-second : at two c k ≡ y
-  two-second = get_or-set_same (set l (c * price_width + j) x) (c * price_width + k) y 0 (omega (arith, length-set l (c * price_width + j) x))
+  two_second : at two c k ≡ y
+  two_second = get_or-set_same (set l (c * price_width + j) x) (c * price_width + k) y 0 (omega (arith, length-set l (c * price_width + j) x))
 
-  two-other : (i : ℕ) → (i ≡ j → ⊥) → (i ≡ k → ⊥) → at two c i ≡ at l c i
-  two-other i p q = get_or-set_other (set l (c * price_width + j) x) (c * price_width + k) (c * price_width + i) y 0 (λ e. q (omega arith))
+  two_other : (i : ℕ) → (i ≡ j → ⊥) → (i ≡ k → ⊥) → at two c i ≡ at l c i
+  two_other i p q = get_or-set_other (set l (c * price_width + j) x) (c * price_width + k) (c * price_width + i) y 0 (λ e. q (omega arith))
       ∙ get_or-set_other l (c * price_width + j) (c * price_width + i) x 0 (λ e. p (omega arith))
 
-  two-elsewhere : (d i : ℕ) → i < price_width → (d ≡ c → ⊥) → at two d i ≡ at l d i
-  two-elsewhere d i h e = set_elsewhere (set l (c * price_width + j) x) c d k i y k< h e ∙ set_elsewhere l c d j i x (omega arith) h e
+  two_elsewhere : (d i : ℕ) → i < price_width → (d ≡ c → ⊥) → at two d i ≡ at l d i
+  two_elsewhere d i h e = set_elsewhere (set l (c * price_width + j) x) c d k i y k< h e ∙ set_elsewhere l c d j i x (omega arith) h e
 
 -- new day limits
 new_limits : (run : ℕ) (l : List ℕ) (c low high : ℕ) → prices_length ≤ length l → c < contract_count → 1 ≤ low → low ≤ high → high ≤ most_price → Prices run l
     → Prices run (set (set l (c * price_width + 1) low) (c * price_width + 2) high)
 new_limits run l c low high wide c< a b h p =
     let l' = set (set l (c * price_width + 1) low) (c * price_width + 2) high in
-    one_contract run run l l' c (omega arith) (two-elsewhere l wide c c< 1 2 low high (omega arith) (omega arith))
-    (λ _ f. let other : (i : ℕ) → (i ≡ 1 → ⊥) → (i ≡ 2 → ⊥) → at l' c i ≡ at l c i = two-other l wide c c< 1 2 low high (omega arith) (omega arith) in
+    one_contract run run l l' c (omega arith) (two_elsewhere l wide c c< 1 2 low high (omega arith) (omega arith))
+    (λ _ f. let other : (i : ℕ) → (i ≡ 1 → ⊥) → (i ≡ 2 → ⊥) → at l' c i ≡ at l c i = two_other l wide c c< 1 2 low high (omega arith) (omega arith) in
     rw (
       two_first l wide c c< 1 2 low high (omega arith) (omega arith),
-      two-second l wide c c< 1 2 low high (omega arith) (omega arith),
+      two_second l wide c c< 1 2 low high (omega arith) (omega arith),
       other 0 (λ e. omega arith) (λ e. omega arith),
       other 3 (λ e. omega arith) (λ e. omega arith),
       other 4 (λ e. omega arith) (λ e. omega arith),
@@ -155,11 +155,11 @@ new_deals run run' l c q w wide c< r a b p =
     let x = at l c 3 + q in
     let y = at l c 4 + w in
     let l' = set (set l (c * price_width + 3) x) (c * price_width + 4) y in
-    one_contract run run' l l' c (omega arith) (two-elsewhere l wide c c< 3 4 x y (omega arith) (omega arith))
-    (λ _ f. let other : (i : ℕ) → (i ≡ 3 → ⊥) → (i ≡ 4 → ⊥) → at l' c i ≡ at l c i = two-other l wide c c< 3 4 x y (omega arith) (omega arith) in
+    one_contract run run' l l' c (omega arith) (two_elsewhere l wide c c< 3 4 x y (omega arith) (omega arith))
+    (λ _ f. let other : (i : ℕ) → (i ≡ 3 → ⊥) → (i ≡ 4 → ⊥) → at l' c i ≡ at l c i = two_other l wide c c< 3 4 x y (omega arith) (omega arith) in
     rw (
       two_first l wide c c< 3 4 x y (omega arith) (omega arith),
-      two-second l wide c c< 3 4 x y (omega arith) (omega arith),
+      two_second l wide c c< 3 4 x y (omega arith) (omega arith),
       other 0 (λ e. omega arith) (λ e. omega arith),
       other 1 (λ e. omega arith) (λ e. omega arith),
       other 2 (λ e. omega arith) (λ e. omega arith),
@@ -232,10 +232,10 @@ without_deals_lem : (run run' : ℕ) (b : List ℕ) → length b ≡ price_width
 without_deals_lem run run' b e s =
     let f = five_of run b s in
     let fits : price_width ≤ length b = omega arith in
-    let front : (i : ℕ) → i < 3 → get_or (over (day_lots_place 0) (0 ∷ 0 ∷ []) b) i 0 ≡ get_or b i 0 = λ i h. over-outside (day_lots_place 0) (0 ∷ 0 ∷ []) b fits i 0 (λ q. absurd (omega arith)) in (
-      over-length (day_lots_place 0) (0 ∷ 0 ∷ []) b fits ∙ e,
+    let front : (i : ℕ) → i < 3 → get_or (over (day_lots_place 0) (0 ∷ 0 ∷ []) b) i 0 ≡ get_or b i 0 = λ i h. over_outside (day_lots_place 0) (0 ∷ 0 ∷ []) b fits i 0 (λ q. absurd (omega arith)) in (
+      over_length (day_lots_place 0) (0 ∷ 0 ∷ []) b fits ∙ e,
       five_sound run' (over (day_lots_place 0) (0 ∷ 0 ∷ []) b)
-          (rw (front 0 (omega arith), front 1 (omega arith), front 2 (omega arith), over-inside (day_lots_place 0) (0 ∷ 0 ∷ []) b fits 0 0 (omega arith), over-inside (day_lots_place 0) (0 ∷ 0 ∷ []) b fits 1 0 (omega arith))
+          (rw (front 0 (omega arith), front 1 (omega arith), front 2 (omega arith), over_inside (day_lots_place 0) (0 ∷ 0 ∷ []) b fits 0 0 (omega arith), over_inside (day_lots_place 0) (0 ∷ 0 ∷ []) b fits 1 0 (omega arith))
           (record { price≤ = f.price≤; low≥ = f.low≥; ordered = f.ordered; high≤ = f.high≤; within = omega arith; least = omega arith; most = omega arith })),
     )
 
@@ -243,43 +243,43 @@ without_deals_lem run run' b e s =
 module _ (t : Tables) (head : head_sound t ≡ true) (long : head_length ≤ length t.head) (sound : prices_sound t ≡ true) where
   now : Prices (lots_run t) t.prices
   unfolding prices_sound
-  now = prices-of (lots_run t) t.prices sound
+  now = prices_of (lots_run t) t.prices sound
 
   -- a record with lines: t' is what they are booked in
-  prices-booked : (ls : List Line) (t' : Tables) → Stays time_place (members t) t.head t'.head → Prices (lots_run t + line_run ls) t'.prices → prices_sound (booked ls t').after ≡ true
+  prices_booked : (ls : List Line) (t' : Tables) → Stays time_place (members t) t.head t'.head → Prices (lots_run t + line_run ls) t'.prices → prices_sound (booked ls t').after ≡ true
   unfolding prices_sound booked
-  prices-booked ls t' w p = rw (run-booked t head long ls t' w) (prices_sound_holds (lots_run t + line_run ls) t'.prices p)
+  prices_booked ls t' w p = rw (run_booked t head long ls t' w) (prices_sound_holds (lots_run t + line_run ls) t'.prices p)
 
   -- one that leaves the prices
-  prices-left : (ls : List Line) (t' : Tables) → Stays time_place (members t) t.head t'.head → t'.prices ≡ t.prices → prices_sound (booked ls t').after ≡ true
-  prices-left ls t' w e = prices-booked ls t' w (rw e (λ c h. more_run (omega arith) (now c h)))
+  prices_left : (ls : List Line) (t' : Tables) → Stays time_place (members t) t.head t'.head → t'.prices ≡ t.prices → prices_sound (booked ls t').after ≡ true
+  prices_left ls t' w e = prices_booked ls t' w (rw e (λ c h. more_run (omega arith) (now c h)))
 
-  pub timed-prices : (s : ℕ) → (timed s t).prices ≡ t.prices
+  pub timed_prices : (s : ℕ) → (timed s t).prices ≡ t.prices
   unfolding timed
-  timed-prices s = by_bool (λ b. (cond b (with_head (set (without_submits t).head time_place s) t) t).prices ≡ t.prices) (ltb (time t) s) (λ _. refl) (λ _. refl)
+  timed_prices s = by_bool (λ b. (cond b (with_head (set (without_submits t).head time_place s) t) t).prices ≡ t.prices) (ltb (time t) s) (λ _. refl) (λ _. refl)
 
-  pub cancel-prices : (n : ℕ) (p : Order → Bool) → n ≤ last_second → prices_sound (booked [] (with_orders (kept p (orders t)) (timed n t))).after ≡ true
+  pub cancel_prices : (n : ℕ) (p : Order → Bool) → n ≤ last_second → prices_sound (booked [] (with_orders (kept p (orders t)) (timed n t))).after ≡ true
   unfolding with_orders
-  cancel-prices n p h = prices-left [] (with_orders (kept p (orders t)) (timed n t)) (cancel-stays t head long n p h) (timed-prices n)
+  cancel_prices n p h = prices_left [] (with_orders (kept p (orders t)) (timed n t)) (cancel_stays t head long n p h) (timed_prices n)
 
-  pub proposal-prices : (legs : List Leg) → prices_sound (proposal_booked t legs).after ≡ true
+  pub proposal_prices : (legs : List Leg) → prices_sound (proposal_booked t legs).after ≡ true
   unfolding proposal_booked with_orders
-  proposal-prices legs = prices-left (proposal_lines t legs) (with_orders (used_by_legs legs (orders t)) t) (proposal-stays t head long legs) refl
+  proposal_prices legs = prices_left (proposal_lines t legs) (with_orders (used_by_legs legs (orders t)) t) (proposal_stays t head long legs) refl
 
-  pub default-prices : (m : ℕ) → m < members t → prices_sound (default_booked t m).after ≡ true
+  pub default_prices : (m : ℕ) → m < members t → prices_sound (default_booked t m).after ≡ true
   unfolding default_booked default_unbooked with_orders
-  default-prices m h = prices-left [] (default_unbooked t m) (default-stays t head long m h) refl
+  default_prices m h = prices_left [] (default_unbooked t m) (default_stays t head long m h) refl
 
-  pub close-out-prices : (e : CloseOutTerms) → prices_sound (close_out_booked t e).after ≡ true
+  pub close_out_prices : (e : CloseOutTerms) → prices_sound (close_out_booked t e).after ≡ true
   unfolding close_out_booked
-  close-out-prices e = prices-left (close_out_lines t e) t (unchanged t head long time_place) refl
+  close_out_prices e = prices_left (close_out_lines t e) t (unchanged t head long time_place) refl
 
   module _ (wide : prices_length ≤ length t.prices) where
     pub limits-prices : (e : NewDayLimits) → e.contract < contract_count → 1 ≤ e.low.0 → e.low.0 ≤ e.high.0 → e.high.0 ≤ most_price
         → prices_sound (booked [] (with_prices (set (set t.prices (e.contract * price_width + 1) e.low.0) (e.contract * price_width + 2) e.high.0) t)).after ≡ true
     limits-prices e c< a b h =
         let l = set (set t.prices (e.contract * price_width + 1) e.low.0) (e.contract * price_width + 2) e.high.0 in
-        prices-booked [] (with_prices l t) (unchanged t head long time_place)
+        prices_booked [] (with_prices l t) (unchanged t head long time_place)
         (λ c q. more_run (omega arith) (new_limits (lots_run t) t.prices e.contract e.low.0 e.high.0 wide c< a b h now c q))
 
     module _ (prices : All Priced (orders t)) where
@@ -290,9 +290,9 @@ module _ (t : Tables) (head : head_sound t ≡ true) (long : head_length ≤ len
       submit-prices e time≤ member< c< f =
           let o = incoming t e in
           let ds = (submit_matched t e).deals in
-          let worth = deals_worth ds (dealt-all Priced (λ b q p. p) (length (orders t)) o (orders t) prices) in
-          prices-booked (submit_lines t e) (submit_unbooked t e) (submit-stays t head long e time≤ member< f)
-          (rw (timed-prices e.time) (new_deals (lots_run t) (lots_run t + line_run (submit_lines t e)) t.prices e.contract (dealt_lots ds) (dealt_value ds) wide c<
+          let worth = deals_worth ds (dealt_all Priced (λ b q p. p) (length (orders t)) o (orders t) prices) in
+          prices_booked (submit_lines t e) (submit_unbooked t e) (submit-stays t head long e time≤ member< f)
+          (rw (timed_prices e.time) (new_deals (lots_run t) (lots_run t + line_run (submit_lines t e)) t.prices e.contract (dealt_lots ds) (dealt_value ds) wide c<
           (omega (arith, deals_run o ds)) worth.0 worth.1 now))
 
       -- ---- the close of day
@@ -303,7 +303,7 @@ module _ (t : Tables) (head : head_sound t ≡ true) (long : head_length ≤ len
           let b = best_quote t s c Buy in
           let q = best_quote t s c Sell in
           let quote : (side : Side) (o : Order) → best_quote t s c side ≡ some o → Priced o = λ side o e.
-          best-all Priced (quotes t s c side) (orders t) (all_map Priced (λ b. quotes t s c side b ≡ true → Priced b) (orders t) (λ b p _. p) prices) o e in
+          best_all Priced (quotes t s c side) (orders t) (all_map Priced (λ b. quotes t s c side b ≡ true → Priced b) (orders t) (λ b p _. p) prices) o e in
           by_bool (λ z. cond z (rounded_half_up (day_value t c) (day_lots t c)) (quoted_price (day_lots t c) (day_value t c) (ggf t c) b q) ≤ most_price) (leb (threshold_of (kind_of c)) (day_lots t c))
           (λ _. rounded_most (day_value t c) (day_lots t c) f.most)
           (λ _. quoted_most (day_lots t c) (day_value t c) (ggf t c) b q f.most (rw (add-zero (c * price_width)) at f.price≤) (quote Buy) (quote Sell))
@@ -319,13 +319,13 @@ module _ (t : Tables) (head : head_sound t ≡ true) (long : head_length ≤ len
       closed-prices cs u = refl
 
       -- without deals they are sound beside any lots run
-      closed-sound : (n run : ℕ) → everyBlock 5 (contract_prices_sound run) contract_count (with_closed (closing_contracts t) (priced n t)).prices ≡ true
+      closed-sound : (n run : ℕ) → every_block 5 (contract_prices_sound run) contract_count (with_closed (closing_contracts t) (priced n t)).prices ≡ true
       unfolding priced without_deals
       closed-sound n run =
           let l = with_ggfs t n (open_contracts (calendar t) (day t)) t.prices in
           let g = new-ggfs n (open_contracts (calendar t) (day t)) t.prices wide now in
           rw (closed-prices (closing_contracts t) (priced n t))
-          (blocks-done 5 (contract_prices_sound run) (contract_prices_sound (lots_run t)) (over 3 (0 ∷ 0 ∷ [])) (without_deals_lem (lots_run t) run) contract_count l g.0 (prices_sound_holds (lots_run t) l g.1))
+          (blocks_done 5 (contract_prices_sound run) (contract_prices_sound (lots_run t)) (over 3 (0 ∷ 0 ∷ [])) (without_deals_lem (lots_run t) run) contract_count l g.0 (prices_sound_holds (lots_run t) l g.1))
 
       pub close-prices : (n : ℕ) → prices_sound (close_booked t n).after ≡ true
       unfolding prices_sound close_booked on_day
@@ -335,10 +335,10 @@ module _ (t : Tables) (head : head_sound t ≡ true) (long : head_length ≤ len
 pub fresh_prices_lem : (h : Header) (t : Tables) → prices_length ≤ length t.prices → prices_sound (fresh h t) ≡ true
 unfolding prices_sound fresh fresh_prices
 fresh_prices_lem h t wide =
-    blocks-done 5 (contract_prices_sound (lots_run (fresh h t))) (λ b. true) (λ five. 0 ∷ 1 ∷ most_price ∷ 0 ∷ 0 ∷ [])
+    blocks_done 5 (contract_prices_sound (lots_run (fresh h t))) (λ b. true) (λ five. 0 ∷ 1 ∷ most_price ∷ 0 ∷ 0 ∷ [])
     (λ b _ _. (
       refl,
       five_sound (lots_run (fresh h t)) (0 ∷ 1 ∷ most_price ∷ 0 ∷ 0 ∷ [])
           (record { price≤ = omega arith; low≥ = omega arith; ordered = omega arith; high≤ = omega arith; within = omega arith; least = omega arith; most = omega arith }),
     ))
-    contract_count t.prices wide (every-block 5 (λ b. true) contract_count t.prices (λ c h. refl))
+    contract_count t.prices wide (every_block_lem 5 (λ b. true) contract_count t.prices (λ c h. refl))

@@ -40,26 +40,26 @@ use Rattle.accounts.proofs.Submits.{open_not_cascaded}
 
 -- ---- the legs' orders are resting orders
 module _ (P : Order → Type 0) where
-  numbered-all : (n : ℕ) (os : List Order) (o : Order) → All P os → numbered n os ≡ some o → P o
+  numbered_all : (n : ℕ) (os : List Order) (o : Order) → All P os → numbered n os ≡ some o → P o
   unfolding numbered
-  numbered-all n [] o h e = absurd (let z : ◌≡◌ {A = ℕ} 0 1 = cc in omega arith)
-  numbered-all n (x ∷ os) o h e =
+  numbered_all n [] o h e = absurd (let z : ◌≡◌ {A = ℕ} 0 1 = cc in omega arith)
+  numbered_all n (x ∷ os) o h e =
       by_bool (λ b. cond b (some x) (numbered n os) ≡ some o → P o) (eqb x.number n)
-      (λ _ f. let same : x ≡ o = cc in rw same at h.0) (λ _ f. numbered-all n os o h.1 f) e
+      (λ _ f. let same : x ≡ o = cc in rw same at h.0) (λ _ f. numbered_all n os o h.1 f) e
 
-  pub named-all : (os : List Order) (gs : List Leg) → All P os → All (λ n. P n.order) (named_legs os gs)
+  pub named_all : (os : List Order) (gs : List Leg) → All P os → All (λ n. P n.order) (named_legs os gs)
   unfolding named_legs
-  named-all os [] h = tt
-  named-all os (g ∷ gs) h = go (numbered g.order os) refl (named-all os gs h)
+  named_all os [] h = tt
+  named_all os (g ∷ gs) h = go (numbered g.order os) refl (named_all os gs h)
     where
       go : (b : Option Order) → numbered g.order os ≡ b → All (λ n. P n.order) (named_legs os gs) → All (λ n. P n.order) (named_legs os (g ∷ gs))
       go none e ih = rw (e, named_legs) ih
-      go (some o) e ih = rw (e, named_legs) (numbered-all g.order os o h e, ih)
+      go (some o) e ih = rw (e, named_legs) (numbered_all g.order os o h e, ih)
 
-  legs-rest : (gs : List Leg) (os : List Order) → ((o : Order) (q : ℕ) → P o → P (with_lots q o)) → All P os → All P (used_by_legs gs os)
+  legs_rest : (gs : List Leg) (os : List Order) → ((o : Order) (q : ℕ) → P o → P (with_lots q o)) → All P os → All P (used_by_legs gs os)
   unfolding used_by_legs
-  legs-rest [] os f h = h
-  legs-rest (g ∷ gs) os f h = legs-rest gs (used g.order g.lots.0 os) f (used_all P g.order g.lots.0 os h (λ o p _. f o _ p))
+  legs_rest [] os f h = h
+  legs_rest (g ∷ gs) os f h = legs_rest gs (used g.order g.lots.0 os) f (used_all P g.order g.lots.0 os h (λ o p _. f o _ p))
 
 -- what holds of each leg holds of those that name an order
 pub legs_all : (Q : Leg → Type 0) (os : List Order) (gs : List Leg) → All Q gs → All (λ n. Q n.leg) (named_legs os gs)
@@ -147,24 +147,24 @@ unfolding proposal_lines
 proposal_fits t s legs =
     let ns = named_legs (orders t) legs in
     mapped_all (Fits (members t)) leg_line ns (all_map (λ n. (n.order.contract < contract_count) × (n.order.member < members t)) _ ns
-    (λ n p. record { contract< = p.0; member< = p.1 }) (named-all (λ o. (o.contract < contract_count) × (o.member < members t)) (orders t) legs s.placed))
+    (λ n p. record { contract< = p.0; member< = p.1 }) (named_all (λ o. (o.contract < contract_count) × (o.member < members t)) (orders t) legs s.placed))
 
 module _ (h : Header) (d : ℕ) (t : Tables) (r : Runs h d t) (s : Sound t) (legs : List Leg) (ok : acceptable t legs ≡ true) where
-  pub proposal-fair : Fair h (has_cascaded (calendar_of h) d) (proposal_lines t legs)
+  pub proposal_fair : Fair h (has_cascaded (calendar_of h) d) (proposal_lines t legs)
   unfolding proposal_lines acceptable
-  proposal-fair =
+  proposal_fair =
       let ns = named_legs (orders t) legs in
       let fine : balanced (calendar_of h) ns ≡ true = ap (λ k. balanced k ns) (sym (runs_calendar r)) ∙ (all_hold _ ok).1.1.1.1.1.1.0 in
       record {
         fits = subst (λ n. All (Fits n) (proposal_lines t legs)) r.size (proposal_fits t s legs);
         balanced = λ x hour b. hour_nothing (calendar_of h) x hour ns (passed _ (balanced_every_hour (calendar_of h) ns (passes (balanced (calendar_of h) ns) fine) hour b.0 b.1));
         clear = mapped_all (λ l. has_cascaded (calendar_of h) d l.contract ≡ false) leg_line ns (all_map (λ n. InOpen h d n.order) _ ns
-            (λ n p. open_not_cascaded (calendar_of h) d n.order.contract p) (named-all (InOpen h d) (orders t) legs r.resting));
+            (λ n p. open_not_cascaded (calendar_of h) d n.order.contract p) (named_all (InOpen h d) (orders t) legs r.resting));
       }
 
-  pub proposal-does : Does h d d t (proposal_booked t legs)
+  pub proposal_does : Does h d d t (proposal_booked t legs)
   unfolding proposal_booked with_orders
-  proposal-does =
+  proposal_does =
       let os = used_by_legs legs (orders t) in
       booked_does h d (proposal_lines t legs) t (with_orders os t) r s (set_other time_place t.head order_count_place (length os) (omega arith) (changing (omega arith) (omega arith)))
-      (rw (orders_written os t (omega (arith, s.head_long))) (legs-rest (InOpen h d) legs (orders t) (λ o q p. p) r.resting)) refl refl proposal-fair
+      (rw (orders_written os t (omega (arith, s.head_long))) (legs_rest (InOpen h d) legs (orders t) (λ o q p. p) r.resting)) refl refl proposal_fair

@@ -16,7 +16,7 @@ use Rattle.rules.specs.Matching.{opposes, with_lots, used, matching}
 use Rattle.rules.specs.Refusals.{distinct}
 use Rattle.rules.specs.Synthetic.{used_by_legs}
 use Rattle.accounts.specs.EveryList.{RisingNumbers}
-use Rattle.accounts.proofs.Matches.{best-all, by-deals}
+use Rattle.accounts.proofs.Matches.{best_all, by_deals}
 use Rattle.rules.proofs.Distinct.{Distinct}
 
 -- ---- what is left of orders: some are gone, others rest with all of their lots or some
@@ -107,13 +107,13 @@ legs_remain [] os = remain_same os
 legs_remain (g ∷ gs) os = remain_then (used_remain g.order g.lots.0 os) (legs_remain gs (used g.order g.lots.0 os))
 
 pub matching_remain : (n : ℕ) (o : Order) (os : List Order) → Remain os (matching n o os).resting
-matching_remain = by-deals (λ o os m. Remain os m.resting) (λ o os. remain_same os) (λ o r os m e l ih. remain_then (used_remain r.number _ os) ih)
+matching_remain = by_deals (λ o os m. Remain os m.resting) (λ o os. remain_same os) (λ o r os m e l ih. remain_then (used_remain r.number _ os) ih)
 
 -- ---- the deals of an incoming order
 -- their lots and what is left are its lots
 pub deals_total : (n : ℕ) (o : Order) (os : List Order) → total (λ d. d.lots) (matching n o os).deals + (matching n o os).left ≡ o.lots.0
 unfolding total
-deals_total = by-deals (λ o os m. total (λ d. d.lots) m.deals + m.left ≡ o.lots.0) (λ o os. omega arith) (λ o r os m e l ih. omega arith)
+deals_total = by_deals (λ o os m. total (λ d. d.lots) m.deals + m.left ≡ o.lots.0) (λ o os. omega arith) (λ o r os m e l ih. omega arith)
 
 -- of orders with one lot at least, each deal is of one lot at least, so they are no more than its lots
 abbrev pub HasLots : Order → Type 0
@@ -121,7 +121,7 @@ HasLots o = 0 < o.lots.0
 
 pub deals_few : (n : ℕ) (o : Order) (os : List Order) → All HasLots os → length (matching n o os).deals + (matching n o os).left ≤ o.lots.0
 deals_few =
-    by-deals (λ o os m. All HasLots os → length m.deals + m.left ≤ o.lots.0) (λ o os a. omega arith)
+    by_deals (λ o os m. All HasLots os → length m.deals + m.left ≤ o.lots.0) (λ o os a. omega arith)
     (λ o r os m e l ih a.
-    let resting-lots = best-all HasLots (opposes o) os (all_map HasLots (λ b. opposes o b ≡ true → HasLots b) os (λ b p _. p) a) r e in
+    let resting-lots = best_all HasLots (opposes o) os (all_map HasLots (λ b. opposes o b ≡ true → HasLots b) os (λ b p _. p) a) r e in
     omega (arith, ih (remain_all HasLots HasLots (λ b q u v p. u p) (used_remain r.number _ os) a)))

@@ -13,15 +13,15 @@ use Rattle.rules.specs.Matching.{with_lots, matched, incoming, submit_matched, w
 use Rattle.rules.proofs.SoundTables.{Undamaged, SoundOrder, book_gives}
 use Rattle.accounts.specs.EveryList.{RisingNumbers}
 use Rattle.accounts.proofs.Remains.{remain_all, remain_rising, rising_more, matching_remain}
-use Rattle.accounts.proofs.OrdersAfter.{submit-orders}
+use Rattle.accounts.proofs.OrdersAfter.{submit_orders_lem}
 
 module _ (t : Tables) (u : Undamaged t) (e : Submission) where
   abbrev Earlier : Order → Type 0
   Earlier o = o.number < accepted_submits t
 
-  orders-rising : RisingNumbers (orders t) → RisingNumbers (submit_orders t e)
+  orders_rising : RisingNumbers (orders t) → RisingNumbers (submit_orders t e)
   unfolding submit_orders submit_matched matched
-  orders-rising a =
+  orders_rising a =
       let o = incoming t e in
       let m = submit_matched t e in
       let left = matching_remain (length (orders t)) o (orders t) in
@@ -30,5 +30,5 @@ module _ (t : Tables) (u : Undamaged t) (e : Submission) where
       by_bool (λ b. RisingNumbers (cond b (m.resting ++ (with_lots m.left o ∷ [])) m.resting)) (would_rest t e)
       (λ _. rising_more m.resting (with_lots m.left o) earlier rest) (λ _. rest)
 
-  pub submit-rising : RisingNumbers (orders t) → RisingNumbers (orders (submit_booked t e).after)
-  submit-rising a = rw (submit-orders t u e) (orders-rising a)
+  pub submit_rising : RisingNumbers (orders t) → RisingNumbers (orders (submit_booked t e).after)
+  submit_rising a = rw (submit_orders_lem t u e) (orders_rising a)

@@ -11,9 +11,9 @@ use lib.IntN.{◌+ℤ◌}
 use lib.Seq.{get_or-set_same, get_or-set_other}
 use borrow.Author.Tests.{leb-true}
 use Rattle.arith.specs.Lists.{All, kept, every, over}
-use Rattle.arith.proofs.Alls.{all_hold, every-all, all_map}
-use Rattle.arith.proofs.EachBlock.{block_at, block-passes}
-use Rattle.arith.proofs.Overs.{over-length, over-outside}
+use Rattle.arith.proofs.Alls.{all_hold, every_all, all_map}
+use Rattle.arith.proofs.EachBlock.{block_at, block_passes}
+use Rattle.arith.proofs.Overs.{over_length, over_outside}
 use Rattle.arith.proofs.Sizes.{abs_plus}
 use Rattle.arith.proofs.Tests.{by_bool, and_right}
 use Rattle.rules.specs.Ledger.{head_length, marks_from, price_width, submits_from}
@@ -35,11 +35,11 @@ use Rattle.accounts.proofs.Lines.{Fits, row_total}
 use Rattle.accounts.proofs.Runs.{Sound}
 use Rattle.accounts.proofs.Written.{lines_printed}
 use Rattle.accounts.proofs.Calls.{booked_row}
-use Rattle.accounts.proofs.Submits.{timed_rows, submit_fits, dealt-all, deals_each}
+use Rattle.accounts.proofs.Submits.{timed_rows, submit_fits, dealt_all, deals_each}
 use Rattle.accounts.proofs.Proposals.{legs_all, mapped_all, proposal_fits}
-use Rattle.accounts.proofs.CloseOutLines.{close-out-fits, close-out-price}
+use Rattle.accounts.proofs.CloseOutLines.{close_out_fits, close_out_price}
 use Rattle.accounts.proofs.Closes.{closing_today}
-use Rattle.accounts.proofs.Bounds.{Bounded, bounded_same, bounded-posted, lines-one, weight, lines_weigh, bounded_closed, WithinRun, RowsWithin}
+use Rattle.accounts.proofs.Bounds.{Bounded, bounded_same, bounded_posted, lines_one, weight, lines_weigh, bounded_closed, WithinRun, RowsWithin}
 
 -- ---- a head on its way from l: members and lots run stand
 pub record SameRun (l l' : List ℕ) : Type 0 where
@@ -63,9 +63,9 @@ run_zeros {u = u} n few long a =
     let zeros : List ℕ = replicate n 0 in
     let fit : submits_from + length zeros ≤ length u = omega (arith, a.longer, length-replicate {A = ℕ} n 0) in
     record {
-      longer = omega (arith, over-length submits_from zeros u fit, a.longer);
-      size = over-outside submits_from zeros u fit members_place 0 (λ z. absurd (omega arith)) ∙ a.size;
-      run = over-outside submits_from zeros u fit lots_run_place 0 (λ z. absurd (omega arith)) ∙ a.run;
+      longer = omega (arith, over_length submits_from zeros u fit, a.longer);
+      size = over_outside submits_from zeros u fit members_place 0 (λ z. absurd (omega arith)) ∙ a.size;
+      run = over_outside submits_from zeros u fit lots_run_place 0 (λ z. absurd (omega arith)) ∙ a.run;
     }
 
 run_timed : (n : ℕ) (t : Tables) → Sound t → SameRun t.head (timed n t).head
@@ -116,7 +116,7 @@ booked_posts ls t u s same e v fit paid =
 pub within_posted : (t : Tables) (o : Outcome Tables) → Posts t o → WithinRun t → WithinRun o.after
 within_posted t o p a x =
     subst₂ (λ n r. Bounded n (weight x * r) (row x o.after)) (sym p.size) (sym p.run)
-    (bounded_same (λ c m _ q. p.rows x c m q) (bounded-posted (amount x) (weight x) (lots_run t) p.lines (lines_weigh x p.lines p.paid) (a x)))
+    (bounded_same (λ c m _ q. p.rows x c m q) (bounded_posted (amount x) (weight x) (lots_run t) p.lines (lines_weigh x p.lines p.paid) (a x)))
 
 -- of each row alone, which is all that tables show of which only soundness is known
 pub rows_posted : (t : Tables) (o : Outcome Tables) → Posts t o → RowsWithin t → RowsWithin o.after
@@ -124,7 +124,7 @@ rows_posted t o p a x c m k q =
     let q' : m < members t = omega (arith, p.size) in
     let w = weight x in
     rw (p.rows x c m q', p.run)
-    (omega (arith, abs_plus (row x t c m) (row_total (amount x) c m p.lines), a x c m k q', lines-one (amount x) w p.lines c m (lines_weigh x p.lines p.paid), mul-add w (lots_run t) (line_run p.lines)))
+    (omega (arith, abs_plus (row x t c m) (row_total (amount x) c m p.lines), a x c m k q', lines_one (amount x) w p.lines c m (lines_weigh x p.lines p.paid), mul-add w (lots_run t) (line_run p.lines)))
 
 -- ---- prices do not pass 1,000,000
 price_most : (p : ℕ) → price_sound p ≡ true → p ≤ most_price
@@ -135,7 +135,7 @@ orders_priced : (t : Tables) → book_sound t ≡ true → All (λ o. o.price.0 
 unfolding book_sound order_sound
 orders_priced t e =
     all_map (λ o. order_sound t o ≡ true) (λ o. o.price.0 ≤ most_price) (orders t) (λ o q. price_most o.price.0 (all_hold _ q).1.1.1.0)
-    (every-all (order_sound t) (orders t) (all_hold _ e).1.0)
+    (every_all (order_sound t) (orders t) (all_hold _ e).1.0)
 
 -- of legs, if they are sound
 legs_priced : (os : List Order) (gs : List Leg) → All (λ g. leg_sound g ≡ true) gs → All (λ n. n.leg.price.0 ≤ most_price) (named_legs os gs)
@@ -149,52 +149,52 @@ pub ggf_most : (t : Tables) (c : ℕ) → prices_sound t ≡ true → c < contra
 unfolding prices_sound contract_prices_sound
 ggf_most t c e h =
     let five = block_at price_width c 0 t.prices 0 (omega arith) ∙ ap (λ i. get_or t.prices i 0) (add-zero (c * price_width)) in
-    leb-true (ggf t c) most_price (ap (λ p. leb p most_price) (sym five) ∙ (all_hold _ (block-passes 5 (contract_prices_sound (lots_run t)) contract_count t.prices e c h)).0)
+    leb-true (ggf t c) most_price (ap (λ p. leb p most_price) (sym five) ∙ (all_hold _ (block_passes 5 (contract_prices_sound (lots_run t)) contract_count t.prices e c h)).0)
 
 -- ---- each kind of record
 module _ (t : Tables) (s : Sound t) where
-  pub submit-posts : (e : Submission) → e.contract < contract_count → e.member < members t → book_sound t ≡ true → Posts t (submit_booked t e)
+  pub submit_posts : (e : Submission) → e.contract < contract_count → e.member < members t → book_sound t ≡ true → Posts t (submit_booked t e)
   unfolding submit_booked with_orders with_deals counted submit_lines submit_matched matched
-  submit-posts e c< m< book =
+  submit_posts e c< m< book =
       let u = timed e.time t in
       let ds = (matching (length (orders t)) (incoming t e) (orders t)).deals in
       booked_posts (submit_lines t e) t (with_orders (submit_orders t e) (with_deals e.contract (submit_matched t e).deals (counted e.member u))) s
       (run_set order_count_place _ (omega arith) (omega arith) (run_set accepted_submits_place _ (omega arith) (omega arith) (run_set (submits_from + e.member) _ (omega arith) (omega arith) (run_timed e.time t s))))
       (timed_rows e.time t).0 (timed_rows e.time t).1 (submit_fits t s e c< m<)
       (deals_each (λ l. l.price ≤ most_price) (incoming t e) ds (all_map (λ x. x.resting.price.0 ≤ most_price) _ ds (λ x p. (p, (p, tt)))
-      (dealt-all (λ b. b.price.0 ≤ most_price) (λ b q p. p) (length (orders t)) (incoming t e) (orders t) (orders_priced t book))))
+      (dealt_all (λ b. b.price.0 ≤ most_price) (λ b q p. p) (length (orders t)) (incoming t e) (orders t) (orders_priced t book))))
 
-  pub cancel-posts : (n : ℕ) (p : Order → Bool) → Posts t (booked [] (with_orders (kept p (orders t)) (timed n t)))
+  pub cancel_posts : (n : ℕ) (p : Order → Bool) → Posts t (booked [] (with_orders (kept p (orders t)) (timed n t)))
   unfolding with_orders
-  cancel-posts n p =
+  cancel_posts n p =
       booked_posts [] t (with_orders (kept p (orders t)) (timed n t)) s (run_set order_count_place _ (omega arith) (omega arith) (run_timed n t s))
       (timed_rows n t).0 (timed_rows n t).1 tt tt
 
-  pub limits-posts : (l : List ℕ) → Posts t (booked [] (with_prices l t))
-  limits-posts l = booked_posts [] t (with_prices l t) s (run_start t.head) refl refl tt tt
+  pub limits_posts : (l : List ℕ) → Posts t (booked [] (with_prices l t))
+  limits_posts l = booked_posts [] t (with_prices l t) s (run_start t.head) refl refl tt tt
 
-  pub proposal-posts : (legs : List Leg) → every leg_sound legs ≡ true → Posts t (proposal_booked t legs)
+  pub proposal_posts : (legs : List Leg) → every leg_sound legs ≡ true → Posts t (proposal_booked t legs)
   unfolding proposal_booked with_orders proposal_lines
-  proposal-posts legs sound =
+  proposal_posts legs sound =
       booked_posts (proposal_lines t legs) t (with_orders (used_by_legs legs (orders t)) t) s (run_set order_count_place _ (omega arith) (omega arith) (run_start t.head)) refl refl
-      (proposal_fits t s legs) (mapped_all (λ l. l.price ≤ most_price) leg_line (named_legs (orders t) legs) (legs_priced (orders t) legs (every-all leg_sound legs sound)))
+      (proposal_fits t s legs) (mapped_all (λ l. l.price ≤ most_price) leg_line (named_legs (orders t) legs) (legs_priced (orders t) legs (every_all leg_sound legs sound)))
 
-  pub default-posts : (m : ℕ) → Posts t (default_booked t m)
+  pub default_posts : (m : ℕ) → Posts t (default_booked t m)
   unfolding default_booked with_orders
-  default-posts m =
+  default_posts m =
       booked_posts [] t (with_orders (kept (λ o. not (eqb o.member m)) (orders t)) (with_head (set t.head (marks_from + m) default_mark) t)) s
       (run_set order_count_place _ (omega arith) (omega arith) (run_set (marks_from + m) 1 (omega arith) (omega arith) (run_start t.head))) refl refl tt tt
 
-  pub close-out-posts : (e : CloseOutTerms) → e.contract < contract_count → prices_sound t ≡ true → Posts t (close_out_booked t e)
+  pub close_out_posts : (e : CloseOutTerms) → e.contract < contract_count → prices_sound t ≡ true → Posts t (close_out_booked t e)
   unfolding close_out_booked
-  close-out-posts e c< prices =
-      booked_posts (close_out_lines t e) t t s (run_start t.head) refl refl (close-out-fits t e c<)
-      (all_map (λ l. l.price ≡ ggf t e.contract) (λ l. l.price ≤ most_price) (close_out_lines t e) (λ l q. omega (arith, ggf_most t e.contract prices c<)) (close-out-price t e))
+  close_out_posts e c< prices =
+      booked_posts (close_out_lines t e) t t s (run_start t.head) refl refl (close_out_fits t e c<)
+      (all_map (λ l. l.price ≡ ggf t e.contract) (λ l. l.price ≤ most_price) (close_out_lines t e) (λ l q. omega (arith, ggf_most t e.contract prices c<)) (close_out_price t e))
 
   -- a close of day adds rows to rows, so it keeps the first bound alone
-  pub close-rows : (n : ℕ) → WithinRun t → WithinRun (close_booked t n).after
+  pub close_rows : (n : ℕ) → WithinRun t → WithinRun (close_booked t n).after
   unfolding close_booked priced on_day without_submits
-  close-rows n a =
+  close_rows n a =
       let cs = closing_contracts t in
       let u = priced n t in
       let v = with_closed cs u in

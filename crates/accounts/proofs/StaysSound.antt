@@ -15,7 +15,7 @@ use Rattle.rules.specs.Records.{is_close_of_day}
 use Rattle.rules.specs.Refusals.{head_sound, prices_sound, rows_sound, book_sound, damaged, ledger_unsound, unsound, kind_booked}
 use Rattle.rules.proofs.SoundTables.{Long, not_short, Undamaged, undamaged}
 use Rattle.accounts.specs.StaysSound.{closed_by, StaysSound, OnlyRowsChange}
-use Rattle.accounts.proofs.EachKind.{kind_decides, every_call, every-reading}
+use Rattle.accounts.proofs.EachKind.{kind_decides, every_call, every_reading}
 use Rattle.accounts.proofs.SameLengths.{stays_long}
 use Rattle.accounts.proofs.Bounds.{RowsWithin, rows_sound_holds, rows_give}
 use Rattle.accounts.proofs.RowsStay.{Posts, rows_posted}
@@ -43,7 +43,7 @@ keeps_sound e t o u k c =
 
 pub stays_sound : StaysSound
 stays_sound =
-    every-reading (λ x t o. unsound t ≡ false → closed_by x o.answer ≡ false → unsound o.after ≡ false) (λ x t a q e c. e)
+    every_reading (λ x t o. unsound t ≡ false → closed_by x o.answer ≡ false → unsound o.after ≡ false) (λ x t a q e c. e)
     (λ e t legs u q n _ c. keeps_sound e t (kind_booked t e legs) u (kind_keeps e t legs u q n) (ap (λ b. b && is_close_of_day e) (sym (kind_decides t e legs).accepted) ∙ c))
 
 pub only_rows_change : OnlyRowsChange

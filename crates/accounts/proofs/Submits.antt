@@ -9,7 +9,7 @@ use lib.ListN.{length, set}
 use lib.IntN.{ℤ, pos, ◌+ℤ◌, ◌*ℤ◌, +ℤ_invr, +ℤ_invl, zero-*ℤ}
 use Rattle.arith.specs.Ints.{when}
 use Rattle.arith.specs.Lists.{All}
-use Rattle.arith.proofs.Alls.{all-always, all_map, all_append}
+use Rattle.arith.proofs.Alls.{all_always, all_map, all_append}
 use Rattle.arith.proofs.Tests.{by_bool, and_false}
 use Rattle.arith.proofs.Sums.{sorted, *ℤ-distrib}
 use Rattle.rules.specs.Ledger.{submits_from}
@@ -20,7 +20,7 @@ use Rattle.rules.specs.declared.order.Side.{Side}
 use Rattle.rules.specs.declared.order.Side.TheVariants.{Buy, Sell}
 use Rattle.rules.specs.Days.{Calendar}
 use Rattle.rules.specs.ContractTerms.{has_term, is_parent, holds_hour, term_of, term_closing_day, still_to_close, open_on, has_cascaded}
-use Rattle.rules.proofs.CalendarLaws.{before_or_not, open-to-close}
+use Rattle.rules.proofs.CalendarLaws.{before_or_not, open_to_close}
 use Rattle.rules.specs.Header.{Header, calendar_of}
 use Rattle.rules.specs.Ledger.{time_place, accepted_submits_place, order_count_place, Tables, Line, members, day, is_open, time, accepted_submits, submits_this_second, with_head, orders, with_orders, without_submits, timed}
 use Rattle.rules.specs.Sides.{signed, other_side}
@@ -32,7 +32,7 @@ use Rattle.accounts.proofs.Holds.{Fair}
 use Rattle.accounts.proofs.Runs.{InOpen, Runs, Sound, runs_calendar, timed_same}
 use Rattle.accounts.proofs.Calls.{Does, booked_does}
 use Rattle.accounts.proofs.Written.{orders_written}
-use Rattle.accounts.proofs.Matches.{best-all, used_all, by-deals}
+use Rattle.accounts.proofs.Matches.{best_all, used_all, by_deals}
 
 -- ---- the lines of a deal cancel
 sides_cancel : (s : Side) (q : ℕ) → signed s q +ℤ signed (other_side s) q ≡ pos 0
@@ -63,14 +63,14 @@ deals_each P o (d ∷ ds) h = (h.0.0, (h.0.1.0, deals_each P o ds h.1))
 -- ---- the orders of the deals, and those that rest
 -- a fact that a change of an order's lots leaves
 module _ (P : Order → Type 0) (keep : (o : Order) (q : ℕ) → P o → P (with_lots q o)) where
-  resting-all : (n : ℕ) (o : Order) (os : List Order) → All P os → All P (matching n o os).resting
-  resting-all = by-deals (λ o os m. All P os → All P m.resting) (λ o os a. a)
+  resting_all : (n : ℕ) (o : Order) (os : List Order) → All P os → All P (matching n o os).resting
+  resting_all = by_deals (λ o os m. All P os → All P m.resting) (λ o os a. a)
       (λ o r os m e l ih a. ih (used_all P r.number _ os a (λ b p _. keep b _ p)))
 
-  pub dealt-all : (n : ℕ) (o : Order) (os : List Order) → All P os → All (λ d. P d.resting) (matching n o os).deals
-  dealt-all = by-deals (λ o os m. All P os → All (λ d. P d.resting) m.deals) (λ o os a. tt)
+  pub dealt_all : (n : ℕ) (o : Order) (os : List Order) → All P os → All (λ d. P d.resting) (matching n o os).deals
+  dealt_all = by_deals (λ o os m. All P os → All (λ d. P d.resting) m.deals) (λ o os a. tt)
       (λ o r os m e l ih a.
-      (best-all P (opposes o) os (all_map P (λ b. opposes o b ≡ true → P b) os (λ b p _. p) a) r e, ih (used_all P r.number _ os a (λ b p _. keep b _ p))))
+      (best_all P (opposes o) os (all_map P (λ b. opposes o b ≡ true → P b) os (λ b p _. p) a) r e, ih (used_all P r.number _ os a (λ b p _. keep b _ p))))
 
 -- ---- what needs the tables alone
 pub timed_rows : (n : ℕ) (t : Tables) → ((timed n t).lots ≡ t.lots) × ((timed n t).value ≡ t.value) × ((timed n t).book ≡ t.book)
@@ -85,7 +85,7 @@ unfolding submit_lines submit_matched matched
 submit_fits t s e contract< member< =
     let o = incoming t e in
     let ds = (matching (length (orders t)) o (orders t)).deals in
-    let placed = dealt-all (λ b. b.member < members t) (λ b q p. p) (length (orders t)) o (orders t)
+    let placed = dealt_all (λ b. b.member < members t) (λ b q p. p) (length (orders t)) o (orders t)
     (all_map (λ b. (b.contract < contract_count) × (b.member < members t)) (λ b. b.member < members t) (orders t) (λ b p. p.1) s.placed) in
     deals_each (Fits (members t)) o ds (all_map (λ x. x.resting.member < members t) _ ds
     (λ x p. (record { contract< = contract<; member< = member< }, (record { contract< = contract<; member< = p }, tt))) placed)
@@ -97,13 +97,13 @@ open_here h d t c r = ap (λ k. open_on k (day t) c) (runs_calendar r) ∙ ap (�
 
 pub open_not_cascaded : (k : Calendar) (d c : ℕ) → open_on k d c ≡ true → has_cascaded k d c ≡ false
 unfolding has_cascaded still_to_close
-open_not_cascaded k d c e = rw (before_or_not d (term_closing_day k (term_of c)), open-to-close k d c e, and_false (has_term c)) (and_false (is_parent c))
+open_not_cascaded k d c e = rw (before_or_not d (term_closing_day k (term_of c)), open_to_close k d c e, and_false (has_term c)) (and_false (is_parent c))
 
 -- ---- a submit
 module _ (h : Header) (d : ℕ) (t : Tables) (r : Runs h d t) (s : Sound t) where
   -- an accepted record's time
-  pub timed-header : (n : ℕ) → SameHeader time_place t.head (timed n t).head
-  timed-header n = timed_same n t s
+  pub timed_header : (n : ℕ) → SameHeader time_place t.head (timed n t).head
+  timed_header n = timed_same n t s
 
   module _ (e : Submission) (opened : is_open t e.contract ≡ true) (contract< : e.contract < contract_count) (member< : e.member < members t) where
     here : open_on (calendar_of h) d e.contract ≡ true
@@ -117,7 +117,7 @@ module _ (h : Header) (d : ℕ) (t : Tables) (r : Runs h d t) (s : Sound t) wher
         record {
           fits = subst (λ n. All (Fits n) (submit_lines t e)) r.size (submit_fits t s e contract< member<);
           balanced = λ x hour _. deals_balanced (calendar_of h) x hour o ds;
-          clear = let c = open_not_cascaded (calendar_of h) d e.contract here in deals_each (λ l. has_cascaded (calendar_of h) d l.contract ≡ false) o ds (all-always _ ds (λ x. (c, (c, tt))));
+          clear = let c = open_not_cascaded (calendar_of h) d e.contract here in deals_each (λ l. has_cascaded (calendar_of h) d l.contract ≡ false) o ds (all_always _ ds (λ x. (c, (c, tt))));
         }
 
     submit-rests : All (InOpen h d) (submit_orders t e)
@@ -125,7 +125,7 @@ module _ (h : Header) (d : ℕ) (t : Tables) (r : Runs h d t) (s : Sound t) wher
     submit-rests =
         let o = incoming t e in
         let m = matching (length (orders t)) o (orders t) in
-        let rest = resting-all (InOpen h d) (λ b q p. p) (length (orders t)) o (orders t) r.resting in
+        let rest = resting_all (InOpen h d) (λ b q p. p) (length (orders t)) o (orders t) r.resting in
         by_bool (λ b. All (InOpen h d) (cond b (m.resting ++ (with_lots m.left o ∷ [])) m.resting)) (would_rest t e)
         (λ _. all_append (InOpen h d) m.resting (with_lots m.left o ∷ []) rest (here, tt)) (λ _. rest)
 
@@ -134,7 +134,7 @@ module _ (h : Header) (d : ℕ) (t : Tables) (r : Runs h d t) (s : Sound t) wher
     submit-does =
         let u = timed e.time t in
         let v = with_deals e.contract (submit_matched t e).deals (counted e.member u) in
-        let a = then_same (timed-header e.time) (then_same (set_other time_place u.head (submits_from + e.member) (submits_this_second u e.member + 1) (omega arith) (of_member (omega arith)))
+        let a = then_same (timed_header e.time) (then_same (set_other time_place u.head (submits_from + e.member) (submits_this_second u e.member + 1) (omega arith) (of_member (omega arith)))
         (set_other time_place (set u.head (submits_from + e.member) (submits_this_second u e.member + 1)) accepted_submits_place (accepted_submits u + 1) (omega arith) (changing (omega arith) (omega arith)))) in
         booked_does h d (submit_lines t e) t (with_orders (submit_orders t e) v) r s
         (then_same a (set_other time_place v.head order_count_place (length (submit_orders t e)) (omega arith) (changing (omega arith) (omega arith))))

@@ -61,9 +61,9 @@ module _ (header : List ℕ) (t : Tables) (sound : T (begins_with_header header)
   unfolding make_spec
   made = rw (failed (ledger_short t) long, passed (begins_with_header header) sound)
 
-  known-fresh : Known h h.start_day (fresh h t) []
+  known_fresh : Known h h.start_day (fresh h t) []
   unfolding engine_account other_account entered
-  known-fresh =
+  known_fresh =
       let f = header_gives h (begun header (passed _ sound)) in
       let l = long_enough t (failed (ledger_short t) long) in
       let zero = fresh_zero h t f l.lots l.value in
@@ -79,7 +79,7 @@ module _ (header : List ℕ) (t : Tables) (sound : T (begins_with_header header)
 
   -- what is known after any list
   pub known : (calls : List Call) → Known h (lists_day h h.start_day (make_spec t header).after calls) (after (make_spec t header).after calls) (log (make_spec t header).after calls)
-  known calls = known_after h calls h.start_day (make_spec t header).after [] (rw made known-fresh)
+  known calls = known_after h calls h.start_day (make_spec t header).after [] (rw made known_fresh)
 
 -- ---- the theorem
 pub two_bookkeepers : Demand3

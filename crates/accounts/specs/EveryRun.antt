@@ -39,14 +39,14 @@ module _ {A : Type 0} (reply : A → Reply) where
   printed (a ∷ rest) = lines_of_reply (reply a.answer) a.left.lines ++ printed rest
 
   -- The list's day: each accepted close of day moves it to the next day.
-  unfoldable pub dayOf : Header → ℕ → List (Applied A) → ℕ
-  dayOf h d [] = d
-  dayOf h d (a ∷ rest) = dayOf h (cond (eqb (reply a.answer).number 0) (day_after_event (calendar_of h) d (read_of h.members a.call.bytes)) d) rest
+  unfoldable pub day_of : Header → ℕ → List (Applied A) → ℕ
+  day_of h d [] = d
+  day_of h d (a ∷ rest) = day_of h (cond (eqb (reply a.answer).number 0) (day_after_event (calendar_of h) d (read_of h.members a.call.bytes)) d) rest
 
   -- The records that were accepted.
-  unfoldable pub acceptedOf : List (Applied A) → List Call
-  acceptedOf [] = []
-  acceptedOf (a ∷ rest) = cond (eqb (reply a.answer).number 0) (a.call ∷ acceptedOf rest) (acceptedOf rest)
+  unfoldable pub accepted_of : List (Applied A) → List Call
+  accepted_of [] = []
+  accepted_of (a ∷ rest) = cond (eqb (reply a.answer).number 0) (a.call ∷ accepted_of rest) (accepted_of rest)
 
   -- A promise to answer and to leave what the rules say.
   abbrev pub MakesByRules : (Tables → List ℕ → A → Tables → Type 0) → Type 0
@@ -63,4 +63,4 @@ module _ {A : Type 0} (reply : A → Reply) where
       → (reply answer).number ≡ 0
       → Kept Apply made run
       → let h = header_of header in
-      P h (standing made run) (printed run) (dayOf h h.start_day run)
+      P h (standing made run) (printed run) (day_of h h.start_day run)

@@ -20,30 +20,30 @@ hold_all [] h = refl
 hold_all (b ∷ bs) h = rw h.0 (hold_all bs h.1)
 
 module _ {A : Type 0} where
-  pub every-all : (p : A → Bool) (l : List A) → every p l ≡ true → All (λ a. p a ≡ true) l
+  pub every_all : (p : A → Bool) (l : List A) → every p l ≡ true → All (λ a. p a ≡ true) l
   unfolding every
-  every-all p [] e = tt
-  every-all p (x ∷ l) e = (and_left (p x) (every p l) e, every-all p l (and_right (p x) (every p l) e))
+  every_all p [] e = tt
+  every_all p (x ∷ l) e = (and_left (p x) (every p l) e, every_all p l (and_right (p x) (every p l) e))
 
-  pub all-every : (p : A → Bool) (l : List A) → All (λ a. p a ≡ true) l → every p l ≡ true
+  pub all_every : (p : A → Bool) (l : List A) → All (λ a. p a ≡ true) l → every p l ≡ true
   unfolding every
-  all-every p [] h = refl
-  all-every p (x ∷ l) h = rw h.0 (all-every p l h.1)
+  all_every p [] h = refl
+  all_every p (x ∷ l) h = rw h.0 (all_every p l h.1)
 
   -- a list passes if each of its places does
-  pub every-place : (p : A → Bool) (z : A) (l : List A) → ((i : ℕ) → i < length l → p (get_or l i z) ≡ true) → every p l ≡ true
+  pub every_place : (p : A → Bool) (z : A) (l : List A) → ((i : ℕ) → i < length l → p (get_or l i z) ≡ true) → every p l ≡ true
   unfolding every
-  every-place p z [] f = refl
-  every-place p z (x ∷ l) f = rw (f 0 (omega arith)) (every-place p z l (λ i h. f (suc i) (omega arith)))
+  every_place p z [] f = refl
+  every_place p z (x ∷ l) f = rw (f 0 (omega arith)) (every_place p z l (λ i h. f (suc i) (omega arith)))
 
-  pub all-place : (P : A → Type 0) (z : A) (l : List A) → All P l → (i : ℕ) → i < length l → P (get_or l i z)
-  all-place P z [] h i k = absurd (omega arith)
-  all-place P z (x ∷ l) h zero k = h.0
-  all-place P z (x ∷ l) h (suc i) k = all-place P z l h.1 i (omega arith)
+  pub all_place : (P : A → Type 0) (z : A) (l : List A) → All P l → (i : ℕ) → i < length l → P (get_or l i z)
+  all_place P z [] h i k = absurd (omega arith)
+  all_place P z (x ∷ l) h zero k = h.0
+  all_place P z (x ∷ l) h (suc i) k = all_place P z l h.1 i (omega arith)
 
-  pub all-always : (P : A → Type 0) (l : List A) → ((a : A) → P a) → All P l
-  all-always P [] f = tt
-  all-always P (x ∷ l) f = (f x, all-always P l f)
+  pub all_always : (P : A → Type 0) (l : List A) → ((a : A) → P a) → All P l
+  all_always P [] f = tt
+  all_always P (x ∷ l) f = (f x, all_always P l f)
 
   pub all_map : (P Q : A → Type 0) (l : List A) → ((a : A) → P a → Q a) → All P l → All Q l
   all_map P Q [] f h = tt
@@ -58,18 +58,18 @@ module _ {A : Type 0} where
   all_append P (x ∷ l) m h g = (h.0, all_append P l m h.1 g)
 
   -- of those kept, each passed the test
-  pub all-kept : (P : A → Type 0) (p : A → Bool) (l : List A) → All P l → All (λ a. P a × (p a ≡ true)) (kept p l)
+  pub all_kept : (P : A → Type 0) (p : A → Bool) (l : List A) → All P l → All (λ a. P a × (p a ≡ true)) (kept p l)
   unfolding kept
-  all-kept P p [] h = tt
-  all-kept P p (x ∷ l) h =
-      by_bool (λ b. All (λ a. P a × (p a ≡ true)) (cond b (x ∷ kept p l) (kept p l))) (p x) (λ e. ((h.0, e), all-kept P p l h.1))
-      (λ _. all-kept P p l h.1)
+  all_kept P p [] h = tt
+  all_kept P p (x ∷ l) h =
+      by_bool (λ b. All (λ a. P a × (p a ≡ true)) (cond b (x ∷ kept p l) (kept p l))) (p x) (λ e. ((h.0, e), all_kept P p l h.1))
+      (λ _. all_kept P p l h.1)
 
 -- what holds of each element, by where an element stands
 module _ {A : Type 0} where
-  pub all-member : (P : A → Type 0) {x : A} {l : List A} → Memᴰ x l → All P l → P x
-  all-member P (Memᴰ.head e) h = subst P (sym e) h.0
-  all-member P (Memᴰ.tail m) h = all-member P m h.1
+  pub all_member : (P : A → Type 0) {x : A} {l : List A} → Memᴰ x l → All P l → P x
+  all_member P (Memᴰ.head e) h = subst P (sym e) h.0
+  all_member P (Memᴰ.tail m) h = all_member P m h.1
 
   pub all_there : (l : List A) → All (λ x. Memᴰ x l) l
   all_there [] = tt

@@ -43,10 +43,10 @@ module _ {A : Type 0} (p : A → Bool) where
   kept_append [] m = refl
   kept_append (x ∷ l) m = true_or (p x) (λ e. rw (e, kept_append l m)) (λ e. rw (e, kept_append l m))
 
-  pub kept-most : (l : List A) → length (kept p l) ≤ length l
+  pub kept_most : (l : List A) → length (kept p l) ≤ length l
   unfolding kept
-  kept-most [] = omega arith
-  kept-most (x ∷ l) = true_or (p x) (λ e. rw e (omega (arith, kept-most l))) (λ e. rw e (omega (arith, kept-most l)))
+  kept_most [] = omega arith
+  kept_most (x ∷ l) = true_or (p x) (λ e. rw e (omega (arith, kept_most l))) (λ e. rw e (omega (arith, kept_most l)))
 
 -- ---- place by place
 pub map_at : {A B : Type 0} (f : A → B) (l : List A) (i : ℕ) (y : A) (z : B) → i < length l → get_or (map f l) i z ≡ f (get_or l i y)

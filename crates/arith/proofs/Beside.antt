@@ -9,9 +9,9 @@ use lib.Seq.{length-take-le, take-append_seam, take_at, drop-append-add, drop-dr
 use Rattle.arith.specs.Lists.{over}
 
 module _ {A : Type 0} where
-  pub over-beside : (a b : ℕ) (xs ys l : List A) → b ≡ a + length xs → a + length xs ≤ length l → over b ys (over a xs l) ≡ over a (xs ++ ys) l
+  pub over_beside : (a b : ℕ) (xs ys l : List A) → b ≡ a + length xs → a + length xs ≤ length l → over b ys (over a xs l) ≡ over a (xs ++ ys) l
   unfolding over
-  over-beside a b xs ys l e h =
+  over_beside a b xs ys l e h =
       let front : List A = take a l ++ xs in
       let wide : length front ≡ b = length-append (take a l) xs ∙ rw (length-take-le a l (omega arith)) (sym e) in
       let whole : take a l ++ (xs ++ drop (a + length xs) l) ≡ front ++ drop (a + length xs) l = sym (append_assoc (take a l) xs (drop (a + length xs) l)) in
@@ -20,12 +20,12 @@ module _ {A : Type 0} where
       rw (whole, take_at front (drop (a + length xs) l) b wide, past, append_assoc (take a l) xs (ys ++ drop (a + length (xs ++ ys)) l), append_assoc xs ys (drop (a + length (xs ++ ys)) l)) refl
 
   -- the same of lists that calls left
-  pub over-next : (a b : ℕ) (xs ys l m k : List A) → m ≡ over a xs l → k ≡ over b ys m → b ≡ a + length xs → a + length xs ≤ length l → k ≡ over a (xs ++ ys) l
-  over-next a b xs ys l m k e f g h = rw e at f ∙ over-beside a b xs ys l g h
+  pub over_next : (a b : ℕ) (xs ys l m k : List A) → m ≡ over a xs l → k ≡ over b ys m → b ≡ a + length xs → a + length xs ≤ length l → k ≡ over a (xs ++ ys) l
+  over_next a b xs ys l m k e f g h = rw e at f ∙ over_beside a b xs ys l g h
 
   -- from the front on
-  pub over-then : (b : ℕ) (xs ys l m k : List A) → m ≡ over 0 xs l → k ≡ over b ys m → b ≡ length xs → b ≤ length l → k ≡ over 0 (xs ++ ys) l
-  over-then b xs ys l m k e f g h = over-next 0 b xs ys l m k e f (g ∙ sym (zero-add (length xs))) (rw (zero-add, ← g) h)
+  pub over_then : (b : ℕ) (xs ys l m k : List A) → m ≡ over 0 xs l → k ≡ over b ys m → b ≡ length xs → b ≤ length l → k ≡ over 0 (xs ++ ys) l
+  over_then b xs ys l m k e f g h = over_next 0 b xs ys l m k e f (g ∙ sym (zero-add (length xs))) (rw (zero-add, ← g) h)
 
 -- What was written at the front.
 pub take_over : {A : Type 0} (xs l : List A) → take (length xs) (over 0 xs l) ≡ xs

@@ -1,5 +1,5 @@
 -- Things written one after the other and read back by their place. Assumes nothing.
-use mathlib.Core.Path.{◌≡◌, refl, ap}
+use mathlib.Core.Path.{◌≡◌, refl, sym, ap, subst}
 use mathlib.Core.List.{List, [], ◌∷◌, ◌++◌, map, flat_map, append_assoc}
 use Prim.Native.Nat.{ℕ, zero, suc}
 use lib.ListN.{length}
@@ -22,10 +22,10 @@ module _ {A B : Type 0} (places : B → List A) (read : List A → ℕ → B)
   unfolding from flat_map
   read_back [] l = refl
   read_back (b ∷ bs) l =
-      rw (
-        append_assoc (places b) (flat_map places bs) l,
+      let whole : flat_map places (b ∷ bs) ++ l ≡ places b ++ (flat_map places bs ++ l) = append_assoc (places b) (flat_map places bs) l in
+      subst (λ s. map (read s) (from 0 (length (b ∷ bs))) ≡ b ∷ bs) (sym whole) (rw (
         here b (flat_map places bs ++ l),
         map_from_suc (read (places b ++ (flat_map places bs ++ l))) 0 (length bs),
         map_same (λ i. read (places b ++ (flat_map places bs ++ l)) (suc i)) (read (flat_map places bs ++ l)) (from 0 (length bs)) (next b (flat_map places bs ++ l)),
         read_back bs l,
-      )
+      ))

@@ -14,16 +14,16 @@ module _ {A : Type 0} (l : List A) (i : ℕ) where
   pub map_next : {B : Type 0} (f : A → B) (z : A) → i < length l → map f (drop i l) ≡ f (get_or l i z) ∷ map f (drop (i + 1) l)
   map_next f z h = rw (add-one, drop-cons l i z h)
 
-  pub map-end : {B : Type 0} (f : A → B) → length l ≤ i → map f (drop i l) ≡ []
-  map-end f h = rw (drop_of_length-le l h)
+  pub map_end : {B : Type 0} (f : A → B) → length l ≤ i → map f (drop i l) ≡ []
+  map_end f h = rw (drop_of_length-le l h)
 
-  pub total-next : (f : A → ℕ) (z : A) → i < length l → total f (drop i l) ≡ f (get_or l i z) + total f (drop (i + 1) l)
+  pub total_next : (f : A → ℕ) (z : A) → i < length l → total f (drop i l) ≡ f (get_or l i z) + total f (drop (i + 1) l)
   unfolding total
-  total-next f z h = rw (add-one, drop-cons l i z h)
+  total_next f z h = rw (add-one, drop-cons l i z h)
 
-  pub total-end : (f : A → ℕ) → length l ≤ i → total f (drop i l) ≡ 0
+  pub total_end : (f : A → ℕ) → length l ≤ i → total f (drop i l) ≡ 0
   unfolding total
-  total-end f h = rw (drop_of_length-le l h)
+  total_end f h = rw (drop_of_length-le l h)
 
 -- ---- numbers from i up to n
 module _ (n i : ℕ) where
@@ -31,15 +31,15 @@ module _ (n i : ℕ) where
   unfolding from
   from_more h = let e : n - i ≡ suc (n - (i + 1)) = omega arith in rw (e, add-one i)
 
-  from-none : n ≤ i → from i (n - i) ≡ []
+  from_none : n ≤ i → from i (n - i) ≡ []
   unfolding from
-  from-none h = let e : n - i ≡ zero = omega arith in rw e
+  from_none h = let e : n - i ≡ zero = omega arith in rw e
 
   pub mapped_next : {B : Type 0} (f : ℕ → B) → i < n → map f (from i (n - i)) ≡ f i ∷ map f (from (i + 1) (n - (i + 1)))
   mapped_next f h = rw (from_more h)
 
   pub mapped_end : {B : Type 0} (f : ℕ → B) → n ≤ i → map f (from i (n - i)) ≡ []
-  mapped_end f h = rw (from-none h)
+  mapped_end f h = rw (from_none h)
 
 pub mapped_length : {B : Type 0} (f : ℕ → B) (a n : ℕ) → length (map f (from a n)) ≡ n
 mapped_length f a n = length-map (from a n) f ∙ from_length a n
@@ -56,5 +56,5 @@ module _ {A : Type 0} (out : List A) (i : ℕ) where
   pub written_next : (x : A) (rest whole : List A) → i < length out → take i out ++ x ∷ rest ≡ whole → take (i + 1) (set out i x) ++ rest ≡ whole
   written_next x rest whole h e = rw (add-one, take-suc-set out i x h) (append_snoc (take i out) x rest ∙ e)
 
-  pub written-end : (rest whole : List A) → length out ≤ i → rest ≡ [] → take i out ++ rest ≡ whole → out ≡ whole
-  written-end rest whole h z e = sym (take_all i out h) ∙ sym (append-nil (take i out)) ∙ rw z at e
+  pub written_end : (rest whole : List A) → length out ≤ i → rest ≡ [] → take i out ++ rest ≡ whole → out ≡ whole
+  written_end rest whole h z e = sym (take_all i out h) ∙ sym (append-nil (take i out)) ∙ rw z at e

@@ -39,25 +39,25 @@ module _ (z : ℤ) (fits : SFits w64 z) (test : lt_z (rd z) (pos 0) ≡ true) wh
   pub flipped : negsuc 0 -ℤ rd z ≡ pos (mag z)
   flipped = rw (to_z-of_z fits, negative) (less_one (mag z))
 
-  pub flip-fits : SFits w64 (negsuc 0 -ℤ rd z)
-  flip-fits = rw flipped (record { sfits = fits.sfits })
+  pub flip_fits : SFits w64 (negsuc 0 -ℤ rd z)
+  flip_fits = rw flipped (record { sfits = fits.sfits })
 
-  flip-read : rd (negsuc 0 -ℤ rd z) ≡ pos (mag z)
-  flip-read = to_z-of_z flip-fits ∙ flipped
+  flip_read : rd (negsuc 0 -ℤ rd z) ≡ pos (mag z)
+  flip_read = to_z-of_z flip_fits ∙ flipped
 
-  pub flip-cast : T (non_neg (rd (negsuc 0 -ℤ rd z))) × Fits w64 (nat_abs (rd (negsuc 0 -ℤ rd z)))
-  flip-cast = rw flip-read (tt, omega (arith, fits.sfits))
+  pub flip_cast : T (non_neg (rd (negsuc 0 -ℤ rd z))) × Fits w64 (nat_abs (rd (negsuc 0 -ℤ rd z)))
+  flip_cast = rw flip_read (tt, omega (arith, fits.sfits))
 
-  pub flip-size : nat_abs (rd (negsuc 0 -ℤ rd z)) + 1 ≡ dn z
+  pub flip_size : nat_abs (rd (negsuc 0 -ℤ rd z)) + 1 ≡ dn z
   unfolding dn
-  flip-size = rw (flip-read, negative) (omega arith)
+  flip_size = rw (flip_read, negative) (omega arith)
 
-  pub flip-more : Fits w64 (nat_abs (rd (negsuc 0 -ℤ rd z)) + 1)
-  flip-more = rw flip-read (omega (arith, fits.sfits))
+  pub flip_more : Fits w64 (nat_abs (rd (negsuc 0 -ℤ rd z)) + 1)
+  flip_more = rw flip_read (omega (arith, fits.sfits))
 
-  pub up-below : up z ≡ 0
+  pub up_below : up z ≡ 0
   unfolding up
-  up-below = rw negative
+  up_below = rw negative
 
 -- z is not negative
 module _ (z : ℤ) (fits : SFits w64 z) (test : lt_z (rd z) (pos 0) ≡ false) where
@@ -68,13 +68,13 @@ module _ (z : ℤ) (fits : SFits w64 z) (test : lt_z (rd z) (pos 0) ≡ false) w
   positive : z ≡ pos (nat_abs z)
   positive = above z (rw (to_z-of_z fits) at test)
 
-  pub positive-cast : T (non_neg (rd z)) × Fits w64 (nat_abs (rd z))
-  positive-cast = rw (to_z-of_z fits) (rw positive tt, Fits-nat_abs tt fits)
+  pub positive_cast : T (non_neg (rd z)) × Fits w64 (nat_abs (rd z))
+  positive_cast = rw (to_z-of_z fits) (rw positive tt, Fits-nat_abs tt fits)
 
-  pub positive-read : nat_abs (rd z) ≡ up z
+  pub positive_read : nat_abs (rd z) ≡ up z
   unfolding up
-  positive-read = rw (to_z-of_z fits) (rw positive refl)
+  positive_read = rw (to_z-of_z fits) (rw positive refl)
 
-  pub dn-above : dn z ≡ 0
+  pub dn_above : dn z ≡ 0
   unfolding dn
-  dn-above = rw positive
+  dn_above = rw positive

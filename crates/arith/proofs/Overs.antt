@@ -9,9 +9,9 @@ use Rattle.arith.specs.Lists.{over}
 use Rattle.arith.proofs.Tests.{le_or_lt}
 
 module _ {A : Type 0} (a : ℕ) (xs l : List A) (fits : a + length xs ≤ length l) where
-  pub over-length : length (over a xs l) ≡ length l
+  pub over_length : length (over a xs l) ≡ length l
   unfolding over
-  over-length = simp (length-append, length-take, length-drop) (omega arith)
+  over_length = simp (length-append, length-take, length-drop) (omega arith)
 
   -- behind the first a places xs begins
   behind : (j : ℕ) (z : A) → get_or (over a xs l) (a + j) z ≡ get_or (xs ++ drop (a + length xs) l) j z
@@ -19,13 +19,13 @@ module _ {A : Type 0} (a : ℕ) (xs l : List A) (fits : a + length xs ≤ length
   behind j z = rw (length-take-le a l (omega arith)) at (get_or-append-add (take a l) (xs ++ drop (a + length xs) l) j z)
 
   -- Inside the part the new list is read.
-  pub over-inside : (j : ℕ) (z : A) → j < length xs → get_or (over a xs l) (a + j) z ≡ get_or xs j z
-  over-inside j z h = behind j z ∙ get_or-append xs (drop (a + length xs) l) z j h
+  pub over_inside : (j : ℕ) (z : A) → j < length xs → get_or (over a xs l) (a + j) z ≡ get_or xs j z
+  over_inside j z h = behind j z ∙ get_or-append xs (drop (a + length xs) l) z j h
 
   -- Outside the part the old list is read.
-  pub over-outside : (i : ℕ) (z : A) → (a ≤ i → a + length xs ≤ i) → get_or (over a xs l) i z ≡ get_or l i z
+  pub over_outside : (i : ℕ) (z : A) → (a ≤ i → a + length xs ≤ i) → get_or (over a xs l) i z ≡ get_or l i z
   unfolding over
-  over-outside i z out =
+  over_outside i z out =
       le_or_lt a i (λ h. let e : i ≡ a + (length xs + (i - a - length xs)) = omega (arith, out h) in
       rw e (behind _ z ∙ get_or-append-add xs (drop (a + length xs) l) _ z ∙ get_or-drop (a + length xs) l _ z ∙ ap (λ n. get_or l n z) (omega arith)))
       (λ h. get_or-append (take a l) _ z i (rw (length-take-le a l (omega arith)) h) ∙ get_or-take a l i z h)

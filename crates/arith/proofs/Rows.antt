@@ -6,19 +6,19 @@ use Prim.Native.Nat.{ℕ, zero, suc, ◌+◌, ◌*◌, ◌<◌}
 use native.Mathlib.Nat.{suc-mul, zero-mul, add_comm, le_refl}
 use lib.ListN.{take, drop, get_or}
 use lib.Seq.{take-add, take-take, take-nil, get_or-take, get_or-drop}
-use Rattle.arith.specs.Lists.{every, everyBlock}
+use Rattle.arith.specs.Lists.{every, every_block}
 use Rattle.arith.proofs.Tests.{and_true, and_left, and_right}
-use Rattle.arith.proofs.Scans.{and_swap, every-weaker}
+use Rattle.arith.proofs.Scans.{and_swap, every_weaker}
 
 -- Where each place that passes p passes q, all do that all pass p.
 module _ {A : Type 0} (p q : A → Bool) (weaker : (x : A) → p x ≡ true → q x ≡ true) where
-  pub rows-weaker : (w n m : ℕ) (l : List A) → everyBlock w (λ row. every p (take n row)) m l ≡ true → everyBlock w (λ row. every q (take n row)) m l ≡ true
-  unfolding everyBlock
-  rows-weaker w n zero l e = refl
-  rows-weaker w n (suc m) l e =
+  pub rows_weaker : (w n m : ℕ) (l : List A) → every_block w (λ row. every p (take n row)) m l ≡ true → every_block w (λ row. every q (take n row)) m l ≡ true
+  unfolding every_block
+  rows_weaker w n zero l e = refl
+  rows_weaker w n (suc m) l e =
       let here = every p (take n (take w l)) in
-      let rest = everyBlock w (λ row. every p (take n row)) m (drop w l) in
-      rw (every-weaker p q weaker (take n (take w l)) (and_left here rest e)) (rows-weaker w n m (drop w l) (and_right here rest e))
+      let rest = every_block w (λ row. every p (take n row)) m (drop w l) in
+      rw (every_weaker p q weaker (take n (take w l)) (and_left here rest e)) (rows_weaker w n m (drop w l) (and_right here rest e))
 
 module _ {A : Type 0} (p : A → Bool) where
   every_append : (xs ys : List A) → every p (xs ++ ys) ≡ every p xs && every p ys
@@ -27,16 +27,16 @@ module _ {A : Type 0} (p : A → Bool) where
   every_append (x ∷ xs) ys = rw (every_append xs ys) (sym (and_assoc (p x) (every p xs) (every p ys)))
 
   -- Whole blocks, one after the other, are one part.
-  pub whole-rows : (w m : ℕ) (l : List A) → every p (take (m * w) l) ≡ everyBlock w (λ row. every p (take w row)) m l
-  unfolding every everyBlock
-  whole-rows w zero l = rw (zero-mul w)
-  whole-rows w (suc m) l =
-      rw (suc-mul m w, add_comm (m * w) w, take-add w (m * w) l, every_append (take w l) (take (m * w) (drop w l)), whole-rows w m (drop w l), take-take w w l (le_refl w))
+  pub whole_rows : (w m : ℕ) (l : List A) → every p (take (m * w) l) ≡ every_block w (λ row. every p (take w row)) m l
+  unfolding every every_block
+  whole_rows w zero l = rw (zero-mul w)
+  whole_rows w (suc m) l =
+      rw (suc-mul m w, add_comm (m * w) w, take-add w (m * w) l, every_append (take w l) (take (m * w) (drop w l)), whole_rows w m (drop w l), take-take w w l (le_refl w))
 
-  pub no-column : (w m : ℕ) (l : List A) → everyBlock w (λ row. every p (take 0 row)) m l ≡ true
-  unfolding every everyBlock
-  no-column w zero l = refl
-  no-column w (suc m) l = no-column w m (drop w l)
+  pub no_column : (w m : ℕ) (l : List A) → every_block w (λ row. every p (take 0 row)) m l ≡ true
+  unfolding every every_block
+  no_column w zero l = refl
+  no_column w (suc m) l = no_column w m (drop w l)
 
   -- Rows of n + 1 places are rows of n and one column more.
   module _ (z : A) (passes : p z ≡ true) where
@@ -47,20 +47,20 @@ module _ {A : Type 0} (p : A → Bool) where
     take_more (suc n) (x ∷ xs) = rw (take_more n xs) (sym (and_assoc (p x) (every p (take n xs)) (p (get_or xs n z))))
 
     pub next-column : (n w m : ℕ) (l : List A)
-        → everyBlock w (λ row. every p (take (suc n) row)) m l ≡ everyBlock w (λ row. every p (take n row)) m l && everyBlock w (λ row. p (get_or row n z)) m l
-    unfolding everyBlock
+        → every_block w (λ row. every p (take (suc n) row)) m l ≡ every_block w (λ row. every p (take n row)) m l && every_block w (λ row. p (get_or row n z)) m l
+    unfolding every_block
     next-column n w zero l = refl
     next-column n w (suc m) l =
         let row = take w l in
         let rest = drop w l in
         rw (take_more n row, next-column n w m rest)
-        (and_swap (every p (take n row)) (p (get_or row n z)) (everyBlock w (λ row. every p (take n row)) m rest) (everyBlock w (λ row. p (get_or row n z)) m rest))
+        (and_swap (every p (take n row)) (p (get_or row n z)) (every_block w (λ row. every p (take n row)) m rest) (every_block w (λ row. p (get_or row n z)) m rest))
 
 -- Two tests of each block.
-pub blocks_both : {A : Type 0} (p q : List A → Bool) (w m : ℕ) (l : List A) → everyBlock w (λ b. p b && q b) m l ≡ everyBlock w p m l && everyBlock w q m l
-unfolding everyBlock
+pub blocks_both : {A : Type 0} (p q : List A → Bool) (w m : ℕ) (l : List A) → every_block w (λ b. p b && q b) m l ≡ every_block w p m l && every_block w q m l
+unfolding every_block
 blocks_both p q w zero l = refl
-blocks_both p q w (suc m) l = rw (blocks_both p q w m (drop w l)) (and_swap (p (take w l)) (q (take w l)) (everyBlock w p m (drop w l)) (everyBlock w q m (drop w l)))
+blocks_both p q w (suc m) l = rw (blocks_both p q w m (drop w l)) (and_swap (p (take w l)) (q (take w l)) (every_block w p m (drop w l)) (every_block w q m (drop w l)))
 
 -- A place of a block, in the whole list.
 pub place_at : {A : Type 0} (l : List A) (z : A) (w c n : ℕ) → n < w → get_or (take w (drop (c * w) l)) n z ≡ get_or l (c * w + n) z

@@ -30,9 +30,9 @@ module _ {A : Type 0} (p : A → Bool) (f : ℕ → A) (n : ℕ) where
   pub run_start : true && every p (map f (from 0 (n - 0))) ≡ every p (map f (from 0 n))
   run_start = rw (sub-zero n) refl
 
-  pub run-passed : (i : ℕ) (ok : Bool) {all : Bool} → ok && every p (map f (from i (n - i))) ≡ all → i < n → (ok && p (f i)) && every p (map f (from (i + 1) (n - (i + 1)))) ≡ all
+  pub run_passed : (i : ℕ) (ok : Bool) {all : Bool} → ok && every p (map f (from i (n - i))) ≡ all → i < n → (ok && p (f i)) && every p (map f (from (i + 1) (n - (i + 1)))) ≡ all
   unfolding every
-  run-passed i ok known h = and_assoc ok (p (f i)) (every p (map f (from (i + 1) (n - (i + 1))))) ∙ rw (from_next i n h) at known
+  run_passed i ok known h = and_assoc ok (p (f i)) (every p (map f (from (i + 1) (n - (i + 1))))) ∙ rw (from_next i n h) at known
 
   pub run_end : (i : ℕ) (ok : Bool) {all : Bool} → ok && every p (map f (from i (n - i))) ≡ all → n ≤ i → ok ≡ all
   unfolding every

@@ -8,7 +8,7 @@ use native.Mathlib.Nat.{sub-zero, suc-mul}
 use native.Mathlib.Numerals.{add-one}
 use lib.ListN.{length, get_or, take, drop, drop_of_length-le}
 use lib.Seq.{drop-cons, drop-drop}
-use Rattle.arith.specs.Lists.{every, any, from, everyBlock}
+use Rattle.arith.specs.Lists.{every, any, from, every_block}
 use Rattle.arith.proofs.Tests.{and_left, and_right, and_true, and_false, or_false}
 
 pub less_one : (n i : ℕ) → i < n → n - i ≡ suc (n - (i + 1))
@@ -23,12 +23,12 @@ every_cons p x l = refl
 
 -- ---- a list
 module _ {A : Type 0} (p : A → Bool) (l : List A) (z : A) (i : ℕ) (ok : Bool) (known : ok && every p (drop i l) ≡ every p l) where
-  pub every-next : i < length l → (ok && p (get_or l i z)) && every p (drop (i + 1) l) ≡ every p l
-  every-next h = and_assoc ok (p (get_or l i z)) (every p (drop (i + 1) l)) ∙ rw (add-one, ← every_cons p (get_or l i z) (drop (suc i) l), ← drop-cons l i z h) known
+  pub every_next : i < length l → (ok && p (get_or l i z)) && every p (drop (i + 1) l) ≡ every p l
+  every_next h = and_assoc ok (p (get_or l i z)) (every p (drop (i + 1) l)) ∙ rw (add-one, ← every_cons p (get_or l i z) (drop (suc i) l), ← drop-cons l i z h) known
 
-  pub every-end : length l ≤ i → ok ≡ every p l
+  pub every_end : length l ≤ i → ok ≡ every p l
   unfolding every
-  every-end h = sym (and_true ok) ∙ rw (drop_of_length-le l h) at known
+  every_end h = sym (and_true ok) ∙ rw (drop_of_length-le l h) at known
 
 -- ---- the numbers from a up to n
 pub from_next : (i n : ℕ) → i < n → from i (n - i) ≡ i ∷ from (i + 1) (n - (i + 1))
@@ -46,35 +46,35 @@ module _ (p : ℕ → Bool) (n i : ℕ) (ok all : Bool) (known : ok && every p (
   pub each_next : i < n → (ok && p i) && every p (from (i + 1) (n - (i + 1))) ≡ all
   each_next h = and_assoc ok (p i) (every p (from (i + 1) (n - (i + 1)))) ∙ rw (← every_cons p i (from (i + 1) (n - (i + 1))), ← from_next i n h) known
 
-  pub each-end : n ≤ i → ok ≡ all
+  pub each_end : n ≤ i → ok ≡ all
   unfolding every
-  each-end h = sym (and_true ok) ∙ rw (from_end i n h) at known
+  each_end h = sym (and_true ok) ∙ rw (from_end i n h) at known
 
   -- one does not pass
-  pub each-stop : i < n → p i ≡ false → all ≡ false
-  each-stop h e = sym (rw (e, and_false ok) at (each_next h))
+  pub each_stop : i < n → p i ≡ false → all ≡ false
+  each_stop h e = sym (rw (e, and_false ok) at (each_next h))
 
 -- ---- blocks of w places
-module _ {A : Type 0} (w : ℕ) (p : List A → Bool) (m : ℕ) (l : List A) (i : ℕ) (ok all : Bool) (known : ok && everyBlock w p (m - i) (drop (i * w) l) ≡ all) where
-  pub block-next : i < m → (ok && p (take w (drop (i * w) l))) && everyBlock w p (m - (i + 1)) (drop ((i + 1) * w) l) ≡ all
-  unfolding everyBlock
-  block-next h =
-      and_assoc ok (p (take w (drop (i * w) l))) (everyBlock w p (m - (i + 1)) (drop ((i + 1) * w) l))
+module _ {A : Type 0} (w : ℕ) (p : List A → Bool) (m : ℕ) (l : List A) (i : ℕ) (ok all : Bool) (known : ok && every_block w p (m - i) (drop (i * w) l) ≡ all) where
+  pub block_next : i < m → (ok && p (take w (drop (i * w) l))) && every_block w p (m - (i + 1)) (drop ((i + 1) * w) l) ≡ all
+  unfolding every_block
+  block_next h =
+      and_assoc ok (p (take w (drop (i * w) l))) (every_block w p (m - (i + 1)) (drop ((i + 1) * w) l))
       ∙ rw (add-one i, suc-mul i w, ← drop-drop w (i * w) l) (rw (less_one m i h, add-one i) at known)
 
-  pub block-end : m ≤ i → ok ≡ all
-  unfolding everyBlock
-  block-end h = sym (and_true ok) ∙ rw (done m i h) at known
+  pub block_end : m ≤ i → ok ≡ all
+  unfolding every_block
+  block_end h = sym (and_true ok) ∙ rw (done m i h) at known
 
-module _ {A : Type 0} (w : ℕ) (p : List A → Bool) (m : ℕ) (l : List A) (i : ℕ) (all : Bool) (known : everyBlock w p (m - i) (drop (i * w) l) ≡ all) where
-  more-blocks : i < m → p (take w (drop (i * w) l)) && everyBlock w p (m - (i + 1)) (drop ((i + 1) * w) l) ≡ all
-  more-blocks h = block-next w p m l i true all known h
+module _ {A : Type 0} (w : ℕ) (p : List A → Bool) (m : ℕ) (l : List A) (i : ℕ) (all : Bool) (known : every_block w p (m - i) (drop (i * w) l) ≡ all) where
+  more_blocks : i < m → p (take w (drop (i * w) l)) && every_block w p (m - (i + 1)) (drop ((i + 1) * w) l) ≡ all
+  more_blocks h = block_next w p m l i true all known h
 
-  pub pass-block : i < m → p (take w (drop (i * w) l)) ≡ true → everyBlock w p (m - (i + 1)) (drop ((i + 1) * w) l) ≡ all
-  pass-block h e = rw e at (more-blocks h)
+  pub pass_block : i < m → p (take w (drop (i * w) l)) ≡ true → every_block w p (m - (i + 1)) (drop ((i + 1) * w) l) ≡ all
+  pass_block h e = rw e at (more_blocks h)
 
-  pub stop-block : i < m → p (take w (drop (i * w) l)) ≡ false → false ≡ all
-  stop-block h e = rw e at (more-blocks h)
+  pub stop_block : i < m → p (take w (drop (i * w) l)) ≡ false → false ≡ all
+  stop_block h e = rw e at (more_blocks h)
 
 -- ---- whether any of them passes
 module _ {A : Type 0} (f : ℕ → A) (p : A → Bool) (n i : ℕ) (found one : Bool) where
@@ -108,12 +108,12 @@ every_both p q [] = refl
 every_both p q (x ∷ l) = rw (every_both p q l) (and_swap (p x) (q x) (every p l) (every q l))
 
 module _ {A : Type 0} (p q : A → Bool) where
-  pub every-same : ((x : A) → p x ≡ q x) → (l : List A) → every p l ≡ every q l
+  pub every_same : ((x : A) → p x ≡ q x) → (l : List A) → every p l ≡ every q l
   unfolding every
-  every-same same [] = refl
-  every-same same (x ∷ l) = rw (same x, every-same same l)
+  every_same same [] = refl
+  every_same same (x ∷ l) = rw (same x, every_same same l)
 
-  pub every-weaker : ((x : A) → p x ≡ true → q x ≡ true) → (l : List A) → every p l ≡ true → every q l ≡ true
+  pub every_weaker : ((x : A) → p x ≡ true → q x ≡ true) → (l : List A) → every p l ≡ true → every q l ≡ true
   unfolding every
-  every-weaker weaker [] e = refl
-  every-weaker weaker (x ∷ l) e = rw (weaker x (and_left (p x) (every p l) e)) (every-weaker weaker l (and_right (p x) (every p l) e))
+  every_weaker weaker [] e = refl
+  every_weaker weaker (x ∷ l) e = rw (weaker x (and_left (p x) (every p l) e)) (every_weaker weaker l (and_right (p x) (every p l) e))

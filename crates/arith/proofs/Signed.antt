@@ -21,7 +21,7 @@ back z h = to_z-of_z (sfits_abs z h)
 
 -- An element that was read: what its slice says of it is its bound.
 pub back_mag : (z : ℤ) → mag z < 2 ^ 63 → rd z ≡ z
-back_mag z h = to_z-of_z (record { sfits = h })
+back_mag z h = to_z-of_z {w = w64} {z = z} (record { sfits = h })
 
 pub rd_pos : (n : ℕ) → n < 2 ^ 63 → to_z w64 n ≡ pos n
 rd_pos n h = to_z_pos w64 h

@@ -113,9 +113,9 @@ module _ {A : Type 0} (p : A → Bool) (l : List A) (z : A) (i : ℕ) (found : B
   pub any_next : i < length l → (found || p (get_or l i z)) || any p (drop (i + 1) l) ≡ any p l
   any_next h = or_assoc found (p (get_or l i z)) (any p (drop (i + 1) l)) ∙ rw (add-one, ← any_cons p (get_or l i z) (drop (suc i) l), ← drop-cons l i z h) known
 
-  pub any-end : length l ≤ i → found ≡ any p l
+  pub any_end : length l ≤ i → found ≡ any p l
   unfolding any
-  any-end h = sym (or_false found) ∙ rw (drop_of_length-le l h) at known
+  any_end h = sym (or_false found) ∙ rw (drop_of_length-le l h) at known
 
 -- ---- what a return goes by
 -- each test that led there, as the Bool that the rules test

@@ -47,10 +47,10 @@ unfolding from
 rising_from a zero b h = end
 rising_from a (suc n) b h = more {a = a} {x = a} (omega arith) (omega arith) (rising_from (suc a) n b (omega arith))
 
-pub rising_kept : {a b : ℕ} {l : List ℕ} (p : ℕ → Bool) → Rising b a l → Rising b a (kept p l)
+pub rising_kept : {b a : ℕ} {l : List ℕ} (p : ℕ → Bool) → Rising b a l → Rising b a (kept p l)
 unfolding kept
 rising_kept p end = end
-rising_kept {a} {b} p (more {x = x} {l = l} h k r) =
+rising_kept {b} {a} p (more {x = x} {l = l} h k r) =
     by_bool (λ t. Rising b a (cond t (x ∷ kept p l) (kept p l))) (p x) (λ _. more h k (rising_kept p r)) (λ _. rising_lower (omega arith) (rising_kept p r))
 
 pub rising_take : {a b : ℕ} {l : List ℕ} (n : ℕ) → Rising b a l → Rising b a (take n l)
@@ -62,7 +62,7 @@ rising_take (suc n) (more h k r) = more h k (rising_take n r)
 abbrev pub listed : List ℕ → ℕ → Bool
 listed l c = any (λ x. eqb x c) l
 
-not_listed : {a b : ℕ} {l : List ℕ} (c : ℕ) → c < a → Rising b a l → listed l c ≡ false
+not_listed : {b a : ℕ} {l : List ℕ} (c : ℕ) → c < a → Rising b a l → listed l c ≡ false
 unfolding any
 not_listed c h end = refl
 not_listed c h (more {x = x} p q r) = rw (ne_eqb x c (λ e. omega arith), not_listed c (omega arith) r)

@@ -18,9 +18,9 @@ module _ {A : Type 0} where
   kept p (x ∷ xs) = let rest = kept p xs in cond (p x) (x ∷ rest) rest
 
   -- how many pass
-  unfoldable pub howMany : (A → Bool) → List A → ℕ
-  howMany p [] = 0
-  howMany p (x ∷ xs) = cond (p x) 1 0 + howMany p xs
+  unfoldable pub how_many : (A → Bool) → List A → ℕ
+  how_many p [] = 0
+  how_many p (x ∷ xs) = cond (p x) 1 0 + how_many p xs
 
   -- the sum of a number of each
   unfoldable pub total : (A → ℕ) → List A → ℕ
@@ -32,14 +32,14 @@ module _ {A : Type 0} where
   over a xs l = take a l ++ (xs ++ drop (a + length xs) l)
 
   -- each of the n blocks of w places passes
-  unfoldable pub everyBlock : ℕ → (List A → Bool) → ℕ → List A → Bool
-  everyBlock w p zero l = true
-  everyBlock w p (suc n) l = p (take w l) && everyBlock w p n (drop w l)
+  unfoldable pub every_block : ℕ → (List A → Bool) → ℕ → List A → Bool
+  every_block w p zero l = true
+  every_block w p (suc n) l = p (take w l) && every_block w p n (drop w l)
 
   -- f done in each of the n blocks of w places
-  unfoldable pub inEachBlock : ℕ → (List A → List A) → ℕ → List A → List A
-  inEachBlock w f zero l = l
-  inEachBlock w f (suc n) l = f (take w l) ++ inEachBlock w f n (drop w l)
+  unfoldable pub in_each_block : ℕ → (List A → List A) → ℕ → List A → List A
+  in_each_block w f zero l = l
+  in_each_block w f (suc n) l = f (take w l) ++ in_each_block w f n (drop w l)
 
 -- all of these hold
 unfoldable pub all_of : List Bool → Bool

@@ -24,9 +24,9 @@ u32_wide n = refl
 
 -- ---- written, then read
 module _ (p q : List ℕ) (i : ℕ) (e : i ≡ length p) where
-  pub u16-back : (v : ℕ) → v < 65536 → u16_at (p ++ (u16_bytes v ++ q)) i ≡ v
+  pub u16_back : (v : ℕ) → v < 65536 → u16_at (p ++ (u16_bytes v ++ q)) i ≡ v
   unfolding u16_at u16_bytes
-  u16-back v h =
+  u16_back v h =
       let bytes : List ℕ = v / 256 % 256 ∷ v % 256 ∷ q in
       let first : get_or (p ++ bytes) i 0 ≡ v / 256 % 256 = rw (e, ← add-zero (length p)) (get_or-append-add p bytes 0 0) in
       let second : get_or (p ++ bytes) (i + 1) 0 ≡ v % 256 = rw e (get_or-append-add p bytes 1 0) in
@@ -37,9 +37,9 @@ unfolding u32_at u32_bytes
 u32_back p q i e v h =
     let high = u16_bytes (v / 65536) in
     let low = u16_bytes (v % 65536) in
-    let first : u16_at (p ++ (high ++ (low ++ q))) i ≡ v / 65536 = u16-back p (low ++ q) i e (v / 65536) (omega arith) in
+    let first : u16_at (p ++ (high ++ (low ++ q))) i ≡ v / 65536 = u16_back p (low ++ q) i e (v / 65536) (omega arith) in
     let second : u16_at (p ++ (high ++ (low ++ q))) (i + 2) ≡ v % 65536 =
-    rw (← append_assoc p high (low ++ q)) (u16-back (p ++ high) q (i + 2) (rw e (sym (length-append p high ∙ ap (λ k. length p + k) (u16_wide (v / 65536))))) (v % 65536) (omega arith)) in
+    rw (← append_assoc p high (low ++ q)) (u16_back (p ++ high) q (i + 2) (rw e (sym (length-append p high ∙ ap (λ k. length p + k) (u16_wide (v / 65536))))) (v % 65536) (omega arith)) in
     rw (append_assoc high low q, first, second) (omega arith)
 
 -- things of one width, one after the other: each is read where it stands
@@ -67,50 +67,50 @@ bytes_small (x ∷ s) t zero = ltb-true x 256 (and_left (ltb x 256) (every (λ b
 bytes_small (x ∷ s) t (suc i) = bytes_small s (passes _ (and_right (ltb x 256) (every (λ b. ltb b 256) s) (passed _ t))) i
 
 module _ (s : List ℕ) (small : (i : ℕ) → get_or s i 0 < 256) where
-  pub u8-again : (i : ℕ) → i < length s → get_or s i 0 ∷ drop (i + 1) s ≡ drop i s
-  u8-again i h = rw add-one (sym (drop-cons s i 0 h))
+  pub u8_again : (i : ℕ) → i < length s → get_or s i 0 ∷ drop (i + 1) s ≡ drop i s
+  u8_again i h = rw add-one (sym (drop-cons s i 0 h))
 
-  pub u16-again : (i : ℕ) → i + 2 ≤ length s → u16_bytes (u16_at s i) ++ drop (i + 2) s ≡ drop i s
+  pub u16_again : (i : ℕ) → i + 2 ≤ length s → u16_bytes (u16_at s i) ++ drop (i + 2) s ≡ drop i s
   unfolding u16_at u16_bytes
-  u16-again i h =
+  u16_again i h =
       let a = small i in
       let b = small (i + 1) in
       let high : (get_or s i 0 * 256 + get_or s (i + 1) 0) / 256 % 256 ≡ get_or s i 0 = omega arith in
       let low : (get_or s i 0 * 256 + get_or s (i + 1) 0) % 256 ≡ get_or s (i + 1) 0 = omega arith in
       let place : i + 1 + 1 ≡ i + 2 = omega arith in
-      rw (high, low, ← place, u8-again (i + 1) (omega arith), u8-again i (omega arith)) refl
+      rw (high, low, ← place, u8_again (i + 1) (omega arith), u8_again i (omega arith)) refl
 
-  pub u16-small : (i : ℕ) → u16_at s i < 65536
+  pub u16_small : (i : ℕ) → u16_at s i < 65536
   unfolding u16_at
-  u16-small i = omega (arith, small i, small (i + 1))
+  u16_small i = omega (arith, small i, small (i + 1))
 
-  pub u32-again : (i : ℕ) → i + 4 ≤ length s → u32_bytes (u32_at s i) ++ drop (i + 4) s ≡ drop i s
+  pub u32_again : (i : ℕ) → i + 4 ≤ length s → u32_bytes (u32_at s i) ++ drop (i + 4) s ≡ drop i s
   unfolding u32_at u32_bytes
-  u32-again i h =
-      let a = u16-small i in
-      let b = u16-small (i + 2) in
+  u32_again i h =
+      let a = u16_small i in
+      let b = u16_small (i + 2) in
       let high : (u16_at s i * 65536 + u16_at s (i + 2)) / 65536 ≡ u16_at s i = omega arith in
       let low : (u16_at s i * 65536 + u16_at s (i + 2)) % 65536 ≡ u16_at s (i + 2) = omega arith in
       let place : i + 2 + 2 ≡ i + 4 = omega arith in
-      rw (high, low, append_assoc, ← place, u16-again (i + 2) (omega arith), u16-again i (omega arith)) refl
+      rw (high, low, append_assoc, ← place, u16_again (i + 2) (omega arith), u16_again i (omega arith)) refl
 
-  pub none-past : (k : ℕ) → length s ≡ k → drop k s ≡ []
-  none-past k l = drop_of_length-le s {i = k} (omega arith)
+  pub none_past : (k : ℕ) → length s ≡ k → drop k s ≡ []
+  none_past k l = drop_of_length-le s {i = k} (omega arith)
 
   -- the first byte, by what it is
-  pub u8-first : (k : ℕ) → get_or s 0 0 ≡ k → 0 < length s → k ∷ drop 1 s ≡ s
-  u8-first k e h = ap (λ x. x ∷ drop 1 s) (sym e) ∙ u8-again 0 h
+  pub u8_first : (k : ℕ) → get_or s 0 0 ≡ k → 0 < length s → k ∷ drop 1 s ≡ s
+  u8_first k e h = ap (λ x. x ∷ drop 1 s) (sym e) ∙ u8_again 0 h
 
 -- things of one width, one after the other
 module _ {B : Type 0} (bytes : B → List ℕ) (w : ℕ) (read : List ℕ → ℕ → B) (s : List ℕ)
     (again : (i : ℕ) → i + w ≤ length s → bytes (read s i) ++ drop (i + w) s ≡ drop i s) where
-  pub all-again : (n i : ℕ) → i + w * n ≤ length s → flat_map bytes (map (λ j. read s (i + w * j)) (from 0 n)) ++ drop (i + w * n) s ≡ drop i s
+  pub all_again : (n i : ℕ) → i + w * n ≤ length s → flat_map bytes (map (λ j. read s (i + w * j)) (from 0 n)) ++ drop (i + w * n) s ≡ drop i s
   unfolding from flat_map
-  all-again zero i h = rw (mul-zero, add-zero) refl
-  all-again (suc n) i h =
+  all_again zero i h = rw (mul-zero, add-zero) refl
+  all_again (suc n) i h =
       let step : (j : ℕ) → i + w * suc j ≡ i + w + w * j = λ j. rw mul-suc (omega arith) in
       let fits : i + w + w * n ≤ length s = rw (step n) at h in
       let later : map (λ j. read s (i + w * j)) (from 1 n) ≡ map (λ j. read s (i + w + w * j)) (from 0 n) =
       map_from_suc (λ j. read s (i + w * j)) 0 n ∙ map_same (λ j. read s (i + w * suc j)) (λ j. read s (i + w + w * j)) (from 0 n) (λ j. rw (step j) refl) in
       let place : i + w * 0 ≡ i = rw mul-zero (add-zero i) in
-      rw (later, place, step n, append_assoc, all-again n (i + w) fits) (again i (omega arith))
+      rw (later, place, step n, append_assoc, all_again n (i + w) fits) (again i (omega arith))

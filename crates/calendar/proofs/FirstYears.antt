@@ -18,9 +18,9 @@ first_year_holds y e =
     (leb-true least_first_year y (and_left (leb least_first_year y) (leb y most_first_year) e), leb-true y most_first_year (and_right (leb least_first_year y) (leb y most_first_year) e))
 
 module _ (k : Calendar) where
-  pub year-unsound : first_year_sound k.first_year ≡ false → calendar_sound k ≡ false
+  pub year_unsound : first_year_sound k.first_year ≡ false → calendar_sound k ≡ false
   unfolding calendar_sound
-  year-unsound e = rw e refl
+  year_unsound e = rw e refl
 
   pub day_in_span : (s : Span) (d : ℕ) (r : Bool) → IsSpan s k → r ≡ lies_in s d && business_day k d → r ≡ day_sound k d
   unfolding day_sound

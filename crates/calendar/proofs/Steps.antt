@@ -25,14 +25,14 @@ module _ (k : Calendar) where
   back_more n zero p b l = absurd (omega arith)
   back_more n (suc x) p b l = let e : suc x - 1 ≡ x = omega arith in let b' = rw e at b in rw (e, b', lt-leb _ _ l)
 
-  pub back-idle : (n x : ℕ) → 0 < x → business_day k (x - 1) ≡ false → business_day_before k n x ≡ business_day_before k n (x - 1)
+  pub back_idle : (n x : ℕ) → 0 < x → business_day k (x - 1) ≡ false → business_day_before k n x ≡ business_day_before k n (x - 1)
   unfolding business_day_before
-  back-idle n zero p b = absurd (omega arith)
-  back-idle n (suc x) p b = let e : suc x - 1 ≡ x = omega arith in let b' = rw e at b in rw (e, b')
+  back_idle n zero p b = absurd (omega arith)
+  back_idle n (suc x) p b = let e : suc x - 1 ≡ x = omega arith in let b' = rw e at b in rw (e, b')
 
-  pub next-end : (z x : ℕ) → z ≤ x → first_business_day k (z - x) x ≡ NoDay
+  pub next_end : (z x : ℕ) → z ≤ x → first_business_day k (z - x) x ≡ NoDay
   unfolding first_business_day
-  next-end z x l = let e : z - x ≡ zero = omega arith in rw e
+  next_end z x l = let e : z - x ≡ zero = omega arith in rw e
 
   pub next_here : (z x : ℕ) → x < z → business_day k x ≡ true → first_business_day k (z - x) x ≡ On (record { 0 = x })
   unfolding first_business_day
@@ -44,7 +44,7 @@ module _ (k : Calendar) where
 
   pub next_past : (d : ℕ) → day_after_span k ≤ d → next_business_day k d ≡ NoDay
   unfolding next_business_day
-  next_past d l = next-end (day_after_span k) (suc d) (omega arith)
+  next_past d l = next_end (day_after_span k) (suc d) (omega arith)
 
   pub next_start : (d : ℕ) → first_business_day k (day_after_span k - (d + 1)) (d + 1) ≡ next_business_day k d
   unfolding next_business_day

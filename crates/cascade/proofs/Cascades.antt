@@ -27,7 +27,7 @@ use Rattle.rules.specs.OtherForms.{contract_of, contracts_in, first_month_of}
 use Rattle.rules.proofs.CalendarLaws.{contracts_of_lem}
 use Rattle.rules.proofs.HourLaws.{Cascading, year, quarter, cascading}
 use Rattle.rules.specs.CloseOfDay.{contract_rows, added_to, cascaded, all_cascaded}
-use Rattle.rules.proofs.Cascade.{row_of, rows-length, rows_at, put-length, put-row, sums, sums-length, cascaded_month, cascaded-length, cascaded-row}
+use Rattle.rules.proofs.Cascade.{row_of, rows_length_lem, rows_at, put-length, put-row, sums, sums-length, cascaded_month, cascaded_length, cascaded_row}
 use Rattle.tables.specs.Fit.{RowsFit}
 use Rattle.contract_phases.specs.Phases.{closes, closing}
 use Rattle.contract_phases.proofs.Phases.{number_below}
@@ -62,8 +62,8 @@ parent_stays : (n p c : ℕ) (xs l : List ℤ) → rows_length ≤ length l → 
 parent_stays n p c xs l s h b q e =
     let put = over (c * 32) xs l in
     let long : rows_length ≤ length put = omega (arith, put-length n c l s b q xs e) in
-    let many = rows-length n p put long (omega arith) q in
-    ext_get_or (pos 0) (contract_rows n p put) (contract_rows n p l) (many ∙ sym (rows-length n p l s (omega arith) q))
+    let many = rows_length_lem n p put long (omega arith) q in
+    ext_get_or (pos 0) (contract_rows n p put) (contract_rows n p l) (many ∙ sym (rows_length_lem n p l s (omega arith) q))
     (λ m k. let k' : m < n = omega (arith, many) in
     rows_at n p put long (omega arith) q m k' ∙ put-row n c l s b q xs e p m k' ∙ rw (ne_eqb c p (omega arith)) (sym (rows_at n p l s (omega arith) q m k')))
 
@@ -77,17 +77,17 @@ pub record Adding (n p end size : ℕ) (all parent : List ℤ) (child : ℕ) (ro
   pub known : added_to n p (from child (end - child)) rows ≡ all
 
 module _ (n p end size : ℕ) (all parent : List ℤ) (few : n ≤ 32) (last : end ≤ contract_count) (long : rows_length ≤ size) where
-  pub adding-next : (child : ℕ) (rows : List ℤ) → child < end → Adding n p end size all parent child rows
+  pub adding_next : (child : ℕ) (rows : List ℤ) → child < end → Adding n p end size all parent child rows
       → Adding n p end size all parent (child + 1) (over (child * 32) (zip_with ◌+ℤ◌ (contract_rows n child rows) parent) rows)
   unfolding added_to
-  adding-next child rows h a =
+  adding_next child rows h a =
       let s : rows_length ≤ length rows = omega (arith, a.same) in
       let hp : p < contract_count = omega (arith, a.after) in
       let b : child < contract_count = omega arith in
       let mine = contract_rows n child rows in
       let xs = sums n p hp few child rows s b a.after in
       let many = sums-length n p hp few child rows s b a.after in
-      let is : zip_with ◌+ℤ◌ mine parent ≡ xs = sym (zip_take ◌+ℤ◌ n mine parent (omega (arith, rows-length n child rows s b few))) ∙ ap (zip_with ◌+ℤ◌ mine) a.lent in
+      let is : zip_with ◌+ℤ◌ mine parent ≡ xs = sym (zip_take ◌+ℤ◌ n mine parent (omega (arith, rows_length_lem n child rows s b few))) ∙ ap (zip_with ◌+ℤ◌ mine) a.lent in
       rw is (record {
         after = omega (arith, a.after);
         most = omega arith;
@@ -123,11 +123,11 @@ number_parent Month i h = absurd (omega arith)
 
 -- a cascade adds a parent's row to another at most once
 module _ (n c x b : ℕ) (l : List ℤ) (few : n ≤ 32) (below : c < term_count) (parent : c % 17 ≤ 4) (fit : RowsFit n x l) where
-  pub cascade-fit : ((m : ℕ) → m < n → nat_abs (row_of l c m) ≤ b) → RowsFit n (x + b) (cascaded n c l)
-  cascade-fit h =
+  pub cascade_fit : ((m : ℕ) → m < n → nat_abs (row_of l c m) ≤ b) → RowsFit n (x + b) (cascaded n c l)
+  cascade_fit h =
       record {
-        long = omega (arith, cascaded-length n c l fit.long below few, fit.long);
-        within = λ d m u k. rw (cascaded-row n c l fit.long below few d m (omega arith) k)
+        long = omega (arith, cascaded_length n c l fit.long below few, fit.long);
+        within = λ d m u k. rw (cascaded_row n c l fit.long below few d m (omega arith) k)
             (by_bool (λ t. nat_abs (cond t (pos 0) (row_of l d m +ℤ when (any (λ x. eqb x d) (children_of c)) (row_of l c m))) ≤ x + b) (eqb c d)
             (λ _. omega arith)
             (λ _. omega (
@@ -139,9 +139,9 @@ module _ (n c x b : ℕ) (l : List ℤ) (few : n ≤ 32) (below : c < term_count
             )));
       }
 
-  pub cascade-other : (d m : ℕ) → m < n → any (λ x. eqb x d) (children_of c) ≡ false → nat_abs (row_of l d m) ≤ b → nat_abs (row_of (cascaded n c l) d m) ≤ b
-  cascade-other d m k e h =
-      rw (cascaded-row n c l fit.long below few d m (omega arith) k, e)
+  pub cascade_other : (d m : ℕ) → m < n → any (λ x. eqb x d) (children_of c) ≡ false → nat_abs (row_of l d m) ≤ b → nat_abs (row_of (cascaded n c l) d m) ≤ b
+  cascade_other d m k e h =
+      rw (cascaded_row n c l fit.long below few d m (omega arith) k, e)
       (by_bool (λ t. nat_abs (cond t (pos 0) (row_of l d m +ℤ pos 0)) ≤ b) (eqb c d) (λ _. omega arith) (λ _. rw (+ℤ_idr (row_of l d m)) h))
 
 -- the first i contracts of a kind are done: no row has grown by more than one parent's for each
@@ -153,10 +153,10 @@ pub record KindRun (n size b : ℕ) (s : ContractKind) (column : List ℕ) (all 
   pub known : all_cascaded n (kept (closes column) (map (contract_of s) (from i (contracts_in s - i)))) rows ≡ all
 
 module _ (n size b : ℕ) (s : ContractKind) (column : List ℕ) (all : List ℤ) (few : n ≤ 32) (parents : contracts_in s ≤ 24) where
-  pub kind-next : (i : ℕ) (rows : List ℤ) → i < contracts_in s → KindRun n size b s column all i rows
+  pub kind_next : (i : ℕ) (rows : List ℤ) → i < contracts_in s → KindRun n size b s column all i rows
       → KindRun n size b s column all (i + 1) (cond (closes column (contract_of s i)) (cascaded n (contract_of s i) rows) rows)
   unfolding kept all_cascaded
-  kind-next i rows h r =
+  kind_next i rows h r =
       let c = contract_of s i in
       let below = number_below s i h in
       let parent = number_parent s i parents in
@@ -166,9 +166,9 @@ module _ (n size b : ℕ) (s : ContractKind) (column : List ℕ) (all : List ℤ
       true_or (closes column c)
       (λ e. rw e (record {
         most = omega arith;
-        same = cascaded-length n c rows r.fit.long below few ∙ r.same;
-        fit = rw grown (cascade-fit n c ((i + 1) * b) b rows few below parent r.fit (λ m k. r.kind_fit i m h k));
-        kind_fit = λ j m u k. cascade-other n c ((i + 1) * b) b rows few below parent r.fit (contract_of s j) m k (not_child s i j parents below) (r.kind_fit j m u k);
+        same = cascaded_length n c rows r.fit.long below few ∙ r.same;
+        fit = rw grown (cascade_fit n c ((i + 1) * b) b rows few below parent r.fit (λ m k. r.kind_fit i m h k));
+        kind_fit = λ j m u k. cascade_other n c ((i + 1) * b) b rows few below parent r.fit (contract_of s j) m k (not_child s i j parents below) (r.kind_fit j m u k);
         known = rw e at known;
       }))
       (λ e. rw e (record {
@@ -179,8 +179,8 @@ module _ (n size b : ℕ) (s : ContractKind) (column : List ℕ) (all : List ℤ
         known = rw e at known;
       }))
 
-  pub kind-start : (rows : List ℤ) → length rows ≡ size → RowsFit n b rows → all_cascaded n (kept (closes column) (contracts_of s)) rows ≡ all → KindRun n size b s column all 0 rows
-  kind-start rows same fit known =
+  pub kind_start : (rows : List ℤ) → length rows ≡ size → RowsFit n b rows → all_cascaded n (kept (closes column) (contracts_of s)) rows ≡ all → KindRun n size b s column all 0 rows
+  kind_start rows same fit known =
       let one : (0 + 1) * b ≡ b = omega arith in
       record {
         most = omega arith;
@@ -190,21 +190,21 @@ module _ (n size b : ℕ) (s : ContractKind) (column : List ℕ) (all : List ℤ
         known = rw (contracts_of_lem s, ← sub-zero (contracts_in s)) at known;
       }
 
-  pub kind-end : (i : ℕ) (rows : List ℤ) → contracts_in s ≤ i → KindRun n size b s column all i rows → rows ≡ all
+  pub kind_end : (i : ℕ) (rows : List ℤ) → contracts_in s ≤ i → KindRun n size b s column all i rows → rows ≡ all
   unfolding kept all_cascaded
-  kind-end i rows h r = rw (from_end i (contracts_in s) h) at r.known
+  kind_end i rows h r = rw (from_end i (contracts_in s) h) at r.known
 
-  run-fit : (k i : ℕ) (rows : List ℤ) → i + k ≡ contracts_in s → KindRun n size b s column all i rows → RowsFit n ((contracts_in s + 1) * b) all
-  run-fit zero i rows e r =
+  run_fit : (k i : ℕ) (rows : List ℤ) → i + k ≡ contracts_in s → KindRun n size b s column all i rows → RowsFit n ((contracts_in s + 1) * b) all
+  run_fit zero i rows e r =
       let last : i ≡ contracts_in s = omega arith in
-      subst (RowsFit n ((contracts_in s + 1) * b)) (kind-end i rows (omega arith) r) (rw last at r.fit)
-  run-fit (suc k) i rows e r = run-fit k (i + 1) _ (omega arith) (kind-next i rows (omega arith) r)
+      subst (RowsFit n ((contracts_in s + 1) * b)) (kind_end i rows (omega arith) r) (rw last at r.fit)
+  run_fit (suc k) i rows e r = run_fit k (i + 1) _ (omega arith) (kind_next i rows (omega arith) r)
 
 -- after the contracts of a kind no row has grown by more than one parent's for each
 pub kind_fit_after : (n b : ℕ) (s : ContractKind) (column : List ℕ) (rows : List ℤ) → n ≤ 32 → contracts_in s ≤ 24 → RowsFit n b rows
     → RowsFit n ((contracts_in s + 1) * b) (all_cascaded n (kept (closes column) (contracts_of s)) rows)
 kind_fit_after n b s column rows few parents fit =
-    run-fit n (length rows) b s column _ few parents (contracts_in s) 0 rows (omega arith) (kind-start n (length rows) b s column _ few parents rows refl fit refl)
+    run_fit n (length rows) b s column _ few parents (contracts_in s) 0 rows (omega arith) (kind_start n (length rows) b s column _ few parents rows refl fit refl)
 
 -- ---- all closing contracts
 cascaded_append : (n : ℕ) (xs ys : List ℕ) (l : List ℤ) → all_cascaded n (xs ++ ys) l ≡ all_cascaded n ys (all_cascaded n xs l)

@@ -8,7 +8,7 @@ use lib.ListN.{length, get_or, take}
 use borrow.Author.Tests.{le-ltb}
 use lib.IntN.{ℤ}
 use Rattle.arith.specs.Lists.{All, kept}
-use Rattle.arith.proofs.Alls.{all_map, all_append, all-kept}
+use Rattle.arith.proofs.Alls.{all_map, all_append, all_kept}
 use Rattle.rules.specs.Ledger.{prices_length}
 use Rattle.rules.specs.Ranges.{contract_count, term_count}
 use Rattle.rules.specs.declared.contract.ContractKind.{ContractKind}
@@ -26,8 +26,8 @@ use Rattle.tables.specs.Fit.{HeadFit, PricesFit, BookFit, order_count_in, lots_r
 use Rattle.order_book.proofs.Left.{all_orders}
 use Rattle.contract_phases.specs.Phases.{phases, waits, closes, closing, open_in, all_open_in}
 use Rattle.reference_price.specs.Columns.{BookReads, DealsFit, best_price, ggfs_from}
-use Rattle.reference_price.proofs.Ggfs.{ggf-is, ggfs_are}
-use Rattle.contract_phases.proofs.Phases.{phases-length, listed, kept_same, closing_order, closing-is, open_is}
+use Rattle.reference_price.proofs.Ggfs.{ggf_is, ggfs_are}
+use Rattle.contract_phases.proofs.Phases.{phases_length, listed, kept_same, closing_order, closing_is, open_is}
 use Rattle.close_of_day.specs.Closed.{closed}
 
 -- ---- undamaged tables
@@ -68,7 +68,7 @@ open_below column =
     of s =
         all_take (λ c. c < contract_count) (open_count s) (kept (waits column) (contracts_of s))
         (all_map (λ c. (c < contract_count) × (waits column c ≡ true)) (λ c. c < contract_count) (kept (waits column) (contracts_of s)) (λ c h. h.0)
-        (all-kept (λ c. c < contract_count) (waits column) (contracts_of s) (listed (λ c. c < contract_count) (λ c h. omega arith) s)))
+        (all_kept (λ c. c < contract_count) (waits column) (contracts_of s) (listed (λ c. c < contract_count) (λ c h. omega arith) s)))
 
 pub priced_is : (t : Tables) (s : ℕ) (buys sells : List ℕ) → prices_length ≤ length t.prices → All (λ o. 1 ≤ o.price.0) (orders t)
     → ((c : ℕ) → c < contract_count → get_or buys c 0 ≡ best_price (day t) s Buy (orders t) c) → ((c : ℕ) → c < contract_count → get_or sells c 0 ≡ best_price (day t) s Sell (orders t) c)
@@ -76,7 +76,7 @@ pub priced_is : (t : Tables) (s : ℕ) (buys sells : List ℕ) → prices_length
 unfolding priced
 priced_is t s buys sells long priced_orders e f =
     let column = phases (calendar t) (day t) in
-    ap without_deals (ggfs_are t s buys sells (all_open_in column) t.prices long (open_below column) (λ c h. ggf-is t s priced_orders buys sells c (e c h) (f c h)))
+    ap without_deals (ggfs_are t s buys sells (all_open_in column) t.prices long (open_below column) (λ c h. ggf_is t s priced_orders buys sells c (e c h) (f c h)))
     ∙ rw (open_is (calendar t) (day t))
 
 -- ---- orders
@@ -93,7 +93,7 @@ pub closed_is : (u : Tables) (s d : ℕ) (prices : List ℕ) (lots value : List 
     → on_day d (with_orders (kept (λ o. not (closes (phases (calendar u) (day u)) o.contract)) (orders u)) (with_prices prices (with_rows lots value u))) ≡ closed s d u
 unfolding closed with_closed priced closing_contracts orders with_orders
 closed_is u s d prices lots value ep el ev =
-    rw (ep, el, ev, ← orders_closed (phases (calendar u) (day u)) u.book (order_count u) (phases-length (calendar u) (day u)), closing-is (calendar u) (day u))
+    rw (ep, el, ev, ← orders_closed (phases (calendar u) (day u)) u.book (order_count u) (phases_length (calendar u) (day u)), closing_is (calendar u) (day u))
 
 -- ---- the causes
 module _ (t : Tables) where
@@ -101,18 +101,18 @@ module _ (t : Tables) where
   unfolding has_next_day
   no_next e = ap (λ z. elim z [ On d ↦ true | NoDay ↦ false ]) e
 
-  has-next : (d : DayNo) → next_business_day (calendar t) (day t) ≡ On d → has_next_day t ≡ true
+  has_next : (d : DayNo) → next_business_day (calendar t) (day t) ≡ On d → has_next_day t ≡ true
   unfolding has_next_day
-  has-next d e = ap (λ z. elim z [ On x ↦ true | NoDay ↦ false ]) e
+  has_next d e = ap (λ z. elim z [ On x ↦ true | NoDay ↦ false ]) e
 
-  next-is : (d : DayNo) → next_business_day (calendar t) (day t) ≡ On d → next_day t ≡ d.0
+  next_is : (d : DayNo) → next_business_day (calendar t) (day t) ≡ On d → next_day t ≡ d.0
   unfolding next_day
-  next-is d e = ap (λ z. elim z [ On x ↦ x.0 | NoDay ↦ day t ]) e
+  next_is d e = ap (λ z. elim z [ On x ↦ x.0 | NoDay ↦ day t ]) e
 
-  pub close-last : (s : ℕ) → time t ≤ s → next_business_day (calendar t) (day t) ≡ NoDay → close_spec t s ≡ record { answer = NoLaterDay; after = t }
+  pub close_last : (s : ℕ) → time t ≤ s → next_business_day (calendar t) (day t) ≡ NoDay → close_spec t s ≡ record { answer = NoLaterDay; after = t }
   unfolding close_spec
-  close-last s h e = rw (le-ltb s (time t) h, no_next e)
+  close_last s h e = rw (le-ltb s (time t) h, no_next e)
 
-  pub close-next : (s : ℕ) (d : DayNo) → time t ≤ s → next_business_day (calendar t) (day t) ≡ On d → close_spec t s ≡ record { answer = Accepted 0; after = closed s d.0 t }
+  pub close_next : (s : ℕ) (d : DayNo) → time t ≤ s → next_business_day (calendar t) (day t) ≡ On d → close_spec t s ≡ record { answer = Accepted 0; after = closed s d.0 t }
   unfolding close_spec close_booked closed
-  close-next s d h e = rw (le-ltb s (time t) h, has-next d e, next-is d e)
+  close_next s d h e = rw (le-ltb s (time t) h, has_next d e, next_is d e)

@@ -12,7 +12,7 @@ use lib.ListN.{length, get_or, drop, length-append, drop_of_length-le}
 use lib.Seq.{drop-cons}
 use borrow.Author.Tests.{eq-eqb, ne_eqb, lt-ltb, le-ltb}
 use Rattle.arith.proofs.Sizes.{abs_plus, abs_neg}
-use Rattle.arith.proofs.Columns.{total-next}
+use Rattle.arith.proofs.Columns.{total_next}
 use Rattle.arith.proofs.Tests.{by_bool, same_or}
 use Rattle.rules.specs.declared.order.Side.TheVariants.{Buy, Sell}
 use Rattle.rules.specs.Default.{sum_of, change_lines}
@@ -45,27 +45,27 @@ module _ (c p m : ℕ) where
   abbrev line : ℤ → Line
   line z = record { member = m; contract = c; lots = z; price = p }
 
-  pub change-none : (z : ℤ) → nat_abs z ≡ 0 → change_lines c p m (z ∷ []) ≡ []
+  pub change_none : (z : ℤ) → nat_abs z ≡ 0 → change_lines c p m (z ∷ []) ≡ []
   unfolding change_lines
-  change-none z h = rw (eq-eqb (nat_abs z) 0 h)
+  change_none z h = rw (eq-eqb (nat_abs z) 0 h)
 
-  pub change-one : (z : ℤ) → (nat_abs z ≡ 0 → ⊥) → change_lines c p m (z ∷ []) ≡ line z ∷ []
+  pub change_one : (z : ℤ) → (nat_abs z ≡ 0 → ⊥) → change_lines c p m (z ∷ []) ≡ line z ∷ []
   unfolding change_lines
-  change-one z h = rw (ne_eqb (nat_abs z) 0 h)
+  change_one z h = rw (ne_eqb (nat_abs z) 0 h)
 
   module _ (gain loss : ℕ) where
     pub same_none : gain ≡ loss → change_lines c p m ((pos gain -ℤ pos loss) ∷ []) ≡ []
-    same_none e = change-none (pos gain -ℤ pos loss) (rw (minus_same gain loss e))
+    same_none e = change_none (pos gain -ℤ pos loss) (rw (minus_same gain loss e))
 
     pub more-bought : loss < gain → change_lines c p m ((pos gain -ℤ pos loss) ∷ []) ≡ line (signed Buy (gain - loss)) ∷ []
-    more-bought h = rw (minus_more gain loss h) (change-one (pos (gain - loss)) (λ e. omega arith))
+    more-bought h = rw (minus_more gain loss h) (change_one (pos (gain - loss)) (λ e. omega arith))
 
     pub more-sold : gain < loss → change_lines c p m ((pos gain -ℤ pos loss) ∷ []) ≡ line (signed Sell (loss - gain)) ∷ []
-    more-sold h = rw (minus_less gain loss h) (change-one (neg_ℤ (pos (loss - gain))) (λ e. omega (arith, abs_neg (pos (loss - gain)))))
+    more-sold h = rw (minus_less gain loss h) (change_one (neg_ℤ (pos (loss - gain))) (λ e. omega (arith, abs_neg (pos (loss - gain)))))
 
-  pub change-cons : (z : ℤ) (zs : List ℤ) → change_lines c p m (z ∷ zs) ≡ change_lines c p m (z ∷ []) ++ change_lines c p (suc m) zs
+  pub change_cons : (z : ℤ) (zs : List ℤ) → change_lines c p m (z ∷ zs) ≡ change_lines c p m (z ∷ []) ++ change_lines c p (suc m) zs
   unfolding change_lines
-  change-cons z zs =
+  change_cons z zs =
       by_bool (λ b. cond b (change_lines c p (suc m) zs) (line z ∷ change_lines c p (suc m) zs) ≡ cond b [] (line z ∷ []) ++ change_lines c p (suc m) zs) (eqb (nat_abs z) 0)
       (λ _. refl) (λ _. refl)
 
@@ -96,17 +96,17 @@ pub each_booked : (ls : List Line) (t : Tables) → 6 < length t.head → with_e
 each_booked ls t h = rw (booked_none t) at (booked_each [] ls t h)
 
 pub change_most : (c p m : ℕ) (z : ℤ) → length (change_lines c p m (z ∷ [])) ≤ 1
-change_most c p m z = same_or (nat_abs z) 0 (λ e. rw (change-none c p m z e) (omega arith)) (λ d. rw (change-one c p m z d) (omega arith))
+change_most c p m z = same_or (nat_abs z) 0 (λ e. rw (change_none c p m z e) (omega arith)) (λ d. rw (change_one c p m z d) (omega arith))
 
 -- ---- columns of gains and losses, read from place m on
 module _ (gains losses : List ℕ) (m : ℕ) (here : m < length gains) (there : m < length losses) where
-  pub changes-next : changes (drop m gains) (drop m losses) ≡ (pos (get_or gains m 0) -ℤ pos (get_or losses m 0)) ∷ changes (drop (m + 1) gains) (drop (m + 1) losses)
+  pub changes_next : changes (drop m gains) (drop m losses) ≡ (pos (get_or gains m 0) -ℤ pos (get_or losses m 0)) ∷ changes (drop (m + 1) gains) (drop (m + 1) losses)
   unfolding zip_with
-  changes-next = rw (add-one, drop-cons gains m 0 here, drop-cons losses m 0 there)
+  changes_next = rw (add-one, drop-cons gains m 0 here, drop-cons losses m 0 there)
 
   pub lines_next : (c p : ℕ) → change_lines c p m (changes (drop m gains) (drop m losses))
       ≡ change_lines c p m ((pos (get_or gains m 0) -ℤ pos (get_or losses m 0)) ∷ []) ++ change_lines c p (m + 1) (changes (drop (m + 1) gains) (drop (m + 1) losses))
-  lines_next c p = ap (change_lines c p m) changes-next ∙ change-cons c p m _ _ ∙ rw (add-one m)
+  lines_next c p = ap (change_lines c p m) changes_next ∙ change_cons c p m _ _ ∙ rw (add-one m)
 
 pub lines_end : (c p m : ℕ) (gains losses : List ℕ) → length gains ≤ m → change_lines c p m (changes (drop m gains) (drop m losses)) ≡ []
 unfolding zip_with change_lines
@@ -114,4 +114,4 @@ lines_end c p m gains losses h = rw (drop_of_length-le gains h)
 
 pub sum_next : (ns : List ℕ) (m : ℕ) → m < length ns → sum_of (drop m ns) ≡ get_or ns m 0 + sum_of (drop (m + 1) ns)
 unfolding sum_of
-sum_next ns m h = total-next ns m (λ n. n) 0 h
+sum_next ns m h = total_next ns m (λ n. n) 0 h

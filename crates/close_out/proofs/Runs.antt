@@ -15,9 +15,9 @@ use Rattle.rules.specs.Default.{sum_of, given_up, less, change_lines, dealt_out,
 use Rattle.rules.specs.Ledger.{Tables, members, line_run}
 use Rattle.rules.specs.Ranges.{contract_count, most_price, least_lines}
 use Rattle.rules.proofs.Netting.{sum_cons, sum_none, sum_zeros, given_sum, given_length, given_le}
-use Rattle.dealing.proofs.Dealt.{all-dealt}
+use Rattle.dealing.proofs.Dealt.{all_dealt}
 use Rattle.close_out.specs.Booking.{with_each, changes, taker_lines}
-use Rattle.close_out.proofs.Changes.{minus_size, change_most, change-cons, each_append}
+use Rattle.close_out.proofs.Changes.{minus_size, change_most, change_cons, each_append}
 use Rattle.deal_lines.proofs.Takes.{Takes}
 use Rattle.close_out.proofs.Takes.{takes_change, each_members}
 use Rattle.arith.proofs.Sizes.{abs_neg}
@@ -77,7 +77,7 @@ none_dealt ws = refl
 pub takers_run : (c p long l : ℕ) (ws : List ℕ) → (0 < l → 0 < sum_of ws) → line_run (taker_lines c p long l ws) ≡ l
 unfolding taker_lines
 takers_run c p long l ws h =
-    change_run c p 0 _ ∙ taken_run (ltb 0 long) (dealt_out l ws) ∙ same_or l 0 (λ e. rw (e, none_dealt ws) (sum_zeros (length ws))) (λ d. all-dealt l ws (h (omega arith)))
+    change_run c p 0 _ ∙ taken_run (ltb 0 long) (dealt_out l ws) ∙ same_or l 0 (λ e. rw (e, none_dealt ws) (sum_zeros (length ws))) (λ d. all_dealt l ws (h (omega arith)))
 
 -- no lots, no lines
 zero_lines : (c p m n : ℕ) (b : Bool) → change_lines c p m (map (λ k. cond b (pos k) (neg_ℤ (pos k))) (replicate n 0)) ≡ []
@@ -95,7 +95,7 @@ pub change_length : (c p m : ℕ) (zs : List ℤ) → length (change_lines c p m
 unfolding change_lines
 change_length c p m [] = omega arith
 change_length c p m (z ∷ zs) =
-    rw (change-cons c p m z zs, length-append (change_lines c p m (z ∷ [])) (change_lines c p (suc m) zs)) (omega (arith, change_most c p m z, change_length c p (suc m) zs))
+    rw (change_cons c p m z zs, length-append (change_lines c p m (z ∷ [])) (change_lines c p (suc m) zs)) (omega (arith, change_most c p m z, change_length c p (suc m) zs))
 
 takes_none : (c p i m room : ℕ) (t : Tables) → Takes (0 + room) t → Takes room (with_each i (change_lines c p m []) t)
 unfolding with_each change_lines
@@ -111,5 +111,5 @@ takes_lines c p hc hp (z ∷ zs) room i m t a b f =
     let u = with_each i one t in
     let now : Takes rest u = takes_change rest i c p m z t (omega arith) (record { contract_below = hc; member_below = omega arith; most_price_holds = hp })
     (rw (add_assoc (nat_abs z) (total nat_abs zs) room) at f) in
-    rw (change-cons c p m z zs, each_append i one (change_lines c p (suc m) zs) t)
+    rw (change_cons c p m z zs, each_append i one (change_lines c p (suc m) zs) t)
     (takes_lines c p hc hp zs room (i + length one) (suc m) u (rw (each_members i one t) (omega arith)) (omega (arith, change_most c p m z)) now)

@@ -19,7 +19,7 @@ use Rattle.close_out.proofs.Changes.{each_append}
 use Rattle.deal_lines.proofs.Takes.{Takes, less_room}
 use Rattle.close_out.proofs.Takes.{each_members}
 use Rattle.close_out.proofs.Running.{put, blank}
-use Rattle.close_out.proofs.StepColumns.{netting-room}
+use Rattle.close_out.proofs.StepColumns.{netting_room}
 use Rattle.close_out.proofs.Runs.{change_length, most_run, no_takers, takes_lines}
 
 changes_length : (xs ys : List ℕ) → length xs ≡ length ys → length (changes xs ys) ≡ length xs
@@ -48,8 +48,8 @@ module _ (head head' : List ℕ) (lots lots' value value' lines lines' : List �
   carried : (room : ℕ) → Takes room (with_each i ls (put head lots value lines blank)) → Bookable room head' lots' value' lines'
   carried room f = subst (λ (s : Tables). Takes room s) (sym (same blank)) f
 
-  members-same : members_in head' ≡ members_in head
-  members-same = ap (λ (s : Tables). members_in s.head) (same blank) ∙ each_members i ls (put head lots value lines blank)
+  members_same : members_in head' ≡ members_in head
+  members_same = ap (λ (s : Tables). members_in s.head) (same blank) ∙ each_members i ls (put head lots value lines blank)
 
 -- Changes of two columns take at most their sums.
 takes_columns : (c p : ℕ) → c < contract_count → p ≤ most_price → (gains losses : List ℕ) (room i : ℕ) (t : Tables) → length gains ≡ members t → length losses ≡ length gains
@@ -63,9 +63,9 @@ module _ (c p q l : ℕ) (longs shorts ws : List ℕ) (hc : c < contract_count) 
   few : members_in head ≤ most_members
   few = f.most_members_holds
 
-  netting-few : length (netting_lines c p q longs shorts) ≤ members_in head
+  netting_few : length (netting_lines c p q longs shorts) ≤ members_in head
   unfolding netting_lines
-  netting-few =
+  netting_few =
       let gs = given_up q shorts in
       let gl = given_up q longs in
       omega (
@@ -83,7 +83,7 @@ module _ (c p q l : ℕ) (longs shorts ws : List ℕ) (hc : c < contract_count) 
       let gl = given_up q longs in
       let wide = given_length q shorts ∙ d.shorts_length in
       takes_columns c p hc hp gs gl (l + l) 0 (put head lots value lines blank) wide (given_length q longs ∙ d.longs_length ∙ sym wide) (omega (arith, few))
-      (less_room _ _ (omega (arith, netting-room c p q longs shorts gl gs refl refl)) f)
+      (less_room _ _ (omega (arith, netting_room c p q longs shorts gl gs refl refl)) f)
 
   -- after step 1
   module _ (head1 : List ℕ) (lots1 value1 lines1 : List ℤ) (first : ℕ) (longs1 shorts1 : List ℕ) (count1 : first ≡ length (netting_lines c p q longs shorts))
@@ -93,7 +93,7 @@ module _ (c p q l : ℕ) (longs shorts ws : List ℕ) (hc : c < contract_count) 
     ready1 = carried head head1 lots lots1 value value1 lines lines1 0 (netting_lines c p q longs shorts) same1 (l + l) netted
 
     members1 : members_in head1 ≡ members_in head
-    members1 = members-same head head1 lots lots1 value value1 lines lines1 0 (netting_lines c p q longs shorts) same1
+    members1 = members_same head head1 lots lots1 value value1 lines lines1 0 (netting_lines c p q longs shorts) same1
 
     sums1 : sum_of shorts1 + sum_of longs1 ≡ l
     sums1 = omega (arith, ap sum_of el, ap sum_of es, d.remaining)
@@ -105,7 +105,7 @@ module _ (c p q l : ℕ) (longs shorts ws : List ℕ) (hc : c < contract_count) 
     longs-wide = ap length el ∙ remaining_length q longs ∙ d.longs_length ∙ sym members1 ∙ sym shorts-wide
 
     first-few : first + length shorts1 ≤ least_lines
-    first-few = omega (arith, count1, netting-few, few, shorts-wide, members1)
+    first-few = omega (arith, count1, netting_few, few, shorts-wide, members1)
 
     pub second-requires : Bookable (sum_of shorts1 + sum_of longs1) head1 lots1 value1 lines1
         × (((first + length shorts1 ≤ least_lines) × (c < contract_count) × (p ≤ most_price)) × ((length shorts1 ≡ members_in head1) × (length longs1 ≡ length shorts1)))
@@ -130,10 +130,10 @@ module _ (c p q l : ℕ) (longs shorts ws : List ℕ) (hc : c < contract_count) 
           (takes_columns c p hc hp shorts1 longs1 l first (put head1 lots1 value1 lines1 blank) shorts-wide longs-wide first-few (less_room _ _ (omega (arith, sums1)) ready1))
 
       members2 : members_in head2 ≡ members_in head
-      members2 = members-same head1 head2 lots1 lots2 value1 value2 lines1 lines2 first (change_lines c p 0 (changes shorts1 longs1)) same2 ∙ members1
+      members2 = members_same head1 head2 lots1 lots2 value1 value2 lines1 lines2 first (change_lines c p 0 (changes shorts1 longs1)) same2 ∙ members1
 
       second-few : second ≤ members_in head + members_in head
-      second-few = omega (arith, count1, count2, netting-few, change_length c p 0 (changes shorts1 longs1), changes_length shorts1 longs1 (sym longs-wide), shorts-wide, members1)
+      second-few = omega (arith, count1, count2, netting_few, change_length c p 0 (changes shorts1 longs1), changes_length shorts1 longs1 (sym longs-wide), shorts-wide, members1)
 
       pub takers-requires : 0 < l → (Bookable l head2 lots2 value2 lines2 × MemberColumn most_weight ws × (0 < sum_of ws))
           × ((c < contract_count) × (p ≤ most_price) × (second + length ws ≤ least_lines) × (length ws ≡ members_in head2))

@@ -31,7 +31,7 @@ use Rattle.deal_lines.proofs.Takes.{rows_wider}
 use Rattle.close_out.proofs.Running.{put, blank}
 use Rattle.close_out.proofs.Runs.{remaining_sum, change_run, Apart, apart_run, takers_run}
 use Rattle.close_out.proofs.StepBooking.{remaining_length, less_le}
-use Rattle.close_out_weights.proofs.ColumnFits.{column-length, column_fits, column-sum}
+use Rattle.close_out_weights.proofs.ColumnFits.{column_length, column_fits, column_sum}
 use Rattle.rules.proofs.LinesRun.{run_append}
 
 pub rows_fit : {head : List ℕ} {lots value lines : List ℤ} → Bookable 0 head lots value lines → RowsFit (members_in head) most_lots_run lots
@@ -48,7 +48,7 @@ pub read_fits : (part : Part) (head : List ℕ) (lots : List ℤ) (c : ℕ) (col
 read_fits part head lots c column few rows h e =
     let t = with_head head (with_rows lots [] blank) in
     let q = e blank [] in
-    record { fits = rw q (column_fits t few rows part c h); most = rw q (column-sum t few rows part c h); long = rw q (column-length t few rows part c) }
+    record { fits = rw q (column_fits t few rows part c h); most = rw q (column_sum t few rows part c h); long = rw q (column_length t few rows part c) }
 
 longs_column : (t : Tables) (c : ℕ) → defaulted_longs t c ≡ column_of DefaultedLongs t c
 unfolding defaulted_longs column_of
@@ -70,22 +70,22 @@ module _ (head : List ℕ) (lots : List ℤ) (c : ℕ) (longs shorts : List ℕ)
   abbrev put_in : Tables → List ℤ → Tables
   put_in t v = with_head head (with_rows lots v t)
 
-  longs-of : (t : Tables) (v : List ℤ) → defaulted_longs (put_in t v) c ≡ longs
-  longs-of t v = longs_column (put_in t v) c ∙ sym (el t v)
+  longs_of : (t : Tables) (v : List ℤ) → defaulted_longs (put_in t v) c ≡ longs
+  longs_of t v = longs_column (put_in t v) c ∙ sym (el t v)
 
-  shorts-of : (t : Tables) (v : List ℤ) → defaulted_shorts (put_in t v) c ≡ shorts
-  shorts-of t v = shorts_column (put_in t v) c ∙ sym (es t v)
+  shorts_of : (t : Tables) (v : List ℤ) → defaulted_shorts (put_in t v) c ≡ shorts
+  shorts_of t v = shorts_column (put_in t v) c ∙ sym (es t v)
 
-  netted-of : (t : Tables) (v : List ℤ) → smaller_total (put_in t v) c ≡ q
+  netted_of : (t : Tables) (v : List ℤ) → smaller_total (put_in t v) c ≡ q
   unfolding smaller_total
-  netted-of t v = rw (longs-of t v, shorts-of t v, ← nl, ← ns) (sym nq)
+  netted_of t v = rw (longs_of t v, shorts_of t v, ← nl, ← ns) (sym nq)
 
-  remaining-of : (t : Tables) (v : List ℤ) → lots_remaining (put_in t v) c ≡ (long - q) + (short - q)
+  remaining_of : (t : Tables) (v : List ℤ) → lots_remaining (put_in t v) c ≡ (long - q) + (short - q)
   unfolding lots_remaining longs_remaining shorts_remaining netted_longs netted_shorts
-  remaining-of t v = rw (netted-of t v, longs-of t v, shorts-of t v) (rw (remaining_sum q longs, remaining_sum q shorts, ← nl, ← ns) (less_smaller q long short nq))
+  remaining_of t v = rw (netted_of t v, longs_of t v, shorts_of t v) (rw (remaining_sum q longs, remaining_sum q shorts, ← nl, ← ns) (less_smaller q long short nq))
 
-  pub defaulted-found : Defaulted head lots c q ((long - q) + (short - q)) longs shorts
-  defaulted-found = record { longs_are = longs-of; shorts_are = shorts-of; netted = netted-of; remaining = remaining-of }
+  pub defaulted_found : Defaulted head lots c q ((long - q) + (short - q)) longs shorts
+  defaulted_found = record { longs_are = longs_of; shorts_are = shorts_of; netted = netted_of; remaining = remaining_of }
 
 -- ---- longs and shorts apart
 up_or_dn : (z : ℤ) → min (dn z) (up z) ≡ 0
@@ -124,47 +124,47 @@ module _ (head : List ℕ) (lots value lines : List ℤ) (f : Bookable 0 head lo
   abbrev here : Tables
   here = with_head head (with_rows lots [] blank)
 
-  longs-read : Read head longs
-  longs-read = read_fits DefaultedLongs head lots c longs f.most_members_holds (rows_fit f) below (λ t v. sym (d.longs_are t v) ∙ longs_column _ c)
+  longs_read : Read head longs
+  longs_read = read_fits DefaultedLongs head lots c longs f.most_members_holds (rows_fit f) below (λ t v. sym (d.longs_are t v) ∙ longs_column _ c)
 
-  shorts-read : Read head shorts
-  shorts-read = read_fits DefaultedShorts head lots c shorts f.most_members_holds (rows_fit f) below (λ t v. sym (d.shorts_are t v) ∙ shorts_column _ c)
+  shorts_read : Read head shorts
+  shorts_read = read_fits DefaultedShorts head lots c shorts f.most_members_holds (rows_fit f) below (λ t v. sym (d.shorts_are t v) ∙ shorts_column _ c)
 
-  netted-is : min (sum_of longs) (sum_of shorts) ≡ q
+  netted_is : min (sum_of longs) (sum_of shorts) ≡ q
   unfolding smaller_total
-  netted-is = rw (d.longs_are blank [], d.shorts_are blank []) at (d.netted blank [])
+  netted_is = rw (d.longs_are blank [], d.shorts_are blank []) at (d.netted blank [])
 
   remaining_is : sum_of (less longs (given_up q longs)) + sum_of (less shorts (given_up q shorts)) ≡ l
   unfolding lots_remaining longs_remaining shorts_remaining netted_longs netted_shorts
   remaining_is = rw (d.netted blank [], d.longs_are blank [], d.shorts_are blank []) at (d.remaining blank [])
 
-  all-lots : sum_of longs + sum_of shorts ≡ (q + q) + l
-  all-lots = omega (arith, remaining_is, remaining_sum q longs, remaining_sum q shorts, netted-is)
+  all_lots : sum_of longs + sum_of shorts ≡ (q + q) + l
+  all_lots = omega (arith, remaining_is, remaining_sum q longs, remaining_sum q shorts, netted_is)
 
-  pub most-netted : q ≤ most_members * most_lots_run
-  most-netted = omega (arith, netted-is, longs-read.most)
+  pub most_netted : q ≤ most_members * most_lots_run
+  most_netted = omega (arith, netted_is, longs_read.most)
 
-  pub most-remaining : l ≤ most_members * most_lots_run
-  most-remaining = omega (arith, all-lots, netted-is, longs-read.most, shorts-read.most)
+  pub most_remaining : l ≤ most_members * most_lots_run
+  most_remaining = omega (arith, all_lots, netted_is, longs_read.most, shorts_read.most)
 
   apart : Apart shorts longs
   apart = rw (d.longs_are blank [], d.shorts_are blank []) at (columns_apart here c)
 
   wide : length shorts ≡ length longs
-  wide = shorts-read.long ∙ sym longs-read.long
+  wide = shorts_read.long ∙ sym longs_read.long
 
-  netting-run : (p : ℕ) → line_run (netting_lines c p q longs shorts) ≡ q + q
+  netting_run : (p : ℕ) → line_run (netting_lines c p q longs shorts) ≡ q + q
   unfolding netting_lines
-  netting-run p =
+  netting_run p =
       let gs = given_up q shorts in
       let gl = given_up q longs in
       change_run c p 0 (changes gs gl)
       ∙ apart_run gs gl (given_length q shorts ∙ wide ∙ sym (given_length q longs)) (apart_less shorts longs gs gl (given_le q shorts) (given_le q longs) apart)
-      ∙ omega (arith, given_sum q shorts, given_sum q longs, netted-is)
+      ∙ omega (arith, given_sum q shorts, given_sum q longs, netted_is)
 
-  defaulted-run : (p : ℕ) → line_run (defaulted_lines c p q longs shorts) ≡ l
+  defaulted_run : (p : ℕ) → line_run (defaulted_lines c p q longs shorts) ≡ l
   unfolding defaulted_lines
-  defaulted-run p =
+  defaulted_run p =
       let ls = less shorts (given_up q shorts) in
       let ll = less longs (given_up q longs) in
       change_run c p 0 (changes ls ll)
@@ -172,19 +172,19 @@ module _ (head : List ℕ) (lots value lines : List ℤ) (f : Bookable 0 head lo
       (apart_less shorts longs ls ll (less_le shorts (given_up q shorts)) (less_le longs (given_up q longs)) apart)
       ∙ omega (arith, remaining_is)
 
-  takers-there : (ws : List ℕ) (sum : ℕ) → sum ≡ sum_of ws → ltb 0 l && eqb sum 0 ≡ false → 0 < l → 0 < sum_of ws
-  takers-there ws sum e h k = le_or_lt 1 (sum_of ws) (λ p. p) (λ p. never (rw (lt-ltb 0 l k, eq-eqb sum 0 (omega arith)) at h))
+  takers_there : (ws : List ℕ) (sum : ℕ) → sum ≡ sum_of ws → ltb 0 l && eqb sum 0 ≡ false → 0 < l → 0 < sum_of ws
+  takers_there ws sum e h k = le_or_lt 1 (sum_of ws) (λ p. p) (λ p. never (rw (lt-ltb 0 l k, eq-eqb sum 0 (omega arith)) at h))
 
   pub dealable : (ws : List ℕ) (sum : ℕ) → sum ≡ sum_of ws → ltb 0 l && eqb sum 0 ≡ false → length ws ≡ members_in head → MemberColumn most_weight ws → Dealable q l (members_in head) longs shorts ws
   dealable ws sum e h long g =
       record {
-        longs_length = longs-read.long;
-        shorts_length = shorts-read.long;
+        longs_length = longs_read.long;
+        shorts_length = shorts_read.long;
         weights_length = long;
-        longs_column = longs-read.fits;
+        longs_column = longs_read.fits;
         weights_column = g;
         remaining = sym remaining_is;
-        takers = takers-there ws sum e h;
+        takers = takers_there ws sum e h;
       }
 
   -- for every t, with the lent tables put into it
@@ -206,23 +206,23 @@ module _ (head : List ℕ) (lots value lines : List ℤ) (f : Bookable 0 head lo
 
     pub no-lots : q + l ≡ 0 → record { answer = NoDefaultedLots; after = lent } ≡ close_out_spec lent e
     unfolding close_out_spec
-    no-lots h = rw (opened, no-price, longs-here, shorts-here, eq-eqb (sum_of longs + sum_of shorts) 0 (omega (arith, all-lots)))
+    no-lots h = rw (opened, no-price, longs-here, shorts-here, eq-eqb (sum_of longs + sum_of shorts) 0 (omega (arith, all_lots)))
 
     -- there are lots of the defaulted, and ws are the weights
     module _ (there : q + l ≡ 0 → ⊥) (ws : List ℕ) (sum : ℕ) (summed : sum ≡ sum_of ws)
         (weighed : (s : Tables) (v : List ℤ) → lots_remaining (with_head head (with_rows lots v s)) e.contract ≡ l → ws ≡ weights (with_head head (with_rows lots v s)) e) where
-      weights-here : weights lent e ≡ ws
-      weights-here = sym (weighed (with_lines lines t) value remaining-here)
+      weights_here : weights lent e ≡ ws
+      weights_here = sym (weighed (with_lines lines t) value remaining-here)
 
       some-lots : eqb (sum_of longs + sum_of shorts) 0 ≡ false
-      some-lots = ne_eqb (sum_of longs + sum_of shorts) 0 (λ z. there (omega (arith, all-lots)))
+      some-lots = ne_eqb (sum_of longs + sum_of shorts) 0 (λ z. there (omega (arith, all_lots)))
 
       lines_are : close_out_lines lent e ≡ step_lines c price q l longs shorts ws
-      lines_are = spec_lines lent e ∙ rw (priced, d.netted (with_lines lines t) value, remaining-here, longs-here, shorts-here, weights-here)
+      lines_are = spec_lines lent e ∙ rw (priced, d.netted (with_lines lines t) value, remaining-here, longs-here, shorts-here, weights_here)
 
       pub no_taker : ltb 0 l && eqb sum 0 ≡ true → record { answer = NoTaker; after = lent } ≡ close_out_spec lent e
       unfolding close_out_spec
-      no_taker h = rw (opened, no-price, longs-here, shorts-here, some-lots, remaining-here, weights-here, ← summed, h)
+      no_taker h = rw (opened, no-price, longs-here, shorts-here, some-lots, remaining-here, weights_here, ← summed, h)
 
       module _ (taker : ltb 0 l && eqb sum 0 ≡ false) where
         run_is : line_run (close_out_lines lent e) ≡ (q + q) + (l + l)
@@ -233,18 +233,18 @@ module _ (head : List ℕ) (lots value lines : List ℤ) (f : Bookable 0 head lo
             let long = sum_of (less longs (given_up q longs)) in
             let ts = taker_lines c price long l ws in
             rw lines_are
-            (omega (arith, run_append ns (fs ++ ts), run_append fs ts, netting-run price, defaulted-run price, takers_run c price long l ws (takers-there ws sum summed taker)))
+            (omega (arith, run_append ns (fs ++ ts), run_append fs ts, netting_run price, defaulted_run price, takers_run c price long l ws (takers_there ws sum summed taker)))
 
         pub passed : most_lots_run < lots_run lent + ((q + q) + (l + l)) → record { answer = TotalPassed; after = lent } ≡ close_out_spec lent e
         unfolding close_out_spec
-        passed k = rw (opened, no-price, longs-here, shorts-here, some-lots, remaining-here, weights-here, ← summed, taker, run_is, lt-ltb most_lots_run (lots_run lent + ((q + q) + (l + l))) k)
+        passed k = rw (opened, no-price, longs-here, shorts-here, some-lots, remaining-here, weights_here, ← summed, taker, run_is, lt-ltb most_lots_run (lots_run lent + ((q + q) + (l + l))) k)
 
         pub booked-so : lots_run lent + ((q + q) + (l + l)) ≤ most_lots_run → (n : ℕ) (t' : Tables) → n ≡ length (step_lines c price q l longs shorts ws)
             → t' ≡ with_each 0 (step_lines c price q l longs shorts ws) lent → record { answer = Accepted n; after = t' } ≡ close_out_spec lent e
         unfolding close_out_spec close_out_booked booked
         booked-so k n t' en et =
             rw (en, et, each_booked (step_lines c price q l longs shorts ws) lent (omega (arith, f.long)), ← lines_are)
-            (rw (opened, no-price, longs-here, shorts-here, some-lots, remaining-here, weights-here, ← summed, taker, run_is, le-ltb most_lots_run (lots_run lent + ((q + q) + (l + l))) k))
+            (rw (opened, no-price, longs-here, shorts-here, some-lots, remaining-here, weights_here, ← summed, taker, run_is, le-ltb most_lots_run (lots_run lent + ((q + q) + (l + l))) k))
 
 -- ---- the causes that need no lots
 pub not_open : (t : Tables) (e : CloseOutTerms) → is_open t e.contract ≡ false → record { answer = ContractNotOpen e.contract; after = t } ≡ close_out_spec t e

@@ -53,56 +53,56 @@ mapped_most f n most h i =
 
 -- Sums over the first c contracts.
 module _ (days : List ℕ) (lots : List ℤ) (n c : ℕ) (most : (i : ℕ) → get_or days i 0 ≤ most_days) (fit : RowsFit n most_lots_run lots) (l : c ≤ contract_count) where
-  weight-most : (m : ℕ) → m < n → weight_by c days lots m ≤ c * (most_days * most_lots_run)
+  weight_most : (m : ℕ) → m < n → weight_by c days lots m ≤ c * (most_days * most_lots_run)
   unfolding weight_by
-  weight-most m k =
+  weight_most m k =
       total_most (λ x. get_or days x 0 * nat_abs (get_or lots (row_place x m) (pos 0))) (most_days * most_lots_run) 0 c (λ x h g. mul-le-mul (most x) (fit.within x m (omega arith) k))
 
-  pub sums-most : (i : ℕ) → get_or (map (weight_by c days lots) (from 0 n)) i 0 ≤ c * (most_days * most_lots_run)
-  sums-most = mapped_most (weight_by c days lots) n (c * (most_days * most_lots_run)) weight-most
+  pub sums_most : (i : ℕ) → get_or (map (weight_by c days lots) (from 0 n)) i 0 ≤ c * (most_days * most_lots_run)
+  sums_most = mapped_most (weight_by c days lots) n (c * (most_days * most_lots_run)) weight_most
 
 module _ (t : Tables) (few : members t ≤ most_members) (fit : RowsFit (members t) most_lots_run t.lots) where
-  pub column-length : (part : Part) (c : ℕ) → length (column_of part t c) ≡ members t
+  pub column_length : (part : Part) (c : ℕ) → length (column_of part t c) ≡ members t
   unfolding column_of
-  column-length part c = mapped_length (λ m. lots_in part (defaulted t m) (lots_at t c m)) 0 (members t)
+  column_length part c = mapped_length (λ m. lots_in part (defaulted t m) (lots_at t c m)) 0 (members t)
 
-  column-most : (part : Part) (c : ℕ) → c < contract_count → (i : ℕ) → get_or (column_of part t c) i 0 ≤ most_lots_run
+  column_most : (part : Part) (c : ℕ) → c < contract_count → (i : ℕ) → get_or (column_of part t c) i 0 ≤ most_lots_run
   unfolding column_of
-  column-most part c h =
+  column_most part c h =
       mapped_most (λ m. lots_in part (defaulted t m) (lots_at t c m)) (members t) most_lots_run (λ m k. omega (arith, part_most part (defaulted t m) (lots_at t c m), fit.within c m h k))
 
   pub column_fits : (part : Part) (c : ℕ) → c < contract_count → MemberColumn most_weight (column_of part t c)
-  column_fits part c h = record { few = omega (arith, column-length part c); each = λ i. omega (arith, column-most part c h i) }
+  column_fits part c h = record { few = omega (arith, column_length part c); each = λ i. omega (arith, column_most part c h i) }
 
-  pub column-sum : (part : Part) (c : ℕ) → c < contract_count → sum_of (column_of part t c) ≤ most_members * most_lots_run
-  column-sum part c h = omega (arith, sum_most (column_of part t c) most_lots_run (column-most part c h), column-length part c)
+  pub column_sum : (part : Part) (c : ℕ) → c < contract_count → sum_of (column_of part t c) ≤ most_members * most_lots_run
+  column_sum part c h = omega (arith, sum_most (column_of part t c) most_lots_run (column_most part c h), column_length part c)
 
-  day-weight-most : (m : ℕ) → m < members t → open_weight t m ≤ most_weight
-  day-weight-most m k =
-      rw (← open_weight_lem t m) (omega (arith, weight-most (open_days (calendar t) (day t)) t.lots (members t) term_count (open_days_most (calendar t) (day t)) fit (omega arith) m k))
+  day_weight_most : (m : ℕ) → m < members t → open_weight t m ≤ most_weight
+  day_weight_most m k =
+      rw (← open_weight_lem t m) (omega (arith, weight_most (open_days (calendar t) (day t)) t.lots (members t) term_count (open_days_most (calendar t) (day t)) fit (omega arith) m k))
 
-  or-none : (b : Bool) (x most : ℕ) → x ≤ most → cond b 0 x ≤ most
-  or-none true x most h = omega arith
-  or-none false x most h = h
+  or_none : (b : Bool) (x most : ℕ) → x ≤ most → cond b 0 x ≤ most
+  or_none true x most h = omega arith
+  or_none false x most h = h
 
-  pub days-column : MemberColumn most_weight (days_weights t)
+  pub days_column : MemberColumn most_weight (days_weights t)
   unfolding days_weights
-  days-column =
+  days_column =
       let f : ℕ → ℕ = λ m. cond (defaulted t m) 0 (open_weight t m) in
-      record { few = omega (arith, mapped_length f 0 (members t)); each = mapped_most f (members t) most_weight (λ m k. or-none (defaulted t m) (open_weight t m) most_weight (day-weight-most m k)) }
+      record { few = omega (arith, mapped_length f 0 (members t)); each = mapped_most f (members t) most_weight (λ m k. or_none (defaulted t m) (open_weight t m) most_weight (day_weight_most m k)) }
 
 -- ---- which weights
 module _ (t : Tables) (e : CloseOutTerms) (remaining : ℕ) (known : lots_remaining t e.contract ≡ remaining) where
   abbrev here : List ℕ
   here = column_of Others t e.contract
 
-  pub weights-here : 1000 * remaining < e.ratio * sum_of here → here ≡ weights t e
+  pub weights_here : 1000 * remaining < e.ratio * sum_of here → here ≡ weights t e
   unfolding weights others_lots column_of
-  weights-here h = rw (known, lt-leb (e.ratio * sum_of here) (1000 * remaining) h)
+  weights_here h = rw (known, lt-leb (e.ratio * sum_of here) (1000 * remaining) h)
 
-  pub weights-days : e.ratio * sum_of here ≤ 1000 * remaining → days_weights t ≡ weights t e
+  pub weights_days : e.ratio * sum_of here ≤ 1000 * remaining → days_weights t ≡ weights t e
   unfolding weights others_lots column_of days_weights
-  weights-days h = rw (known, le-leb (e.ratio * sum_of here) (1000 * remaining) h)
+  weights_days h = rw (known, le-leb (e.ratio * sum_of here) (1000 * remaining) h)
 
 pub sum_fits : (ns : List ℕ) → MemberColumn most_weight ns → sum_of ns ≤ most_members * most_weight
 sum_fits ns f = omega (arith, sum_most ns most_weight f.each, f.few)

@@ -15,7 +15,7 @@ use Rattle.arith.specs.Lists.{from, total}
 use Rattle.arith.proofs.Tests.{le_or_lt}
 use Rattle.arith.proofs.Ranges.{total_more}
 use Rattle.arith.proofs.Totals.{total_same}
-use Rattle.rules.proofs.OpenContracts.{open-total, days_most}
+use Rattle.rules.proofs.OpenContracts.{open_total, days_most}
 use Rattle.rules.specs.ContractTerms.{days_of, open_on}
 use Rattle.rules.specs.Days.{Calendar}
 use Rattle.rules.specs.Default.{open_weight}
@@ -57,7 +57,7 @@ open_weight_lem t m =
     let size : ℕ → ℕ = λ c. nat_abs (lots_at t c m) in
     total_same (λ c. get_or (open_days k d) c 0 * size c) (λ c. cond (open_on k d c) (days_of k c * size c) 0) 0 term_count
     (λ c h g. ap (λ x. x * size c) (open_days_at k d c g) ∙ cond_times (open_on k d c) (days_of k c) (size c))
-    ∙ sym (open-total k d (λ c. days_of k c * size c))
+    ∙ sym (open_total k d (λ c. days_of k c * size c))
 
 -- ---- a column of numbers by member
 mapped_same : (f g : ℕ → ℕ) (a n : ℕ) → ((m : ℕ) → a ≤ m → m < a + n → f m ≡ g m) → map f (from a n) ≡ map g (from a n)
@@ -82,23 +82,23 @@ module _ (days : List ℕ) (lots : List ℤ) (n : ℕ) where
   zeros a zero = refl
   zeros a (suc k) = ap (λ l. 0 ∷ l) (zeros (suc a) k)
 
-  pub sums-start : replicate n 0 ≡ map (weight_by 0 days lots) (from 0 n)
-  sums-start = zeros 0 n
+  pub sums_start : replicate n 0 ≡ map (weight_by 0 days lots) (from 0 n)
+  sums_start = zeros 0 n
 
-  weight-more : (c m : ℕ) → weight_by (c + 1) days lots m ≡ weight_by c days lots m + get_or days c 0 * nat_abs (get_or lots (row_place c m) (pos 0))
+  weight_more : (c m : ℕ) → weight_by (c + 1) days lots m ≡ weight_by c days lots m + get_or days c 0 * nat_abs (get_or lots (row_place c m) (pos 0))
   unfolding weight_by
-  weight-more c m = rw (add-one c) (total_more (λ x. get_or days x 0 * nat_abs (get_or lots (row_place x m) (pos 0))) 0 c ∙ rw (zero-add c))
+  weight_more c m = rw (add-one c) (total_more (λ x. get_or days x 0 * nat_abs (get_or lots (row_place x m) (pos 0))) 0 c ∙ rw (zero-add c))
 
   pub sums_next : (c : ℕ) (sums after : List ℕ) → sums ≡ map (weight_by c days lots) (from 0 n)
       → after ≡ map (λ m. get_or sums m 0 + get_or days c 0 * nat_abs (get_or lots (row_place c m) (pos 0))) (from 0 n) → after ≡ map (weight_by (c + 1) days lots) (from 0 n)
   sums_next c sums after e a =
       a ∙ mapped_same (λ m. get_or sums m 0 + get_or days c 0 * nat_abs (get_or lots (row_place c m) (pos 0))) (weight_by (c + 1) days lots) 0 n
-      (λ m l u. rw (e, read_mapped (weight_by c days lots) n m (omega arith)) (sym (weight-more c m)))
+      (λ m l u. rw (e, read_mapped (weight_by c days lots) n m (omega arith)) (sym (weight_more c m)))
 
   -- The sums, of those that pass a test nothing.
-  pub sums-read : (marked : ℕ → Bool) (sums : List ℕ) → sums ≡ map (weight_by term_count days lots) (from 0 n)
+  pub sums_read : (marked : ℕ → Bool) (sums : List ℕ) → sums ≡ map (weight_by term_count days lots) (from 0 n)
       → map (λ m. cond (marked m) 0 (get_or sums m 0)) (from 0 n) ≡ map (λ m. cond (marked m) 0 (weight_by term_count days lots m)) (from 0 n)
-  sums-read marked sums e =
+  sums_read marked sums e =
       mapped_same (λ m. cond (marked m) 0 (get_or sums m 0)) (λ m. cond (marked m) 0 (weight_by term_count days lots m)) 0 n
       (λ m l u. rw (e, read_mapped (weight_by term_count days lots) n m (omega arith)))
 

@@ -11,7 +11,7 @@ use Rattle.rules.specs.declared.field.Field.TheVariants.{LetterV, LetterJ, Lette
 use Rattle.rules.specs.declared.field.Field.TheVariants.{Kind, Time, Member, Contract, Side, OrderKind, Price, Lots, Order, Low, High, Legs, Ratio}
 use Rattle.rules.specs.Fields.{width_of, widths, number_at, number_bytes, numbers_at, bytes_by}
 use Rattle.big_endian.specs.Width.{Width, one, two, four}
-use Rattle.big_endian.proofs.Numbers.{u16_wide, u32_wide, u16-back, u32_back, u8-again, u16-again, u32-again}
+use Rattle.big_endian.proofs.Numbers.{u16_wide, u32_wide, u16_back, u32_back, u8_again, u16_again, u32_again}
 use Rattle.codec.specs.Fits.{Fits}
 
 -- ---- one number
@@ -63,14 +63,14 @@ number_wide four v = u32_wide v
 number_back : {w : ℕ} → Width w → (p q : List ℕ) (i : ℕ) → i ≡ length p → (v : ℕ) → v < 256 ^ w → number_at (p ++ (number_bytes w v ++ q)) i w ≡ v
 unfolding number_at number_bytes
 number_back one p q i e v h = rw (e, ← add-zero (length p)) (get_or-append-add p (v ∷ q) 0 0)
-number_back two p q i e v h = u16-back p q i e v h
+number_back two p q i e v h = u16_back p q i e v h
 number_back four p q i e v h = u32_back p q i e v h
 
 number_again : {w : ℕ} → Width w → (s : List ℕ) → ((i : ℕ) → get_or s i 0 < 256) → (i : ℕ) → i + w ≤ length s → number_bytes w (number_at s i w) ++ drop (i + w) s ≡ drop i s
 unfolding number_at number_bytes
-number_again one s small i h = u8-again s small i (omega arith)
-number_again two s small i h = u16-again s small i h
-number_again four s small i h = u32-again s small i h
+number_again one s small i h = u8_again s small i (omega arith)
+number_again two s small i h = u16_again s small i h
+number_again four s small i h = u32_again s small i h
 
 -- ---- one field after the other
 pub fits_at : (fs : List Field) (ns : List ℕ) → Fits fs ns → (i : ℕ) → i < length fs → get_or ns i 0 < 256 ^ width_of (get_or fs i Kind)

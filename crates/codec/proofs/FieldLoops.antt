@@ -8,7 +8,7 @@ use lib.ListN.{length, get_or, set, take, drop, replicate, length-append, take-a
 use lib.Seq.{take-suc, take_all, length-take-le, get_or-drop}
 use Rattle.arith.specs.Columns.{padded}
 use Rattle.arith.specs.Lists.{over}
-use Rattle.arith.proofs.Beside.{over-next}
+use Rattle.arith.proofs.Beside.{over_next}
 use Rattle.arith.proofs.Padded.{padded_set}
 use Rattle.rules.specs.declared.event.Event.{Event}
 use Rattle.rules.specs.declared.field.Field.{Field}
@@ -24,17 +24,17 @@ module _ (fs : List Field) (i : ℕ) (h : i < length fs) {f : Field} {w place : 
   more : take (i + 1) fs ≡ take i fs ++ (f ∷ [])
   more = rw (add-one i, e) (take-suc fs i Kind h)
 
-  pub place-next : place + w ≡ 1 + widths (take (i + 1) fs)
+  pub place_next : place + w ≡ 1 + widths (take (i + 1) fs)
   unfolding widths
-  place-next = let grown = ap widths more ∙ widths_append (take i fs) (f ∷ []) in omega arith
+  place_next = let grown = ap widths more ∙ widths_append (take i fs) (f ∷ []) in omega arith
 
-  pub field-inside : (n : ℕ) → widths fs ≤ n - 1 → place + w ≤ n
-  field-inside n r = omega (arith, place-next, widths_first fs (i + 1), some_width f)
+  pub field_inside : (n : ℕ) → widths fs ≤ n - 1 → place + w ≤ n
+  field_inside n r = omega (arith, place_next, widths_first fs (i + 1), some_width f)
 
-  pub numbers-next : (k : ℕ) (s : List ℕ) (n : ℕ) {v : ℕ} {numbers : List ℕ} → length fs < n → v ≡ number_at s place w → numbers ≡ padded n (k ∷ numbers_at s 1 (take i fs))
+  pub numbers_next : (k : ℕ) (s : List ℕ) (n : ℕ) {v : ℕ} {numbers : List ℕ} → length fs < n → v ≡ number_at s place w → numbers ≡ padded n (k ∷ numbers_at s 1 (take i fs))
       → set numbers (1 + i) v ≡ padded n (k ∷ numbers_at s 1 (take (i + 1) fs))
   unfolding numbers_at
-  numbers-next k s n {v} {numbers} room q c =
+  numbers_next k s n {v} {numbers} room q c =
       let before = k ∷ numbers_at s 1 (take i fs) in
       let sized : length before ≡ 1 + i = omega (arith, length_numbers s 1 (take i fs), length-take-le i fs (omega arith)) in
       let last : numbers_at s (1 + widths (take i fs)) (f ∷ []) ≡ v ∷ [] = rw (← a, ← u, ← q) refl in
@@ -48,7 +48,7 @@ module _ (fs : List Field) (i : ℕ) (h : i < length fs) {f : Field} {w place : 
       let short = length-take-le i fs (omega arith) in
       let sized : length (bytes_by (take i fs) ns) ≡ widths (take i fs) = length_bytes (take i fs) ns (omega arith) in
       let grown : bytes_by (take (i + 1) fs) ns ≡ bytes_by (take i fs) ns ++ number_bytes w v = rw (add-one i, u, e, q) (bytes_more fs ns i h j) in
-      rw grown (over-next 1 place (bytes_by (take i fs) ns) (number_bytes w v) l m k p r (omega arith) (omega arith))
+      rw grown (over_next 1 place (bytes_by (take i fs) ns) (number_bytes w v) l m k p r (omega arith) (omega arith))
 
 -- ---- the numbers of an event, kind first
 module _ (e : Event) (numbers l : List ℕ) (q : numbers ≡ over 0 (kind_number e ∷ event_numbers e) l) {kind : ℕ} (k : kind ≡ kind_number e) where
@@ -72,8 +72,8 @@ module _ (e : Event) (numbers l : List ℕ) (q : numbers ≡ over 0 (kind_number
       sym (get_or-drop 1 numbers i 0) ∙ (ap (λ x. get_or x i 0) after_kind ∙ get_or-append (event_numbers e) past 0 i (omega (arith, (described e).counted))) in
       rw (number, u, at_i, k) (fits_at fields (event_numbers e) fits i here)
 
-  pub fields-put : (i : ℕ) (out : List ℕ) {m : List ℕ} → length (kind_fields kind) ≤ i → m ≡ over 1 (bytes_by (take i (kind_fields kind)) (drop 1 numbers)) out → m ≡ over 1 (bytes_by fields (event_numbers e)) out
-  fields-put i out h p =
+  pub fields_put : (i : ℕ) (out : List ℕ) {m : List ℕ} → length (kind_fields kind) ≤ i → m ≡ over 1 (bytes_by (take i (kind_fields kind)) (drop 1 numbers)) out → m ≡ over 1 (bytes_by fields (event_numbers e)) out
+  fields_put i out h p =
       p ∙ ap (λ x. over 1 x out)
       (rw (take_all i (kind_fields kind) h, k, after_kind) (bytes_enough fields (event_numbers e) past (omega (arith, (described e).counted))))
 

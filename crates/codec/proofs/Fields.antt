@@ -48,13 +48,13 @@ length_legless k a b h = rw (ne_eqb k 4 h) refl
 
 -- ---- by the kind and the length, as they were read
 module _ (s : List ℕ) {k second n : ℕ} (kind : k ≡ get_or s 0 0) (next : second ≡ get_or s 1 0) (sized : n ≡ record_length k second) where
-  pub fields-cut : (length s ≡ n → ⊥) → Unsound ≡ fields_of s
+  pub fields_cut : (length s ≡ n → ⊥) → Unsound ≡ fields_of s
   unfolding fields_of
-  fields-cut l = rw (← kind, ← next, ← sized, ne_eqb (length s) n l) refl
+  fields_cut l = rw (← kind, ← next, ← sized, ne_eqb (length s) n l) refl
 
-  pub fields-of-kind : length s ≡ n → fields_by_kind k s ≡ fields_of s
+  pub fields_of_kind_lem : length s ≡ n → fields_by_kind k s ≡ fields_of s
   unfolding fields_of
-  fields-of-kind l = rw (← kind, ← next, ← sized, eq-eqb (length s) n l) refl
+  fields_of_kind_lem l = rw (← kind, ← next, ← sized, eq-eqb (length s) n l) refl
 
 -- ---- by a record's numbers
 pub by_numbers : (kind : ℕ) (s f : List ℕ) → record_numbers kind s ≡ f → fields_by_kind kind s ≡ event_by_kind kind f

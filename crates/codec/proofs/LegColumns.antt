@@ -62,17 +62,17 @@ module _ (s : List ℕ) where
   unfolding from
   held_none e = record { legs = e; most = omega arith; inside = omega arith }
 
-  pub held-other : (get_or s 0 0 ≡ 4 → ⊥) → Held s 0
+  pub held_other : (get_or s 0 0 ≡ 4 → ⊥) → Held s 0
   unfolding held_legs
-  held-other h = held_none (rw (ne_eqb (get_or s 0 0) 4 h) refl)
+  held_other h = held_none (rw (ne_eqb (get_or s 0 0) 4 h) refl)
 
-  pub held-many : most_legs < get_or s 1 0 → Held s 0
+  pub held_many : most_legs < get_or s 1 0 → Held s 0
   unfolding held_legs
-  held-many h = held_none (rw (lt-leb (get_or s 1 0) most_legs h, and_false (eqb (get_or s 0 0) 4)) refl)
+  held_many h = held_none (rw (lt-leb (get_or s 1 0) most_legs h, and_false (eqb (get_or s 0 0) 4)) refl)
 
-  pub held-uneven : (length s ≡ leg_place (get_or s 1 0) → ⊥) → Held s 0
+  pub held_uneven : (length s ≡ leg_place (get_or s 1 0) → ⊥) → Held s 0
   unfolding held_legs
-  held-uneven h = held_none (rw (ne_eqb (length s) (leg_place (get_or s 1 0)) h, and_false (eqb (get_or s 0 0) 4 && leb (get_or s 1 0) most_legs)) refl)
+  held_uneven h = held_none (rw (ne_eqb (length s) (leg_place (get_or s 1 0)) h, and_false (eqb (get_or s 0 0) 4 && leb (get_or s 1 0) most_legs)) refl)
 
   module _ (k : get_or s 0 0 ≡ 4) (m : get_or s 1 0 ≤ most_legs) (l : length s ≡ leg_place (get_or s 1 0)) where
     held_all : held_legs s ≡ legs_of s
@@ -125,24 +125,24 @@ is_legless : (e : Event) (l : Legs) → (kind_number e ≡ 4 → ⊥) → [] ≡
 is_legless e l h = sym (ap (λ n. leg_rows n l) (none_beside e h) ∙ no_rows l)
 
 module _ (n : ℕ) (e : Event) (l : Legs) {r : Bool} where
-  pub judged-proposal : {count : ℕ} → kind_number e ≡ 4 → count ≡ leg_count e → r ≡ event_sound n (Proposal count) (leg_rows count l) → r ≡ event_sound n e (leg_rows (leg_count e) l)
-  judged-proposal k c j = j ∙ rw c (ap (λ x. event_sound n x (leg_rows (leg_count e) l)) (sym (is_proposal e k)))
+  pub judged_proposal : {count : ℕ} → kind_number e ≡ 4 → count ≡ leg_count e → r ≡ event_sound n (Proposal count) (leg_rows count l) → r ≡ event_sound n e (leg_rows (leg_count e) l)
+  judged_proposal k c j = j ∙ rw c (ap (λ x. event_sound n x (leg_rows (leg_count e) l)) (sym (is_proposal e k)))
 
-  pub judged-legless : (kind_number e ≡ 4 → ⊥) → r ≡ event_sound n e [] → r ≡ event_sound n e (leg_rows (leg_count e) l)
-  judged-legless k j = j ∙ ap (event_sound n e) (is_legless e l k)
+  pub judged_legless : (kind_number e ≡ 4 → ⊥) → r ≡ event_sound n e [] → r ≡ event_sound n e (leg_rows (leg_count e) l)
+  judged_legless k j = j ∙ ap (event_sound n e) (is_legless e l k)
 
 -- ---- the legs of a record that says an event
 module _ (s : List ℕ) (e : Event) (y : Says s e) where
   -- It is a proposal of as many legs as its second byte says, or has none.
-  pub says-proposal : kind_number e ≡ 4 → (get_or s 0 0 ≡ 4) × (length s ≡ leg_place (get_or s 1 0)) × (e ≡ Proposal (get_or s 1 0))
+  pub says_proposal : kind_number e ≡ 4 → (get_or s 0 0 ≡ 4) × (length s ≡ leg_place (get_or s 1 0)) × (e ≡ Proposal (get_or s 1 0))
   unfolding record_length numbers_at
-  says-proposal h =
+  says_proposal h =
       let numbers : event_numbers e ≡ get_or s 1 0 ∷ [] = rw h at y.numbers in
       let count : leg_count e ≡ get_or s 1 0 = rw (eq-eqb (kind_number e) 4 h, numbers) refl in
       (sym y.kind ∙ h, rw h at y.sized, is_proposal e h ∙ ap Proposal count)
 
-  pub says-legless : (kind_number e ≡ 4 → ⊥) → legs_of s ≡ []
-  says-legless h = no_legs s (λ k. h (y.kind ∙ k))
+  pub says_legless : (kind_number e ≡ 4 → ⊥) → legs_of s ≡ []
+  says_legless h = no_legs s (λ k. h (y.kind ∙ k))
 
 module _ (n : ℕ) (s : List ℕ) where
   abbrev columns : Legs
@@ -162,18 +162,18 @@ module _ (n : ℕ) (s : List ℕ) where
 
   rows : (e : Event) → Says s e → Rows e
   rows e y =
-      same_or (kind_number e) 4 (λ h. let p = says-proposal s e y h in subst Rows (sym p.2) (proposed p.0 p.1))
-      (λ h. let none : leg_rows (leg_count e) columns ≡ legs_of s = sym (is_legless e columns h) ∙ sym (says-legless s e y h) in (ap (event_sound n e) none, λ _. none))
+      same_or (kind_number e) 4 (λ h. let p = says_proposal s e y h in subst Rows (sym p.2) (proposed p.0 p.1))
+      (λ h. let none : leg_rows (leg_count e) columns ≡ legs_of s = sym (is_legless e columns h) ∙ sym (says_legless s e y h) in (ap (event_sound n e) none, λ _. none))
 
-  pub rows-judged : (e : Event) → fields_of s ≡ Sound e → event_sound n e (leg_rows (leg_count e) columns) ≡ event_sound n e (legs_of s)
-  rows-judged e h = (rows e (says s e h)).0
+  pub rows_judged : (e : Event) → fields_of s ≡ Sound e → event_sound n e (leg_rows (leg_count e) columns) ≡ event_sound n e (legs_of s)
+  rows_judged e h = (rows e (says s e h)).0
 
-  pub rows-said : (e : Event) → fields_of s ≡ Sound e → event_sound n e (legs_of s) ≡ true → leg_rows (leg_count e) columns ≡ legs_of s
-  rows-said e h t = (rows e (says s e h)).1 t
+  pub rows_said : (e : Event) → fields_of s ≡ Sound e → event_sound n e (legs_of s) ≡ true → leg_rows (leg_count e) columns ≡ legs_of s
+  rows_said e h t = (rows e (says s e h)).1 t
 
   -- The columns that read_legs fills of a sound proposal hold its legs.
-  pub legs-said : (k : ℕ) → fields_of s ≡ Sound (Proposal k) → event_sound n (Proposal k) (legs_of s) ≡ true → held_legs s ≡ legs_of s
-  legs-said k h t =
-      let p = says-proposal s (Proposal k) (says s (Proposal k) h) refl in
+  pub legs_said : (k : ℕ) → fields_of s ≡ Sound (Proposal k) → event_sound n (Proposal k) (legs_of s) ≡ true → held_legs s ≡ legs_of s
+  legs_said k h t =
+      let p = says_proposal s (Proposal k) (says s (Proposal k) h) refl in
       let count : k ≡ get_or s 1 0 = let q = p.2 in cc in
       le_or_lt (get_or s 1 0) most_legs (λ m. held_all s p.0 m p.1) (λ m. never (sym t ∙ many_legs n k (legs_of s) (rw count m)))

@@ -8,7 +8,7 @@ use borrow.Author.Tests.{lt-leb, le-leb, le-ltb, ne_eqb}
 use lib.Dec.{T, eqb, leb, ltb}
 use lib.ListN.{length, get_or, take, drop, length-append, get_or-append}
 use Rattle.arith.specs.Lists.{All, every, over}
-use Rattle.arith.proofs.Alls.{every-all}
+use Rattle.arith.proofs.Alls.{every_all}
 use Rattle.arith.proofs.Beside.{take_over}
 use Rattle.arith.proofs.Tests.{same_or, and_left, and_right, and_false}
 use Rattle.rules.specs.declared.answer.Answer.TheVariants.{RecordUnsound}
@@ -22,15 +22,15 @@ use Rattle.rules.specs.Header.{members_sound}
 use Rattle.rules.specs.Records.{leg_place, record_length, front_length, leg_sound, event_sound, kind_number, event_numbers, leg_numbers, leg_in}
 use Rattle.rules.specs.Records.{leg_bytes, field_bytes, bytes_of, write_spec, record_numbers, fields_of, leg_at, legs_of, read_of, front_of}
 use Rattle.rules.proofs.Writing.{written, not_refused}
-use Rattle.big_endian.proofs.Numbers.{bytes_small, all_back, u8-first, none-past, all-again}
+use Rattle.big_endian.proofs.Numbers.{bytes_small, all_back, u8_first, none_past, all_again}
 use Rattle.record_kinds.specs.Numbers.{leg_count}
 use Rattle.record_kinds.proofs.EachKind.{described}
 use Rattle.codec.specs.Columns.{leg_rows}
 use Rattle.codec.specs.Fits.{Fits, EventFits}
 use Rattle.codec.specs.Trips.{WrittenIsRead, ReadIsWritten, SoundStandsWhole}
 use Rattle.codec.proofs.FieldBytes.{numbers_back, numbers_again}
-use Rattle.codec.proofs.Fields.{Says, says, said, length_legless, fields-of-kind, by_numbers}
-use Rattle.codec.proofs.LegColumns.{is_proposal, none_beside, says-proposal, legs_to_lem, rows-said}
+use Rattle.codec.proofs.Fields.{Says, says, said, length_legless, fields_of_kind_lem, by_numbers}
+use Rattle.codec.proofs.LegColumns.{is_proposal, none_beside, says_proposal, legs_to_lem, rows_said}
 use Rattle.codec.proofs.Written.{leg_wide, first_leg, record_sized, length_record, some_bytes, two_bytes, bound, sound_event, write-whole}
 
 -- ---- written, then read
@@ -57,7 +57,7 @@ fields_back e legs f l =
     let s = bytes_of e legs in
     let sized : length s ≡ record_length (kind_number e) (get_or s 1 0) = length_record e legs l ∙ second_byte e legs in
     let back = rw (append-nil (event_numbers e)) at ((described e).back []) in
-    sym (fields-of-kind s (first_byte e legs) refl refl sized)
+    sym (fields_of_kind_lem s (first_byte e legs) refl refl sized)
     ∙ (by_numbers (kind_number e) s (kind_number e ∷ event_numbers e) (numbers_written e legs f) ∙ back)
 
 leg_back : (p q : List ℕ) (i : ℕ) → i ≡ length p → (g : Leg) → leg_sound g ≡ true → leg_at (p ++ (leg_bytes g ++ q)) i ≡ g
@@ -79,7 +79,7 @@ proposal_legs n k legs t = and_right (leb least_legs k && leb k most_legs && eqb
 legs_proposed : (n k : ℕ) (legs : List Leg) → event_sound n (Proposal k) legs ≡ true → length legs ≡ k → legs_of (bytes_of (Proposal k) legs) ≡ legs
 unfolding legs_of bytes_of field_bytes
 legs_proposed n k legs t l =
-    let good : All (λ g. leg_sound g ≡ true) legs = every-all leg_sound legs (proposal_legs n k legs t) in
+    let good : All (λ g. leg_sound g ≡ true) legs = every_all leg_sound legs (proposal_legs n k legs t) in
     rw (append-nil (flat_map leg_bytes legs), l) at (all_back leg_bytes 10 leg_wide leg_at (λ g. leg_sound g ≡ true) leg_back legs (4 ∷ k ∷ []) [] 2 refl good)
 
 no_legs_written : (e : Event) (legs : List Leg) → (kind_number e ≡ 4 → ⊥) → [] ≡ legs_of (bytes_of e legs)
@@ -105,36 +105,36 @@ legs_written n e legs m t = legs_back n e legs t (sound_event n m legs e t).besi
 
 -- ---- read, then written
 module _ (s : List ℕ) (small : (i : ℕ) → get_or s i 0 < 256) where
-  leg-again : (i : ℕ) → i + 10 ≤ length s → leg_bytes (leg_at s i) ++ drop (i + 10) s ≡ drop i s
+  leg_again : (i : ℕ) → i + 10 ≤ length s → leg_bytes (leg_at s i) ++ drop (i + 10) s ≡ drop i s
   unfolding numbers_at widths
-  leg-again i h = numbers_again s small leg_fields i h
+  leg_again i h = numbers_again s small leg_fields i h
 
   -- the kind, the fields, and what is past them
-  kind-again : (k : ℕ) → get_or s 0 0 ≡ k → 1 + widths (kind_fields k) ≤ length s
+  kind_again : (k : ℕ) → get_or s 0 0 ≡ k → 1 + widths (kind_fields k) ≤ length s
       → k ∷ (bytes_by (kind_fields k) (numbers_at s 1 (kind_fields k)) ++ drop (1 + widths (kind_fields k)) s) ≡ s
-  kind-again k e h = ap (λ x. k ∷ x) (numbers_again s small (kind_fields k) 1 h) ∙ u8-first s small k e (omega arith)
+  kind_again k e h = ap (λ x. k ∷ x) (numbers_again s small (kind_fields k) 1 h) ∙ u8_first s small k e (omega arith)
 
-  proposed-again : get_or s 0 0 ≡ 4 → length s ≡ leg_place (get_or s 1 0) → flat_map leg_bytes (legs_of s) ≡ drop 2 s
-  proposed-again k l =
+  proposed_again : get_or s 0 0 ≡ 4 → length s ≡ leg_place (get_or s 1 0) → flat_map leg_bytes (legs_of s) ≡ drop 2 s
+  proposed_again k l =
       sym (append-nil (flat_map leg_bytes (legs_of s)))
-      ∙ rw (legs_to_lem s k, ← none-past s small (leg_place (get_or s 1 0)) l) (all-again leg_bytes 10 leg_at s leg-again (get_or s 1 0) 2 (omega arith))
+      ∙ rw (legs_to_lem s k, ← none_past s small (leg_place (get_or s 1 0)) l) (all_again leg_bytes 10 leg_at s leg_again (get_or s 1 0) 2 (omega arith))
 
   -- The legs stand past the fields, to the end of the record.
-  legs-again : (e : Event) → Says s e → cond (has_legs (kind_number e)) (flat_map leg_bytes (legs_of s)) [] ≡ drop (1 + widths (kind_fields (kind_number e))) s
-  legs-again e y =
-      same_or (kind_number e) 4 (λ h. let p = says-proposal s e y h in rw (h, first_leg) (proposed-again p.0 p.1))
-      (λ h. let sized = rw (ne_eqb (kind_number e) 4 h) at (y.sized ∙ record_sized e (get_or s 1 0)) in rw (ne_eqb (kind_number e) 4 h) (sym (none-past s small (1 + widths (kind_fields (kind_number e))) (omega arith))))
+  legs_again : (e : Event) → Says s e → cond (has_legs (kind_number e)) (flat_map leg_bytes (legs_of s)) [] ≡ drop (1 + widths (kind_fields (kind_number e))) s
+  legs_again e y =
+      same_or (kind_number e) 4 (λ h. let p = says_proposal s e y h in rw (h, first_leg) (proposed_again p.0 p.1))
+      (λ h. let sized = rw (ne_eqb (kind_number e) 4 h) at (y.sized ∙ record_sized e (get_or s 1 0)) in rw (ne_eqb (kind_number e) 4 h) (sym (none_past s small (1 + widths (kind_fields (kind_number e))) (omega arith))))
 
-  record-again : (e : Event) → Says s e → bytes_of e (legs_of s) ≡ s
+  record_again : (e : Event) → Says s e → bytes_of e (legs_of s) ≡ s
   unfolding bytes_of field_bytes
-  record-again e y =
+  record_again e y =
       let k = kind_number e in
       let inside : 1 + widths (kind_fields k) ≤ length s = omega (arith, y.sized, some_bytes e (get_or s 1 0)) in
-      rw (y.numbers, legs-again e y) (kind-again k (sym y.kind) inside)
+      rw (y.numbers, legs_again e y) (kind_again k (sym y.kind) inside)
 
 -- A record that says an event is the event's record.
 written_again : (n : ℕ) (s : List ℕ) (e : Event) → T (every (λ b. ltb b 256) s) → read_of n s ≡ Sound e → bytes_of e (legs_of s) ≡ s
-written_again n s e b h = record-again s (bytes_small s b) e (says s e (said n s h).1)
+written_again n s e b h = record_again s (bytes_small s b) e (says s e (said n s h).1)
 
 -- ---- the promises
 pub written_is_read : WrittenIsRead
@@ -149,13 +149,13 @@ written_is_read n e l out k after w =
     let whole : take k after ≡ bytes = rw (reply_of.1, reply_of.2) (take_over bytes out) in
     let read = read_written n e legs few sound in
     let back = legs_written n e legs few sound in
-    rw whole (read, rows-said n bytes e (said n bytes read).1 (rw back sound) ∙ back)
+    rw whole (read, rows_said n bytes e (said n bytes read).1 (rw back sound) ∙ back)
 
 pub read_is_written : ReadIsWritten
 read_is_written n s e out b r h =
     let known = said n s r in
     let again = written_again n s e b r in
-    rw (rows-said n s e known.1 known.2)
+    rw (rows_said n s e known.1 known.2)
     (sym (write-whole n e (legs_of s) out known.0 known.2 (length s) (over 0 s out) (ap length (sym again)) (rw again h) (rw again refl)))
 
 -- ---- a record at the front of a stream

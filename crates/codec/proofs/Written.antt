@@ -10,7 +10,7 @@ use lib.Dec.{leb}
 use lib.ListN.{length, length-append}
 use Rattle.arith.proofs.Appends.{flat_length}
 use Rattle.arith.specs.Lists.{over}
-use Rattle.arith.proofs.Beside.{over-next, over-then}
+use Rattle.arith.proofs.Beside.{over_next, over_then}
 use Rattle.arith.proofs.Tests.{never, le_or_lt, same_or, and_right, and_false}
 use Rattle.rules.specs.declared.answer.Answer.TheVariants.{Accepted, TableUnsound, RecordUnsound}
 use Rattle.rules.specs.declared.event.Event.TheVariants.{Submit, Cancel, DayLimits, Proposal, Default, CloseOut, CloseOfDay}
@@ -94,19 +94,19 @@ pub record SoundEvent (e : Event) (legs : List Leg) : Type 0 where
   pub few : leg_count e ≤ most_legs
 
 module _ (n : ℕ) (m : members_sound n ≡ true) (legs : List Leg) where
-  member-fits : (x : ℕ) → (n ≤ x → true ≡ false) → x < 256
-  member-fits x f =
+  member_fits : (x : ℕ) → (n ≤ x → true ≡ false) → x < 256
+  member_fits x f =
       let few : n ≤ most_members = leb-true n most_members (and_right (leb 1 n) (leb n most_members) m) in
       le_or_lt n x (λ h. never (f h)) (λ h. omega arith)
 
   contract_fits : (x : ℕ) → (contract_count - 1 < x → true ≡ false) → x < 256
   contract_fits x f = omega (arith, bound x (contract_count - 1) f)
 
-  time-fits : (x : ℕ) → (last_second < x → true ≡ false) → x < 4294967296
-  time-fits x f = omega (arith, bound x last_second f)
+  time_fits : (x : ℕ) → (last_second < x → true ≡ false) → x < 4294967296
+  time_fits x f = omega (arith, bound x last_second f)
 
-  price-fits : (x : ℕ) → (most_price < x → true ≡ false) → x < 4294967296
-  price-fits x f = omega (arith, bound x most_price f)
+  price_fits : (x : ℕ) → (most_price < x → true ≡ false) → x < 4294967296
+  price_fits x f = omega (arith, bound x most_price f)
 
   counted : (k : ℕ) → ((length legs ≡ k → ⊥) → true ≡ false) → length legs ≡ k
   counted k f = same_or (length legs) k (λ h. h) (λ h. never (f h))
@@ -117,9 +117,9 @@ module _ (n : ℕ) (m : members_sound n ≡ true) (legs : List Leg) where
   sound_event (Submit e) t =
       record {
         fits = (
-          time-fits e.time (λ h. sym (simp (lt-leb e.time last_second h) at t)),
+          time_fits e.time (λ h. sym (simp (lt-leb e.time last_second h) at t)),
           (
-            member-fits e.member (λ h. sym (simp (le-ltb e.member n h, and_false) at t)),
+            member_fits e.member (λ h. sym (simp (le-ltb e.member n h, and_false) at t)),
             (
               contract_fits e.contract (λ h. sym (simp (lt-leb e.contract (contract_count - 1) h, and_false) at t)),
               (
@@ -127,7 +127,7 @@ module _ (n : ℕ) (m : members_sound n ≡ true) (legs : List Leg) where
                 (
                   order_kind_small e.kind,
                   (
-                    price-fits e.price.0 (λ h. sym (simp (lt-leb e.price.0 most_price h, and_false) at t)),
+                    price_fits e.price.0 (λ h. sym (simp (lt-leb e.price.0 most_price h, and_false) at t)),
                     (
                       omega (arith, bound e.lots.0 most_lots (λ h. sym (simp (lt-leb e.lots.0 most_lots h, and_false) at t))),
                       tt,
@@ -144,9 +144,9 @@ module _ (n : ℕ) (m : members_sound n ≡ true) (legs : List Leg) where
   sound_event (Cancel e) t =
       record {
         fits = (
-          time-fits e.time (λ h. sym (simp (lt-leb e.time last_second h) at t)),
+          time_fits e.time (λ h. sym (simp (lt-leb e.time last_second h) at t)),
           (
-            member-fits e.member (λ h. sym (simp (le-ltb e.member n h, and_false) at t)),
+            member_fits e.member (λ h. sym (simp (le-ltb e.member n h, and_false) at t)),
             (
               omega (arith, bound e.order 4294967295 (λ h. sym (simp (le-ltb e.order 4294967296 h, and_false) at t))),
               tt,
@@ -169,7 +169,7 @@ module _ (n : ℕ) (m : members_sound n ≡ true) (legs : List Leg) where
       record { fits = (omega arith, tt); beside = counted k (λ h. sym (simp (ne_eqb (length legs) k h, and_false) at t)); few = few }
   sound_event (Default x) t =
       record {
-        fits = (member-fits x (λ h. sym (simp (le-ltb x n h) at t)), tt);
+        fits = (member_fits x (λ h. sym (simp (le-ltb x n h) at t)), tt);
         beside = counted 0 (λ h. sym (simp (ne_eqb (length legs) 0 h, and_false) at t));
         few = omega arith;
       }
@@ -182,7 +182,7 @@ module _ (n : ℕ) (m : members_sound n ≡ true) (legs : List Leg) where
       }
   sound_event (CloseOfDay s) t =
       record {
-        fits = (time-fits s (λ h. sym (simp (lt-leb s last_second h) at t)), tt);
+        fits = (time_fits s (λ h. sym (simp (lt-leb s last_second h) at t)), tt);
         beside = counted 0 (λ h. sym (simp (ne_eqb (length legs) 0 h, and_false) at t));
         few = omega arith;
       }
@@ -193,30 +193,30 @@ module _ (e : Event) (legs : List Leg) (out m : List ℕ) (p : m ≡ over 1 (byt
   abbrev own : List ℕ
   own = bytes_by (kind_fields (kind_number e)) (event_numbers e)
 
-  by-legs : {k : List ℕ} (b : Bool) → has_legs (kind_number e) ≡ b → k ≡ over 1 (own ++ cond b (flat_map leg_bytes legs) []) out → k ≡ over 1 (field_bytes e legs) out
+  by_legs : {k : List ℕ} (b : Bool) → has_legs (kind_number e) ≡ b → k ≡ over 1 (own ++ cond b (flat_map leg_bytes legs) []) out → k ≡ over 1 (field_bytes e legs) out
   unfolding field_bytes
-  by-legs b h q = q ∙ ap (λ x. over 1 (own ++ cond x (flat_map leg_bytes legs) []) out) (sym h)
+  by_legs b h q = q ∙ ap (λ x. over 1 (own ++ cond x (flat_map leg_bytes legs) []) out) (sym h)
 
-  pub no-legs-put : (kind_number e ≡ 4 → ⊥) → m ≡ over 1 (field_bytes e legs) out
-  no-legs-put h = by-legs false (ne_eqb (kind_number e) 4 h) (p ∙ ap (λ x. over 1 x out) (sym (append-nil own)))
+  pub no_legs_put : (kind_number e ≡ 4 → ⊥) → m ≡ over 1 (field_bytes e legs) out
+  no_legs_put h = by_legs false (ne_eqb (kind_number e) 4 h) (p ∙ ap (λ x. over 1 x out) (sym (append-nil own)))
 
-  pub legs-put : (k : List ℕ) → kind_number e ≡ 4 → k ≡ over 2 (flat_map leg_bytes legs) m → 1 + widths (kind_fields (kind_number e)) ≤ length out → k ≡ over 1 (field_bytes e legs) out
-  legs-put k h q room =
+  pub legs_put : (k : List ℕ) → kind_number e ≡ 4 → k ≡ over 2 (flat_map leg_bytes legs) m → 1 + widths (kind_fields (kind_number e)) ≤ length out → k ≡ over 1 (field_bytes e legs) out
+  legs_put k h q room =
       let sized = length_own e in
       let first : 1 + widths (kind_fields (kind_number e)) ≡ 2 = rw h first_leg in
-      by-legs true (eq-eqb (kind_number e) 4 h) (over-next 1 2 own (flat_map leg_bytes legs) out m k p q (omega arith) (omega arith))
+      by_legs true (eq-eqb (kind_number e) 4 h) (over_next 1 2 own (flat_map leg_bytes legs) out m k p q (omega arith) (omega arith))
 
 -- its kind, then its fields
 pub record_put : (e : Event) (legs : List Leg) (out m k : List ℕ) {kind : ℕ} → kind ≡ kind_number e → m ≡ over 0 (kind ∷ []) out → k ≡ over 1 (field_bytes e legs) m → 1 ≤ length out
     → k ≡ over 0 (bytes_of e legs) out
 unfolding bytes_of
-record_put e legs out m k {kind} q a b h = rw (← q) (over-then 1 (kind ∷ []) (field_bytes e legs) out m k a b refl h)
+record_put e legs out m k {kind} q a b h = rw (← q) (over_then 1 (kind ∷ []) (field_bytes e legs) out m k a b refl h)
 
 -- ---- the outcome of a write
 module _ (n : ℕ) (e : Event) (legs : List Leg) (out : List ℕ) where
-  pub write-few : members_sound n ≡ false → record { answer = RecordUnsound; after = out } ≡ write_spec n e legs out
+  pub write_few : members_sound n ≡ false → record { answer = RecordUnsound; after = out } ≡ write_spec n e legs out
   unfolding write_spec
-  write-few m = rw m refl
+  write_few m = rw m refl
 
   module _ (m : members_sound n ≡ true) where
     pub write-unsound : event_sound n e legs ≡ false → record { answer = RecordUnsound; after = out } ≡ write_spec n e legs out
@@ -224,9 +224,9 @@ module _ (n : ℕ) (e : Event) (legs : List Leg) (out : List ℕ) where
     write-unsound t = rw (m, t) refl
 
     module _ (t : event_sound n e legs ≡ true) where
-      pub write-short : length out < length (bytes_of e legs) → record { answer = TableUnsound; after = out } ≡ write_spec n e legs out
+      pub write_short : length out < length (bytes_of e legs) → record { answer = TableUnsound; after = out } ≡ write_spec n e legs out
       unfolding write_spec
-      write-short h = rw (m, t, lt-ltb (length out) (length (bytes_of e legs)) h) refl
+      write_short h = rw (m, t, lt-ltb (length out) (length (bytes_of e legs)) h) refl
 
       pub write-whole : (k : ℕ) (after : List ℕ) → k ≡ length (bytes_of e legs) → length (bytes_of e legs) ≤ length out → after ≡ over 0 (bytes_of e legs) out
           → record { answer = Accepted k; after = after } ≡ write_spec n e legs out

@@ -15,9 +15,9 @@ use Rattle.rules.specs.declared.contract.ContractKind.TheVariants.{Year, Quarter
 use Rattle.rules.specs.declared.contract.Term.{Term}
 use Rattle.rules.specs.Days.{Calendar, day_after_span, business_day, business_day_before}
 use Rattle.rules.specs.ContractTerms.{closing_distance, months_in, not_before, term_first_day, term_closing_day, still_to_close}
-use Rattle.rules.proofs.CalendarLaws.{between, between-up, closes-by-count, month_le}
+use Rattle.rules.proofs.CalendarLaws.{between, between_up, closes_by_count, month_le}
 use Rattle.months.specs.Spans.{starts_of}
-use Rattle.months.proofs.Starts.{start-read}
+use Rattle.months.proofs.Starts.{start_read}
 use Rattle.contracts.specs.InLedger.{InLedger}
 use Rattle.contract_phases.specs.Least.{day_after_nth, least_first_day, IsLeast}
 
@@ -32,21 +32,21 @@ module _ (k : Calendar) (d : ℕ) where
   one_more x l = rw (add-one, le-leb d x l)
 
   -- While some of n are still to count up to day x, what delivers from x or earlier has closed.
-  pub closed-up-to : (n x to-count f : ℕ) → between k d x + to-count ≡ n → 0 < to-count → f ≤ x → not_before (business_day_before k n f) d ≡ false
-  closed-up-to n x to-count f e p h = closes-by-count k d n f (omega arith) ∙ lt-leb n _ (omega (arith, between-up k d f x h))
+  pub closed_up_to : (n x to-count f : ℕ) → between k d x + to-count ≡ n → 0 < to-count → f ≤ x → not_before (business_day_before k n f) d ≡ false
+  closed_up_to n x to-count f e p h = closes_by_count k d n f (omega arith) ∙ lt-leb n _ (omega (arith, between_up k d f x h))
 
   -- Where x is the last of the n, what delivers later is still to close.
-  pub last-counted : (n x f : ℕ) → d ≤ x → between k d x + 1 ≡ n → business_day k x ≡ true → not_before (business_day_before k n f) d ≡ leb (x + 1) f
-  last-counted n x f l e b =
+  pub last_counted : (n x f : ℕ) → d ≤ x → between k d x + 1 ≡ n → business_day k x ≡ true → not_before (business_day_before k n f) d ≡ leb (x + 1) f
+  last_counted n x f l e b =
       le_or_lt (x + 1) f
-      (λ h. closes-by-count k d n f (omega arith) ∙ le-leb n _ (omega (arith, between-up k d (x + 1) f h, rw b at (one_more x l))) ∙ sym (le-leb (x + 1) f h))
-      (λ h. closed-up-to n x 1 f e (omega arith) (omega arith) ∙ sym (lt-leb (x + 1) f h))
+      (λ h. closes_by_count k d n f (omega arith) ∙ le-leb n _ (omega (arith, between_up k d (x + 1) f h, rw b at (one_more x l))) ∙ sym (le-leb (x + 1) f h))
+      (λ h. closed_up_to n x 1 f e (omega arith) (omega arith) ∙ sym (lt-leb (x + 1) f h))
 
 -- ---- the least first delivery day
 module _ (k : Calendar) (none : ℕ) where
-  pub none-to-count : (m n x : ℕ) → m ≡ 0 → day_after_nth k none m n x ≡ none
+  pub none_to_count : (m n x : ℕ) → m ≡ 0 → day_after_nth k none m n x ≡ none
   unfolding day_after_nth
-  none-to-count m n x e = rw e
+  none_to_count m n x e = rw e
 
   module _ (end n x : ℕ) (h : x < end) where
     pub idle-day : business_day k x ≡ false → day_after_nth k none (end - x) n x ≡ day_after_nth k none (end - (x + 1)) n (x + 1)
@@ -65,11 +65,11 @@ module _ (k : Calendar) (d all end f : ℕ) (h : f ≤ end) where
   -- Of `all` business days from day d on n are still to count from day x on.
   decides : (m n x : ℕ) → end ≤ x + m → d ≤ x → between k d x + n ≡ all → 0 < n → not_before (business_day_before k all f) d ≡ leb (day_after_nth k (end + 1) m n x) f
   unfolding day_after_nth
-  decides zero n x l p e g = closed-up-to k d all x n f e g (omega arith) ∙ sym (lt-leb (end + 1) f (omega arith))
+  decides zero n x l p e g = closed_up_to k d all x n f e g (omega arith) ∙ sym (lt-leb (end + 1) f (omega arith))
   decides (suc m) n x l p e g =
       true_or (business_day k x)
       (λ b. le_or_lt n 1
-      (λ s. rw (b, le-leb n 1 s) (last-counted k d all x f p (omega arith) b))
+      (λ s. rw (b, le-leb n 1 s) (last_counted k d all x f p (omega arith) b))
       (λ s. rw (b, lt-leb n 1 s) (decides m (n - 1) (x + 1) (omega arith) (omega arith) (omega (arith, rw b at (one_more k d x p))) (omega arith))))
       (λ b. rw b (decides m n (x + 1) (omega arith) (omega arith) (omega (arith, rw b at (one_more k d x p))) g))
 
@@ -82,16 +82,16 @@ is_least k d n end least g e l f h =
 module _ (k : Calendar) (t : Term) (w : InLedger t) where
   pub first_read : get_or (starts_of k) (months_in t.kind * t.index) 0 ≡ term_first_day k t
   unfolding term_first_day
-  first_read = start-read k (months_in t.kind * t.index) (omega arith)
+  first_read = start_read k (months_in t.kind * t.index) (omega arith)
 
-  pub in-span : term_first_day k t ≤ day_after_span k
+  pub in_span_lem : term_first_day k t ≤ day_after_span k
   unfolding term_first_day day_after_span
-  in-span = month_le _ _ (omega arith)
+  in_span_lem = month_le _ _ (omega arith)
 
   -- A contract is still to close exactly if it first delivers on its kind's least day or later.
-  pub to-close-from : (d least : ℕ) → IsLeast k d (closing_distance t.kind) least → still_to_close k d t ≡ leb least (get_or (starts_of k) (months_in t.kind * t.index) 0)
+  pub to_close_from : (d least : ℕ) → IsLeast k d (closing_distance t.kind) least → still_to_close k d t ≡ leb least (get_or (starts_of k) (months_in t.kind * t.index) 0)
   unfolding still_to_close term_closing_day
-  to-close-from d least g = g (term_first_day k t) in-span ∙ ap (leb least) (sym first_read)
+  to_close_from d least g = g (term_first_day k t) in_span_lem ∙ ap (leb least) (sym first_read)
 
 pub by_kind : (P : ContractKind → Type 0) → P Year → P Quarter → P Month → (s : ContractKind) → P s
 by_kind P y q m Year = y

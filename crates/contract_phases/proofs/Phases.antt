@@ -9,7 +9,7 @@ use lib.Dec.{eqb, ltb}
 use lib.ListN.{length, get_or, length-map, get_or-eq_default}
 use borrow.Author.Tests.{lt-ltb, le-ltb, le-leb, lt-leb, eq-eqb, ne_eqb}
 use Rattle.arith.specs.Lists.{All, any, from, kept}
-use Rattle.arith.proofs.Alls.{all_map, all_append, all-kept}
+use Rattle.arith.proofs.Alls.{all_map, all_append, all_kept}
 use Rattle.arith.proofs.Among.{by_among}
 use Rattle.arith.proofs.Tests.{true_or, le_or_lt, same_or, and_true, and_false, or_false, any_append}
 use Rattle.arith.proofs.Appends.{map_at, from_at, from_length}
@@ -26,7 +26,7 @@ use Rattle.rules.specs.OtherForms.{contract_of, contracts_in}
 use Rattle.months.specs.Spans.{starts_of}
 use Rattle.contracts.specs.InLedger.{InLedger}
 use Rattle.contract_phases.specs.Least.{IsLeast}
-use Rattle.contract_phases.proofs.Least.{first_read, in-span}
+use Rattle.contract_phases.proofs.Least.{first_read, in_span_lem}
 use Rattle.contract_phases.specs.Phases.{phase_of, phase_from, term_phase, phases, closes, waits, open_in, all_open_in, closing}
 
 -- ---- one contract
@@ -43,7 +43,7 @@ pub phase_by_first : (k : Calendar) (d : ℕ) (t : Term) → InLedger t → (lea
     → phase_from (get_or (starts_of k) (months_in t.kind * t.index) 0) least later ≡ term_phase k d t
 unfolding term_closing_day
 phase_by_first k d t w least later g h =
-    rw (first_read k t w, ← (g (term_first_day k t) (in-span k t w)), ← (h (term_first_day k t) (in-span k t w)))
+    rw (first_read k t w, ← (g (term_first_day k t) (in_span_lem k t w)), ← (h (term_first_day k t) (in_span_lem k t w)))
     (by_days (business_day_before k (closing_distance t.kind) (term_first_day k t)) d)
 
 pub number_below : (s : ContractKind) (i : ℕ) → i < contracts_in s → contract_of s i < term_count
@@ -64,22 +64,22 @@ phase_waits (On x) d =
 phase_waits NoDay d = refl
 
 module _ (k : Calendar) (d : ℕ) where
-  pub phases-length : length (phases k d) ≡ term_count
+  pub phases_length : length (phases k d) ≡ term_count
   unfolding phases
-  phases-length = length-map (from 0 term_count) (λ c. phase_of (closing_day k c) d) ∙ from_length 0 term_count
+  phases_length = length-map (from 0 term_count) (λ c. phase_of (closing_day k c) d) ∙ from_length 0 term_count
 
-  pub phases-at : (c : ℕ) → c < term_count → get_or (phases k d) c 0 ≡ phase_of (closing_day k c) d
+  pub phases_at : (c : ℕ) → c < term_count → get_or (phases k d) c 0 ≡ phase_of (closing_day k c) d
   unfolding phases
-  phases-at c h =
+  phases_at c h =
       map_at (λ c. phase_of (closing_day k c) d) (from 0 term_count) c 0 0 (omega (arith, from_length 0 term_count))
       ∙ ap (λ c. phase_of (closing_day k c) d) (from_at 0 term_count c 0 h ∙ zero-add c)
 
-  pub closes-is : (c : ℕ) → c < term_count → closes (phases k d) c ≡ closes_on k c d
-  closes-is c h = rw (lt-ltb c term_count h) (ap (λ x. eqb x 1) (phases-at c h) ∙ phase_closes (closing_day k c) d)
+  pub closes_is : (c : ℕ) → c < term_count → closes (phases k d) c ≡ closes_on k c d
+  closes_is c h = rw (lt-ltb c term_count h) (ap (λ x. eqb x 1) (phases_at c h) ∙ phase_closes (closing_day k c) d)
 
-  waits-is : (c : ℕ) → c < term_count → waits (phases k d) c ≡ still_to_close k d (term_of c)
+  waits_is : (c : ℕ) → c < term_count → waits (phases k d) c ≡ still_to_close k d (term_of c)
   unfolding still_to_close
-  waits-is c h = ap (λ x. ltb 0 x) (phases-at c h) ∙ phase_waits (closing_day k c) d
+  waits_is c h = ap (λ x. ltb 0 x) (phases_at c h) ∙ phase_waits (closing_day k c) d
 
 -- ---- all contracts
 all_from : (P : ℕ → Type 0) (a n : ℕ) → ((i : ℕ) → a ≤ i → i < a + n → P i) → All P (from a n)
@@ -91,7 +91,7 @@ pub listed : (P : ℕ → Type 0) → ((c : ℕ) → c < term_count → P c) →
 unfolding contracts_of
 listed P f s =
     let test : ℕ → Bool = λ c. same_kind (kind_of c) s in
-    all_map (λ c. P c × (test c ≡ true)) P (kept test (from 0 term_count)) (λ c h. h.0) (all-kept P test (from 0 term_count) (all_from P 0 term_count (λ i l u. f i (omega arith))))
+    all_map (λ c. P c × (test c ≡ true)) P (kept test (from 0 term_count)) (λ c h. h.0) (all_kept P test (from 0 term_count) (all_from P 0 term_count (λ i l u. f i (omega arith))))
 
 pub kept_same : {A : Type 0} (p q : A → Bool) (l : List A) → All (λ c. p c ≡ q c) l → kept p l ≡ kept q l
 unfolding kept
@@ -99,20 +99,20 @@ kept_same p q [] a = refl
 kept_same p q (x ∷ l) a = rw (a.0, kept_same p q l a.1)
 
 module _ (k : Calendar) (d : ℕ) where
-  pub closing-is : closing (phases k d) ≡ kept (λ c. closes_on k c d) (contracts_of Year ++ (contracts_of Quarter ++ contracts_of Month))
+  pub closing_is : closing (phases k d) ≡ kept (λ c. closes_on k c d) (contracts_of Year ++ (contracts_of Quarter ++ contracts_of Month))
   unfolding closing
-  closing-is =
-      let same = listed (λ c. closes (phases k d) c ≡ closes_on k c d) (closes-is k d) in
+  closing_is =
+      let same = listed (λ c. closes (phases k d) c ≡ closes_on k c d) (closes_is k d) in
       kept_same (closes (phases k d)) (λ c. closes_on k c d) (contracts_of Year ++ (contracts_of Quarter ++ contracts_of Month))
       (all_append _ (contracts_of Year) _ (same Year) (all_append _ (contracts_of Quarter) _ (same Quarter) (same Month)))
 
-  open-of-kind : (s : ContractKind) → open_in (phases k d) s ≡ open_of_kind k d s
+  open_of_kind_lem : (s : ContractKind) → open_in (phases k d) s ≡ open_of_kind k d s
   unfolding open_in open_of_kind
-  open-of-kind s = rw (kept_same (waits (phases k d)) (λ c. still_to_close k d (term_of c)) (contracts_of s) (listed (λ c. waits (phases k d) c ≡ still_to_close k d (term_of c)) (waits-is k d) s))
+  open_of_kind_lem s = rw (kept_same (waits (phases k d)) (λ c. still_to_close k d (term_of c)) (contracts_of s) (listed (λ c. waits (phases k d) c ≡ still_to_close k d (term_of c)) (waits_is k d) s))
 
   pub open_is : all_open_in (phases k d) ≡ open_contracts k d
   unfolding all_open_in open_contracts
-  open_is = rw (open-of-kind Year, open-of-kind Quarter, open-of-kind Month)
+  open_is = rw (open_of_kind_lem Year, open_of_kind_lem Quarter, open_of_kind_lem Month)
 
 -- ---- orders of closing contracts
 any_kept : (p : ℕ → Bool) (x : ℕ) (l : List ℕ) → any (λ c. eqb c x) (kept p l) ≡ p x && any (λ c. eqb c x) l

@@ -6,7 +6,7 @@ use Rattle.arith.specs.Lists.{every}
 use Rattle.arith.proofs.Tests.{le_or_lt}
 use Rattle.arith.specs.Bits.{in_window}
 use Rattle.arith.proofs.Bits.{window_within}
-use Rattle.arith.proofs.Rows.{rows-weaker, whole-rows, no-column, next-column}
+use Rattle.arith.proofs.Rows.{rows_weaker, whole_rows, no_column, next-column}
 use Rattle.rules.specs.Ranges.{contract_count}
 use Rattle.rules.specs.Ledger.{rows_length}
 use Rattle.rules.specs.Refusals.{every_row}
@@ -14,7 +14,7 @@ use Rattle.damage.specs.Windows.{every_column}
 
 pub row_none : (p : ℤ → Bool) (l : List ℤ) → every_row p 0 l ≡ true
 unfolding every_row
-row_none p l = no-column p 32 contract_count l
+row_none p l = no_column p 32 contract_count l
 
 zero_in : (w : ℕ) → 0 < w → in_window w (pos 0) ≡ true
 unfolding in_window
@@ -32,12 +32,12 @@ row_two_more k n l =
 
 pub row_whole : (p : ℤ → Bool) (l : List ℤ) → every p (take rows_length l) ≡ every_row p 32 l
 unfolding every_row
-row_whole p l = whole-rows p 32 contract_count l
+row_whole p l = whole_rows p 32 contract_count l
 
 -- What is in a window within the bound is within the bound.
 pub row_within : (w b n : ℕ) (l : List ℤ) → w ≤ 2 * b + 1 → every_row (in_window w) n l ≡ true → true ≡ every_row (λ z. leb (nat_abs z) b) n l
 unfolding every_row
-row_within w b n l h e = sym (rows-weaker (in_window w) (λ z. leb (nat_abs z) b) (λ z. window_within z w b h) 32 n contract_count l e)
+row_within w b n l h e = sym (rows_weaker (in_window w) (λ z. leb (nat_abs z) b) (λ z. window_within z w b h) 32 n contract_count l e)
 
 -- ---- the widest window
 short : (m b : ℕ) → 2 ^ m ≤ 2 * b + 1 → b ≤ 5000000000000 → m ≤ 62

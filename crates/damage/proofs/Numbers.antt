@@ -8,16 +8,16 @@ use Rattle.arith.proofs.Scans.{from_next, from_end}
 
 -- ---- f of the numbers from i up to n
 module _ (f : ℕ → ℕ) (n i : ℕ) (ok all : Bool) where
-  pub distinct-next : ok && distinct (map f (from i (n - i))) ≡ all → i < n
+  pub distinct_next : ok && distinct (map f (from i (n - i))) ≡ all → i < n
       → (ok && not (any (eqb (f i)) (map f (from (suc i) (n - suc i))))) && distinct (map f (from (i + 1) (n - (i + 1)))) ≡ all
   unfolding distinct
-  distinct-next known h =
+  distinct_next known h =
       and_assoc ok (not (any (eqb (f i)) (map f (from (suc i) (n - suc i))))) (distinct (map f (from (i + 1) (n - (i + 1)))))
       ∙ rw (add-one i) (rw (from_next i n h, add-one i) at known)
 
-  pub distinct-end : ok && distinct (map f (from i (n - i))) ≡ all → n ≤ i → ok ≡ all
+  pub distinct_end : ok && distinct (map f (from i (n - i))) ≡ all → n ≤ i → ok ≡ all
   unfolding distinct
-  distinct-end known h = sym (and_true ok) ∙ rw (from_end i n h) at known
+  distinct_end known h = sym (and_true ok) ∙ rw (from_end i n h) at known
 
 -- ---- numbers that rise, the first from k on
 unfoldable pub rises_from : ℕ → List ℕ → Bool
@@ -29,9 +29,9 @@ module _ (f : ℕ → ℕ) (n i k : ℕ) (ok all : Bool) (known : ok && rises_fr
   unfolding rises_from
   rises_next h = and_assoc ok (leb k (f i)) (rises_from (f i + 1) (map f (from (i + 1) (n - (i + 1))))) ∙ rw (add-one (f i)) (rw (from_next i n h) at known)
 
-  pub rises-end : n ≤ i → ok ≡ all
+  pub rises_end : n ≤ i → ok ≡ all
   unfolding rises_from
-  rises-end h = sym (and_true ok) ∙ rw (from_end i n h) at known
+  rises_end h = sym (and_true ok) ∙ rw (from_end i n h) at known
 
 none_same : (x k : ℕ) (l : List ℕ) → x < k → rises_from k l ≡ true → any (eqb x) l ≡ false
 unfolding rises_from any

@@ -6,7 +6,7 @@ use Rattle.rules.specs.Header.{first_year_sound}
 use Rattle.rules.specs.Ranges.{most_holidays, most_price}
 use Rattle.rules.specs.Ledger.{Tables, first_year, holiday_count, members, lots_run, calendar, ledger_short, lines_short}
 use Rattle.rules.specs.Refusals.{every_row, head_sound, prices_sound, rows_sound, book_sound, damaged, ledger_unsound, unsound}
-use Rattle.calendar.proofs.FirstYears.{year-unsound}
+use Rattle.calendar.proofs.FirstYears.{year_unsound}
 
 -- ---- one test fails
 or-true : (a : Bool) → true ≡ a || true
@@ -24,53 +24,53 @@ third_fails true p b = second_fails p b b
 third_fails false p b = refl
 
 module _ (t : Tables) where
-  pub ledger-short : ledger_short t ≡ true → true ≡ ledger_unsound t
+  pub ledger_short_lem : ledger_short t ≡ true → true ≡ ledger_unsound t
   unfolding ledger_unsound
-  ledger-short e = rw e
+  ledger_short_lem e = rw e
 
-  is-damaged : damaged t ≡ true → true ≡ ledger_unsound t
+  is_damaged : damaged t ≡ true → true ≡ ledger_unsound t
   unfolding ledger_unsound
-  is-damaged e = rw e (or-true (ledger_short t))
+  is_damaged e = rw e (or-true (ledger_short t))
 
-  pub head-fails : head_sound t ≡ false → true ≡ ledger_unsound t
+  pub head_fails : head_sound t ≡ false → true ≡ ledger_unsound t
   unfolding damaged all_of
-  head-fails e = is-damaged (rw e)
+  head_fails e = is_damaged (rw e)
 
-  pub prices-fail : prices_sound t ≡ false → true ≡ ledger_unsound t
+  pub prices_fail : prices_sound t ≡ false → true ≡ ledger_unsound t
   unfolding damaged
-  prices-fail e = is-damaged (rw e (second_fails (head_sound t) (rows_sound t) (book_sound t)))
+  prices_fail e = is_damaged (rw e (second_fails (head_sound t) (rows_sound t) (book_sound t)))
 
-  rows-fail : rows_sound t ≡ false → true ≡ ledger_unsound t
+  rows_fail : rows_sound t ≡ false → true ≡ ledger_unsound t
   unfolding damaged
-  rows-fail e = is-damaged (rw e (third_fails (head_sound t) (prices_sound t) (book_sound t)))
+  rows_fail e = is_damaged (rw e (third_fails (head_sound t) (prices_sound t) (book_sound t)))
 
-  pub lots-fail : every_row (λ z. leb (nat_abs z) (lots_run t)) (members t) t.lots ≡ false → true ≡ ledger_unsound t
+  pub lots_fail : every_row (λ z. leb (nat_abs z) (lots_run t)) (members t) t.lots ≡ false → true ≡ ledger_unsound t
   unfolding rows_sound
-  lots-fail e = rows-fail (rw e)
+  lots_fail e = rows_fail (rw e)
 
-  pub value-fails : every_row (λ z. leb (nat_abs z) (most_price * lots_run t)) (members t) t.value ≡ false → true ≡ ledger_unsound t
+  pub value_fails : every_row (λ z. leb (nat_abs z) (most_price * lots_run t)) (members t) t.value ≡ false → true ≡ ledger_unsound t
   unfolding rows_sound
-  value-fails e = rows-fail (rw e (and_false (every_row (λ z. leb (nat_abs z) (lots_run t)) (members t) t.lots)))
+  value_fails e = rows_fail (rw e (and_false (every_row (λ z. leb (nat_abs z) (lots_run t)) (members t) t.lots)))
 
   -- The others pass: the book decides.
-  pub book-decides : ledger_short t ≡ false → head_sound t ≡ true → prices_sound t ≡ true
+  pub book_decides : ledger_short t ≡ false → head_sound t ≡ true → prices_sound t ≡ true
       → every_row (λ z. leb (nat_abs z) (lots_run t)) (members t) t.lots ≡ true → every_row (λ z. leb (nat_abs z) (most_price * lots_run t)) (members t) t.value ≡ true → not (book_sound t) ≡ ledger_unsound t
   unfolding ledger_unsound damaged rows_sound all_of
-  book-decides long head prices lots value = rw (long, head, prices, lots, value, and_true (book_sound t))
+  book_decides long head prices lots value = rw (long, head, prices, lots, value, and_true (book_sound t))
 
   -- ---- with the line table
-  pub lines-short : lines_short t ≡ true → true ≡ unsound t
+  pub lines_short_lem : lines_short t ≡ true → true ≡ unsound t
   unfolding unsound
-  lines-short e = rw e (or-true (ledger_unsound t))
+  lines_short_lem e = rw e (or-true (ledger_unsound t))
 
-  pub ledger-decides : lines_short t ≡ false → ledger_unsound t ≡ unsound t
+  pub ledger_decides : lines_short t ≡ false → ledger_unsound t ≡ unsound t
   unfolding unsound
-  ledger-decides e = rw (e, or_false (ledger_unsound t))
+  ledger_decides e = rw (e, or_false (ledger_unsound t))
 
 -- ---- the first year, tested before the rest of the head
 unsound_year : (t : Tables) → first_year_sound (first_year t) ≡ false → head_sound t ≡ false
 unfolding head_sound all_of
-unsound_year t e = rw (year-unsound (calendar t) e) (and_false (leb (holiday_count t) most_holidays))
+unsound_year t e = rw (year_unsound (calendar t) e) (and_false (leb (holiday_count t) most_holidays))
 
 pub year_fails : (t : Tables) → first_year_sound (first_year t) ≡ false → true ≡ ledger_unsound t
-year_fails t e = head-fails t (unsound_year t e)
+year_fails t e = head_fails t (unsound_year t e)

@@ -1,6 +1,6 @@
 // The prices: five places for each contract.
 ghost use Rattle.std.specs.Prelude.{◌≡◌, ◌≤◌, length};
-ghost use Rattle.arith.specs.Lists.{everyBlock};
+ghost use Rattle.arith.specs.Lists.{every_block};
 ghost use Rattle.rules.specs.Ranges.{contract_count, most_lots_run};
 ghost use Rattle.rules.specs.Ledger.{price_width, prices_length};
 ghost use Rattle.rules.specs.Refusals.{contract_prices_sound};
@@ -36,7 +36,7 @@ fn is_contract_sound(prices: &[u64], run: u64) -> bool
 
 pub fn are_prices_sound(prices: &[u64], run: u64) -> bool
     requires { (prices_length ≤ length prices.now) × (run ≤ most_lots_run) }
-    ensures { result ≡ everyBlock price_width (contract_prices_sound run) contract_count prices.now }
+    ensures { result ≡ every_block price_width (contract_prices_sound run) contract_count prices.now }
 {
     let mut contract: usize = 0;
     while contract < layout::CONTRACTS {

@@ -11,7 +11,7 @@ use Rattle.arith.specs.Lists.{over, total}
 use Rattle.arith.proofs.Sizes.{abs_plus}
 use Rattle.arith.proofs.Tests.{same_or}
 use Rattle.arith.proofs.Appends.{flat_append, flat_one, flat_length}
-use Rattle.arith.proofs.Writes.{over-more}
+use Rattle.arith.proofs.Writes.{over_more}
 use Rattle.rules.specs.Ledger.{line_width, lots_run_place}
 use Rattle.rules.specs.Ranges.{contract_count, most_members}
 use Rattle.rules.specs.Ledger.{Tables, Line, lots_run, row_place, line_places, line_lots, line_value, posted, line_run, booked}
@@ -43,7 +43,7 @@ booked_more ls l i t e h =
       get_or-set_same t.head lots_run_place (lots_run t + line_run ls) 0 h,
       set-set t.head 6 (lots_run t + line_run ls) (lots_run t + line_run ls + nat_abs l.lots),
       add_assoc (lots_run t) (line_run ls) (nat_abs l.lots),
-      over-more (length ls * line_width) (flat_map line_places ls) (line_places l) t.lines (flat_length 4 line_places (λ x. refl) ls),
+      over_more (length ls * line_width) (flat_map line_places ls) (line_places l) t.lines (flat_length 4 line_places (λ x. refl) ls),
     )
 
 -- Rows within a bound are, with one more line, within the bound and the line's amount.

@@ -7,7 +7,7 @@ use native.Mathlib.Nat.{mul-le-mul_left}
 use lib.IntN.{ℤ, pos, nat_abs}
 use lib.ListN.{length, length-set}
 use lib.Seq.{get_or-set_same, get_or-set_other}
-use Rattle.arith.proofs.Overs.{over-length}
+use Rattle.arith.proofs.Overs.{over_length}
 use Rattle.arith.proofs.Sizes.{abs_times}
 use Rattle.rules.specs.Ledger.{Tables, Line, head_length, members_place, lots_run_place, with_lots_run, lots_run, members, line_width, line_places, line_lots, line_value}
 use Rattle.rules.specs.Ranges.{most_price, most_lots_run, least_lines}
@@ -48,7 +48,7 @@ takes_line room i l t below ok f =
       value_fit = rw (e, m)
           (rows_wider (members t) _ (most_price * run) _ (omega (arith, worth_less run l ok.most_price_holds))
           (rows_fit_line line_value l (members t) (most_price * lots_run t) t.value ok.contract_below ok.member_below few f.value_fit));
-      lines_long = rw (over-length (i * line_width) (line_places l) t.lines (omega (arith, f.lines_long))) f.lines_long;
+      lines_long = rw (over_length (i * line_width) (line_places l) t.lines (omega (arith, f.lines_long))) f.lines_long;
       most_run = rw e (omega (arith, f.most_run));
     }
 

@@ -13,9 +13,9 @@ use borrow.Author.Tests.{eq-eqb, ne_eqb}
 use Rattle.arith.specs.Lists.{from}
 use Rattle.arith.proofs.Tests.{le_or_lt, same_or}
 use Rattle.rules.specs.Default.{sum_of, Dealing, in_order, turn, round, rounds}
-use Rattle.rules.proofs.MembersInOrder.{times, times-once, times_none, order_below}
+use Rattle.rules.proofs.MembersInOrder.{times, times_once, times_none, order_below}
 use Rattle.rules.proofs.Netting.{sum_cons, sum_none, sum_zeros, sum_set, sum_le, sum_lt}
-use Rattle.rules.proofs.Turns.{turn-deals, turn-full, round_none, round_keeps, rounds_none, rounds_last, rounds_add}
+use Rattle.rules.proofs.Turns.{turn_deals, turn_full, round_none, round_keeps, rounds_none, rounds_last, rounds_add}
 use Rattle.dealing.specs.Levels.{at_level, Highest}
 
 -- ---- levels
@@ -66,9 +66,9 @@ module _ (l : ℕ) (m : List ℕ) (r : ℕ) where
   abbrev Ample : List ℕ → Dealing → Type 0
   Ample is s = (sum_of (at_level (suc r) m) ≤ l) ⊎ (0 < (round m is s).undealt)
 
-  ample-next : (i : ℕ) (is : List ℕ) (s s' : Dealing) → turn m i s ≡ s' → Ample (i ∷ is) s → Ample is s'
+  ample_next : (i : ℕ) (is : List ℕ) (s s' : Dealing) → turn m i s ≡ s' → Ample (i ∷ is) s → Ample is s'
   unfolding round
-  ample-next i is s s' e a = subst (λ (x : Dealing). Ample is x) e a
+  ample_next i is s s' e a = subst (λ (x : Dealing). Ample is x) e a
 
   -- Part of a round: those who still have their turn stand at level r, the others at r + 1.
   lift : (is d : List ℕ) (k : ℕ) → length d ≡ length m → ((j : ℕ) → get_or is j 0 < length m) → ((j : ℕ) → times j is ≤ 1)
@@ -91,15 +91,15 @@ module _ (l : ℕ) (m : List ℕ) (r : ℕ) where
       let low : sum_of d < sum_of (at_level (suc r) m)
       = sum_lt d (at_level (suc r) m) i (n ∙ sym (level_length (suc r) m)) (λ j. rw (level_at (suc r) m j) (omega (arith, f j))) (rw (level_at (suc r) m i) (omega arith)) in
       let some : 0 < k = ⊎_elim (λ x. omega arith) (λ x. omega (arith, (round_keeps m (i ∷ is) d k (λ j. rw n (b j))).less)) a in
-      let e = turn-deals m i d k some (omega arith) in
+      let e = turn_deals m i d k some (omega arith) in
       rw e
       (lift is d' (k - 1) (simp length-set n) (λ j. b (suc j)) (λ j. omega (arith, u j))
       (λ j. same_or j i (λ e. rw (e, get_or-set_same d i (get_or d i 0 + 1) 0 (omega (arith, b 0))) (omega arith)) (λ c. rw (get_or-set_other d i j (get_or d i 0 + 1) 0 c) (other j c)))
-      (rw (sum_set d i (omega (arith, b 0))) (omega arith)) (ample-next i is _ _ e a)))
+      (rw (sum_set d i (omega (arith, b 0))) (omega arith)) (ample_next i is _ _ e a)))
       (λ h.
-      let e = turn-full m i d k (omega arith) in
+      let e = turn_full m i d k (omega arith) in
       rw e
-      (lift is d k n (λ j. b (suc j)) (λ j. omega (arith, u j)) (λ j. same_or j i (λ e. rw e (omega arith)) (other j)) s (ample-next i is _ _ e a)))
+      (lift is d k n (λ j. b (suc j)) (λ j. omega (arith, u j)) (λ j. same_or j i (λ e. rw e (omega arith)) (other j)) s (ample_next i is _ _ e a)))
 
 -- ---- rounds, for members in any order
 module _ (l : ℕ) (m : List ℕ) (first : ℕ → ℕ → Bool) (some : 0 < length m) where
@@ -109,59 +109,59 @@ module _ (l : ℕ) (m : List ℕ) (first : ℕ → ℕ → Bool) (some : 0 < len
   abbrev start : Dealing
   start = record { received = replicate (length m) 0; undealt = l }
 
-  times-most : (j : ℕ) → times j order ≤ 1
-  times-most j = le_or_lt (length m) j (λ k. omega (arith, times_none first j 0 (length m) (omega arith))) (λ k. omega (arith, times-once first j 0 (length m) (omega arith) (omega arith)))
+  times_most : (j : ℕ) → times j order ≤ 1
+  times_most j = le_or_lt (length m) j (λ k. omega (arith, times_none first j 0 (length m) (omega arith))) (λ k. omega (arith, times_once first j 0 (length m) (omega arith) (omega arith)))
 
   stands : (r j : ℕ) → get_or (at_level r m) j 0 ≡ min (suc r - times j order) (get_or m j 0)
   stands r j =
       rw (level_at r m j)
-      (le_or_lt (length m) j (λ k. rw (get_or-eq_default m 0 k) (omega arith)) (λ k. rw (times-once first j 0 (length m) (omega arith) (omega arith)) (omega arith)))
+      (le_or_lt (length m) j (λ k. rw (get_or-eq_default m 0 k) (omega arith)) (λ k. rw (times_once first j 0 (length m) (omega arith) (omega arith)) (omega arith)))
 
   next_level : (r : ℕ) → sum_of (at_level r m) ≤ l → Ample l m r order (dealt_to l m r) → round m order (dealt_to l m r) ≡ dealt_to l m (suc r)
   unfolding dealt_to
   next_level r h a =
-      lift l m r order (at_level r m) (l - sum_of (at_level r m)) (level_length r m) (order_below first (length m) 0 (length m) some (omega arith)) times-most (stands r)
+      lift l m r order (at_level r m) (l - sum_of (at_level r m)) (level_length r m) (order_below first (length m) 0 (length m) some (omega arith)) times_most (stands r)
       (omega arith) a
 
-  level-rounds : (r : ℕ) → sum_of (at_level r m) ≤ l → rounds r m order start ≡ dealt_to l m r
+  level_rounds : (r : ℕ) → sum_of (at_level r m) ≤ l → rounds r m order start ≡ dealt_to l m r
   unfolding rounds dealt_to
-  level-rounds zero h = let q : l - 0 ≡ l = omega arith in rw (level_none m, sum_zeros (length m), q)
-  level-rounds (suc r) h =
+  level_rounds zero h = let q : l - 0 ≡ l = omega arith in rw (level_none m, sum_zeros (length m), q)
+  level_rounds (suc r) h =
       let low = level_le r (suc r) m (omega arith) in
-      rounds_last r m order start ∙ rw (level-rounds r (omega arith)) (next_level r (omega arith) (inl h))
+      rounds_last r m order start ∙ rw (level_rounds r (omega arith)) (next_level r (omega arith) (inl h))
 
   -- the round after the highest level
   abbrev last : ℕ → Dealing
   last r = round m order (dealt_to l m r)
 
-  pub last-whole : (r : ℕ) → sum_of (at_level r m) ≤ l → sum_of (last r).received + (last r).undealt ≡ l
+  pub last_whole : (r : ℕ) → sum_of (at_level r m) ≤ l → sum_of (last r).received + (last r).undealt ≡ l
   unfolding dealt_to
-  last-whole r h = omega (arith, (round_keeps m order (at_level r m) (l - sum_of (at_level r m)) (λ j. rw (level_length r m) (order_below first (length m) 0 (length m) some (omega arith) j))).whole)
+  last_whole r h = omega (arith, (round_keeps m order (at_level r m) (l - sum_of (at_level r m)) (λ j. rw (level_length r m) (order_below first (length m) 0 (length m) some (omega arith) j))).whole)
 
   -- Lots undealt after it would suffice for one level more.
-  last-spent : (r : ℕ) → Highest l m r → r < l → (last r).undealt ≡ 0
+  last_spent : (r : ℕ) → Highest l m r → r < l → (last r).undealt ≡ 0
   unfolding dealt_to
-  last-spent r h k =
+  last_spent r h k =
       le_or_lt 1 (last r).undealt
       (λ p. let e = next_level r h.enough (inr p) in
-      let whole = rw e at (last-whole r h.enough) in
+      let whole = rw e at (last_whole r h.enough) in
       absurd (omega (arith, rw (add-one r) at (h.short k), whole)))
       (λ p. omega arith)
 
   full : (r : ℕ) → Highest l m r → l ≤ sum_of m → l ≤ r → l - sum_of (at_level r m) ≡ 0
   full r h c k = let e : r ≡ l = omega (arith, h.within) in rw e (omega (arith, level_least l m))
 
-  pub last-round : (r : ℕ) → Highest l m r → l ≤ sum_of m → (rounds l m order start ≡ last r) × ((last r).undealt ≡ 0)
+  pub last_round : (r : ℕ) → Highest l m r → l ≤ sum_of m → (rounds l m order start ≡ last r) × ((last r).undealt ≡ 0)
   unfolding rounds dealt_to
-  last-round r h c =
+  last_round r h c =
       let jump : rounds l m order start ≡ rounds (l - r) m order (dealt_to l m r) =
-      (let q : r + (l - r) ≡ l = omega (arith, h.within) in rw (← level-rounds r h.enough) (rw q at (rounds_add r (l - r) m order start))) in
+      (let q : r + (l - r) ≡ l = omega (arith, h.within) in rw (← level_rounds r h.enough) (rw q at (rounds_add r (l - r) m order start))) in
       le_or_lt l r
       (λ k. let z : l - r ≡ zero = omega arith in
       let e = round_none m order (at_level r m) (l - sum_of (at_level r m)) (omega (arith, full r h c k)) in
       (jump ∙ rw z (sym e), ap (λ s. s.undealt) e ∙ full r h c k))
       (λ k. let z : l - r ≡ suc (l - r - 1) = omega arith in
-      let e = last-spent r h k in
+      let e = last_spent r h k in
       (jump ∙ rw z (rounds_none (l - r - 1) m order (last r).received (last r).undealt (omega arith)), e))
 
 -- there is a highest level

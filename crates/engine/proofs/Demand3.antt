@@ -4,7 +4,7 @@ use Rattle.rules.specs.Answers.{Outcome, reply_of}
 use Rattle.rules.specs.Ledger.{Tables}
 use Rattle.rules.specs.Accounts.{Agrees}
 use Rattle.accounts.specs.EveryRun.{MakesByRules, AppliesByRules}
-use Rattle.accounts.proofs.ListsToRuns.{after-every-run}
+use Rattle.accounts.proofs.ListsToRuns.{after_every_run}
 use Rattle.accounts.proofs.TwoBookkeepers.{two_bookkeepers}
 use Rattle.engine.specs.Runs.{Makes, Applies, Demand3Runs}
 
@@ -15,4 +15,4 @@ applies_by_rules : AppliesByRules reply_of Applies
 applies_by_rules t bytes a u e = (ap (λ (o : Outcome Tables). reply_of o.answer) e, ap (λ (o : Outcome Tables). o.after) e)
 
 pub demand_3_runs : Demand3Runs
-demand_3_runs = after-every-run reply_of Applies applies_by_rules Makes makes_by_rules Agrees two_bookkeepers
+demand_3_runs = after_every_run reply_of Applies applies_by_rules Makes makes_by_rules Agrees two_bookkeepers

@@ -21,17 +21,17 @@ use Rattle.rules.proofs.SoundEvents.{submission, new_day_limits, proposal, defau
 use Rattle.codec.specs.Columns.{leg_columns, held_legs}
 use Rattle.codec.specs.declared.legs.Legs.{Legs}
 use Rattle.codec.proofs.Fields.{said}
-use Rattle.codec.proofs.LegColumns.{legs-said}
+use Rattle.codec.proofs.LegColumns.{legs_said}
 use Rattle.rules.specs.Ledger.{Tables}
 use Rattle.tables.specs.Fit.{members_in, lots_run_in, Fits}
 use Rattle.submit_causes.specs.Fit.{SubmissionFit}
 use Rattle.proposal_check.specs.Columns.{column_legs, LegsFit}
-use Rattle.proposal_check.proofs.LegColumns.{order_of, lots_of, price_of, counted, columns-are, columns-fit}
+use Rattle.proposal_check.proofs.LegColumns.{order_of, lots_of, price_of, counted, columns_are, columns_fit}
 use Rattle.header.proofs.Columns.{column, room}
 
 module _ (head s : List ℕ) where
-  pub submission-fits : (e : Submission) → read_of (members_in head) s ≡ Sound (Submit e) → SubmissionFit head e
-  submission-fits e r =
+  pub submission_fits : (e : Submission) → read_of (members_in head) s ≡ Sound (Submit e) → SubmissionFit head e
+  submission_fits e r =
       let f = submission (members_in head) e (legs_of s) (said (members_in head) s r).2 in
       record {
         member_below = f.member<;
@@ -41,18 +41,18 @@ module _ (head s : List ℕ) where
         most_lots_holds = f.lots.to;
       }
 
-  pub limits-contract : (e : NewDayLimits) → read_of (members_in head) s ≡ Sound (DayLimits e) → e.contract < contract_count
-  limits-contract e r = (new_day_limits (members_in head) e (legs_of s) (said (members_in head) s r).2).contract<
+  pub limits_contract : (e : NewDayLimits) → read_of (members_in head) s ≡ Sound (DayLimits e) → e.contract < contract_count
+  limits_contract e r = (new_day_limits (members_in head) e (legs_of s) (said (members_in head) s r).2).contract<
 
   pub member_below : (m : ℕ) → read_of (members_in head) s ≡ Sound (Default m) → m < members_in head
   member_below m r = default_member (members_in head) m (legs_of s) (said (members_in head) s r).2
 
-  pub close-out-contract-below : (e : CloseOutTerms) → read_of (members_in head) s ≡ Sound (CloseOut e) → e.contract < contract_count
-  close-out-contract-below e r = close_out_contract (members_in head) e (legs_of s) (said (members_in head) s r).2
+  pub close_out_contract_below : (e : CloseOutTerms) → read_of (members_in head) s ≡ Sound (CloseOut e) → e.contract < contract_count
+  close_out_contract_below e r = close_out_contract (members_in head) e (legs_of s) (said (members_in head) s r).2
 
-  pub close-out-ratio : (e : CloseOutTerms) → read_of (members_in head) s ≡ Sound (CloseOut e) → e.ratio ≤ most_ratio
+  pub close_out_ratio : (e : CloseOutTerms) → read_of (members_in head) s ≡ Sound (CloseOut e) → e.ratio ≤ most_ratio
   unfolding event_sound
-  close-out-ratio e r =
+  close_out_ratio e r =
       let ranges = contract_sound e.contract && leb 1 e.ratio in
       let most = leb e.ratio most_ratio in
       leb-true e.ratio most_ratio (and_right ranges most (and_left (ranges && most) (eqb (length (legs_of s)) 0) (said (members_in head) s r).2))
@@ -67,8 +67,8 @@ module _ (n k : ℕ) (s : List ℕ) (l : Legs) (e : l ≡ leg_columns (held_legs
   sized : length (legs_of s) ≡ k
   sized = (counted n k (legs_of s) (said n s r).2).1
 
-  as-columns : l ≡ leg_columns (legs_of s)
-  as-columns = e ∙ ap leg_columns (legs-said n s k (said n s r).1 (said n s r).2)
+  as_columns : l ≡ leg_columns (legs_of s)
+  as_columns = e ∙ ap leg_columns (legs_said n s k (said n s r).1 (said n s r).2)
 
   front : (f : Leg → ℕ) → take k (padded most_legs (map f (legs_of s))) ≡ map f (legs_of s)
   front f =
@@ -82,32 +82,32 @@ module _ (n k : ℕ) (s : List ℕ) (l : Legs) (e : l ≡ leg_columns (held_legs
       let fits : length (map f (legs_of s)) ≤ most_legs = omega (arith, sized) in
       omega (arith, room most_legs (map f (legs_of s)) fits)
 
-  pub orders-room : k ≤ length l.orders
+  pub orders_room : k ≤ length l.orders
   unfolding leg_columns
-  orders-room = rw as-columns (inside order_of)
+  orders_room = rw as_columns (inside order_of)
 
-  pub lots-room : k ≤ length l.lots
+  pub lots_room : k ≤ length l.lots
   unfolding leg_columns
-  lots-room = rw as-columns (inside lots_of)
+  lots_room = rw as_columns (inside lots_of)
 
-  pub prices-room : k ≤ length l.prices
+  pub prices_room : k ≤ length l.prices
   unfolding leg_columns
-  prices-room = rw as-columns (inside price_of)
+  prices_room = rw as_columns (inside price_of)
 
-  orders-are : take k l.orders ≡ map order_of (legs_of s)
+  orders_are : take k l.orders ≡ map order_of (legs_of s)
   unfolding leg_columns
-  orders-are = rw as-columns (front order_of)
+  orders_are = rw as_columns (front order_of)
 
-  lots-are : take k l.lots ≡ map lots_of (legs_of s)
+  lots_are : take k l.lots ≡ map lots_of (legs_of s)
   unfolding leg_columns
-  lots-are = rw as-columns (front lots_of)
+  lots_are = rw as_columns (front lots_of)
 
-  prices-are : take k l.prices ≡ map price_of (legs_of s)
+  prices_are : take k l.prices ≡ map price_of (legs_of s)
   unfolding leg_columns
-  prices-are = rw as-columns (front price_of)
+  prices_are = rw as_columns (front price_of)
 
   pub legs_fit : LegsFit (length (take k l.orders)) (take k l.lots) (take k l.prices)
-  legs_fit = rw (orders-are, lots-are, prices-are) (columns-fit (legs_of s) n k (said n s r).2)
+  legs_fit = rw (orders_are, lots_are, prices_are) (columns_fit (legs_of s) n k (said n s r).2)
 
-  pub legs-are : column_legs (take k l.orders) (take k l.lots) (take k l.prices) ≡ legs_of s
-  legs-are = rw (orders-are, lots-are, prices-are) (columns-are (legs_of s))
+  pub legs_are : column_legs (take k l.orders) (take k l.lots) (take k l.prices) ≡ legs_of s
+  legs_are = rw (orders_are, lots_are, prices_are) (columns_are (legs_of s))

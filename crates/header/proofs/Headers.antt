@@ -34,18 +34,18 @@ take_firsts n l h =
 
 -- ---- which headers are sound, by the tests that lead to it
 module _ (h : Header) where
-  pub holidays-many : 120 < length h.holidays → header_sound h ≡ false
+  pub holidays_many : 120 < length h.holidays → header_sound h ≡ false
   unfolding header_sound calendar_sound
-  holidays-many l = rw (lt-leb (length h.holidays) 120 l, and_false (leb 2020 h.first_year && leb h.first_year 2094)) refl
+  holidays_many l = rw (lt-leb (length h.holidays) 120 l, and_false (leb 2020 h.first_year && leb h.first_year 2094)) refl
 
-  pub members-wrong : members_sound h.members ≡ false → header_sound h ≡ false
+  pub members_wrong : members_sound h.members ≡ false → header_sound h ≡ false
   unfolding header_sound
-  members-wrong m = rw (m, and_false (calendar_sound (calendar_of h) && day_sound (calendar_of h) h.start_day)) refl
+  members_wrong m = rw (m, and_false (calendar_sound (calendar_of h) && day_sound (calendar_of h) h.start_day)) refl
 
-  pub header-judged : members_sound h.members ≡ true → length h.limits ≡ h.members →
+  pub header_judged : members_sound h.members ≡ true → length h.limits ≡ h.members →
       days_sound (calendar_of h) h.start_day && every limit_sound h.limits ≡ header_sound h
   unfolding header_sound
-  header-judged m l = rw (m, eq-eqb (length h.limits) h.members l, and_true, and_true) refl
+  header_judged m l = rw (m, eq-eqb (length h.limits) h.members l, and_true, and_true) refl
 
 -- ---- the letters
 same_refl : (a : List ℕ) → same_bytes a a ≡ true
@@ -87,86 +87,86 @@ columns_back h l = λ i. record { first_year = h.first_year; start_day = h.start
 
 -- ---- whether bytes begin with a header, by the tests that lead to it
 module _ (s : List ℕ) where
-  pub begins-short : length s < 11 → begins_with_header s ≡ false
+  pub begins_short : length s < 11 → begins_with_header s ≡ false
   unfolding begins_with_header
-  begins-short h = rw (lt-leb 11 (length s) h) refl
+  begins_short h = rw (lt-leb 11 (length s) h) refl
 
-  pub begins-other : same_bytes (take 5 s) letters_and_version ≡ false → begins_with_header s ≡ false
+  pub begins_other : same_bytes (take 5 s) letters_and_version ≡ false → begins_with_header s ≡ false
   unfolding begins_with_header
-  begins-other e = rw (e, and_false (leb 11 (length s))) refl
+  begins_other e = rw (e, and_false (leb 11 (length s))) refl
 
-  pub begins-cut : length s < header_length s → begins_with_header s ≡ false
+  pub begins_cut : length s < header_length s → begins_with_header s ≡ false
   unfolding begins_with_header
-  begins-cut h = rw (lt-leb (header_length s) (length s) h, and_false (leb 11 (length s) && same_bytes (take 5 s) letters_and_version)) refl
+  begins_cut h = rw (lt-leb (header_length s) (length s) h, and_false (leb 11 (length s) && same_bytes (take 5 s) letters_and_version)) refl
 
-  begins-unsound : header_sound (header_of s) ≡ false → begins_with_header s ≡ false
+  begins_unsound : header_sound (header_of s) ≡ false → begins_with_header s ≡ false
   unfolding begins_with_header
-  begins-unsound e = rw (e, and_false (leb 11 (length s) && same_bytes (take 5 s) letters_and_version && leb (header_length s) (length s))) refl
+  begins_unsound e = rw (e, and_false (leb 11 (length s) && same_bytes (take 5 s) letters_and_version && leb (header_length s) (length s))) refl
 
-  pub begins-members : 32 < get_or s 9 0 → begins_with_header s ≡ false
+  pub begins_members : 32 < get_or s 9 0 → begins_with_header s ≡ false
   unfolding header_of
-  begins-members h = begins-unsound (members-wrong (header_of s) (rw (lt-leb (get_or s 9 0) 32 h, and_false (leb 1 (get_or s 9 0))) refl))
+  begins_members h = begins_unsound (members_wrong (header_of s) (rw (lt-leb (get_or s 9 0) 32 h, and_false (leb 1 (get_or s 9 0))) refl))
 
-  pub begins-holidays : 120 < get_or s 10 0 → begins_with_header s ≡ false
+  pub begins_holidays : 120 < get_or s 10 0 → begins_with_header s ≡ false
   unfolding header_of
-  begins-holidays h = begins-unsound (holidays-many (header_of s) (rw (length_u16s s 11 (get_or s 10 0)) h))
+  begins_holidays h = begins_unsound (holidays_many (header_of s) (rw (length_u16s s 11 (get_or s 10 0)) h))
 
-  begins-judged : 11 ≤ length s → same_bytes (take 5 s) letters_and_version ≡ true → header_length s ≤ length s → header_sound (header_of s) ≡ begins_with_header s
+  begins_judged : 11 ≤ length s → same_bytes (take 5 s) letters_and_version ≡ true → header_length s ≤ length s → header_sound (header_of s) ≡ begins_with_header s
   unfolding begins_with_header
-  begins-judged a b d = rw (le-leb 11 (length s) a, b, le-leb (header_length s) (length s) d) refl
+  begins_judged a b d = rw (le-leb 11 (length s) a, b, le-leb (header_length s) (length s) d) refl
 
   -- the fields in columns are the header
-  pub columns-read : header_from (header_columns (header_of s)) ≡ header_of s
+  pub columns_read : header_from (header_columns (header_of s)) ≡ header_of s
   unfolding header_of
-  columns-read = columns_back (header_of s) (length_u32s s (11 + 2 * get_or s 10 0) (get_or s 9 0))
+  columns_read = columns_back (header_of s) (length_u32s s (11 + 2 * get_or s 10 0) (get_or s 9 0))
 
   -- by a test of the fields in columns
-  pub begins-by : {h : JournalHeader} {b v : Bool} → 11 ≤ length s → same_bytes (take 5 s) letters_and_version ≡ true → header_length s ≤ length s → h ≡ header_columns (header_of s)
+  pub begins_by : {h : JournalHeader} {b v : Bool} → 11 ≤ length s → same_bytes (take 5 s) letters_and_version ≡ true → header_length s ≤ length s → h ≡ header_columns (header_of s)
       → b ≡ header_sound (header_from h) → b ≡ v → begins_with_header s ≡ v
-  begins-by {h} x y z f t e =
-      let columns : header_from h ≡ header_of s = ap header_from f ∙ columns-read in
-      sym (begins-judged x y z) ∙ (ap header_sound (sym columns) ∙ (sym t ∙ e))
+  begins_by {h} x y z f t e =
+      let columns : header_from h ≡ header_of s = ap header_from f ∙ columns_read in
+      sym (begins_judged x y z) ∙ (ap header_sound (sym columns) ∙ (sym t ∙ e))
 
-  pub reading-unsound : begins_with_header s ≡ false → record { answer = HeaderUnsound; header = blank_header } ≡ header_reading s
+  pub reading_unsound : begins_with_header s ≡ false → record { answer = HeaderUnsound; header = blank_header } ≡ header_reading s
   unfolding header_reading
-  reading-unsound e = rw e refl
+  reading_unsound e = rw e refl
 
-  pub reading-sound : (n : ℕ) → begins_with_header s ≡ true → n ≡ header_length s → record { answer = Accepted n; header = header_columns (header_of s) } ≡ header_reading s
+  pub reading_sound : (n : ℕ) → begins_with_header s ≡ true → n ≡ header_length s → record { answer = Accepted n; header = header_columns (header_of s) } ≡ header_reading s
   unfolding header_reading
-  reading-sound n e l = rw (e, l) refl
+  reading_sound n e l = rw (e, l) refl
 
 -- ---- writing
 module _ (h : JournalHeader) where
-  pub length-holidays : length (flat_map u16_bytes (firsts h.holiday_count h.holidays)) ≡ 2 * h.holiday_count
-  length-holidays = let days = firsts h.holiday_count h.holidays in omega (arith, flat_length 2 u16_bytes u16_wide days, length_firsts h.holiday_count h.holidays)
+  pub length_holidays : length (flat_map u16_bytes (firsts h.holiday_count h.holidays)) ≡ 2 * h.holiday_count
+  length_holidays = let days = firsts h.holiday_count h.holidays in omega (arith, flat_length 2 u16_bytes u16_wide days, length_firsts h.holiday_count h.holidays)
 
-  length-limits : length (flat_map u32_bytes (firsts h.members h.limits)) ≡ 4 * h.members
-  length-limits = omega (arith, flat_length 4 u32_bytes u32_wide (firsts h.members h.limits), length_firsts h.members h.limits)
+  length_limits : length (flat_map u32_bytes (firsts h.members h.limits)) ≡ 4 * h.members
+  length_limits = omega (arith, flat_length 4 u32_bytes u32_wide (firsts h.members h.limits), length_firsts h.members h.limits)
 
-  pub length-header : length (header_bytes (header_from h)) ≡ 11 + 2 * h.holiday_count + 4 * h.members
+  pub length_header : length (header_bytes (header_from h)) ≡ 11 + 2 * h.holiday_count + 4 * h.members
   unfolding header_bytes u16_bytes
-  length-header = simp (length-append, length-holidays, length-limits) (omega arith)
+  length_header = simp (length-append, length_holidays, length_limits) (omega arith)
 
 -- a sound header's counts fit their bytes
 module _ (h : JournalHeader) (t : header_sound (header_from h) ≡ true) where
-  pub members-fit : h.members ≤ 32
-  members-fit =
+  pub members_fit : h.members ≤ 32
+  members_fit =
       le_or_lt h.members 32 (λ l. l)
-      (λ l. never (sym t ∙ members-wrong (header_from h) (rw (lt-leb h.members 32 l, and_false (leb 1 h.members)) refl)))
+      (λ l. never (sym t ∙ members_wrong (header_from h) (rw (lt-leb h.members 32 l, and_false (leb 1 h.members)) refl)))
 
-  pub holidays-fit : h.holiday_count ≤ 120
-  holidays-fit = le_or_lt h.holiday_count 120 (λ l. l) (λ l. never (sym t ∙ holidays-many (header_from h) (rw (length_firsts h.holiday_count h.holidays) l)))
+  pub holidays_fit : h.holiday_count ≤ 120
+  holidays_fit = le_or_lt h.holiday_count 120 (λ l. l) (λ l. never (sym t ∙ holidays_many (header_from h) (rw (length_firsts h.holiday_count h.holidays) l)))
 
 module _ (h : Header) (out : List ℕ) where
-  pub write-header-unsound : header_sound h ≡ false → record { answer = HeaderUnsound; after = out } ≡ write_header_spec h out
+  pub write_header_unsound : header_sound h ≡ false → record { answer = HeaderUnsound; after = out } ≡ write_header_spec h out
   unfolding write_header_spec
-  write-header-unsound t = rw t refl
+  write_header_unsound t = rw t refl
 
-  pub write-header-short : header_sound h ≡ true → length out < length (header_bytes h) → record { answer = TableUnsound; after = out } ≡ write_header_spec h out
+  pub write_header_short : header_sound h ≡ true → length out < length (header_bytes h) → record { answer = TableUnsound; after = out } ≡ write_header_spec h out
   unfolding write_header_spec
-  write-header-short t l = rw (t, lt-ltb (length out) (length (header_bytes h)) l) refl
+  write_header_short t l = rw (t, lt-ltb (length out) (length (header_bytes h)) l) refl
 
-  pub write-header-whole : header_sound h ≡ true → (k : ℕ) (after : List ℕ) → k ≡ length (header_bytes h) → length (header_bytes h) ≤ length out → after ≡ over 0 (header_bytes h) out
+  pub write_header_whole : header_sound h ≡ true → (k : ℕ) (after : List ℕ) → k ≡ length (header_bytes h) → length (header_bytes h) ≤ length out → after ≡ over 0 (header_bytes h) out
       → record { answer = Accepted k; after = after } ≡ write_header_spec h out
   unfolding write_header_spec
-  write-header-whole t k after a l w = rw (t, le-ltb (length out) (length (header_bytes h)) l, a, w) refl
+  write_header_whole t k after a l w = rw (t, le-ltb (length out) (length (header_bytes h)) l, a, w) refl

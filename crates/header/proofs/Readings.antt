@@ -45,15 +45,15 @@ module _ (s : List ℕ) (r : HeaderReading) (e : r ≡ header_reading s) where
   unfolding header_reading
   as_read b = e ∙ rw b
 
-  pub turned-back : r.header.members ≡ 0 → begins_with_header s ≡ false
-  turned-back z =
+  pub turned_back : r.header.members ≡ 0 → begins_with_header s ≡ false
+  turned_back z =
       true_or (begins_with_header s)
       (λ b. let m = counts (header_of s) (begun s b).2 in absurd (omega (arith, rw (as_read b) at z)))
       (λ b. b)
 
-  pub read-well : (r.header.members ≡ 0 → ⊥) → begins_with_header s ≡ true
+  pub read_well : (r.header.members ≡ 0 → ⊥) → begins_with_header s ≡ true
   unfolding header_reading
-  read-well z = true_or (begins_with_header s) (λ b. b) (λ b. absurd (z (rw (e, b))))
+  read_well z = true_or (begins_with_header s) (λ b. b) (λ b. absurd (z (rw (e, b))))
 
   module _ (b : begins_with_header s ≡ true) where
     pub holiday-room : r.header.holiday_count ≤ length r.header.holidays

@@ -9,8 +9,8 @@ use lib.Dec.{eqb, leb, ltb}
 use lib.Seq.{take_at}
 use lib.ListN.{length, get_or, take, drop, length-append, take-append-drop}
 use Rattle.arith.specs.Lists.{All, from, every, total, over}
-use Rattle.arith.proofs.Alls.{every-all, all_map}
-use Rattle.arith.proofs.Writes.{over-front}
+use Rattle.arith.proofs.Alls.{every_all, all_map}
+use Rattle.arith.proofs.Writes.{over_front}
 use Rattle.arith.proofs.Tests.{by_bool, and_right, and_false}
 use Rattle.rules.specs.Ranges.{most_first_year, most_limit}
 use Rattle.rules.specs.Days.{Calendar, leap_year, year_start, month_start, span_start, day_after_span, in_span}
@@ -18,12 +18,12 @@ use Rattle.rules.specs.Header.{Header, u16_at, u32_at, u16_bytes, u32_bytes, u16
 use Rattle.rules.specs.Header.{calendar_sound, limit_sound, day_sound, header_sound, begins_with_header, write_header_spec}
 use Rattle.rules.proofs.Writing.{written, not_header_refused}
 use Rattle.rules.specs.declared.answer.Answer.TheVariants.{Accepted, HeaderUnsound}
-use Rattle.header.proofs.Headers.{same_true, length_u16s, columns-read, reading-sound, write-header-whole}
+use Rattle.header.proofs.Headers.{same_true, length_u16s, columns_read, reading_sound, write_header_whole}
 use Rattle.header.specs.Journal.{header_from, header_columns, blank_header, header_reading}
 use Rattle.header.specs.Trips.{WrittenIsRead, ReadIsWritten}
 use Rattle.header.specs.declared.journal.JournalHeader.{JournalHeader}
 use Rattle.header.specs.declared.reader.HeaderReading.{HeaderReading}
-use Rattle.big_endian.proofs.Numbers.{bytes_small, u16_wide, u32_wide, u16-back, u32_back, all_back, u8-again, u16-again, u32-again, all-again}
+use Rattle.big_endian.proofs.Numbers.{bytes_small, u16_wide, u32_wide, u16_back, u32_back, all_back, u8_again, u16_again, u32_again, all_again}
 use Rattle.arith.proofs.Appends.{flat_length}
 
 -- ---- days fit two bytes
@@ -64,8 +64,8 @@ fits h year start sized days limits =
       year = year;
       start = in_span_small (calendar_of h) h.start_day year start;
       sized = sized;
-      days = all_map (λ d. in_span (calendar_of h) d ≡ true) (λ d. d < 65536) h.holidays (λ d. in_span_small (calendar_of h) d year) (every-all (in_span (calendar_of h)) h.holidays days);
-      limits = all_map (λ l. limit_sound l ≡ true) (λ l. l < 4294967296) h.limits (λ l e. omega (arith, leb-true l most_limit e)) (every-all limit_sound h.limits limits);
+      days = all_map (λ d. in_span (calendar_of h) d ≡ true) (λ d. d < 65536) h.holidays (λ d. in_span_small (calendar_of h) d year) (every_all (in_span (calendar_of h)) h.holidays days);
+      limits = all_map (λ l. limit_sound l ≡ true) (λ l. l < 4294967296) h.limits (λ l e. omega (arith, leb-true l most_limit e)) (every_all limit_sound h.limits limits);
     }
 
 must : (b : Bool) → (b ≡ false → true ≡ false) → b ≡ true
@@ -92,17 +92,17 @@ module _ (h : Header) (x : Holds h) (rest : List ℕ) where
   unfolding header_bytes u16_bytes front
   shape = rw (append_assoc (flat_map u16_bytes h.holidays) (flat_map u32_bytes h.limits) rest) refl
 
-  days-back : u16s_at (header_bytes h ++ rest) 11 (length h.holidays) ≡ h.holidays
+  days_back : u16s_at (header_bytes h ++ rest) 11 (length h.holidays) ≡ h.holidays
   unfolding u16s_at front u16_bytes
-  days-back = rw shape (all_back u16_bytes 2 u16_wide u16_at (λ d. d < 65536) (λ p q i e b g. u16-back p q i e b g) h.holidays front (flat_map u32_bytes h.limits ++ rest) 11 refl x.days)
+  days_back = rw shape (all_back u16_bytes 2 u16_wide u16_at (λ d. d < 65536) (λ p q i e b g. u16_back p q i e b g) h.holidays front (flat_map u32_bytes h.limits ++ rest) 11 refl x.days)
 
   length_front : length (front ++ flat_map u16_bytes h.holidays) ≡ 11 + 2 * length h.holidays
   unfolding front u16_bytes
   length_front = omega (arith, length-append front (flat_map u16_bytes h.holidays), flat_length 2 u16_bytes u16_wide h.holidays)
 
-  limits-back : u32s_at (header_bytes h ++ rest) (11 + 2 * length h.holidays) (length h.limits) ≡ h.limits
+  limits_back : u32s_at (header_bytes h ++ rest) (11 + 2 * length h.holidays) (length h.limits) ≡ h.limits
   unfolding u32s_at
-  limits-back =
+  limits_back =
       rw (shape, ← append_assoc front (flat_map u16_bytes h.holidays) (flat_map u32_bytes h.limits ++ rest))
       (all_back u32_bytes 4 u32_wide u32_at (λ l. l < 4294967296) u32_back h.limits (front ++ flat_map u16_bytes h.holidays) rest (11 + 2 * length h.holidays) (sym length_front) x.limits)
 
@@ -112,59 +112,59 @@ module _ (h : Header) (x : Holds h) (rest : List ℕ) where
       let y = x.year in
       let s = x.start in
       let tail = h.members ∷ length h.holidays ∷ (flat_map u16_bytes h.holidays ++ flat_map u32_bytes h.limits) ++ rest in
-      let year : u16_at (header_bytes h ++ rest) 5 ≡ h.first_year = u16-back letters_and_version (u16_bytes h.start_day ++ tail) 5 refl h.first_year (omega arith) in
-      let start : u16_at (header_bytes h ++ rest) 7 ≡ h.start_day = u16-back (letters_and_version ++ u16_bytes h.first_year) tail 7 refl h.start_day s in
+      let year : u16_at (header_bytes h ++ rest) 5 ≡ h.first_year = u16_back letters_and_version (u16_bytes h.start_day ++ tail) 5 refl h.first_year (omega arith) in
+      let start : u16_at (header_bytes h ++ rest) 7 ≡ h.start_day = u16_back (letters_and_version ++ u16_bytes h.first_year) tail 7 refl h.start_day s in
       let limits : u32s_at (header_bytes h ++ rest) (11 + 2 * length h.holidays) h.members ≡ h.limits =
-      ap (u32s_at (header_bytes h ++ rest) (11 + 2 * length h.holidays)) (sym x.sized) ∙ limits-back in
-      λ i. record { first_year = year i; start_day = start i; members = h.members; holidays = days-back i; limits = limits i }
+      ap (u32s_at (header_bytes h ++ rest) (11 + 2 * length h.holidays)) (sym x.sized) ∙ limits_back in
+      λ i. record { first_year = year i; start_day = start i; members = h.members; holidays = days_back i; limits = limits i }
 
   length_back : length (header_bytes h) ≡ 11 + 2 * length h.holidays + 4 * h.members
   unfolding header_bytes u16_bytes
   length_back =
       simp (length-append, flat_length 2 u16_bytes u16_wide h.holidays, flat_length 4 u32_bytes u32_wide h.limits) (omega (arith, x.sized))
 
-  length-read : header_length (header_bytes h ++ rest) ≡ length (header_bytes h)
+  length_read : header_length (header_bytes h ++ rest) ≡ length (header_bytes h)
   unfolding header_length header_bytes u16_bytes
-  length-read = sym length_back
+  length_read = sym length_back
 
-  letters-back : same_bytes (take 5 (header_bytes h ++ rest)) letters_and_version ≡ true
+  letters_back : same_bytes (take 5 (header_bytes h ++ rest)) letters_and_version ≡ true
   unfolding header_bytes same_bytes
-  letters-back = refl
+  letters_back = refl
 
-  begins-back : header_sound h ≡ true → begins_with_header (header_bytes h ++ rest) ≡ true
+  begins_back : header_sound h ≡ true → begins_with_header (header_bytes h ++ rest) ≡ true
   unfolding begins_with_header
-  begins-back t =
+  begins_back t =
       let long : length (header_bytes h ++ rest) ≡ length (header_bytes h) + length rest = length-append (header_bytes h) rest in
       let least = length_back in
       rw (
         le-leb 11 (length (header_bytes h ++ rest)) (omega arith),
-        letters-back,
-        le-leb (header_length (header_bytes h ++ rest)) (length (header_bytes h ++ rest)) (rw length-read (omega arith)),
+        letters_back,
+        le-leb (header_length (header_bytes h ++ rest)) (length (header_bytes h ++ rest)) (rw length_read (omega arith)),
         fields_back,
       ) t
 
 -- ---- read, then written
 module _ (s : List ℕ) (small : (i : ℕ) → get_or s i 0 < 256) (begins : same_bytes (take 5 s) letters_and_version ≡ true) (long : header_length s ≤ length s) where
-  letters-again : letters_and_version ++ drop 5 s ≡ s
-  letters-again = ap (λ l. l ++ drop 5 s) (sym (same_true (take 5 s) letters_and_version begins)) ∙ take-append-drop 5 s
+  letters_again : letters_and_version ++ drop 5 s ≡ s
+  letters_again = ap (λ l. l ++ drop 5 s) (sym (same_true (take 5 s) letters_and_version begins)) ∙ take-append-drop 5 s
 
   module _ (n m : ℕ) (fit : 11 + 2 * n + 4 * m ≤ length s) where
     lists-again : flat_map u16_bytes (u16s_at s 11 n) ++ flat_map u32_bytes (u32s_at s (11 + 2 * n) m) ++ drop (11 + 2 * n + 4 * m) s ≡ drop 11 s
     unfolding u16s_at u32s_at
     lists-again =
-        rw (append_assoc, all-again u32_bytes 4 u32_at s (u32-again s small) m (11 + 2 * n) fit) (all-again u16_bytes 2 u16_at s (u16-again s small) n 11 (omega arith))
+        rw (append_assoc, all_again u32_bytes 4 u32_at s (u32_again s small) m (11 + 2 * n) fit) (all_again u16_bytes 2 u16_at s (u16_again s small) n 11 (omega arith))
 
     rest-again : u16_bytes (u16_at s 5) ++
         (u16_bytes (u16_at s 7) ++ (get_or s 9 0 ∷ get_or s 10 0 ∷ flat_map u16_bytes (u16s_at s 11 n) ++ flat_map u32_bytes (u32s_at s (11 + 2 * n) m))) ++ drop
         (11 + 2 * n + 4 * m) s ≡ drop 5 s
     rest-again =
-        rw (append_assoc, append_assoc, lists-again, u8-again s small 10 (omega arith), u8-again s small 9 (omega arith), u16-again s small 7 (omega arith), u16-again s small 5 (omega arith)) refl
+        rw (append_assoc, append_assoc, lists-again, u8_again s small 10 (omega arith), u8_again s small 9 (omega arith), u16_again s small 7 (omega arith), u16_again s small 5 (omega arith)) refl
 
-  header-bytes-again : header_bytes (header_of s) ++ drop (header_length s) s ≡ s
+  header_bytes_again : header_bytes (header_of s) ++ drop (header_length s) s ≡ s
   unfolding header_bytes header_of header_length
-  header-bytes-again =
+  header_bytes_again =
       rw (length_u16s s 11 (get_or s 10 0))
-      (ap (λ l. letters_and_version ++ l) (rest-again (get_or s 10 0) (get_or s 9 0) long) ∙ letters-again)
+      (ap (λ l. letters_and_version ++ l) (rest-again (get_or s 10 0) (get_or s 9 0) long) ∙ letters_again)
 
 pub begun : (s : List ℕ) → begins_with_header s ≡ true → (same_bytes (take 5 s) letters_and_version ≡ true) × (header_length s ≤ length s) × (header_sound (header_of s) ≡ true)
 unfolding begins_with_header
@@ -187,9 +187,9 @@ written_is_read h out k after w =
     let rest = drop (length bytes) out in
     let reply_of = written HeaderUnsound k (length bytes) out after (over 0 bytes out) (not_header_refused k) (header_sound x) (ltb (length out) (length bytes)) w in
     let held = holds x reply_of.0 in
-    let begins = begins-back x held rest reply_of.0 in
-    rw (reply_of.1, reply_of.2 ∙ over-front bytes out)
-    (sym (rw (fields_back x held rest) at (reading-sound (bytes ++ rest) (length bytes) begins (sym (length-read x held rest)))))
+    let begins = begins_back x held rest reply_of.0 in
+    rw (reply_of.1, reply_of.2 ∙ over_front bytes out)
+    (sym (rw (fields_back x held rest) at (reading_sound (bytes ++ rest) (length bytes) begins (sym (length_read x held rest)))))
 
 abbrev sound_reading : List ℕ → HeaderReading
 sound_reading s = record { answer = Accepted (header_length s); header = header_columns (header_of s) }
@@ -211,8 +211,8 @@ read_is_written s out k h b r room =
     let w = begun s reply_of.0 in
     let n = header_length s in
     let size : length (header_bytes (header_of s)) ≡ n = header_size s w.2 in
-    let again = header-bytes-again s (bytes_small s b) w.0 w.1 in
+    let again = header_bytes_again s (bytes_small s b) w.0 w.1 in
     let whole : header_bytes (header_of s) ≡ take n s = sym (rw again at (take_at (header_bytes (header_of s)) (drop n s) n size)) in
     let fits : n ≤ length out = rw reply_of.1 at room in
-    rw (reply_of.1, reply_of.2, columns-read s)
-    (sym (write-header-whole (header_of s) out w.2 n (over 0 (take n s) out) (sym size) (rw size fits) (ap (λ l. over 0 l out) (sym whole))))
+    rw (reply_of.1, reply_of.2, columns_read s)
+    (sym (write_header_whole (header_of s) out w.2 n (over 0 (take n s) out) (sym size) (rw size fits) (ap (λ l. over 0 l out) (sym whole))))

@@ -18,14 +18,14 @@ use Rattle.accounts.proofs.Answered.{answers_exactly}
 use Rattle.accounts.proofs.ClosedOut.{defaulted_are_closed_out}
 use Rattle.accounts.proofs.Complete.{matching_is_complete, nobody_is_passed_over}
 use Rattle.accounts.proofs.EveryList.{never_crossed, numbers_rise, defaulted_never_rest, day_is_the_lists, run_is_logged, ggf_never_lost}
-use Rattle.accounts.proofs.ListsToRuns.{made_well, SameAsList, same-as-list, after-every-run}
+use Rattle.accounts.proofs.ListsToRuns.{made_well, SameAsList, same_as_list, after_every_run}
 use Rattle.accounts.proofs.LengthsStay.{lengths_stay, making_keeps_lengths, at_most_200_lines}
 use Rattle.accounts.proofs.LinesSound.{every_line_sound}
 use Rattle.accounts.proofs.NeverDamaged.{never_damaged, one_for_lines_alone}
 use Rattle.accounts.proofs.Refused.{refused_changes_nothing, refused_makes_nothing, striking_changes_nothing}
 use Rattle.accounts.proofs.StaysSound.{stays_sound, only_rows_change}
 use Rattle.accounts.proofs.TwoBookkeepers.{two_bookkeepers, orders_rest_in_open}
-use Rattle.replay.proofs.EveryRun.{runs-alike, runs-recover, runs-leave-surplus}
+use Rattle.replay.proofs.EveryRun.{runs_alike, runs_recover, runs_leave_surplus}
 use Rattle.replay.proofs.PastWritten.{lines_stay, book_stays}
 use Rattle.replay.proofs.Making.{making_leaves_surplus}
 use Rattle.host.specs.Sent.{Sent, sent, damage_number}
@@ -94,11 +94,11 @@ after_list header t calls b long = record {
 }
 
 pub every_run : EveryRun
-every_run = after-every-run (λ reply. reply) AppliesReply applies_by_rules MakesReply makes_by_rules AfterRun after_list
+every_run = after_every_run (λ reply. reply) AppliesReply applies_by_rules MakesReply makes_by_rules AfterRun after_list
 
 -- ---- runs from any tables
 as_list : (t : Tables) (run : List (Applied Reply)) → Kept AppliesReply t run → SameAsList (λ reply. reply) AppliesReply applies_by_rules (header_of []) 0 t run
-as_list t run k = same-as-list (λ reply. reply) AppliesReply applies_by_rules (header_of []) run 0 t k
+as_list t run k = same_as_list (λ reply. reply) AppliesReply applies_by_rules (header_of []) run 0 t k
 
 pub ggfs_stay : GgfsStay
 ggfs_stay t run k = subst (GgfsKept t) (as_list t run k).tables (ggf_never_lost t (calls run))
@@ -115,10 +115,10 @@ struck t run accepted k a e =
 
 -- ---- replay
 pub replays_alike : ReplaysAlike
-replays_alike = runs-alike (λ reply. reply) MakesReply AppliesReply makes_by_rules applies_by_rules
+replays_alike = runs_alike (λ reply. reply) MakesReply AppliesReply makes_by_rules applies_by_rules
 
 pub recovers : Recovers
-recovers = runs-recover (λ reply. reply) MakesReply AppliesReply makes_by_rules applies_by_rules
+recovers = runs_recover (λ reply. reply) MakesReply AppliesReply makes_by_rules applies_by_rules
 
 pub surplus_stays : SurplusStays
-surplus_stays = runs-leave-surplus (λ reply. reply) MakesReply AppliesReply makes_by_rules applies_by_rules
+surplus_stays = runs_leave_surplus (λ reply. reply) MakesReply AppliesReply makes_by_rules applies_by_rules

@@ -10,7 +10,7 @@ use Rattle.accounts.specs.Answered.{call_causes, Exact}
 use Rattle.accounts.specs.ClosedOut.{NoLotsOfDefaulted}
 use Rattle.accounts.specs.Complete.{MatchedInFull, NonePassedOver}
 use Rattle.accounts.specs.EveryList.{NotDamaged, RestInOpen, Uncrossed, RisingNumbers, NoneDefaulted, GgfsKept}
-use Rattle.accounts.specs.EveryRun.{Applied, calls, standing, Kept, printed, acceptedOf, AfterEveryRun}
+use Rattle.accounts.specs.EveryRun.{Applied, calls, standing, Kept, printed, accepted_of, AfterEveryRun}
 use Rattle.accounts.specs.Lengths.{SameLengths, FewLines}
 use Rattle.accounts.specs.Lines.{LinesSound}
 use Rattle.accounts.specs.Refused.{LeavesIfRefused, SameLedger}
@@ -110,7 +110,7 @@ Struck =
     (t : Tables) (run accepted : List (Applied Reply))
     → Kept AppliesReply t run
     → Kept AppliesReply t accepted
-    → calls accepted ≡ acceptedOf (λ reply. reply) run
+    → calls accepted ≡ accepted_of (λ reply. reply) run
     → SameLedger (standing t run) (standing t accepted) × (printed (λ reply. reply) run ≡ printed (λ reply. reply) accepted)
 
 -- The same records, applied to ledgers that agree but for surplus, are answered alike, with the same lines, and the ledgers still agree.

@@ -73,18 +73,18 @@ module _ (s : List ℕ) (n : ℕ) (e : front_of s ≡ Whole n) where
   whole : (eqb (front_length s) 0 ≡ false) × (leb (front_length s) (length s) ≡ true) × (front_length s ≡ n)
   whole = is_whole (eqb (length s) 0) (eqb (front_length s) 0) (leb (front_length s) (length s)) (front_length s) n (sym (front_tests s) ∙ e)
 
-  whole-fits : (2 ≤ n) × (n ≤ length s)
-  whole-fits =
+  whole_fits : (2 ≤ n) × (n ≤ length s)
+  whole_fits =
       let m : front_length s ≡ n = whole.2 in
       let two : 2 ≤ front_length s = two_at_least s (eqb-false (front_length s) 0 whole.0) in
       let in-it : front_length s ≤ length s = leb-true (front_length s) (length s) whole.1 in
       (omega arith, omega arith)
 
   -- With more bytes behind it, it stays the record at the front.
-  front-more : (t : List ℕ) → front_of (s ++ t) ≡ Whole n
+  front_more : (t : List ℕ) → front_of (s ++ t) ≡ Whole n
   unfolding tested
-  front-more t =
-      let f = whole-fits in
+  front_more t =
+      let f = whole_fits in
       let same : front_length (s ++ t) ≡ n = rw (get_or-append s t 0 0 (omega arith), get_or-append s t 0 1 (omega arith)) whole.2 in
       let l = length-append s t in
       front_tests (s ++ t) ∙ rw (ne_eqb (length (s ++ t)) 0 (λ z. omega arith), same, ne_eqb n 0 (λ z. omega arith), le-leb n (length (s ++ t)) (omega arith)) refl
@@ -94,13 +94,13 @@ module _ (s : List ℕ) (e : front_of s ≡ UnknownKind) where
   unknown : (eqb (length s) 0 ≡ false) × (eqb (front_length s) 0 ≡ true)
   unknown = is_unknown (eqb (length s) 0) (eqb (front_length s) 0) (leb (front_length s) (length s)) (front_length s) (sym (front_tests s) ∙ e)
 
-  unknown-fits : 0 < length s
-  unknown-fits = positive (length s) (eqb-false (length s) 0 unknown.0)
+  unknown_fits : 0 < length s
+  unknown_fits = positive (length s) (eqb-false (length s) 0 unknown.0)
 
-  unknown-more : (t : List ℕ) → front_of (s ++ t) ≡ UnknownKind
+  unknown_more : (t : List ℕ) → front_of (s ++ t) ≡ UnknownKind
   unfolding tested
-  unknown-more t =
-      let one = unknown-fits in
+  unknown_more t =
+      let one = unknown_fits in
       let k = get_or s 0 0 in
       let none : front_length s ≡ 0 = eqb-true (front_length s) 0 unknown.1 in
       let still : front_length (s ++ t) ≡ 0 = rw (get_or-append s t 0 0 one) (no_length k (get_or s 1 0) (get_or (s ++ t) 1 0) none) in
@@ -117,17 +117,17 @@ by_front {P} s f g h = go (front_of s) refl
     go UnknownKind e = h e
 
 module _ (last : Bool) (s : List ℕ) where
-  now-whole : (n : ℕ) → front_of s ≡ Whole n → length_now last s ≡ n
+  now_whole : (n : ℕ) → front_of s ≡ Whole n → length_now last s ≡ n
   unfolding length_by_now
-  now-whole n e = rw e refl
+  now_whole n e = rw e refl
 
-  now-unknown : front_of s ≡ UnknownKind → length_now last s ≡ 1
+  now_unknown : front_of s ≡ UnknownKind → length_now last s ≡ 1
   unfolding length_by_now
-  now-unknown e = rw e refl
+  now_unknown e = rw e refl
 
-  now-cut : front_of s ≡ Cut → length_now last s ≡ cond last (length s) 0
+  now_cut : front_of s ≡ Cut → length_now last s ≡ cond last (length s) 0
   unfolding length_by_now
-  now-cut e = rw e refl
+  now_cut e = rw e refl
 
 next_whole : (s : List ℕ) (n : ℕ) → front_of s ≡ Whole n → next_length s ≡ n
 unfolding length_by_front
@@ -144,7 +144,7 @@ next_cut s e = rw e refl
 -- No record is without a byte.
 pub next_some : (s : List ℕ) → 0 < length s → 0 < next_length s
 next_some s h =
-    by_front s (λ n e. rw (next_whole s n e) (omega (arith, whole-fits s n e))) (λ e. rw (next_cut s e) h) (λ e. rw (next_unknown s e) (omega arith))
+    by_front s (λ n e. rw (next_whole s n e) (omega (arith, whole_fits s n e))) (λ e. rw (next_cut s e) h) (λ e. rw (next_unknown s e) (omega arith))
 
 at_the_last : (last : Bool) (n : ℕ) → 0 < cond last n 0 → last ≡ true
 at_the_last true n h = refl
@@ -155,23 +155,23 @@ at_most_left true n = omega arith
 at_most_left false n = omega arith
 
 module _ (last : Bool) (s : List ℕ) where
-  pub now-fits : length_now last s ≤ length s
-  now-fits =
-      by_front s (λ n e. rw (now-whole last s n e) (whole-fits s n e).1) (λ e. rw (now-cut last s e) (at_most_left last (length s)))
-      (λ e. rw (now-unknown last s e) (omega (arith, unknown-fits s e)))
+  pub now_fits : length_now last s ≤ length s
+  now_fits =
+      by_front s (λ n e. rw (now_whole last s n e) (whole_fits s n e).1) (λ e. rw (now_cut last s e) (at_most_left last (length s)))
+      (λ e. rw (now_unknown last s e) (omega (arith, unknown_fits s e)))
 
-  pub now-next : 0 < length_now last s → (more : List ℕ) → (last ≡ true → more ≡ []) → next_length (s ++ more) ≡ length_now last s
-  now-next h more ends =
-      by_front s (λ n e. rw (now-whole last s n e, next_whole (s ++ more) n (front-more s n e more)) refl)
-      (λ e. let yet : last ≡ true = at_the_last last (length s) (rw (now-cut last s e) at h) in
-      rw (ends yet, append-nil s, next_cut s e, now-cut last s e, yet) refl)
-      (λ e. rw (now-unknown last s e, next_unknown (s ++ more) (unknown-more s e more)) refl)
+  pub now_next : 0 < length_now last s → (more : List ℕ) → (last ≡ true → more ≡ []) → next_length (s ++ more) ≡ length_now last s
+  now_next h more ends =
+      by_front s (λ n e. rw (now_whole last s n e, next_whole (s ++ more) n (front_more s n e more)) refl)
+      (λ e. let yet : last ≡ true = at_the_last last (length s) (rw (now_cut last s e) at h) in
+      rw (ends yet, append-nil s, next_cut s e, now_cut last s e, yet) refl)
+      (λ e. rw (now_unknown last s e, next_unknown (s ++ more) (unknown_more s e more)) refl)
 
   -- One that cannot be run now is cut.
   pub now_short : length_now last s ≡ 0 → front_of s ≡ Cut
   now_short z =
-      by_front s (λ n e. let m : n ≡ 0 = sym (now-whole last s n e) ∙ z in absurd (omega (arith, (whole-fits s n e).0))) (λ e. e)
-      (λ e. let m : 1 ≡ 0 = sym (now-unknown last s e) ∙ z in absurd (omega arith))
+      by_front s (λ n e. let m : n ≡ 0 = sym (now_whole last s n e) ∙ z in absurd (omega (arith, (whole_fits s n e).0))) (λ e. e)
+      (λ e. let m : 1 ≡ 0 = sym (now_unknown last s e) ∙ z in absurd (omega arith))
 
-  pub now-none : length_now last s ≡ 0 → last ≡ true → length s ≡ 0
-  now-none z yet = let c : cond last (length s) 0 ≡ 0 = sym (now-cut last s (now_short z)) ∙ z in rw yet at c
+  pub now_none : length_now last s ≡ 0 → last ≡ true → length s ≡ 0
+  now_none z yet = let c : cond last (length s) 0 ≡ 0 = sym (now_cut last s (now_short z)) ∙ z in rw yet at c

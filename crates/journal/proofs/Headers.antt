@@ -25,21 +25,21 @@ module _ (s more : List ℕ) where
   pub byte : (i : ℕ) → i < length s → get_or (s ++ more) i 0 ≡ get_or s i 0
   byte i h = get_or-append s more 0 i h
 
-  pub u16-more : (i : ℕ) → i + 2 ≤ length s → u16_at (s ++ more) i ≡ u16_at s i
+  pub u16_more : (i : ℕ) → i + 2 ≤ length s → u16_at (s ++ more) i ≡ u16_at s i
   unfolding u16_at
-  u16-more i h = rw (byte i (omega arith), byte (i + 1) (omega arith)) refl
+  u16_more i h = rw (byte i (omega arith), byte (i + 1) (omega arith)) refl
 
-  pub u32-more : (i : ℕ) → i + 4 ≤ length s → u32_at (s ++ more) i ≡ u32_at s i
+  pub u32_more : (i : ℕ) → i + 4 ≤ length s → u32_at (s ++ more) i ≡ u32_at s i
   unfolding u32_at
-  u32-more i h = rw (u16-more i (omega arith), u16-more (i + 2) (omega arith)) refl
+  u32_more i h = rw (u16_more i (omega arith), u16_more (i + 2) (omega arith)) refl
 
-  u16s-more : (i n : ℕ) → i + 2 * n ≤ length s → u16s_at (s ++ more) i n ≡ u16s_at s i n
+  u16s_more : (i n : ℕ) → i + 2 * n ≤ length s → u16s_at (s ++ more) i n ≡ u16s_at s i n
   unfolding u16s_at
-  u16s-more i n h = map_alike _ _ 0 n (λ j a b. u16-more (i + 2 * j) (omega arith))
+  u16s_more i n h = map_alike _ _ 0 n (λ j a b. u16_more (i + 2 * j) (omega arith))
 
-  u32s-more : (i n : ℕ) → i + 4 * n ≤ length s → u32s_at (s ++ more) i n ≡ u32s_at s i n
+  u32s_more : (i n : ℕ) → i + 4 * n ≤ length s → u32s_at (s ++ more) i n ≡ u32s_at s i n
   unfolding u32s_at
-  u32s-more i n h = map_alike _ _ 0 n (λ j a b. u32-more (i + 4 * j) (omega arith))
+  u32s_more i n h = map_alike _ _ 0 n (λ j a b. u32_more (i + 4 * j) (omega arith))
 
 -- The whole header.
 at_least_11 : (s : List ℕ) → 11 ≤ header_length s
@@ -55,26 +55,26 @@ module _ (s more : List ℕ) (fits : header_length s ≤ length s) where
   unfolding header_length
   fields = fits
 
-  pub header-more : header_of (s ++ more) ≡ header_of s
+  pub header_more : header_of (s ++ more) ≡ header_of s
   unfolding header_of
-  header-more =
+  header_more =
       let f = fields in
       rw (
         byte s more 9 (omega arith),
         byte s more 10 (omega arith),
-        u16-more s more 5 (omega arith),
-        u16-more s more 7 (omega arith),
-        u16s-more s more 11 (get_or s 10 0) (omega arith),
-        u32s-more s more (11 + 2 * get_or s 10 0) (get_or s 9 0) (omega arith),
+        u16_more s more 5 (omega arith),
+        u16_more s more 7 (omega arith),
+        u16s_more s more 11 (get_or s 10 0) (omega arith),
+        u32s_more s more (11 + 2 * get_or s 10 0) (get_or s 9 0) (omega arith),
       ) refl
 
-  begins-more : begins_with_header (s ++ more) ≡ begins_with_header s
+  begins_more : begins_with_header (s ++ more) ≡ begins_with_header s
   unfolding begins_with_header
-  begins-more =
+  begins_more =
       let l = length-append s more in
       let e = at_least_11 s in
       rw (
-        header-more,
+        header_more,
         length_more,
         take-append-le 5 s more (omega arith),
         le-leb 11 (length (s ++ more)) (omega arith),
@@ -85,18 +85,18 @@ module _ (s more : List ℕ) (fits : header_length s ≤ length s) where
 
   made_more : (t : Tables) → make_spec t (s ++ more) ≡ make_spec t s
   unfolding make_spec
-  made_more t = rw (begins-more, header-more) refl
+  made_more t = rw (begins_more, header_more) refl
 
 -- Bytes that hold a whole header, or are the last.
 module _ (s : List ℕ) (last : Bool) (whole : not last && ltb (length s) (header_length s) ≡ false) (more : List ℕ) (ends : last ≡ true → more ≡ []) where
-  whole-fits : last ≡ false → header_length s ≤ length s
-  whole-fits e = ltb-false (length s) (header_length s) (rw e at whole)
+  whole_fits : last ≡ false → header_length s ≤ length s
+  whole_fits e = ltb-false (length s) (header_length s) (rw e at whole)
 
-  pub same-made : (t : Tables) → make_spec t (s ++ more) ≡ make_spec t s
-  same-made t = true_or last (λ e. rw (ends e, append-nil s) refl) (λ e. made_more s more (whole-fits e) t)
+  pub same_made : (t : Tables) → make_spec t (s ++ more) ≡ make_spec t s
+  same_made t = true_or last (λ e. rw (ends e, append-nil s) refl) (λ e. made_more s more (whole_fits e) t)
 
   pub same_length : header_length (s ++ more) ≡ header_length s
-  same_length = true_or last (λ e. rw (ends e, append-nil s) refl) (λ e. length_more s more (whole-fits e))
+  same_length = true_or last (λ e. rw (ends e, append-nil s) refl) (λ e. length_more s more (whole_fits e))
 
 -- A ledger is made only of a header that lies within the bytes.
 begins_inside : (s : List ℕ) → begins_with_header s ≡ true → header_length s ≤ length s

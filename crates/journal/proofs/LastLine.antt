@@ -51,9 +51,9 @@ end_printed w short e = rw e (record { wrote = w; room = short; stands = refl })
 
 -- After E nothing is left to print.
 module _ (t : Tables) (bytes : List ℕ) (last : Bool) (filled : ℕ) (entry exit : List ℕ) (n k : ℕ) (room : filled + line_room ≤ length entry) {r : Progress} where
-  pub read-line : {stage : Stage} → stage ≡ Read n k → EndPrinted ReadToEnd n k t.head filled entry exit r → Advanced stage t bytes last filled entry exit t r
+  pub read_line : {stage : Stage} → stage ≡ Read n k → EndPrinted ReadToEnd n k t.head filled entry exit r → Advanced stage t bytes last filled entry exit t r
   unfolding remaining end_from after_stage
-  read-line e w =
+  read_line e w =
       rw (e, w.stands)
       (record {
         text = end_text n k t;
@@ -68,9 +68,9 @@ module _ (t : Tables) (bytes : List ℕ) (last : Bool) (filled : ℕ) (entry exi
         ends = λ more ends. refl;
       })
 
-  pub stopped-line : {stage : Stage} → stage ≡ Stopped n k → EndPrinted RecordUnsound n k t.head filled entry exit r → Advanced stage t bytes last filled entry exit t r
+  pub stopped_line : {stage : Stage} → stage ≡ Stopped n k → EndPrinted RecordUnsound n k t.head filled entry exit r → Advanced stage t bytes last filled entry exit t r
   unfolding remaining end_from after_stage
-  stopped-line e w =
+  stopped_line e w =
       rw (e, w.stands)
       (record {
         text = end_text n k t;

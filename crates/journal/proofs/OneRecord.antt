@@ -29,10 +29,10 @@ few_lines t after bytes a number detail e f g z =
 
 module _ (o : Outcome Tables) (after : Tables) (a : Answer) (number detail record-number place end : ℕ) (entry exit : List ℕ)
     (is : record { answer = a; after = after } ≡ o) (number_is : number ≡ (reply_of a).number) (detail_is : detail ≡ (reply_of a).detail) where
-  pub printed-lines : number ≡ 0 → detail ≤ least_lines → Wrote place (flat_map deal_text (first_lines detail after.lines)) entry exit end × (end ≤ place + line_room * detail)
+  pub printed_lines : number ≡ 0 → detail ≤ least_lines → Wrote place (flat_map deal_text (first_lines detail after.lines)) entry exit end × (end ≤ place + line_room * detail)
       → RanOne record-number place o entry exit after (record { end = end; accepted = 1; is_unsound = false })
   unfolding answer_text
-  printed-lines z few w =
+  printed_lines z few w =
       let accepted : (reply_of a).number ≡ 0 = sym number_is ∙ z in
       rw (← is)
       (record {
@@ -43,10 +43,10 @@ module _ (o : Outcome Tables) (after : Tables) (a : Answer) (number detail recor
         unsound = rw accepted refl;
       })
 
-  pub printed-refusal : (unsound : Bool) → (number ≡ 0 → ⊥) → unsound ≡ eqb number 3 → Wrote place (refusal_text record-number number) entry exit end × (end ≤ place + line_room)
+  pub printed_refusal : (unsound : Bool) → (number ≡ 0 → ⊥) → unsound ≡ eqb number 3 → Wrote place (refusal_text record-number number) entry exit end × (end ≤ place + line_room)
       → RanOne record-number place o entry exit after (record { end = end; accepted = 0; is_unsound = unsound })
   unfolding answer_text
-  printed-refusal unsound z u w =
+  printed_refusal unsound z u w =
       let refused : eqb (reply_of a).number 0 ≡ false = ne_eqb (reply_of a).number 0 (λ y. z (number_is ∙ y)) in
       rw (← is)
       (record {

@@ -24,7 +24,7 @@ use Rattle.journal.specs.declared.stage.Stage.TheVariants.{Records, Read, Stoppe
 use Rattle.journal.specs.declared.stage.Wants.{Wants}
 use Rattle.journal.specs.declared.stage.Wants.TheVariants.{Nothing, Bytes, Room}
 use Rattle.journal.specs.Stages.{RanOne, length_now, ready_length, stage_after, wants_after, remaining, records_end, end_from, after_record, after_records, counted_at, after_stage, Advanced}
-use Rattle.journal.proofs.Fronts.{now-fits, now-next, now_short, now-none}
+use Rattle.journal.proofs.Fronts.{now_fits, now_next, now_short, now_none}
 use Rattle.journal.proofs.Texts.{records_none, records_next, ends_none, ends_next}
 
 -- ---- parts as the calls were handed them
@@ -53,16 +53,16 @@ ready_none last room s z e = rw e at z
 
 -- One record and those behind it: what they print, how they end, and what is left after the one.
 module _ (m : ℕ) (t t' : Tables) (s : List ℕ) (o : Outcome Tables) (e : next_length s ≡ m) (f : apply_spec t (take m s) ≡ o) (g : t' ≡ o.after) where
-  next-text : (n k more : ℕ) (u : Bool) → 0 < length s → more ≡ accepted_by o.answer → u ≡ stops o.answer
+  next_text : (n k more : ℕ) (u : Bool) → 0 < length s → more ≡ accepted_by o.answer → u ≡ stops o.answer
       → records_text n k t s ≡ answer_text (n + 1) o ++ cond u (end_text (n + 1) (k + more) t') (records_text (n + 1) (k + more) t' (drop m s))
-  next-text n k more u h a b = rw (g, a, b) (rw (e, f) at (records_next n k t s h))
+  next_text n k more u h a b = rw (g, a, b) (rw (e, f) at (records_next n k t s h))
 
-  next-end : (u : Bool) → 0 < length s → u ≡ stops o.answer → records_end t s ≡ cond u (record { stage = RecordUnsound; tables = t' }) (records_end t' (drop m s))
-  next-end u h b = rw (g, b) (rw (e, f) at (ends_next t s h))
+  next_end : (u : Bool) → 0 < length s → u ≡ stops o.answer → records_end t s ≡ cond u (record { stage = RecordUnsound; tables = t' }) (records_end t' (drop m s))
+  next_end u h b = rw (g, b) (rw (e, f) at (ends_next t s h))
 
-  next-rest : record { tables = t'; bytes = drop m s } ≡ after_record (record { tables = t; bytes = s })
+  next_rest : record { tables = t'; bytes = drop m s } ≡ after_record (record { tables = t; bytes = s })
   unfolding after_record
-  next-rest = rw (e, f, g) refl
+  next_rest = rw (e, f, g) refl
 
 -- What holds before each record: a text is printed, and it, with what is still to be printed, is what was to be printed; so of the
 -- tables and the bytes left, and of the end.
@@ -131,7 +131,7 @@ module _ {n₀ k₀ : ℕ} {t₀ : Tables} {bytes : List ℕ} {last : Bool} {fil
     now-is = is ∙ ready.2
 
     pub next-inside : place + m ≤ length bytes
-    next-inside = let f : m ≤ length left = rw now-is (now-fits last left) in omega (arith, rw (length-drop place bytes) at f, w.inside)
+    next-inside = let f : m ≤ length left = rw now-is (now_fits last left) in omega (arith, rw (length-drop place bytes) at f, w.inside)
 
     pub next-room : end + room_wanted ≤ length out
     next-room = omega (arith, ready.1)
@@ -145,13 +145,13 @@ module _ {n₀ k₀ : ℕ} {t₀ : Tables} {bytes : List ℕ} {last : Bool} {fil
         s = left ++ more
 
         fits : m ≤ length left
-        fits = rw now-is (now-fits last left)
+        fits = rw now-is (now_fits last left)
 
         long : 0 < length s
         long = let f = fits in rw (length-append left more) (omega arith)
 
         next : next_length s ≡ m
-        next = now-next last left (rw now-is at some) more ends ∙ sym now-is
+        next = now_next last left (rw now-is at some) more ends ∙ sym now-is
 
         same-record : apply_spec t (take m s) ≡ o
         same-record = ap (apply_spec t) (take-append-le m left more fits)
@@ -161,17 +161,17 @@ module _ {n₀ k₀ : ℕ} {t₀ : Tables} {bytes : List ℕ} {last : Bool} {fil
 
         behind : records_text n k t (drop place (bytes ++ more))
             ≡ answer_text (n + 1) o ++ cond r.is_unsound (end_text (n + 1) (k + r.accepted) t') (records_text (n + 1) (k + r.accepted) t' (drop (place + m) (bytes ++ more)))
-        behind = rw (here more, ← past) (next-text m t t' s o next same-record one.outcome n k r.accepted r.is_unsound long one.counted one.unsound)
+        behind = rw (here more, ← past) (next_text m t t' s o next same-record one.outcome n k r.accepted r.is_unsound long one.counted one.unsound)
 
         behind-end : records_end t (drop place (bytes ++ more))
             ≡ cond r.is_unsound (record { stage = RecordUnsound; tables = t' }) (records_end t' (drop (place + m) (bytes ++ more)))
-        behind-end = rw (here more, ← past) (next-end m t t' s o next same-record one.outcome r.is_unsound long one.unsound)
+        behind-end = rw (here more, ← past) (next_end m t t' s o next same-record one.outcome r.is_unsound long one.unsound)
 
         behind-rest : record { tables = t'; bytes = drop (place + m) (bytes ++ more) } ≡ after_records (n + 1 - n₀) (record { tables = t₀; bytes = bytes ++ more })
         unfolding after_records
         behind-rest =
             let one_more : n + 1 - n₀ ≡ suc (n - n₀) = omega (arith, w.grown) in
-            rw (one_more, ← w.tables more ends, here more, ← past) (next-rest m t t' s o next same-record one.outcome)
+            rw (one_more, ← w.tables more ends, here more, ← past) (next_rest m t t' s o next same-record one.outcome)
 
       pub runs-next : Runs n₀ k₀ t₀ bytes last filled entry out' t' (place + m) r.end (n + 1) (k + r.accepted) r.is_unsound
       runs-next =
@@ -200,9 +200,9 @@ module _ {n₀ k₀ : ℕ} {t₀ : Tables} {bytes : List ℕ} {last : Bool} {fil
   counts : (most : ℕ) → (k₀ ≤ n₀) × (n₀ ≤ most) → (k ≤ n) × (n ≤ most + length bytes)
   counts most c = (w.below, omega (arith, w.few, w.inside))
 
-  end-stopped : stopped ≡ true → End (Stopped n k) Nothing
+  end_stopped : stopped ≡ true → End (Stopped n k) Nothing
   unfolding remaining end_from counted_at after_stage
-  end-stopped e =
+  end_stopped e =
       record {
         text =
             w.text;
@@ -218,9 +218,9 @@ module _ {n₀ k₀ : ℕ} {t₀ : Tables} {bytes : List ℕ} {last : Bool} {fil
             (w.ends more ends);
       }
 
-  end-room : (room : ℕ) → stopped ≡ false → end + room ≡ length out → room < room_wanted → End (Records n k) Room
+  end_room : (room : ℕ) → stopped ≡ false → end + room ≡ length out → room < room_wanted → End (Records n k) Room
   unfolding remaining end_from counted_at after_stage
-  end-room room e f h =
+  end_room room e f h =
       record {
         text = w.text;
         wrote = w.wrote;
@@ -250,9 +250,9 @@ module _ {n₀ k₀ : ℕ} {t₀ : Tables} {bytes : List ℕ} {last : Bool} {fil
         ends = λ more ends. going_end e more ends ∙ ends_none t (drop place (bytes ++ more)) (none more ends);
       }
 
-  end-bytes : stopped ≡ false → last ≡ false → front_of left ≡ Cut → End (Records n k) Bytes
+  end_bytes : stopped ≡ false → last ≡ false → front_of left ≡ Cut → End (Records n k) Bytes
   unfolding remaining end_from counted_at after_stage
-  end-bytes e not_last cut =
+  end_bytes e not_last cut =
       record {
         text = w.text;
         wrote = w.wrote;
@@ -269,7 +269,7 @@ module _ {n₀ k₀ : ℕ} {t₀ : Tables} {bytes : List ℕ} {last : Bool} {fil
   module _ (room : ℕ) (read : Bool) (roomy : end + room ≡ length out) (is_read : read ≡ last && eqb place (length bytes)) where
     told-room : stopped ≡ false → ltb room room_wanted ≡ true → End (stage_after n k stopped read room) (wants_after stopped read room)
     unfolding stage_after wants_after
-    told-room e f = rw (e, f) (end-room room e roomy (ltb-true room room_wanted f))
+    told-room e f = rw (e, f) (end_room room e roomy (ltb-true room room_wanted f))
 
     told-read : stopped ≡ false → ltb room room_wanted ≡ false → read ≡ true → End (stage_after n k stopped read room) (wants_after stopped read room)
     unfolding stage_after wants_after
@@ -280,17 +280,17 @@ module _ {n₀ k₀ : ℕ} {t₀ : Tables} {bytes : List ℕ} {last : Bool} {fil
 
     told-bytes : stopped ≡ false → ltb room room_wanted ≡ false → read ≡ false → length_now last left ≡ 0 → End (stage_after n k stopped read room) (wants_after stopped read room)
     unfolding stage_after wants_after
-    told-bytes e f g z = rw (e, f, g) (end-bytes e not_last (now_short last left z))
+    told-bytes e f g z = rw (e, f, g) (end_bytes e not_last (now_short last left z))
       where
         none_left : last ≡ true → place ≡ length bytes
-        none_left y = let gone : length left ≡ 0 = now-none last left z y in omega (arith, rw (length-drop place bytes) at gone, w.inside)
+        none_left y = let gone : length left ≡ 0 = now_none last left z y in omega (arith, rw (length-drop place bytes) at gone, w.inside)
 
         not_last : last ≡ false
         not_last = true_or last (λ y. never (sym (rw (y, eq-eqb place (length bytes) (none_left y)) at is_read) ∙ g)) (λ y. y)
 
     told-stopped : stopped ≡ true → End (stage_after n k stopped read room) (wants_after stopped read room)
     unfolding stage_after wants_after
-    told-stopped e = rw e (end-stopped e)
+    told-stopped e = rw e (end_stopped e)
 
     pub runs-end : {stage : Stage} {wants : Wants} → ready_length last stopped room left ≡ 0 → stage ≡ stage_after n k stopped read room → wants ≡ wants_after stopped read room → End stage wants
     runs-end none es ew =

@@ -22,7 +22,7 @@ use Rattle.journal.specs.declared.stage.Stage.TheVariants.{Header, Records, Read
 use Rattle.journal.specs.declared.stage.Wants.{Wants}
 use Rattle.journal.specs.declared.stage.Wants.TheVariants.{Nothing, Bytes}
 use Rattle.journal.specs.Stages.{remaining, records_end, journal_end_on, end_from, Rest, after_header, after_records, counted_at, after_stage, Counts, Asks, Advanced}
-use Rattle.journal.proofs.Headers.{same-made, same_length, made_inside}
+use Rattle.journal.proofs.Headers.{same_made, same_length, made_inside}
 
 -- A stage that stays has nothing run.
 stays : (stage : Stage) (x : Rest) → after_stage stage stage x ≡ x
@@ -84,13 +84,13 @@ module _ (t after : Tables) (bytes : List ℕ) (last : Bool) (filled : ℕ) (ent
   abbrev o : Outcome Tables
   o = record { answer = a; after = after }
 
-  with-more : (more : List ℕ) → (last ≡ true → more ≡ []) → make_spec t (bytes ++ more) ≡ o
-  with-more more ends = same-made bytes last whole more ends t ∙ sym made
+  with_more : (more : List ℕ) → (last ≡ true → more ≡ []) → make_spec t (bytes ++ more) ≡ o
+  with_more more ends = same_made bytes last whole more ends t ∙ sym made
 
-  pub start-made : (m : ℕ) → m ≡ header_length bytes → number ≡ 0 → ((u : Tables) → Wrote filled (head_text (with_head after.head u)) entry exit end) → end ≤ filled + line_room
+  pub start_made : (m : ℕ) → m ≡ header_length bytes → number ≡ 0 → ((u : Tables) → Wrote filled (head_text (with_head after.head u)) entry exit end) → end ≤ filled + line_room
       → Advanced Header t bytes last filled entry exit after (record { used = m; end = end; stage = Records 0 0; wants = Nothing })
   unfolding remaining end_from after_stage
-  start-made m e z w short =
+  start_made m e z w short =
       let zero-told : (reply_of a).number ≡ 0 = sym is-told ∙ z in
       record {
         text = head_text after;
@@ -99,15 +99,15 @@ module _ (t after : Tables) (bytes : List ℕ) (last : Bool) (filled : ℕ) (ent
         within = omega arith;
         counts = λ most c. (omega arith, omega arith);
         asks = λ r f h. omega arith;
-        rest = λ more ends. journal_made t (bytes ++ more) o m (with-more more ends) zero-told (same_length bytes last whole more ends ∙ sym e);
-        tables = λ more ends. rest_made t (bytes ++ more) o m (with-more more ends) zero-told (same_length bytes last whole more ends ∙ sym e);
-        ends = λ more ends. end_made t (bytes ++ more) o m (with-more more ends) zero-told (same_length bytes last whole more ends ∙ sym e);
+        rest = λ more ends. journal_made t (bytes ++ more) o m (with_more more ends) zero-told (same_length bytes last whole more ends ∙ sym e);
+        tables = λ more ends. rest_made t (bytes ++ more) o m (with_more more ends) zero-told (same_length bytes last whole more ends ∙ sym e);
+        ends = λ more ends. end_made t (bytes ++ more) o m (with_more more ends) zero-told (same_length bytes last whole more ends ∙ sym e);
       }
 
-  pub start-refused : (number ≡ 0 → ⊥) → Wrote filled (refusal_text 0 number) entry exit end → end ≤ filled + line_room
+  pub start_refused : (number ≡ 0 → ⊥) → Wrote filled (refusal_text 0 number) entry exit end → end ≤ filled + line_room
       → Advanced Header t bytes last filled entry exit after (record { used = 0; end = end; stage = HeaderUnsound; wants = Nothing })
   unfolding remaining end_from after_stage
-  start-refused z w short =
+  start_refused z w short =
       record {
         text = refusal_text 0 number;
         wrote = w;
@@ -116,7 +116,7 @@ module _ (t after : Tables) (bytes : List ℕ) (last : Bool) (filled : ℕ) (ent
         counts = λ most c. tt;
         asks = λ r f h. omega arith;
         rest = λ more ends.
-            journal_refused t (bytes ++ more) o (with-more more ends) (λ y. z (is-told ∙ y)) ∙ (ap (refusal_text 0) (sym is-told) ∙ sym (append-nil (refusal_text 0 number)));
-        tables = λ more ends. rest_refused t (bytes ++ more) o (with-more more ends) (λ y. z (is-told ∙ y));
-        ends = λ more ends. end_refused t (bytes ++ more) o (with-more more ends) (λ y. z (is-told ∙ y));
+            journal_refused t (bytes ++ more) o (with_more more ends) (λ y. z (is-told ∙ y)) ∙ (ap (refusal_text 0) (sym is-told) ∙ sym (append-nil (refusal_text 0 number)));
+        tables = λ more ends. rest_refused t (bytes ++ more) o (with_more more ends) (λ y. z (is-told ∙ y));
+        ends = λ more ends. end_refused t (bytes ++ more) o (with_more more ends) (λ y. z (is-told ∙ y));
       }

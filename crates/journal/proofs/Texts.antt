@@ -23,26 +23,26 @@ behind_short s h = rw (length-drop (next_length s) s) (omega (arith, next_some s
 
 -- Going from record to record with fuel: what it gives without bytes, and what it makes of a record and of the bytes behind it.
 module _ {A : Type 0} (go : ℕ → ℕ → ℕ → Tables → List ℕ → A) (none : ℕ → ℕ → Tables → A) (join : ℕ → ℕ → Outcome Tables → A → A)
-    (at-end : (f n k : ℕ) (t : Tables) (s : List ℕ) → length s ≡ 0 → go f n k t s ≡ none n k t)
+    (at_end_lem : (f n k : ℕ) (t : Tables) (s : List ℕ) → length s ≡ 0 → go f n k t s ≡ none n k t)
     (at_next : (f n k : ℕ) (t : Tables) (s : List ℕ) → 0 < length s
     → go (suc f) n k t s ≡ join n k (outcome_of t s) (go f (n + 1) (k + accepted_by (outcome_of t s).answer) (outcome_of t s).after (drop (next_length s) s))) where
   -- Fuel for each byte is enough.
   fuel : (f g n k : ℕ) (t : Tables) (s : List ℕ) → length s ≤ f → length s ≤ g → go f n k t s ≡ go g n k t s
-  fuel zero g n k t s h i = at-end zero n k t s (omega arith) ∙ sym (at-end g n k t s (omega arith))
-  fuel (suc f) zero n k t s h i = at-end (suc f) n k t s (omega arith) ∙ sym (at-end zero n k t s (omega arith))
+  fuel zero g n k t s h i = at_end_lem zero n k t s (omega arith) ∙ sym (at_end_lem g n k t s (omega arith))
+  fuel (suc f) zero n k t s h i = at_end_lem (suc f) n k t s (omega arith) ∙ sym (at_end_lem zero n k t s (omega arith))
   fuel (suc f) (suc g) n k t s h i =
       le_or_lt (length s) 0
-      (λ z. at-end (suc f) n k t s (omega arith) ∙ sym (at-end (suc g) n k t s (omega arith)))
+      (λ z. at_end_lem (suc f) n k t s (omega arith) ∙ sym (at_end_lem (suc g) n k t s (omega arith)))
       (λ z. let less = behind_short s z in
       at_next f n k t s z
       ∙ (ap (join n k (outcome_of t s)) (fuel f g (n + 1) (k + accepted_by (outcome_of t s).answer) (outcome_of t s).after (drop (next_length s) s) (omega arith) (omega arith))
       ∙ sym (at_next g n k t s z)))
 
-  record-by-record : (n k : ℕ) (t : Tables) (s : List ℕ) → 0 < length s
+  record_by_record : (n k : ℕ) (t : Tables) (s : List ℕ) → 0 < length s
       → go (length s) n k t s
       ≡ join n k (outcome_of t s)
       (go (length (drop (next_length s) s)) (n + 1) (k + accepted_by (outcome_of t s).answer) (outcome_of t s).after (drop (next_length s) s))
-  record-by-record n k t s h =
+  record_by_record n k t s h =
       let less = behind_short s h in
       fuel (length s) (suc (length s)) n k t s (omega arith) (omega arith)
       ∙ (at_next (length s) n k t s h
@@ -73,7 +73,7 @@ pub records_next : (n k : ℕ) (t : Tables) (s : List ℕ) → 0 < length s
     → records_text n k t s
     ≡ joined_text n k (outcome_of t s) (records_text (n + 1) (k + accepted_by (outcome_of t s).answer) (outcome_of t s).after (drop (next_length s) s))
 unfolding records_text
-records_next n k t s h = record-by-record records_within end_text joined_text text_end text_next n k t s h
+records_next n k t s h = record_by_record records_within end_text joined_text text_end text_next n k t s h
 
 -- ---- the end
 abbrev joined_end : Outcome Tables → JournalEnd → JournalEnd
@@ -96,5 +96,5 @@ ends_none t s e = end_end (length s) t s e
 pub ends_next : (t : Tables) (s : List ℕ) → 0 < length s → records_end t s ≡ joined_end (outcome_of t s) (records_end (outcome_of t s).after (drop (next_length s) s))
 unfolding records_end
 ends_next t s h =
-    record-by-record (λ f n k u l. records_end_within f u l) (λ n k u. record { stage = ReadToEnd; tables = u }) (λ n k o x. joined_end o x) (λ f n k u l e. end_end f u l e)
+    record_by_record (λ f n k u l. records_end_within f u l) (λ n k u. record { stage = ReadToEnd; tables = u }) (λ n k o x. joined_end o x) (λ f n k u l e. end_end f u l e)
     (λ f n k u l e. end_next f u l e) 0 0 t s h

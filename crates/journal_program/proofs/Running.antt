@@ -33,9 +33,9 @@ told_printed e y counted = rw e (y, counted)
 
 module _ {t₀ t : Tables} {output : List ℕ} {count : ℕ} where
   -- Told by equal words.
-  as-told : {last last' : Bool} {stage stage' : Stage} {filled filled' : ℕ} {left left' : List ℕ} → last' ≡ last → stage' ≡ stage → filled' ≡ filled → left' ≡ left
+  as_told : {last last' : Bool} {stage stage' : Stage} {filled filled' : ℕ} {left left' : List ℕ} → last' ≡ last → stage' ≡ stage → filled' ≡ filled → left' ≡ left
       → Reached t₀ t output count last stage filled left → Reached t₀ t output count last' stage' filled' left'
-  as-told e f g h x = rw (e, f, g, h) x
+  as_told e f g h x = rw (e, f, g, h) x
 
   -- What is printed is handed over.
   handed : {last : Bool} {stage : Stage} {filled : ℕ} {left : List ℕ} → Reached t₀ t output count last stage filled left
@@ -44,10 +44,10 @@ module _ {t₀ t : Tables} {output : List ℕ} {count : ℕ} where
       let y = told_printed (append-nil (x.written ++ take filled output)) x.turns x.counted in
       record { came = x.came; written = x.written ++ take filled output; turns = y.0; counted = y.1 }
 
-  more-came : {stage : Stage} {filled : ℕ} {left : List ℕ} (more : List ℕ) (last : Bool) → Reached t₀ t output count false stage filled left
+  more_came : {stage : Stage} {filled : ℕ} {left : List ℕ} (more : List ℕ) (last : Bool) → Reached t₀ t output count false stage filled left
       → Reached t₀ t output count last stage filled (left ++ more)
   unfolding calls
-  more-came more last x = record { came = x.came ++ more; written = x.written; turns = read-turn more last x.turns; counted = x.counted }
+  more_came more last x = record { came = x.came ++ more; written = x.written; turns = read-turn more last x.turns; counted = x.counted }
 
   -- One call more.
   called : {t' : Tables} {output' : List ℕ} {last : Bool} {stage : Stage} {filled : ℕ} {left : List ℕ} {r : Progress}
@@ -68,28 +68,28 @@ pub reached_first : {t : Tables} {output : List ℕ} (input : List ℕ) (p : Pla
     → p.window.filled ≡ 0 → Reached t t output 0 p.window.is_last p.stage p.window.filled (held p.window input)
 unfolding calls
 reached_first input p e f g l h =
-    as-told l e h (same_part {a = 0} {b = 0} {l = input} f g refl) (record { came = []; written = []; turns = start; counted = refl })
+    as_told l e h (same_part {a = 0} {b = 0} {l = input} f g refl) (record { came = []; written = []; turns = start; counted = refl })
 
 moved : {t₀ t : Tables} {output : List ℕ} {count : ℕ} {stage : Stage} {w r : Window} {input exit : List ℕ} {wants : Wants} → Moves stage w r input exit wants
     → Reached t₀ t output count w.is_last stage w.filled (held w input) → Reached t₀ t output count r.is_last stage r.filled (held r exit)
 moved (stays low e same) x = rw (e, same) x
-moved (wrote m same) x = as-told m.last refl m.written (same_part m.from m.end same) (handed x)
-moved {r = r} (read not_last m) x = as-told refl refl m.written (held_read m) (more-came _ r.is_last (as-told (sym not_last) refl refl refl (handed x)))
+moved (wrote m same) x = as_told m.last refl m.written (same_part m.from m.end same) (handed x)
+moved {r = r} (read not_last m) x = as_told refl refl m.written (held_read m) (more_came _ r.is_last (as_told (sym not_last) refl refl refl (handed x)))
 
 -- One turn more.
 module _ {t₀ t t' : Tables} {p : Place} {count : ℕ} {input output input' output' : List ℕ} {next : Next} (w : Turned p input output t input' output' t' next)
     (x : Reached t₀ t output count p.window.is_last p.stage p.window.filled (held p.window input)) (fits : p.window.filled ≤ length output) where
   after_call : Reached t₀ t' output' (count + 1) p.window.is_last w.done.stage w.done.end (held (place_after p w.done).window input)
-  after_call = as-told refl refl refl (held_past p.window input w.done.used w.ran.inside) (called x w.ran fits)
+  after_call = as_told refl refl refl (held_past p.window input w.done.used w.ran.inside) (called x w.ran fits)
 
   short : w.done.wants ≡ Bytes → (p.window.is_last ≡ false) × Short w.done.stage (held (place_after p w.done).window input)
   short e = let asked = wants_bytes w.ran e in (asked.0, rw (held_past p.window input w.done.used w.ran.inside) asked.1)
 
   pub turned_on : {q : Place} → next ≡ Going q → Reached t₀ t' output' (count + 1) q.window.is_last q.stage q.window.filled (held q.window input')
-  turned_on e = let f = rw e at w.follows in as-told refl f.0 refl refl (moved f.1 after_call)
+  turned_on e = let f = rw e at w.follows in as_told refl f.0 refl refl (moved f.1 after_call)
 
-  pub turned-end : {ending : Ending} → next ≡ Ended ending → RanTurns t₀ t' output' ending
-  turned-end e =
+  pub turned_end : {ending : Ending} → next ≡ Ended ending → RanTurns t₀ t' output' ending
+  turned_end e =
       record {
         count = count + 1;
         last = p.window.is_last;
@@ -110,17 +110,17 @@ module _ {t₀ t : Tables} {last : Bool} {came printed left : List ℕ} (more : 
   begun : {stage : Stage} → Turns t₀ last came printed stage t left → FirstText t₀ (came ++ more) printed
   begun {stage} turns = (_, (chunk_by_chunk t₀ t last came printed left stage turns more is-end).0)
 
-  prints-last : {wants : Wants} {stage : Stage} {ending : Ending} → Ends wants stage ending → Turns t₀ last came printed stage t left
+  prints_last : {wants : Wants} {stage : Stage} {ending : Ending} → Ends wants stage ending → Turns t₀ last came printed stage t left
       → prints_as t₀ ending (came ++ more) printed
-  prints-last read_to_end turns = whole turns refl
-  prints-last header_unsound turns = whole turns refl
-  prints-last record_unsound turns = whole turns refl
-  prints-last not_read turns = begun turns
-  prints-last (not_written h) turns = begun turns
+  prints_last read_to_end turns = whole turns refl
+  prints_last header_unsound turns = whole turns refl
+  prints_last record_unsound turns = whole turns refl
+  prints_last not_read turns = begun turns
+  prints_last (not_written h) turns = begun turns
 
   prints : {count : ℕ} {stage : Stage} {ending : Ending} → TurnsEnd count last stage left ending → Turns t₀ last came printed stage t left
       → prints_as t₀ ending (came ++ more) printed
-  prints (with_last h ends) turns = prints-last ends turns
+  prints (with_last h ends) turns = prints_last ends turns
   prints (too_many e) turns = begun turns
 
 pub journal_ran : {t₀ t : Tables} {output : List ℕ} {ending : Ending} → RanTurns t₀ t output ending → JournalRan t₀ ending

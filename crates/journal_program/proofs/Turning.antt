@@ -31,16 +31,16 @@ module _ (p : Place) (l : List ℕ) (s : Stands p) (few : p.turns < most_turns) 
   abbrev part : List ℕ
   part = take (p.window.end - p.window.from) (drop p.window.from l)
 
-  pub turn-counts : Counts p.stage (2 ^ 62)
-  turn-counts = counts_most p.stage (buffer_length * p.turns) (2 ^ 62) (omega arith) s.counts
+  pub turn_counts : Counts p.stage (2 ^ 62)
+  turn_counts = counts_most p.stage (buffer_length * p.turns) (2 ^ 62) (omega arith) s.counts
 
-  pub turn-bytes : length part < 2 ^ 62
-  turn-bytes = omega (arith, part_length p.window l, s.within.inside)
+  pub turn_bytes : length part < 2 ^ 62
+  turn_bytes = omega (arith, part_length p.window l, s.within.inside)
 
-  pub turn-printed : {room : ℕ} → room ≡ buffer_length → p.window.filled ≤ room
-  turn-printed h = omega (arith, s.within.printed)
+  pub turn_printed : {room : ℕ} → room ≡ buffer_length → p.window.filled ≤ room
+  turn_printed h = omega (arith, s.within.printed)
 
-  pub turn-stands : (used end : ℕ) (stage : Stage) {room : ℕ} → room ≡ buffer_length → used ≤ length part → end ≤ room
+  pub turn_stands : (used end : ℕ) (stage : Stage) {room : ℕ} → room ≡ buffer_length → used ≤ length part → end ≤ room
       → ((most : ℕ) → Counts p.stage most → Counts stage (most + length part))
       → Stands
       (record {
@@ -49,7 +49,7 @@ module _ (p : Place) (l : List ℕ) (s : Stands p) (few : p.turns < most_turns) 
             record { from = p.window.from + used; end = p.window.end; is_last = p.window.is_last; filled = end; progress = p.window.progress };
         stage = stage;
       })
-  turn-stands used end stage sized h e counts =
+  turn_stands used end stage sized h e counts =
       let short = part_length p.window l in
       record {
         within = record { before = omega (arith, s.within.before); inside = s.within.inside; printed = rw sized at e };

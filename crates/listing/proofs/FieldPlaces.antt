@@ -33,9 +33,9 @@ leg_at_lem (suc n) (suc (suc zero)) h g = g
 leg_at_lem (suc n) (suc (suc (suc i))) h g = leg_at_lem n i (omega arith) (let e : suc (suc (suc i)) % 3 ≡ i % 3 = omega arith in rw e at g)
 
 module _ (kind legs : ℕ) where
-  fields-count : length (fields_of_kind kind legs) ≡ length (kind_fields kind) + cond (has_legs kind) (3 * legs) 0
+  fields_count : length (fields_of_kind kind legs) ≡ length (kind_fields kind) + cond (has_legs kind) (3 * legs) 0
   unfolding fields_of_kind
-  fields-count = length-append (kind_fields kind) _ ∙ ap (λ n. length (kind_fields kind) + n) (go (has_legs kind))
+  fields_count = length-append (kind_fields kind) _ ∙ ap (λ n. length (kind_fields kind) + n) (go (has_legs kind))
     where
       go : (t : Bool) → length (cond t (times_over legs leg_fields) []) ≡ cond t (3 * legs) 0
       go true = legs_length_lem legs
@@ -43,14 +43,14 @@ module _ (kind legs : ℕ) where
 
   module _ {n : ℕ} where
     pub count-with-legs : kind ≡ proposal_kind → n ≡ length (kind_fields kind) → n + 3 * legs ≡ length (fields_of_kind kind legs)
-    count-with-legs k own = rw (own, fields-count, eq-eqb kind proposal_kind k) refl
+    count-with-legs k own = rw (own, fields_count, eq-eqb kind proposal_kind k) refl
 
     pub only-count : kind ≡ proposal_kind → n ≡ length (kind_fields kind) → n ≡ 1
     unfolding kind_fields
     only-count k own = own ∙ rw k refl
 
     pub count-without : (kind ≡ proposal_kind → ⊥) → n ≡ length (kind_fields kind) → n ≡ length (fields_of_kind kind legs)
-    count-without k own = own ∙ rw (fields-count, ne_eqb kind proposal_kind k) (sym (add-zero (length (kind_fields kind))))
+    count-without k own = own ∙ rw (fields_count, ne_eqb kind proposal_kind k) (sym (add-zero (length (kind_fields kind))))
 
   module _ {f : Field} {n : ℕ} (i : ℕ) (own : n ≡ length (kind_fields kind)) where
     pub own_at : i < n → f ≡ get_or (kind_fields kind) i Kind → f ≡ get_or (fields_of_kind kind legs) i Kind
@@ -61,7 +61,7 @@ module _ (kind legs : ℕ) where
     unfolding fields_of_kind
     leg-of-kind h l e =
         let place : i ≡ length (kind_fields kind) + (i - n) = omega (arith, own) in
-        rw place (sym (get_or-append-add (kind_fields kind) (cond (has_legs kind) (times_over legs leg_fields) []) (i - n) Kind ∙ sym (go (has_legs kind) (omega (arith, own, rw fields-count at l)))))
+        rw place (sym (get_or-append-add (kind_fields kind) (cond (has_legs kind) (times_over legs leg_fields) []) (i - n) Kind ∙ sym (go (has_legs kind) (omega (arith, own, rw fields_count at l)))))
       where
         go : (t : Bool) → i - n < cond t (3 * legs) 0 → f ≡ get_or (cond t (times_over legs leg_fields) []) (i - n) Kind
         go true k = leg_at_lem legs (i - n) k e
@@ -88,13 +88,13 @@ pub days_and_limits : (holidays members : ℕ) → length (replicate holidays Ho
 days_and_limits holidays members = length-append (replicate holidays Holiday) (replicate members Limit) ∙ rw (repeated_length Holiday holidays, repeated_length Limit members) refl
 
 module _ {f : Field} where
-  pub fixed-at : (holidays members i : ℕ) → i < 8 → f ≡ get_or fixed_fields i Kind → f ≡ get_or (fields_in (Header holidays members)) i Kind
+  pub fixed_at : (holidays members i : ℕ) → i < 8 → f ≡ get_or fixed_fields i Kind → f ≡ get_or (fields_in (Header holidays members)) i Kind
   unfolding fields_in
-  fixed-at holidays members i h e = e ∙ sym (get_or-append fixed_fields (replicate holidays Holiday ++ replicate members Limit) Kind i h)
+  fixed_at holidays members i h e = e ∙ sym (get_or-append fixed_fields (replicate holidays Holiday ++ replicate members Limit) Kind i h)
 
-  pub past-fixed : (holidays members i : ℕ) → 8 ≤ i → f ≡ get_or (replicate holidays Holiday ++ replicate members Limit) (i - 8) Kind → f ≡ get_or (fields_in (Header holidays members)) i Kind
+  pub past_fixed : (holidays members i : ℕ) → 8 ≤ i → f ≡ get_or (replicate holidays Holiday ++ replicate members Limit) (i - 8) Kind → f ≡ get_or (fields_in (Header holidays members)) i Kind
   unfolding fields_in
-  past-fixed holidays members i h e =
+  past_fixed holidays members i h e =
       let k : i ≡ 8 + (i - 8) = omega arith in
       e ∙ (sym (get_or-append-add fixed_fields (replicate holidays Holiday ++ replicate members Limit) (i - 8) Kind) ∙ ap
       (λ (x : ℕ). get_or (fixed_fields ++ (replicate holidays Holiday ++ replicate members Limit)) x Kind) (sym k))

@@ -86,62 +86,62 @@ module _ (s : List ℕ) (hs : List ℕ) (sound : first_year_sound (u16_at s 5) �
   day j = u16_at s (11 + 2 * j)
 
   -- Whether the start day is among these.
-  onStart : List ℕ → Bool
-  onStart l = any (λ x. eqb x (u16_at s 7)) l
+  on_start : List ℕ → Bool
+  on_start l = any (λ x. eqb x (u16_at s 7)) l
 
   span : span_range (u16_at s 5) ≡ range (span_start k) (day_after_span k - 1)
   unfolding k span_range span_start day_after_span
   span = rw sound refl
 
-  in-span : (v : ℕ) → within (span_range (u16_at s 5)) v ≡ in_span k v
+  in_span_lem : (v : ℕ) → within (span_range (u16_at s 5)) v ≡ in_span k v
   unfolding within in_span
-  in-span v = rw (span, last_before v (day_after_span k) (some_day k)) refl
+  in_span_lem v = rw (span, last_before v (day_after_span k) (some_day k)) refl
 
-  later-range : (j : ℕ) → holiday_range s (11 + 2 * suc j) ≡ range (day j + 1) (day_after_span k - 1)
+  later_range : (j : ℕ) → holiday_range s (11 + 2 * suc j) ≡ range (day j + 1) (day_after_span k - 1)
   unfolding holiday_range day
-  later-range j =
+  later_range j =
       let two : 11 + 2 * suc j - 2 ≡ 11 + 2 * j = omega arith in
       rw (span, lt-leb (11 + 2 * suc j) 11 (omega arith), two) refl
 
   -- A holiday above one that is not before the span.
-  in-span-above : (x : ℕ) → span_start k ≤ x → in_span k x ≡ ltb x (day_after_span k)
+  in_span_above : (x : ℕ) → span_start k ≤ x → in_span k x ≡ ltb x (day_after_span k)
   unfolding in_span
-  in-span-above x h = rw (le-leb (span_start k) x h) refl
+  in_span_above x h = rw (le-leb (span_start k) x h) refl
 
-  not-before : (x : ℕ) → in_span k x ≡ true → span_start k ≤ x
+  not_before_lem : (x : ℕ) → in_span k x ≡ true → span_start k ≤ x
   unfolding in_span
-  not-before x e = leb-true (span_start k) x (and_left (leb (span_start k) x) (ltb x (day_after_span k)) e)
+  not_before_lem x e = leb-true (span_start k) x (and_left (leb (span_start k) x) (ltb x (day_after_span k)) e)
 
   -- The holidays from the jth on: rising, in the span, none of them the start day.
   fit : List ℕ → Bool
-  fit l = every (in_span k) l && not (onStart l)
+  fit l = every (in_span k) l && not (on_start l)
 
   above : (n j x : ℕ) (l : List ℕ) (rest : Bool) → span_start k ≤ day j → (span_start k ≤ x → rest ≡ rising (x ∷ l) && fit l)
       → within (range (day j + 1) (day_after_span k - 1)) x && (passes (cond (eqb x (u16_at s 7)) OnStartDay Passes) && rest) ≡ rising (day j ∷ x ∷ l) && fit (x ∷ l)
-  unfolding within fit every any onStart
+  unfolding within fit every any on_start
   above n j x l rest h ih =
       rw (rising_cons (day j) x l, start_passes (eqb x (u16_at s 7)), last_before x (day_after_span k) (some_day k))
       (le_or_lt (day j + 1) x
-      (λ q. rw (le-leb (day j + 1) x q, lt-ltb (day j) x (omega arith), in-span-above x (omega arith), ih (omega arith))
+      (λ q. rw (le-leb (day j + 1) x q, lt-ltb (day j) x (omega arith), in_span_above x (omega arith), ih (omega arith))
       (holiday_order (ltb x (day_after_span k)) (eqb x (u16_at s 7)) (rising (x ∷ l)) (every (in_span k) l) (any (λ y. eqb y (u16_at s 7)) l)))
       (λ q. rw (lt-leb (day j + 1) x q, le-ltb (day j) x (omega arith)) refl))
 
   later : (n j : ℕ) → span_start k ≤ day j → in_ranges 0 s (11 + 2 * suc j) (replicate n Holiday) ≡ rising (day j ∷ map day (from (suc j) n)) && fit (map day (from (suc j) n))
-  unfolding in_ranges fit every any from onStart number_at day
+  unfolding in_ranges fit every any from on_start number_at day
   later zero j h = rw (rising_short (day j ∷ []) (omega arith)) refl
   later (suc n) j h =
       let place : 11 + 2 * suc j + 2 ≡ 11 + 2 * suc (suc j) = omega arith in
-      rw (later-range j, place) (above n j (day (suc j)) (map day (from (suc (suc j)) n)) (in_ranges 0 s (11 + 2 * suc (suc j)) (replicate n Holiday)) h (later n (suc j)))
+      rw (later_range j, place) (above n j (day (suc j)) (map day (from (suc (suc j)) n)) (in_ranges 0 s (11 + 2 * suc (suc j)) (replicate n Holiday)) h (later n (suc j)))
 
-  holidays-ranges : (n : ℕ) → in_ranges 0 s 11 (replicate n Holiday) ≡ rising (map day (from 0 n)) && fit (map day (from 0 n))
-  unfolding in_ranges fit every any from onStart number_at day holiday_range
-  holidays-ranges zero = rw (rising_short [] (omega arith)) refl
-  holidays-ranges (suc n) =
+  holidays_ranges : (n : ℕ) → in_ranges 0 s 11 (replicate n Holiday) ≡ rising (map day (from 0 n)) && fit (map day (from 0 n))
+  unfolding in_ranges fit every any from on_start number_at day holiday_range
+  holidays_ranges zero = rw (rising_short [] (omega arith)) refl
+  holidays_ranges (suc n) =
       let x = day 0 in
       let l = map day (from 1 n) in
-      rw (in-span x, start_passes (eqb x (u16_at s 7)))
+      rw (in_span_lem x, start_passes (eqb x (u16_at s 7)))
       (true_or (in_span k x)
-      (λ e. rw (later n 0 (not-before x e), e) (holiday_order true (eqb x (u16_at s 7)) (rising (x ∷ l)) (every (in_span k) l) (any (λ y. eqb y (u16_at s 7)) l)))
+      (λ e. rw (later n 0 (not_before_lem x e), e) (holiday_order true (eqb x (u16_at s 7)) (rising (x ∷ l)) (every (in_span k) l) (any (λ y. eqb y (u16_at s 7)) l)))
       (λ e. rw e (sym (and_false (rising (x ∷ l))))))
 
 -- The order in which document 01 tests a header, and that of its bytes.
@@ -177,59 +177,59 @@ module _ (s : List ℕ) where
   members = get_or s 9 0
 
   -- From the start day on.
-  behindYear : Bool
-  behindYear =
+  behind_year : Bool
+  behind_year =
       within (span_range (u16_at s 5)) start
       && (passes (cond (saturday start || sunday start) NoBusinessDay Passes)
       && (within (range 1 most_members) members && (within (range 0 most_holidays) count && in_ranges 0 s 11 (replicate count Holiday ++ replicate members Limit))))
 
-  behind-year : first_year_sound (u16_at s 5) ≡ true → header_sound (header_of s) ≡ behindYear
-  unfolding behindYear start count members header_sound calendar_sound day_sound business_day header_of u16s_at u32s_at day fit onStart k
-  behind-year e =
+  behind_year_lem : first_year_sound (u16_at s 5) ≡ true → header_sound (header_of s) ≡ behind_year
+  unfolding behind_year start count members header_sound calendar_sound day_sound business_day header_of u16s_at u32s_at day fit on_start k
+  behind_year_lem e =
       let days = map (λ j. u16_at s (11 + 2 * j)) (from 0 (get_or s 10 0)) in
       let span : Calendar = record { first_year = u16_at s 5; holidays = days } in
       let first = 11 + 2 * get_or s 10 0 in
       let limits = map (λ j. u32_at s (first + 4 * j)) (from 0 (get_or s 9 0)) in
       rw (e, mapped_length (λ j. u16_at s (11 + 2 * j)) 0 (get_or s 10 0), mapped_length (λ j. u32_at s (first + 4 * j)) 0 (get_or s 9 0), eq-eqb (get_or s 9 0) (get_or s 9 0) refl)
-      (rw (in-span s days e (u16_at s 7), weekend_passes (saturday (u16_at s 7)) (sunday (u16_at s 7)), members_range (get_or s 9 0), count_range (get_or s 10 0))
+      (rw (in_span_lem s days e (u16_at s 7), weekend_passes (saturday (u16_at s 7)) (sunday (u16_at s 7)), members_range (get_or s 9 0), count_range (get_or s 10 0))
       (rw (ranges_append 0 s 11 (replicate (get_or s 10 0) Holiday) (replicate (get_or s 9 0) Limit), widths_holidays (get_or s 10 0))
-      (rw (holidays-ranges s days e (get_or s 10 0), limits_ranges 0 s first (get_or s 9 0) 0 first (omega arith))
+      (rw (holidays_ranges s days e (get_or s 10 0), limits_ranges 0 s first (get_or s 9 0) 0 first (omega arith))
       (header_order (leb (get_or s 10 0) most_holidays) (rising days) (every (in_span span) days) (in_span span (u16_at s 7))
       (not (saturday (u16_at s 7)) && not (sunday (u16_at s 7))) (not (any (λ x. eqb x (u16_at s 7)) days)) (members_sound (get_or s 9 0)) (every limit_sound limits)))))
 
-  no-year : first_year_sound (u16_at s 5) ≡ false → header_sound (header_of s) ≡ false
+  no_year : first_year_sound (u16_at s 5) ≡ false → header_sound (header_of s) ≡ false
   unfolding header_sound calendar_sound header_of
-  no-year e = rw e refl
+  no_year e = rw e refl
 
-  behind-version : header_sound (header_of s) ≡ within (range least_first_year most_first_year) (u16_at s 5) && behindYear
-  behind-version =
-      rw (year_range (u16_at s 5)) (true_or (first_year_sound (u16_at s 5)) (λ e. rw e (behind-year e)) (λ e. rw e (no-year e)))
+  behind_version : header_sound (header_of s) ≡ within (range least_first_year most_first_year) (u16_at s 5) && behind_year
+  behind_version =
+      rw (year_range (u16_at s 5)) (true_or (first_year_sound (u16_at s 5)) (λ e. rw e (behind_year_lem e)) (λ e. rw e (no_year e)))
 
   in_order_holds : (a b c v x y : Bool) → x ≡ y → (a && (b && (c && v))) && x ≡ a && (b && (c && (v && y)))
   in_order_holds a b c v x y e = rw e (simp and_assoc)
 
-  fields-passed : 5 ≤ length s → same_bytes (take 5 s) letters_and_version && header_sound (header_of s) ≡ in_ranges 0 s 0 (fields_in (header_shape s))
-  unfolding fields_in in_ranges number_at behindYear start count members
-  fields-passed h =
+  fields_passed : 5 ≤ length s → same_bytes (take 5 s) letters_and_version && header_sound (header_of s) ≡ in_ranges 0 s 0 (fields_in (header_shape s))
+  unfolding fields_in in_ranges number_at behind_year start count members
+  fields_passed h =
       rw (letters s h)
       (in_order_holds (within (range 86 86) (get_or s 0 0)) (within (range 74 74) (get_or s 1 0)) (within (range 82 82) (get_or s 2 0)) (within (range 1 1) (u16_at s 3))
-      (header_sound (header_of s)) (within (range least_first_year most_first_year) (u16_at s 5) && behindYear) behind-version)
+      (header_sound (header_of s)) (within (range least_first_year most_first_year) (u16_at s 5) && behind_year) behind_version)
 
   whole : header_length s ≡ 0 + widths (fields_in (header_shape s))
   unfolding header_length
   whole = rw (header_widths (get_or s 10 0) (get_or s 9 0)) (omega arith)
 
-  length-least : 11 ≤ header_length s
+  length_least : 11 ≤ header_length s
   unfolding header_length
-  length-least = omega arith
+  length_least = omega arith
 
   by_length : begins_with_header s ≡ is_none (header_fault s)
   unfolding begins_with_header
   by_length =
       rw (none_is 0 s 0 (fields_in (header_shape s)) (omega arith), ← whole)
       (le_or_lt (header_length s) (length s)
-      (λ h. let long : 11 ≤ length s = omega (arith, length-least) in
-      rw (le-leb 11 (length s) long, le-leb (header_length s) (length s) h, and_true (same_bytes (take 5 s) letters_and_version)) (fields-passed (omega arith)))
+      (λ h. let long : 11 ≤ length s = omega (arith, length_least) in
+      rw (le-leb 11 (length s) long, le-leb (header_length s) (length s) h, and_true (same_bytes (take 5 s) letters_and_version)) (fields_passed (omega arith)))
       (λ h. rw (lt-leb (header_length s) (length s) h, and_false (leb 11 (length s) && same_bytes (take 5 s) letters_and_version)) refl))
 
 pub header_exact : HeaderExact

@@ -99,34 +99,34 @@ shape_widths kind legs h =
     go false = refl
 
 module _ (n : ℕ) (s : List ℕ) (some : 1 ≤ n) where
-  member-range : (m : ℕ) → leb m (n - 1) ≡ ltb m n
-  member-range m = last_before m n some
+  member_range : (m : ℕ) → leb m (n - 1) ≡ ltb m n
+  member_range m = last_before m n some
 
   Ranges : ℕ → Type 0
   Ranges kind = get_or s 0 0 ≡ kind → is_sound (if_sound n (legs_of s) (fields_by_kind (get_or s 0 0) s)) ≡ in_ranges n s 0 (fields_in (record_shape s))
 
-  submit-ranges : Ranges 1
+  submit_ranges : Ranges 1
   unfolding Ranges legs_of fields_by_kind fields_in fields_of_kind in_ranges within number_at event_sound
-  submit-ranges e =
+  submit_ranges e =
       rw e
-      (simp (from_zero, member-range)
+      (simp (from_zero, member_range)
       (gated (side_sound (get_or s 7 0) && order_kind_sound (get_or s 8 0)) n [] (Submit (submission_of (record_numbers 1 s)))
       ∙ submit_order (time_sound (u32_at s 1)) (ltb (get_or s 5 0) n) (contract_sound (get_or s 6 0)) (side_sound (get_or s 7 0)) (order_kind_sound (get_or s 8 0)) (price_sound (u32_at s 9))
       (lots_sound (u16_at s 13))))
 
-  cancel-ranges : Ranges 2
+  cancel_ranges : Ranges 2
   unfolding Ranges legs_of fields_by_kind fields_in fields_of_kind in_ranges within number_at event_sound
-  cancel-ranges e =
+  cancel_ranges e =
       rw e
-      (simp (from_zero, member-range, order_range) (sound_event n [] (Cancel (cancellation_of (record_numbers 2 s))) ∙ simp and_assoc))
+      (simp (from_zero, member_range, order_range) (sound_event n [] (Cancel (cancellation_of (record_numbers 2 s))) ∙ simp and_assoc))
 
   limits_ranges : Ranges 3
   unfolding Ranges legs_of fields_by_kind fields_in fields_of_kind in_ranges within number_at event_sound
   limits_ranges e = rw e (simp from_zero (sound_event n [] (DayLimits (new_day_limits_of (record_numbers 3 s))) ∙ limits_order (contract_sound (get_or s 1 0)) (u32_at s 2) (u32_at s 6)))
 
-  proposal-ranges : Ranges 4
+  proposal_ranges : Ranges 4
   unfolding Ranges legs_of fields_by_kind fields_in fields_of_kind in_ranges within number_at event_sound
-  proposal-ranges e =
+  proposal_ranges e =
       let k = get_or s 1 0 in
       let legs = map (λ j. leg_at s (leg_place j)) (from 0 k) in
       rw e
@@ -134,17 +134,17 @@ module _ (n : ℕ) (s : List ℕ) (some : 1 ≤ n) where
       (sound_event n legs (Proposal k)
       ∙ rw (mapped_length (λ j. leg_at s (leg_place j)) 0 k, eq-eqb k k refl) (rw (and_true (leb least_legs k && leb k most_legs)) refl)))
 
-  default-ranges : Ranges 5
+  default_ranges : Ranges 5
   unfolding Ranges legs_of fields_by_kind fields_in fields_of_kind in_ranges within number_at event_sound
-  default-ranges e = rw e (simp (from_zero, member-range) (sound_event n [] (Default (get_or s 1 0)) ∙ simp and_assoc))
+  default_ranges e = rw e (simp (from_zero, member_range) (sound_event n [] (Default (get_or s 1 0)) ∙ simp and_assoc))
 
-  close-out-ranges : Ranges 6
+  close_out_ranges : Ranges 6
   unfolding Ranges legs_of fields_by_kind fields_in fields_of_kind in_ranges within number_at event_sound
-  close-out-ranges e = rw e (simp from_zero (sound_event n [] (CloseOut (close_out_of (record_numbers 6 s))) ∙ simp and_assoc))
+  close_out_ranges e = rw e (simp from_zero (sound_event n [] (CloseOut (close_out_of (record_numbers 6 s))) ∙ simp and_assoc))
 
-  close-ranges : Ranges 7
+  close_ranges : Ranges 7
   unfolding Ranges legs_of fields_by_kind fields_in fields_of_kind in_ranges within number_at event_sound
-  close-ranges e = rw e (simp from_zero (sound_event n [] (CloseOfDay (u32_at s 1)) ∙ simp and_assoc))
+  close_ranges e = rw e (simp from_zero (sound_event n [] (CloseOfDay (u32_at s 1)) ∙ simp and_assoc))
 
   -- ---- whichever kind it is
   Exact : Type 0
@@ -180,11 +180,11 @@ unfolding Exact fields_by_kind kind_fields
 record_exact n s members =
     let some : 1 ≤ n = leb-true 1 n (and_left (leb 1 n) (leb n most_members) members) in
     let k = get_or s 0 0 in
-    same_or k 1 (exact n s some members 1 (omega arith) (submit-ranges n s some))
-    (λ a. same_or k 2 (exact n s some members 2 (omega arith) (cancel-ranges n s some))
+    same_or k 1 (exact n s some members 1 (omega arith) (submit_ranges n s some))
+    (λ a. same_or k 2 (exact n s some members 2 (omega arith) (cancel_ranges n s some))
     (λ b. same_or k 3 (exact n s some members 3 (omega arith) (limits_ranges n s some))
-    (λ c. same_or k 4 (exact n s some members 4 (omega arith) (proposal-ranges n s some))
-    (λ d. same_or k 5 (exact n s some members 5 (omega arith) (default-ranges n s some))
-    (λ e. same_or k 6 (exact n s some members 6 (omega arith) (close-out-ranges n s some))
-    (λ f. same_or k 7 (exact n s some members 7 (omega arith) (close-ranges n s some))
+    (λ c. same_or k 4 (exact n s some members 4 (omega arith) (proposal_ranges n s some))
+    (λ d. same_or k 5 (exact n s some members 5 (omega arith) (default_ranges n s some))
+    (λ e. same_or k 6 (exact n s some members 6 (omega arith) (close_out_ranges n s some))
+    (λ f. same_or k 7 (exact n s some members 7 (omega arith) (close_ranges n s some))
     (λ g. unknown-exact n s some members (sym (no_kind (record_numbers k s) k a b c d e f g)) (kind_out k a b c d e f g))))))))

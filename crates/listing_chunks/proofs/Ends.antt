@@ -29,7 +29,7 @@ use Rattle.listing.proofs.HeaderFaults.{header_exact}
 use Rattle.listing_words.specs.Fields.{is_none, fault_of, header_fault}
 use Rattle.listing_chunks.specs.Listings.{records_ending, listing_ending}
 use Rattle.listing_chunks.specs.Stops.{SameEnd, read_to_end, header_unsound, record_unsound, StopsWithTheJournal}
-use Rattle.listing_chunks.proofs.Chunks.{sound_none, sound-first}
+use Rattle.listing_chunks.proofs.Chunks.{sound_none, sound_first}
 use Rattle.listing_chunks.proofs.Stops.{stops_at_fault}
 
 is_true : {b : Bool} → b ≡ true → T b
@@ -61,16 +61,16 @@ module _ (header : List ℕ) (t₀ : Tables) (begins : begins_with_header header
       let m = (header_of header).members in
       rw (le-leb 1 m f.members_range.from) (le-leb m most_members f.members_range.to)
 
-  led-sound : (t : Tables) → Led t → unsound t ≡ false
+  led_sound : (t : Tables) → Led t → unsound t ≡ false
   unfolding unsound ledger_unsound
-  led-sound t l =
+  led_sound t l =
       let whole = never_damaged header t₀ l.calls (is_true begins) (is_false long) in
       let short : ledger_short t ≡ false = ap ledger_short l.is ∙ whole.0 in
       rw (short, l.is, whole.1, ← l.is, l.lines) refl
 
-  led-first : lines_short t₀ ≡ false → Led first
+  led_first : lines_short t₀ ≡ false → Led first
   unfolding after lines_short
-  led-first e =
+  led_first e =
       record {
         calls = [];
         is = refl;
@@ -81,9 +81,9 @@ module _ (header : List ℕ) (t₀ : Tables) (begins : begins_with_header header
         lines = rw (making_keeps_lengths t₀ header).lines e;
       }
 
-  led-next : (t : Tables) (bytes : List ℕ) → Led t → Led (apply_spec t bytes).after
+  led_next : (t : Tables) (bytes : List ℕ) → Led t → Led (apply_spec t bytes).after
   unfolding lines_short
-  led-next t bytes l =
+  led_next t bytes l =
       let call : Call = record { bytes = bytes; lines = t.lines } in
       record {
         calls = l.calls ++ (call ∷ []);
@@ -99,21 +99,21 @@ module _ (header : List ℕ) (t₀ : Tables) (begins : begins_with_header header
   no_record : (t : Tables) (s : List ℕ) → length s ≡ 0 → SameFrom t s
   no_record t s z = rw (ends_none t s z, sound_none (header_of header).members 0 s z) read_to_end
 
-  one-record : (t : Tables) (s : List ℕ) → Led t → 0 < length s → SameFrom (apply_spec t (take (next_length s) s)).after (drop (next_length s) s) → SameFrom t s
-  one-record t s l some behind =
+  one_record : (t : Tables) (s : List ℕ) → Led t → 0 < length s → SameFrom (apply_spec t (take (next_length s) s)).after (drop (next_length s) s) → SameFrom t s
+  one_record t s l some behind =
       let n = (header_of header).members in
       let size = l.runs.size in
-      let at = rw size at (stops_at_fault t s (led-sound t l) (rw size few_members) some) in
-      true_or (is_none (fault_of n (take (next_length s) s))) (λ e. rw (ends_next t s some, sound-first n 0 s some, at, e) behind)
-      (λ e. rw (ends_next t s some, sound-first n 0 s some, at, e) record_unsound)
+      let at = rw size at (stops_at_fault t s (led_sound t l) (rw size few_members) some) in
+      true_or (is_none (fault_of n (take (next_length s) s))) (λ e. rw (ends_next t s some, sound_first n 0 s some, at, e) behind)
+      (λ e. rw (ends_next t s some, sound_first n 0 s some, at, e) record_unsound)
 
-  records-end : (fuel : ℕ) (t : Tables) (s : List ℕ) → length s ≤ fuel → Led t → SameFrom t s
-  records-end zero t s h l = no_record t s (omega arith)
-  records-end (suc f) t s h l =
+  records_end_lem : (fuel : ℕ) (t : Tables) (s : List ℕ) → length s ≤ fuel → Led t → SameFrom t s
+  records_end_lem zero t s h l = no_record t s (omega arith)
+  records_end_lem (suc f) t s h l =
       le_or_lt (length s) 0 (λ z. no_record t s (omega arith))
       (λ some. let m = next_length s in
-      one-record t s l some
-      (records-end f (apply_spec t (take m s)).after (drop m s) (rw (length-drop m s) (omega (arith, next_some s some))) (led-next t (take m s) l)))
+      one_record t s l some
+      (records_end_lem f (apply_spec t (take m s)).after (drop m s) (rw (length-drop m s) (omega (arith, next_some s some))) (led_next t (take m s) l)))
 
 pub stops_with_the_journal : StopsWithTheJournal
 unfolding journal_end_on listing_ending make_spec
@@ -121,6 +121,6 @@ stops_with_the_journal t s long lines =
     true_or (begins_with_header s)
     (λ e. let same : is_none (header_fault s) ≡ true = sym (header_exact s) ∙ e in
     let behind = drop (header_length s) s in
-    let led = led-first s t e long lines in
-    rw (same, long, e) (rw (made s t (is_true e) (is_false long)) at (records-end s t e long (length behind) _ behind (omega arith) led)))
+    let led = led_first s t e long lines in
+    rw (same, long, e) (rw (made s t (is_true e) (is_false long)) at (records_end_lem s t e long (length behind) _ behind (omega arith) led)))
     (λ e. let same : is_none (header_fault s) ≡ false = sym (header_exact s) ∙ e in rw (same, long, e) header_unsound)

@@ -14,7 +14,7 @@ use Rattle.rules.specs.declared.field.Field.TheVariants.{Kind, Time, Member, Con
 use Rattle.rules.specs.Days.{saturday, sunday}
 use Rattle.rules.specs.Fields.{width_of, widths, number_at}
 use Rattle.rules.specs.Header.{u16_at, header_length}
-use Rattle.journal.proofs.Headers.{byte, u16-more, u32-more}
+use Rattle.journal.proofs.Headers.{byte, u16_more, u32_more}
 use Rattle.listing.proofs.HeaderSizes.{header_widths}
 use Rattle.listing_words.specs.declared.field.Verdict.TheVariants.{Passes, OutOfRange, NoBusinessDay, OnStartDay}
 use Rattle.listing_words.specs.Fields.{fields_in, header_shape, quantity_of, holiday_range, range_of, within, day_verdict, verdict_of, fault_place, fault_in, header_fault}
@@ -35,11 +35,11 @@ module _ (s more : List ℕ) (eleven : 11 ≤ length s) where
 
     two : place + 2 ≤ length s → number_at (s ++ more) place 2 ≡ number_at s place 2
     unfolding number_at
-    two h = u16-more s more place h
+    two h = u16_more s more place h
 
     four : place + 4 ≤ length s → number_at (s ++ more) place 4 ≡ number_at s place 4
     unfolding number_at
-    four h = u32-more s more place h
+    four h = u32_more s more place h
 
     weekend-found : (b : Bool) → fault_place (s ++ more) place (cond b NoBusinessDay Passes) ≡ fault_place s place (cond b NoBusinessDay Passes)
     weekend-found true = refl
@@ -52,8 +52,8 @@ module _ (s more : List ℕ) (eleven : 11 ≤ length s) where
     holiday-range : place ≤ length s → holiday_range (s ++ more) place ≡ holiday_range s place
     unfolding holiday_range
     holiday-range h =
-        le_or_lt place 11 (λ e. rw (le-leb place 11 e, u16-more s more 5 (omega arith)) refl)
-        (λ e. rw (lt-leb place 11 e, u16-more s more 5 (omega arith), u16-more s more (place - 2) (omega arith)) refl)
+        le_or_lt place 11 (λ e. rw (le-leb place 11 e, u16_more s more 5 (omega arith)) refl)
+        (λ e. rw (lt-leb place 11 e, u16_more s more 5 (omega arith), u16_more s more (place - 2) (omega arith)) refl)
 
     plain : {f : Field} → number_at (s ++ more) place (width_of f) ≡ number_at s place (width_of f) → range_of n (s ++ more) place f ≡ range_of n s place f
         → ((v : ℕ) → day_verdict (s ++ more) (quantity_of f) v ≡ Passes) → ((v : ℕ) → day_verdict s (quantity_of f) v ≡ Passes) → Alike n place f
@@ -65,11 +65,11 @@ module _ (s more : List ℕ) (eleven : 11 ≤ length s) where
     alike LetterR h = plain (one h) refl (λ v. refl) (λ v. refl)
     alike Version h = plain (two h) refl (λ v. refl) (λ v. refl)
     alike FirstYear h = plain (two h) refl (λ v. refl) (λ v. refl)
-    alike StartDay h = record { number = two h; range = rw (u16-more s more 5 (omega arith)) refl; day = λ v. refl; found = λ v. weekend-found (saturday v || sunday v) }
+    alike StartDay h = record { number = two h; range = rw (u16_more s more 5 (omega arith)) refl; day = λ v. refl; found = λ v. weekend-found (saturday v || sunday v) }
     alike Members h = plain (one h) refl (λ v. refl) (λ v. refl)
     alike HolidayCount h = plain (one h) refl (λ v. refl) (λ v. refl)
     alike Holiday h =
-        record { number = two h; range = holiday-range (omega arith); day = λ v. rw (u16-more s more 7 (omega arith)) refl; found = λ v. holiday-found (eqb v (u16_at s 7)) }
+        record { number = two h; range = holiday-range (omega arith); day = λ v. rw (u16_more s more 7 (omega arith)) refl; found = λ v. holiday-found (eqb v (u16_at s 7)) }
     alike Limit h = plain (four h) refl (λ v. refl) (λ v. refl)
     alike Kind h = plain (one h) refl (λ v. refl) (λ v. refl)
     alike Time h = plain (four h) refl (λ v. refl) (λ v. refl)
@@ -81,7 +81,7 @@ module _ (s more : List ℕ) (eleven : 11 ≤ length s) where
     alike Lots h = plain (two h) refl (λ v. refl) (λ v. refl)
     alike Order h = plain (four h) refl (λ v. refl) (λ v. refl)
     alike Low h = plain (four h) refl (λ v. refl) (λ v. refl)
-    alike High h = plain (four h) (rw (u32-more s more 2 (omega arith)) refl) (λ v. refl) (λ v. refl)
+    alike High h = plain (four h) (rw (u32_more s more 2 (omega arith)) refl) (λ v. refl) (λ v. refl)
     alike Legs h = plain (one h) refl (λ v. refl) (λ v. refl)
     alike Ratio h = plain (two h) refl (λ v. refl) (λ v. refl)
 
@@ -116,29 +116,29 @@ module _ (s more : List ℕ) (eleven : 11 ≤ length s) where
       let a = alike n place f fits in
       rw (verdict-more n place f fits, found-more n place f fits, a.number, a.range, words_more first base n (place + width_of f) fs (omega arith)) refl
 
-  fault-more : (n place : ℕ) (fs : List Field) → place + widths fs ≤ length s → fault_in n (s ++ more) place fs ≡ fault_in n s place fs
+  fault_more : (n place : ℕ) (fs : List Field) → place + widths fs ≤ length s → fault_in n (s ++ more) place fs ≡ fault_in n s place fs
   unfolding fault_in widths
-  fault-more n place [] h = refl
-  fault-more n place (f ∷ fs) h =
+  fault_more n place [] h = refl
+  fault_more n place (f ∷ fs) h =
       let fits : place + width_of f ≤ length s = omega arith in
-      rw (verdict-more n place f fits, found-more n place f fits, fault-more n (place + width_of f) fs (omega arith)) refl
+      rw (verdict-more n place f fits, found-more n place f fits, fault_more n (place + width_of f) fs (omega arith)) refl
 
 -- The bytes hold a whole header.
 module _ (s more : List ℕ) (fits : header_length s ≤ length s) where
-  all-fields : 0 + widths (fields_in (header_shape s)) ≤ length s
+  all_fields : 0 + widths (fields_in (header_shape s)) ≤ length s
   unfolding header_length
-  all-fields = omega (arith, fits, header_widths (get_or s 10 0) (get_or s 9 0))
+  all_fields = omega (arith, fits, header_widths (get_or s 10 0) (get_or s 9 0))
 
   eleven : 11 ≤ length s
   unfolding header_length
   eleven = omega (arith, fits)
 
-  shape-more : header_shape (s ++ more) ≡ header_shape s
-  shape-more = let l = eleven in rw (byte s more 10 (omega arith), byte s more 9 (omega arith)) refl
+  shape_more : header_shape (s ++ more) ≡ header_shape s
+  shape_more = let l = eleven in rw (byte s more 10 (omega arith), byte s more 9 (omega arith)) refl
 
-  pub header-line-more : header_line (s ++ more) ≡ header_line s
+  pub header_line_more : header_line (s ++ more) ≡ header_line s
   unfolding header_line
-  header-line-more = rw (shape-more, words_more s more eleven 0 0 0 0 (fields_in (header_shape s)) all-fields) refl
+  header_line_more = rw (shape_more, words_more s more eleven 0 0 0 0 (fields_in (header_shape s)) all_fields) refl
 
-  pub header-fault-more : header_fault (s ++ more) ≡ header_fault s
-  header-fault-more = rw (shape-more, fault-more s more eleven 0 0 (fields_in (header_shape s)) all-fields) refl
+  pub header_fault_more : header_fault (s ++ more) ≡ header_fault s
+  header_fault_more = rw (shape_more, fault_more s more eleven 0 0 (fields_in (header_shape s)) all_fields) refl

@@ -81,9 +81,9 @@ module _ (s : List ℕ) (some : 0 < length s) where
       sym (get_or-append (take m s) (drop m s) 0 1 (omega arith)) ∙ ap (λ x. get_or x 1 0) (take-append-drop m s)
 
   -- Of no kind: its kind is out of its range.
-  unknown-at-fault : (n : ℕ) → front_length s ≡ 0 → is_none (fault_of n (take 1 s)) ≡ false
+  unknown_at_fault : (n : ℕ) → front_length s ≡ 0 → is_none (fault_of n (take 1 s)) ≡ false
   unfolding fault_in fields_in verdict_of number_at
-  unknown-at-fault n z =
+  unknown_at_fault n z =
       let same = first_byte 1 (omega arith) (omega arith) in
       let l = length-take-le 1 s (omega arith) in
       rw (le-ltb (length (take 1 s)) 1 (omega arith), same, kind_unknown (get_or s 0 0) (get_or s 1 0) z) refl
@@ -96,7 +96,7 @@ module _ (s : List ℕ) (some : 0 < length s) where
     no-surplus bytes h = record_exact n bytes few ∙ rw (le-leb (length bytes) (front_length bytes) h) (and_true (is_none (fault_of n bytes)))
 
     unknown : eqb (front_length s) 0 ≡ true → Exactly (take 1 s)
-    unknown e = let bad = unknown-at-fault n (eqb-true (front_length s) 0 e) in record_exact n (take 1 s) few ∙ rw bad refl
+    unknown e = let bad = unknown_at_fault n (eqb-true (front_length s) 0 e) in record_exact n (take 1 s) few ∙ rw bad refl
 
     whole : eqb (front_length s) 0 ≡ false → leb (front_length s) (length s) ≡ true → Exactly (take (front_length s) s)
     whole e f =

@@ -51,21 +51,21 @@ module _ (l : Ledger) (p : Place) (input : List ℕ) where
   after_last ending none (true, e) = rw e (read_to_end none)
   after_last ending none (false, e) = rw e not_written
 
-  by-record : (m : ℕ) (output after : List ℕ) (x : Next) → piece_of p.window.is_last (held p.window input) ≡ Record m
+  by_record : (m : ℕ) (output after : List ℕ) (x : Next) → piece_of p.window.is_last (held p.window input) ≡ Record m
       → line_listed l p m (take m (held p.window input)) output after x → turned l p input input output after x
-  by-record m output after (Going q) piece h = listed m piece h refl
-  by-record m output after (Ended ending) piece (bad, (true, e)) = rw e (record_unsound m piece bad)
-  by-record m output after (Ended ending) piece (bad, (false, e)) = rw e not_written
+  by_record m output after (Going q) piece h = listed m piece h refl
+  by_record m output after (Ended ending) piece (bad, (true, e)) = rw e (record_unsound m piece bad)
+  by_record m output after (Ended ending) piece (bad, (false, e)) = rw e not_written
 
-  pub after-record : (m : ℕ) (output after : List ℕ) (x : Next) → m ≤ length (held p.window input) → piece_of p.window.is_last (held p.window input) ≡ Record m
+  pub after_record_lem : (m : ℕ) (output after : List ℕ) (x : Next) → m ≤ length (held p.window input) → piece_of p.window.is_last (held p.window input) ≡ Record m
       → line_listed l p m (take m (drop p.window.from input)) output after x → turned l p input input output after x
-  after-record m output after x fits piece h =
+  after_record_lem m output after x fits piece h =
       let same = take-take m (p.window.end - p.window.from) (drop p.window.from input) (omega (arith, fits, part_length p.window input)) in
-      by-record m output after x piece (rw (← same) at h)
+      by_record m output after x piece (rw (← same) at h)
 
-  pub turn-ended : (exit output after : List ℕ) (x : Next) {ending : Ending} → turned l p input exit output after x → x ≡ Ended ending
+  pub turn_ended : (exit output after : List ℕ) (x : Next) {ending : Ending} → turned l p input exit output after x → x ≡ Ended ending
       → RecordsEnd l.members p.window.is_last (held p.window input) ending
-  turn-ended exit output after x h q = rw q at h
+  turn_ended exit output after x h q = rw q at h
 
 -- ---- the whole
 pub header_finished : {s : List ℕ} {ending : Ending} → is_none (header_fault s) ≡ false → finished HeaderUnsound ending → ListingEnds s ending

@@ -10,7 +10,7 @@ use lib.ListN.{length, take, drop, get_or, set, length-set}
 use lib.Seq.{set-get_or, length-take-le, drop-drop, drop_at}
 use borrow.Author.Tests.{eq-eqb, ne_eqb}
 use Rattle.arith.specs.Lists.{from, over, All}
-use Rattle.arith.proofs.Overs.{over-length, over-inside, over-outside}
+use Rattle.arith.proofs.Overs.{over_length, over_inside, over_outside}
 use Rattle.arith.proofs.Tests.{same_or, and_false}
 use Rattle.arith.proofs.Appends.{from_more, map_append}
 use Rattle.rules.specs.declared.order.Order.{Order}
@@ -23,10 +23,10 @@ use Rattle.matching.specs.Ranks.{no_rank, rank_in, ranks_of, lots_of, first_rank
 use Rattle.matching.specs.Deals.{counterparty, deal_width, deal_places, deal_at, deals_in, FromBook}
 use Rattle.matching.specs.Matching.{DealMade, Matchable, Ended, MatchMade}
 use Rattle.tables.specs.Fit.{orders_in}
-use Rattle.arith.proofs.Alls.{all-place}
-use Rattle.matching.proofs.Best.{ranks-length, ranks-at, live, rank-live, rank_room}
-use Rattle.matching.proofs.Running.{Running, running_start, running-deal, ranks_set, ended-full, ended-far, ended-none}
-use Rattle.matching.proofs.Lows.{placed_gone, best-is}
+use Rattle.arith.proofs.Alls.{all_place}
+use Rattle.matching.proofs.Best.{ranks_length, ranks_at, live, rank_live, rank_room}
+use Rattle.matching.proofs.Running.{Running, running_start, running-deal, ranks_set, ended_full, ended_far, ended_none}
+use Rattle.matching.proofs.Lows.{placed_gone, best_is}
 use Rattle.order_book.proofs.Left.{orders_length, all_orders}
 use Rattle.matching.proofs.Passes.{order_here}
 use Rattle.rules.proofs.Distinct.{Distinct, distinct_orders}
@@ -41,31 +41,31 @@ module _ (k : ℕ) (d : Counterparty) (l : List ℕ) (fits : k * deal_width + 3 
   abbrev l' : List ℕ
   l' = over (k * deal_width) (deal_places d) l
 
-  pub deal-new : deal_at l' k ≡ d
-  deal-new =
+  pub deal_new : deal_at l' k ≡ d
+  deal_new =
       rw (
-        ap (λ n. get_or l' n 0) (sym (add-zero (k * deal_width))) ∙ over-inside (k * deal_width) (deal_places d) l fits 0 0 (omega arith),
-        over-inside (k * deal_width) (deal_places d) l fits 1 0 (omega arith),
-        over-inside (k * deal_width) (deal_places d) l fits 2 0 (omega arith),
+        ap (λ n. get_or l' n 0) (sym (add-zero (k * deal_width))) ∙ over_inside (k * deal_width) (deal_places d) l fits 0 0 (omega arith),
+        over_inside (k * deal_width) (deal_places d) l fits 1 0 (omega arith),
+        over_inside (k * deal_width) (deal_places d) l fits 2 0 (omega arith),
       )
 
-  pub deal-old : (i : ℕ) → i < k → deal_at l' i ≡ deal_at l i
-  deal-old i h =
+  pub deal_old : (i : ℕ) → i < k → deal_at l' i ≡ deal_at l i
+  deal_old i h =
       rw (
-        over-outside (k * deal_width) (deal_places d) l fits (i * deal_width) 0 (λ g. omega arith),
-        over-outside (k * deal_width) (deal_places d) l fits (i * deal_width + 1) 0 (λ g. omega arith),
-        over-outside (k * deal_width) (deal_places d) l fits (i * deal_width + 2) 0 (λ g. omega arith),
+        over_outside (k * deal_width) (deal_places d) l fits (i * deal_width) 0 (λ g. omega arith),
+        over_outside (k * deal_width) (deal_places d) l fits (i * deal_width + 1) 0 (λ g. omega arith),
+        over_outside (k * deal_width) (deal_places d) l fits (i * deal_width + 2) 0 (λ g. omega arith),
       )
 
-  pub deals-more : deals_in (k + 1) l' ≡ deals_in k l ++ (d ∷ [])
+  pub deals_more : deals_in (k + 1) l' ≡ deals_in k l ++ (d ∷ [])
   unfolding deals_in
-  deals-more =
-      rw (add-one k, from_more 0 k, map_append (deal_at l') (from 0 k) ((0 + k) ∷ []), zero-add k, deal-new, map_below (deal_at l') (deal_at l) 0 k (λ i h. deal-old i (omega arith)))
+  deals_more =
+      rw (add-one k, from_more 0 k, map_append (deal_at l') (from 0 k) ((0 + k) ∷ []), zero-add k, deal_new, map_below (deal_at l') (deal_at l) 0 k (λ i h. deal_old i (omega arith)))
 
   -- places past them stay as they were
-  pub deals-past : drop ((k + 1) * deal_width) l' ≡ drop ((k + 1) * deal_width) l
+  pub deals_past : drop ((k + 1) * deal_width) l' ≡ drop ((k + 1) * deal_width) l
   unfolding over
-  deals-past =
+  deals_past =
       let e : (k + 1) * deal_width ≡ k * deal_width + 3 = omega arith in
       let front = take (k * deal_width) l in
       let long : length front ≡ k * deal_width = length-take-le (k * deal_width) l (omega arith) in
@@ -131,9 +131,9 @@ module _ (o : Order) (book : List ℕ) (n : ℕ) (first left ranks lows deals : 
   os = orders_in n book
 
   -- another start, of which what is behind the first deals is the same
-  pub going-from : (first' : List ℕ) (j : ℕ) → j ≤ k → length first ≡ length first' → drop (j * deal_width) first ≡ drop (j * deal_width) first'
+  pub going_from : (first' : List ℕ) (j : ℕ) → j ≤ k → length first ≡ length first' → drop (j * deal_width) first ≡ drop (j * deal_width) first'
       → Going o book n first' left ranks lows deals wanted k
-  going-from first' j h e f =
+  going_from first' j h e f =
       record {
         ranked = g.ranked;
         numbers = g.numbers;
@@ -152,48 +152,48 @@ module _ (o : Order) (book : List ℕ) (n : ℕ) (first left ranks lows deals : 
       }
 
   as_many : length (ranks_of o left os) ≡ n
-  as_many = ranks-length o left os g.running.sized ∙ orders_length book n
+  as_many = ranks_length o left os g.running.sized ∙ orders_length book n
 
   -- ranks leave room for a place
   small : (j : ℕ) → j < length (ranks_of o left os) → get_or (ranks_of o left os) j 0 < no_rank → get_or (ranks_of o left os) j 0 * most_orders + most_orders ≤ no_rank
   small j h k =
       let inside : j < length os = omega (arith, as_many, orders_length book n) in
-      let rank = ranks-at o (order_at book j) left os j g.running.sized inside in
+      let rank = ranks_at o (order_at book j) left os j g.running.sized inside in
       let alive = live o (get_or left j 0) (get_or os j (order_at book j)) (rw rank at k) in
-      rw (rank, alive.2) (rank_room (get_or os j (order_at book j)) (all-place Ranked (order_at book j) os g.ranked j inside))
+      rw (rank, alive.2) (rank_room (get_or os j (order_at book j)) (all_place Ranked (order_at book j) os g.ranked j inside))
 
   best_of : (best : ℕ) → BestPlace lows n best → LowestOf (ranks_of o left os) best
   best_of best f =
-      best-is (ranks_of o left os) ranks g.placed (omega (arith, as_many, g.most_orders_holds)) small lows best g.block_lows (rw as_many f)
+      best_is (ranks_of o left os) ranks g.placed (omega (arith, as_many, g.most_orders_holds)) small lows best g.block_lows (rw as_many f)
 
-  stopped-here : Ended o os left wanted (deals_in k deals) → MatchMade o book n first (record { deals = k; left = record { 0 = wanted } }) left deals
-  stopped-here e = record { ended = e; few = omega (arith, g.few); from_book = g.from_book; past = g.past }
+  stopped_here : Ended o os left wanted (deals_in k deals) → MatchMade o book n first (record { deals = k; left = record { 0 = wanted } }) left deals
+  stopped_here e = record { ended = e; few = omega (arith, g.few); from_book = g.from_book; past = g.past }
 
   -- no order is left
   pub none_left : (best : ℕ) → BestPlace lows n best → n ≤ best → MatchMade o book n first (record { deals = k; left = record { 0 = wanted } }) left deals
   none_left best f h =
       let l = best_of best f in
-      stopped-here (ended-none o os left wanted (deals_in k deals) g.running g.ranked (l.none (omega (arith, l.most, as_many))))
+      stopped_here (ended_none o os left wanted (deals_in k deals) g.running g.ranked (l.none (omega (arith, l.most, as_many))))
 
   -- the best does not cross
-  pub best-apart : (best : ℕ) → BestPlace lows n best → best < n → (r : Order) → r ≡ order_at book best → meets o r ≡ false
+  pub best_apart : (best : ℕ) → BestPlace lows n best → best < n → (r : Order) → r ≡ order_at book best → meets o r ≡ false
       → MatchMade o book n first (record { deals = k; left = record { 0 = wanted } }) left deals
-  best-apart best f h r e t =
-      stopped-here (ended-far o os left wanted (deals_in k deals) g.running (order_at book best) best g.ranked ((best_of best f).lowest (omega (arith, as_many)))
+  best_apart best f h r e t =
+      stopped_here (ended_far o os left wanted (deals_in k deals) g.running (order_at book best) best g.ranked ((best_of best f).lowest (omega (arith, as_many)))
       (ap (meets o) (order_here book n best (order_at book best) h ∙ sym e) ∙ t))
 
   -- it crosses
-  pub next-first : (best : ℕ) → BestPlace lows n best → best < n → (r : Order) → r ≡ order_at book best → meets o r ≡ true → Next o book n left best r.price.0
+  pub next_first : (best : ℕ) → BestPlace lows n best → best < n → (r : Order) → r ≡ order_at book best → meets o r ≡ true → Next o book n left best r.price.0
   unfolding meets
-  next-first best f h r e t = record { below = h; lowest = (best_of best f).lowest (omega (arith, as_many)); price = ap (λ x. x.price.0) (sym e); crosses = t }
+  next_first best f h r e t = record { below = h; lowest = (best_of best f).lowest (omega (arith, as_many)); price = ap (λ x. x.price.0) (sym e); crosses = t }
 
   -- the next of its level crosses too
   pub next_level : (best level : ℕ) → BestPlace lows n best → (best < n) × ((order_at book best).price.0 ≡ level) → meets_price o.side o.price.0 level ≡ true
       → Next o book n left best level
   next_level best level f h t = record { below = h.0; lowest = (best_of best f).lowest (omega (arith, as_many, h.0)); price = h.1; crosses = t }
 
-  pub most-best : (best : ℕ) → BestPlace lows n best → best ≤ n
-  most-best best f = omega (arith, (best_of best f).most, as_many)
+  pub most_best : (best : ℕ) → BestPlace lows n best → best ≤ n
+  most_best best f = omega (arith, (best_of best f).most, as_many)
 
   module _ (i level : ℕ) (x : Next o book n left i level) where
     inside : i < length os
@@ -211,11 +211,11 @@ module _ (o : Order) (book : List ℕ) (n : ℕ) (first left ranks lows deals : 
       abbrev lots : ℕ
       lots = min wanted (get_or left i 0)
 
-      rank-there : get_or (ranks_of o left os) i 0 ≡ rank_in o (get_or left i 0) (get_or os i (order_at book i))
-      rank-there = ranks-at o (order_at book i) left os i g.running.sized inside
+      rank_there : get_or (ranks_of o left os) i 0 ≡ rank_in o (get_or left i 0) (get_or os i (order_at book i))
+      rank_there = ranks_at o (order_at book i) left os i g.running.sized inside
 
       alive : (opposes o (get_or os i (order_at book i)) ≡ true) × (0 < get_or left i 0) × (rank_in o (get_or left i 0) (get_or os i (order_at book i)) ≡ rank_of (get_or os i (order_at book i)))
-      alive = live o (get_or left i 0) (get_or os i (order_at book i)) (rw rank-there at x.lowest.some)
+      alive = live o (get_or left i 0) (get_or os i (order_at book i)) (rw rank_there at x.lowest.some)
 
       -- an order used up has no rank, another keeps its rank
       placed-made : Placed (ranks_of o left' os) ranks'
@@ -227,11 +227,11 @@ module _ (o : Order) (book : List ℕ) (n : ℕ) (first left ranks lows deals : 
           (λ z. let gone : ranks_of o left' os ≡ set (ranks_of o left os) i no_rank = after ∙ ap (set (ranks_of o left os) i) (ap (λ q. rank_in o q r) z ∙ rank_gone o r) in
           rw (gone, d.ranks_after, eq-eqb rest 0 z) (placed_gone (ranks_of o left os) ranks i (omega (arith, as_many, x.below)) (omega (arith, x.below, g.most_orders_holds)) g.placed))
           (λ z. let kept : ranks_of o left' os ≡ ranks_of o left os
-          = after ∙ ap (set (ranks_of o left os) i) (rank-live o rest r alive.0 (omega (arith, z)) ∙ sym alive.2 ∙ sym rank-there) ∙ set-get_or (ranks_of o left os) i 0 in
+          = after ∙ ap (set (ranks_of o left os) i) (rank_live o rest r alive.0 (omega (arith, z)) ∙ sym alive.2 ∙ sym rank_there) ∙ set-get_or (ranks_of o left os) i 0 in
           rw (kept, d.ranks_after, ne_eqb rest 0 z) g.placed)
 
-      pub left-long : length left' ≡ n
-      left-long = ap length d.left_after_holds ∙ length-set left i _ ∙ g.left_length
+      pub left_long : length left' ≡ n
+      left_long = ap length d.left_after_holds ∙ length-set left i _ ∙ g.left_length
 
       pub ranks-long : length ranks' ≡ most_orders
       ranks-long = placed-made.long
@@ -240,24 +240,24 @@ module _ (o : Order) (book : List ℕ) (n : ℕ) (first left ranks lows deals : 
       fits = omega (arith, g.room, g.few, g.some)
 
       pub deals-long : length deals' ≡ length first
-      deals-long = ap length d.deals_after ∙ over-length (k * deal_width) (deal_places (counterparty (order_at book i) lots)) deals fits ∙ g.deals_length
+      deals-long = ap length d.deals_after ∙ over_length (k * deal_width) (deal_places (counterparty (order_at book i) lots)) deals fits ∙ g.deals_length
 
       running-made : Running o os left' still (deals_in (k + 1) deals')
       running-made =
           let next = running-deal o os left wanted (deals_in k deals) g.running (order_at book i) i lots g.ranked g.numbers x.lowest (ap (meets o) here ∙ e)
           g.some refl in
-          rw (d.still_wanted, d.left_after_holds, d.deals_after, deals-more k (counterparty (order_at book i) lots) deals fits) (rw here at next)
+          rw (d.still_wanted, d.left_after_holds, d.deals_after, deals_more k (counterparty (order_at book i) lots) deals fits) (rw here at next)
 
       from-made : (j : ℕ) → j < k + 1 → FromBook book n (deal_at deals' j)
       from-made j h =
           let new = counterparty (order_at book i) lots in
           rw d.deals_after
-          (same_or j k (λ e. rw (e, deal-new k new deals fits) (record { place = i; below = x.below; member = refl; price = refl }))
-          (λ e. rw (deal-old k new deals fits j (omega arith)) (g.from_book j (omega arith))))
+          (same_or j k (λ e. rw (e, deal_new k new deals fits) (record { place = i; below = x.below; member = refl; price = refl }))
+          (λ e. rw (deal_old k new deals fits j (omega arith)) (g.from_book j (omega arith))))
 
       past-made : drop ((k + 1) * deal_width) deals' ≡ drop ((k + 1) * deal_width) first
       past-made =
-          rw d.deals_after (deals-past k (counterparty (order_at book i) lots) deals fits) ∙ drop_further (k * deal_width) ((k + 1) * deal_width) deals first (omega arith) g.past
+          rw d.deals_after (deals_past k (counterparty (order_at book i) lots) deals fits) ∙ drop_further (k * deal_width) ((k + 1) * deal_width) deals first (omega arith) g.past
 
       pub going-made : (still ≡ 0 → ⊥) → Going o book n first left' ranks' lows' deals' still (k + 1)
       going-made z =
@@ -271,7 +271,7 @@ module _ (o : Order) (book : List ℕ) (n : ℕ) (first left ranks lows deals : 
             block_lows = b;
             some = omega (arith, z);
             few = omega (arith, d.still_wanted, alive.1, g.few, g.some);
-            left_length = left-long;
+            left_length = left_long;
             deals_length = deals-long;
             room = omega (arith, g.room, deals-long, g.deals_length);
             from_book = from-made;
@@ -284,7 +284,7 @@ module _ (o : Order) (book : List ℕ) (n : ℕ) (first left ranks lows deals : 
       pub match-made : still ≡ 0 → MatchMade o book n first (record { deals = k + 1; left = record { 0 = still } }) left' deals'
       match-made z =
           record {
-            ended = ended-full o os left' still (deals_in (k + 1) deals') running-made z;
+            ended = ended_full o os left' still (deals_in (k + 1) deals') running-made z;
             few = omega (arith, g.few, g.some);
             from_book = from-made;
             past = past-made;

@@ -43,8 +43,8 @@ lowest_same l k a n x e p =
 
 -- ---- the lows of all blocks
 module _ (column lows : List ℕ) (b : BlockLows column lows) where
-  pub lowest-all : (x : ℕ) → LowestAmong lows 0 block_count x → LowestAmong column 0 most_orders x
-  lowest-all x p =
+  pub lowest_all : (x : ℕ) → LowestAmong lows 0 block_count x → LowestAmong column 0 most_orders x
+  lowest_all x p =
       let there = b.low p.place (omega (arith, p.below)) in
       record {
         least = λ j f t. let k : j / block_size < block_count = omega arith in
@@ -56,8 +56,8 @@ module _ (column lows : List ℕ) (b : BlockLows column lows) where
       }
 
   -- one rank changed, and the low of its block with it
-  pub lows-renewed : (i v x : ℕ) → i < most_orders → LowestAmong (set column i v) (i / block_size * block_size) block_size x → BlockLows (set column i v) (set lows (i / block_size) x)
-  lows-renewed i v x h p =
+  pub lows_renewed : (i v x : ℕ) → i < most_orders → LowestAmong (set column i v) (i / block_size * block_size) block_size x → BlockLows (set column i v) (set lows (i / block_size) x)
+  lows_renewed i v x h p =
       record {
         long = length-set lows (i / block_size) x ∙ b.long;
         low = λ c k. same_or c (i / block_size) (λ e. rw (e, get_or-set_same lows (i / block_size) x 0 (omega (arith, b.long))) p)
@@ -132,14 +132,14 @@ placed_gone ranks column i h s p =
 -- The lowest of them tells the place of the lowest rank.
 module _ (ranks column : List ℕ) (p : Placed ranks column) (few : length ranks ≤ most_orders)
     (small : (j : ℕ) → j < length ranks → get_or ranks j 0 < no_rank → get_or ranks j 0 * most_orders + most_orders ≤ no_rank) where
-  rank-there : (j : ℕ) → j < length ranks → get_or column j 0 ≡ placed_rank j (get_or ranks j 0)
-  rank-there j h = p.placed j (omega arith) ∙ ap (placed_rank j) (any_default ranks j no_rank 0 h)
+  rank_there : (j : ℕ) → j < length ranks → get_or column j 0 ≡ placed_rank j (get_or ranks j 0)
+  rank_there j h = p.placed j (omega arith) ∙ ap (placed_rank j) (any_default ranks j no_rank 0 h)
 
   module _ (x : ℕ) (q : LowestAmong column 0 most_orders x) where
     none-there : no_rank ≤ x → (j : ℕ) → j < length ranks → no_rank ≤ get_or ranks j 0
     none-there e j h =
         le_or_lt no_rank (get_or ranks j 0) (λ k. k)
-        (λ k. absurd (omega (arith, small j h k, rank-there j h, placed_some j (get_or ranks j 0) k, q.least j (omega arith) (omega arith))))
+        (λ k. absurd (omega (arith, small j h k, rank_there j h, placed_some j (get_or ranks j 0) k, q.least j (omega arith) (omega arith))))
 
     module _ (some : x < no_rank) where
       abbrev i : ℕ
@@ -157,12 +157,12 @@ module _ (ranks column : List ℕ) (p : Placed ranks column) (few : length ranks
       rank< = rw (any_default ranks i no_rank 0 inside) at found
 
       low-is : x ≡ get_or ranks i 0 * most_orders + i
-      low-is = q.same ∙ rank-there i inside ∙ placed_some i (get_or ranks i 0) rank<
+      low-is = q.same ∙ rank_there i inside ∙ placed_some i (get_or ranks i 0) rank<
 
       other : (j : ℕ) → j < length ranks → get_or ranks i 0 * most_orders + i ≤ get_or ranks j 0 * most_orders + j
       other j h =
           le_or_lt no_rank (get_or ranks j 0) (λ k. omega (arith, small i inside rank<))
-          (λ k. omega (arith, low-is, q.least j (omega arith) (omega arith), rank-there j h, placed_some j (get_or ranks j 0) k))
+          (λ k. omega (arith, low-is, q.least j (omega arith) (omega arith), rank_there j h, placed_some j (get_or ranks j 0) k))
 
       lowest-there : Lowest ranks i
       lowest-there =
@@ -176,12 +176,12 @@ module _ (ranks column : List ℕ) (p : Placed ranks column) (few : length ranks
       place_is : x % most_orders ≡ i
       place_is = omega (arith, low-is, few, inside)
 
-  pub best-is : (lows : List ℕ) (place : ℕ) → BlockLows column lows → BestPlace lows (length ranks) place → LowestOf ranks place
-  best-is lows place b f =
-      let q = lowest-all column lows b f.low f.lowest in
+  pub best_is : (lows : List ℕ) (place : ℕ) → BlockLows column lows → BestPlace lows (length ranks) place → LowestOf ranks place
+  best_is lows place b f =
+      let q = lowest_all column lows b f.low f.lowest in
       le_or_lt no_rank f.low
-      (λ k. let at-end : place ≡ length ranks = f.reply_of ∙ rw (le-ltb f.low no_rank k) in
-      rw at-end (record { most = omega arith; lowest = λ h. absurd (omega arith); none = λ _. none-there f.low q k }))
+      (λ k. let at_end_lem : place ≡ length ranks = f.reply_of ∙ rw (le-ltb f.low no_rank k) in
+      rw at_end_lem (record { most = omega arith; lowest = λ h. absurd (omega arith); none = λ _. none-there f.low q k }))
       (λ k. let there : place ≡ q.place = f.reply_of ∙ rw (lt-ltb f.low no_rank k) (place_is f.low q k) in
       let low = lowest-there f.low q k in
       rw there (record { most = omega (arith, low.below); lowest = λ _. low; none = λ e. absurd (omega (arith, low.below)) }))

@@ -8,8 +8,8 @@ use native.Mathlib.Omega.{arith}
 use lib.Dec.{ltb}
 use lib.ListN.{length, get_or, set}
 use borrow.Author.Tests.{lt-ltb, le-ltb, eq-eqb, ne_eqb}
-use Rattle.arith.specs.Lists.{howMany, All}
-use Rattle.arith.proofs.Alls.{all-place, all_map}
+use Rattle.arith.specs.Lists.{how_many, All}
+use Rattle.arith.proofs.Alls.{all_place, all_map}
 use Rattle.arith.proofs.Tests.{by_bool, true_or, le_or_lt}
 use Rattle.rules.specs.declared.order.Order.{Order}
 use Rattle.rules.specs.Matching.{opposes, meets, matched}
@@ -19,8 +19,8 @@ use Rattle.order_priority.specs.Priority.{Ranked, rank_of}
 use Rattle.matching.specs.Ranks.{no_rank, rank_in, ranks_of, Lowest, crossing}
 use Rattle.matching.specs.Crossing.{crosses}
 use Rattle.matching.specs.Matching.{Ended}
-use Rattle.matching.proofs.Best.{ranks-length, ranks-at, live, rank-live, rank_below, meets_far}
-use Rattle.matching.proofs.Running.{Running, ended-full, ended-far, ended-none, running-deal, count_fewer}
+use Rattle.matching.proofs.Best.{ranks_length, ranks_at, live, rank_live, rank_below, meets_far}
+use Rattle.matching.proofs.Running.{Running, ended_full, ended_far, ended_none, running-deal, count_fewer}
 use Rattle.rules.proofs.Distinct.{Distinct}
 
 -- ---- the lowest rank of a list, if there is one
@@ -62,32 +62,32 @@ found (r ∷ ranks) = go (found ranks)
 -- ---- the lots that cross
 module _ (o : Order) where
   -- none, where every order with a rank of v or more is too far
-  crossing-none : (v : ℕ) (left : List ℕ) (os : List Order) → length left ≡ length os → ((j : ℕ) → j < length os → v ≤ get_or (ranks_of o left os) j 0)
+  crossing_none : (v : ℕ) (left : List ℕ) (os : List Order) → length left ≡ length os → ((j : ℕ) → j < length os → v ≤ get_or (ranks_of o left os) j 0)
       → All (λ r. opposes o r ≡ true → v ≤ rank_of r → meets o r ≡ false) os → crossing o left os ≡ 0
   unfolding crossing ranks_of
-  crossing-none v [] os e f h = refl
-  crossing-none v (q ∷ qs) [] e f h = refl
-  crossing-none v (q ∷ qs) (r ∷ rs) e f h =
-      let rest = crossing-none v qs rs (omega arith) (λ j k. f (suc j) (omega arith)) h.1 in
+  crossing_none v [] os e f h = refl
+  crossing_none v (q ∷ qs) [] e f h = refl
+  crossing_none v (q ∷ qs) (r ∷ rs) e f h =
+      let rest = crossing_none v qs rs (omega arith) (λ j k. f (suc j) (omega arith)) h.1 in
       rw rest (go q refl (f 0 (omega arith)))
     where
       go : (p : ℕ) → q ≡ p → v ≤ rank_in o q r → cond (crosses o r) q 0 + 0 ≡ 0
       go zero s g = rw s (by_bool (λ b. cond b 0 0 + 0 ≡ 0) (crosses o r) (λ _. refl) (λ _. refl))
-      go (suc p) s g = true_or (opposes o r) (λ t. rw (t, h.0 t (rw (rank-live o q r t (omega arith)) at g)) refl) (λ t. rw t refl)
+      go (suc p) s g = true_or (opposes o r) (λ t. rw (t, h.0 t (rw (rank_live o q r t (omega arith)) at g)) refl) (λ t. rw t refl)
 
   -- lots used of an order that crosses are so many fewer
-  crossing-used : (z : Order) (left : List ℕ) (os : List Order) (i q : ℕ) → length left ≡ length os → i < length os → crosses o (get_or os i z) ≡ true → q ≤ get_or left i 0
+  crossing_used : (z : Order) (left : List ℕ) (os : List Order) (i q : ℕ) → length left ≡ length os → i < length os → crosses o (get_or os i z) ≡ true → q ≤ get_or left i 0
       → crossing o (set left i (get_or left i 0 - q)) os + q ≡ crossing o left os
   unfolding crossing
-  crossing-used z [] [] i q e h c l = absurd (omega arith)
-  crossing-used z [] (r ∷ rs) i q e h c l = absurd (omega arith)
-  crossing-used z (p ∷ ps) [] i q e h c l = absurd (omega arith)
-  crossing-used z (p ∷ ps) (r ∷ rs) zero q e h c l = rw c (omega arith)
-  crossing-used z (p ∷ ps) (r ∷ rs) (suc i) q e h c l = omega (arith, crossing-used z ps rs i q (omega arith) (omega arith) c l)
+  crossing_used z [] [] i q e h c l = absurd (omega arith)
+  crossing_used z [] (r ∷ rs) i q e h c l = absurd (omega arith)
+  crossing_used z (p ∷ ps) [] i q e h c l = absurd (omega arith)
+  crossing_used z (p ∷ ps) (r ∷ rs) zero q e h c l = rw c (omega arith)
+  crossing_used z (p ∷ ps) (r ∷ rs) (suc i) q e h c l = omega (arith, crossing_used z ps rs i q (omega arith) (omega arith) c l)
 
 -- ---- how many orders are left
-pub left_count : (left : List ℕ) (os : List Order) → length left ≡ length os → length (left_over left os) ≡ howMany (ltb 0) left
-unfolding left_over howMany
+pub left_count : (left : List ℕ) (os : List Order) → length left ≡ length os → length (left_over left os) ≡ how_many (ltb 0) left
+unfolding left_over how_many
 left_count [] [] e = refl
 left_count [] (r ∷ rs) e = absurd (omega arith)
 left_count (q ∷ qs) [] e = absurd (omega arith)
@@ -95,8 +95,8 @@ left_count (q ∷ qs) (r ∷ rs) e =
     le_or_lt q 0 (λ g. rw (eq-eqb q 0 (omega arith), le-ltb 0 q g) (left_count qs rs (omega arith) ∙ omega arith))
     (λ g. rw (ne_eqb q 0 (λ z. omega arith), lt-ltb 0 q g) (omega (arith, left_count qs rs (omega arith))))
 
-count_part : (l : List ℕ) (i p : ℕ) → i < length l → 0 < get_or l i 0 → 0 < p → howMany (ltb 0) (set l i p) ≡ howMany (ltb 0) l
-unfolding howMany
+count_part : (l : List ℕ) (i p : ℕ) → i < length l → 0 < get_or l i 0 → 0 < p → how_many (ltb 0) (set l i p) ≡ how_many (ltb 0) l
+unfolding how_many
 count_part [] i p h n k = absurd (omega arith)
 count_part (q ∷ l) zero p h n k = rw (lt-ltb 0 q n, lt-ltb 0 p k)
 count_part (q ∷ l) (suc i) p h n k = ap (λ m. cond (ltb 0 q) 1 0 + m) (count_part l i p (omega arith) n k)
@@ -106,30 +106,30 @@ module _ (o : Order) (os : List Order) (z : Order) (h : All Ranked os) (d : Dist
   -- all of it where no order is met
   far_none : (left : List ℕ) → length left ≡ length os → ((j : ℕ) → j < length (ranks_of o left os) → no_rank ≤ get_or (ranks_of o left os) j 0) → crossing o left os ≡ 0
   far_none left e f =
-      crossing-none o no_rank left os e (λ j k. f j (rw (ranks-length o left os e) k))
+      crossing_none o no_rank left os e (λ j k. f j (rw (ranks_length o left os e) k))
       (all_map Ranked _ os (λ r g t k. absurd (omega (arith, rank_below r g))) h)
 
-  far-all : (left : List ℕ) (i : ℕ) → length left ≡ length os → Lowest (ranks_of o left os) i → meets o (get_or os i z) ≡ false → crossing o left os ≡ 0
-  far-all left i e l m =
-      let place : i < length os = omega (arith, l.below, ranks-length o left os e) in
-      let rank = ranks-at o z left os i e place in
+  far_all : (left : List ℕ) (i : ℕ) → length left ≡ length os → Lowest (ranks_of o left os) i → meets o (get_or os i z) ≡ false → crossing o left os ≡ 0
+  far_all left i e l m =
+      let place : i < length os = omega (arith, l.below, ranks_length o left os e) in
+      let rank = ranks_at o z left os i e place in
       let alive = live o (get_or left i 0) (get_or os i z) (rw rank at l.some) in
-      crossing-none o (rank_of (get_or os i z)) left os e (λ j k. rw (rank, alive.2) at (l.behind j (rw (ranks-length o left os e) k)))
-      (all_map Ranked _ os (λ r g t k. meets_far o (get_or os i z) r alive.0 t (all-place Ranked z os h i place) g k m) h)
+      crossing_none o (rank_of (get_or os i z)) left os e (λ j k. rw (rank, alive.2) at (l.behind j (rw (ranks_length o left os e) k)))
+      (all_map Ranked _ os (λ r g t k. meets_far o (get_or os i z) r alive.0 t (all_place Ranked z os h i place) g k m) h)
 
   -- what the lots that cross tell of where matching leads
   pub record Measured (left : List ℕ) (x : ℕ) : Type 0 where
     pub lots : (matched o os).left ≡ x - crossing o left os
-    pub most : length (matched o os).resting ≤ howMany (ltb 0) left
-    pub fewer : 0 < crossing o left os → 0 < (matched o os).left → length (matched o os).resting < howMany (ltb 0) left
+    pub most : length (matched o os).resting ≤ how_many (ltb 0) left
+    pub fewer : 0 < crossing o left os → 0 < (matched o os).left → length (matched o os).resting < how_many (ltb 0) left
 
   -- the order of the lowest rank is one of them, opposes and is not used up
-  met-place : (left : List ℕ) → length left ≡ length os → (i : ℕ) → Lowest (ranks_of o left os) i → i < length os
-  met-place left e i l = omega (arith, l.below, ranks-length o left os e)
+  met_place : (left : List ℕ) → length left ≡ length os → (i : ℕ) → Lowest (ranks_of o left os) i → i < length os
+  met_place left e i l = omega (arith, l.below, ranks_length o left os e)
 
   met : (left : List ℕ) → length left ≡ length os → (i : ℕ) → Lowest (ranks_of o left os) i → (opposes o (get_or os i z) ≡ true) × (0 < get_or left i 0)
   met left e i l =
-      let alive = live o (get_or left i 0) (get_or os i z) (rw (ranks-at o z left os i e (met-place left e i l)) at l.some) in
+      let alive = live o (get_or left i 0) (get_or os i z) (rw (ranks_at o z left os i e (met_place left e i l)) at l.some) in
       (alive.0, alive.1)
 
   -- where no lots cross nothing is dealt
@@ -137,15 +137,15 @@ module _ (o : Order) (os : List Order) (z : Order) (h : All Ranked os) (d : Dist
   untouched left x ds r e = go (found (ranks_of o left os))
     where
       go : Found (ranks_of o left os) → Ended o os left x ds
-      go (nowhere f) = ended-none o os left x ds r h f
+      go (nowhere f) = ended_none o os left x ds r h f
       go (lowest i l) =
           true_or (meets o (get_or os i z))
           (λ m. let alive = met left r.sized i l in
-          absurd (omega (arith, alive.1, crossing-used o z left os i (get_or left i 0) r.sized (met-place left r.sized i l) (rw alive.0 m) (omega arith))))
-          (λ m. ended-far o os left x ds r z i h l m)
+          absurd (omega (arith, alive.1, crossing_used o z left os i (get_or left i 0) r.sized (met_place left r.sized i l) (rw alive.0 m) (omega arith))))
+          (λ m. ended_far o os left x ds r z i h l m)
 
-  at-end : (left : List ℕ) (x : ℕ) (ds : List Counterparty) → length left ≡ length os → Ended o os left x ds → (0 < x → crossing o left os ≡ 0) → Measured left x
-  at-end left x ds e f n =
+  at_end_lem : (left : List ℕ) (x : ℕ) (ds : List Counterparty) → length left ≡ length os → Ended o os left x ds → (0 < x → crossing o left os ≡ 0) → Measured left x
+  at_end_lem left x ds e f n =
       record {
         lots = f.lots ∙ le_or_lt x 0 (λ g. omega arith) (λ g. omega (arith, n g));
         most = omega (arith, ap length f.resting, left_count left os e);
@@ -153,13 +153,13 @@ module _ (o : Order) (os : List Order) (z : Order) (h : All Ranked os) (d : Dist
       }
 
   -- with one deal more
-  deal-measured : (x : ℕ) → 0 < x → (left : List ℕ) (ds : List Counterparty) (r : Running o os left x ds) (i : ℕ) → Lowest (ranks_of o left os) i → meets o (get_or os i z) ≡ true
+  deal_measured : (x : ℕ) → 0 < x → (left : List ℕ) (ds : List Counterparty) (r : Running o os left x ds) (i : ℕ) → Lowest (ranks_of o left os) i → meets o (get_or os i z) ≡ true
       → Measured (set left i (get_or left i 0 - min x (get_or left i 0))) (x - min x (get_or left i 0)) → Measured left x
-  deal-measured x g left ds r i l m next =
+  deal_measured x g left ds r i l m next =
       let q = min x (get_or left i 0) in
       let alive = met left r.sized i l in
-      let place = met-place left r.sized i l in
-      let cross = crossing-used o z left os i q r.sized place (rw alive.0 m) (omega arith) in
+      let place = met_place left r.sized i l in
+      let cross = crossing_used o z left os i q r.sized place (rw alive.0 m) (omega arith) in
       let down = count_fewer left i (omega (arith, r.sized)) alive.1 in
       record {
         lots = omega (arith, next.lots);
@@ -169,8 +169,8 @@ module _ (o : Order) (os : List Order) (z : Order) (h : All Ranked os) (d : Dist
       }
 
   pub measured : (n x : ℕ) → x ≤ n → (left : List ℕ) (ds : List Counterparty) → Running o os left x ds → Measured left x
-  measured zero x b left ds r = at-end left x ds r.sized (ended-full o os left x ds r (omega arith)) (λ g. absurd (omega arith))
-  measured (suc n) x b left ds r = le_or_lt x 0 (λ g. at-end left x ds r.sized (ended-full o os left x ds r (omega arith)) (λ f. absurd (omega arith)))
+  measured zero x b left ds r = at_end_lem left x ds r.sized (ended_full o os left x ds r (omega arith)) (λ g. absurd (omega arith))
+  measured (suc n) x b left ds r = le_or_lt x 0 (λ g. at_end_lem left x ds r.sized (ended_full o os left x ds r (omega arith)) (λ f. absurd (omega arith)))
       (λ g. go g (λ i l m. measured n (x - min x (get_or left i 0)) (smaller i l) _ _ (running-deal o os left x ds r z i (min x (get_or left i 0)) h d l m g refl)) (found (ranks_of o left os)))
     where
       smaller : (i : ℕ) → Lowest (ranks_of o left os) i → x - min x (get_or left i 0) ≤ n
@@ -178,7 +178,7 @@ module _ (o : Order) (os : List Order) (z : Order) (h : All Ranked os) (d : Dist
 
       go : 0 < x → ((i : ℕ) → Lowest (ranks_of o left os) i → meets o (get_or os i z) ≡ true → Measured (set left i (get_or left i 0 - min x (get_or left i 0))) (x - min x (get_or left i 0)))
           → Found (ranks_of o left os) → Measured left x
-      go g ih (nowhere f) = at-end left x ds r.sized (ended-none o os left x ds r h f) (λ _. far_none left r.sized f)
+      go g ih (nowhere f) = at_end_lem left x ds r.sized (ended_none o os left x ds r h f) (λ _. far_none left r.sized f)
       go g ih (lowest i l) =
-          true_or (meets o (get_or os i z)) (λ m. deal-measured x g left ds r i l m (ih i l m))
-          (λ m. at-end left x ds r.sized (ended-far o os left x ds r z i h l m) (λ _. far-all left i r.sized l m))
+          true_or (meets o (get_or os i z)) (λ m. deal_measured x g left ds r i l m (ih i l m))
+          (λ m. at_end_lem left x ds r.sized (ended_far o os left x ds r z i h l m) (λ _. far_all left i r.sized l m))

@@ -18,7 +18,7 @@ use Rattle.matching.specs.Ranks.{lots_of, rank_in, first_rank}
 use Rattle.rules.specs.Ranges.{most_lots}
 use Rattle.matching.specs.Crossing.{is_own, crosses, own_lots, crossing_lots, own_in, crossing_in}
 use Rattle.tables.specs.Fit.{orders_in}
-use Rattle.matching.proofs.Best.{ranks-at}
+use Rattle.matching.proofs.Best.{ranks_at}
 use Rattle.arith.proofs.Totals.{total_append}
 
 pub total_one : {A : Type 0} (f : A → ℕ) (x : A) → total f (x ∷ []) ≡ f x
@@ -30,8 +30,8 @@ module _ (b : List ℕ) where
   order_here n i z h = map_at (order_at b) (from 0 n) i 0 z (omega (arith, from_length 0 n)) ∙ ap (order_at b) (from_at 0 n i 0 h ∙ zero-add i)
 
   module _ (f : Order → ℕ) (i sum : ℕ) (known : sum ≡ total f (orders_in i b)) where
-    pub total-next : sum + f (order_at b i) ≡ total f (orders_in (i + 1) b)
-    total-next = rw (orders_more b i, total_append f (orders_in i b) (order_at b i ∷ []), total_one f (order_at b i), known)
+    pub total_next : sum + f (order_at b i) ≡ total f (orders_in (i + 1) b)
+    total_next = rw (orders_more b i, total_append f (orders_in i b) (order_at b i ∷ []), total_one f (order_at b i), known)
 
   -- the columns while nothing is used
   module _ (o : Order) (n i : ℕ) (h : i < n) where
@@ -40,7 +40,7 @@ module _ (b : List ℕ) where
 
     pub rank-here : get_or (first_rank o (orders_in n b)) i 0 ≡ rank_in o (order_at b i).lots.0 (order_at b i)
     rank-here =
-        ranks-at o (order_at b i) (map lots_of (orders_in n b)) (orders_in n b) i (length-map (orders_in n b) lots_of) (omega (arith, orders_length b n))
+        ranks_at o (order_at b i) (map lots_of (orders_in n b)) (orders_in n b) i (length-map (orders_in n b) lots_of) (omega (arith, orders_length b n))
         ∙ rw (lots-here, order_here n i (order_at b i) h)
 
 -- ---- what an incoming order finds among the first i orders
@@ -74,8 +74,8 @@ measuring_next o b i own lots m r e f x y p =
     let here = p.0 ∙ ap (own_lots o) e in
     let there = p.1 ∙ ap (crossing_lots o) e in
     record {
-      own_lots_holds = rw here (total-next b (own_lots o) i own m.own_lots_holds);
-      crossing_lots_holds = rw there (total-next b (crossing_lots o) i lots m.crossing_lots_holds);
+      own_lots_holds = rw here (total_next b (own_lots o) i own m.own_lots_holds);
+      crossing_lots_holds = rw there (total_next b (crossing_lots o) i lots m.crossing_lots_holds);
       own_few = omega (arith, m.own_few, own_most o (order_at b i));
       crossing_few = omega (arith, m.crossing_few, crossing_most o (order_at b i));
     }

@@ -9,7 +9,7 @@ use lib.Dec.{eqb, ltb}
 use lib.ListN.{length, get_or, set}
 use borrow.Author.Tests.{lt-ltb, le-leb, lt-leb, eq-eqb, ne_eqb, eqb-false}
 use Rattle.arith.specs.Lists.{All}
-use Rattle.arith.proofs.Alls.{all-place}
+use Rattle.arith.proofs.Alls.{all_place}
 use Rattle.arith.proofs.Tests.{by_eqb, true_or, le_or_lt}
 use Rattle.rules.specs.declared.order.Order.{Order}
 use Rattle.rules.specs.Matching.{best, opposes, meets, with_lots, used, stopped, after_deal, matching}
@@ -42,33 +42,33 @@ used_left z (p ∷ ps) (r ∷ rs) zero q e d h n l =
     (le_or_lt p q (λ k. rw (le-leb p q k, eq-eqb (p - q) 0 (omega arith))) (λ k. rw (lt-leb p q k, ne_eqb (p - q) 0 (λ z. omega arith))))
 used_left z (p ∷ ps) (r ∷ rs) (suc i) q e d h n l =
     let next = used_left z ps rs i q (omega arith) d.1 (omega arith) n l in
-    let other = all-place (λ y. eqb r.number y.number ≡ false) z rs d.0 i (omega arith) in
+    let other = all_place (λ y. eqb r.number y.number ≡ false) z rs d.0 i (omega arith) in
     by_eqb (λ b. used (get_or rs i z).number q (cond b (left_over ps rs) (with_lots p r ∷ left_over ps rs))
     ≡ cond b (left_over (set ps i (get_or ps i 0 - q)) rs) (with_lots p r ∷ left_over (set ps i (get_or ps i 0 - q)) rs)) p 0
     (λ _. next) (λ _. rw other (ap (λ l. with_lots p r ∷ l) next))
 
 -- ---- where matching stops
 module _ (o : Order) (os : List Order) where
-  pub stops-empty : (k : ℕ) → matching k (with_lots 0 o) os ≡ stopped (with_lots 0 o) os
+  pub stops_empty : (k : ℕ) → matching k (with_lots 0 o) os ≡ stopped (with_lots 0 o) os
   unfolding matching
-  stops-empty zero = refl
-  stops-empty (suc k) = go (best (opposes (with_lots 0 o)) os) refl
+  stops_empty zero = refl
+  stops_empty (suc k) = go (best (opposes (with_lots 0 o)) os) refl
     where
       go : (b : Option Order) → best (opposes (with_lots 0 o)) os ≡ b → matching (suc k) (with_lots 0 o) os ≡ stopped (with_lots 0 o) os
       go none e = rw (e, matching)
       go (some r) e = rw (e, matching)
 
-  pub stops-none : (k : ℕ) → best (opposes o) os ≡ none → matching k o os ≡ stopped o os
+  pub stops_none : (k : ℕ) → best (opposes o) os ≡ none → matching k o os ≡ stopped o os
   unfolding matching
-  stops-none zero e = refl
-  stops-none (suc k) e = rw (e, matching)
+  stops_none zero e = refl
+  stops_none (suc k) e = rw (e, matching)
 
-  pub stops-far : (k : ℕ) (r : Order) → best (opposes o) os ≡ some r → meets o r ≡ false → matching k o os ≡ stopped o os
+  pub stops_far : (k : ℕ) (r : Order) → best (opposes o) os ≡ some r → meets o r ≡ false → matching k o os ≡ stopped o os
   unfolding matching
-  stops-far zero r e f = refl
-  stops-far (suc k) r e f = rw (e, matching) (true_or (ltb 0 o.lots.0) (λ t. rw (t, f)) (λ t. rw t))
+  stops_far zero r e f = refl
+  stops_far (suc k) r e f = rw (e, matching) (true_or (ltb 0 o.lots.0) (λ t. rw (t, f)) (λ t. rw t))
 
-  pub deals-best : (k : ℕ) (r : Order) → best (opposes o) os ≡ some r → meets o r ≡ true → 0 < o.lots.0 → (q : ℕ) → q ≡ min o.lots.0 r.lots.0
+  pub deals_best : (k : ℕ) (r : Order) → best (opposes o) os ≡ some r → meets o r ≡ true → 0 < o.lots.0 → (q : ℕ) → q ≡ min o.lots.0 r.lots.0
       → matching (suc k) o os ≡ after_deal (record { resting = r; lots = q }) (matching k (with_lots (o.lots.0 - q) o) (used r.number q os))
   unfolding matching
-  deals-best k r e f h q s = rw (s, e, matching) (rw (lt-ltb 0 o.lots.0 h, f))
+  deals_best k r e f h q s = rw (s, e, matching) (rw (lt-ltb 0 o.lots.0 h, f))

@@ -18,21 +18,21 @@ use Rattle.months.specs.declared.months.Span.{Span}
 use Rattle.months.specs.Spans.{IsSpan, lies_in, starts_of, last_month_start}
 
 module _ (k : Calendar) where
-  pub starts-length : length (starts_of k) ≡ months_in_span + 1
+  pub starts_length : length (starts_of k) ≡ months_in_span + 1
   unfolding starts_of
-  starts-length = mapped_length (λ i. month_start (first_month k + i)) 0 (months_in_span + 1)
+  starts_length = mapped_length (λ i. month_start (first_month k + i)) 0 (months_in_span + 1)
 
-  pub start-read : (i : ℕ) → i ≤ months_in_span → get_or (starts_of k) i 0 ≡ month_start (first_month k + i)
+  pub start_read : (i : ℕ) → i ≤ months_in_span → get_or (starts_of k) i 0 ≡ month_start (first_month k + i)
   unfolding starts_of
-  start-read i h = mapped_at (λ j. month_start (first_month k + j)) 0 0 (months_in_span + 1) i (omega arith) ∙ rw (zero-add i)
+  start_read i h = mapped_at (λ j. month_start (first_month k + j)) 0 0 (months_in_span + 1) i (omega arith) ∙ rw (zero-add i)
 
-  pub starts-made : (first : ℕ) (starts : List ℕ) → starts ≡ map (λ i. month_start (first + i)) (from 0 (months_in_span + 1)) → first ≡ first_month k → starts ≡ starts_of k
+  pub starts_made : (first : ℕ) (starts : List ℕ) → starts ≡ map (λ i. month_start (first + i)) (from 0 (months_in_span + 1)) → first ≡ first_month k → starts ≡ starts_of k
   unfolding starts_of
-  starts-made first starts e m = rw m at e
+  starts_made first starts e m = rw m at e
 
-  pub span-end : get_or (starts_of k) months_in_span 0 ≡ day_after_span k
+  pub span_end : get_or (starts_of k) months_in_span 0 ≡ day_after_span k
   unfolding day_after_span
-  span-end = start-read months_in_span (omega arith)
+  span_end = start_read months_in_span (omega arith)
 
   pub span_most : k.first_year ≤ most_first_year → day_after_span k ≤ last_month_start
   unfolding day_after_span
@@ -43,9 +43,9 @@ module _ (k : Calendar) where
   lies_in s d i = rw (i.starts, i.ends)
 
   -- A day of the span lies in the table.
-  pub day-most : (d : ℕ) → k.first_year ≤ most_first_year → in_span k d ≡ true → d ≤ last_month_start
+  pub day_most : (d : ℕ) → k.first_year ≤ most_first_year → in_span k d ≡ true → d ≤ last_month_start
   unfolding in_span
-  day-most d h e = omega (arith, span_most h, ltb-true d (day_after_span k) (and_right (leb (span_start k) d) (ltb d (day_after_span k)) e))
+  day_most d h e = omega (arith, span_most h, ltb-true d (day_after_span k) (and_right (leb (span_start k) d) (ltb d (day_after_span k)) e))
 
-  pub none-earlier : (i j : ℕ) → i ≤ j → j ≤ months_in_span → get_or (starts_of k) i 0 ≤ get_or (starts_of k) j 0
-  none-earlier i j l h = rw (start-read i (omega arith), start-read j h) (month_le _ _ (omega arith))
+  pub none_earlier : (i j : ℕ) → i ≤ j → j ≤ months_in_span → get_or (starts_of k) i 0 ≤ get_or (starts_of k) j 0
+  none_earlier i j l h = rw (start_read i (omega arith), start_read j h) (month_le _ _ (omega arith))

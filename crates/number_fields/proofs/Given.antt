@@ -26,9 +26,9 @@ pub record Given (f : List ℕ) (e : Event) : Type 0 where
   pub few : leg_count e ≤ most_legs
 
 module _ (f : List ℕ) (e : Event) where
-  first-number : kind_number e ≡ proposal_kind → event_numbers e ≡ take (length (kind_fields (kind_number e))) (drop 1 f) → leg_count e ≡ get_or f proposal_legs_field 0
+  first_number : kind_number e ≡ proposal_kind → event_numbers e ≡ take (length (kind_fields (kind_number e))) (drop 1 f) → leg_count e ≡ get_or f proposal_legs_field 0
   unfolding kind_fields
-  first-number four n =
+  first_number four n =
       let numbers : event_numbers e ≡ take 1 (drop 1 f) = n ∙ rw four refl in
       rw (eq-eqb (kind_number e) proposal_kind four, numbers) (get_or-take 1 (drop 1 f) 0 0 (omega arith) ∙ get_or-drop 1 f 0 0)
 
@@ -41,11 +41,11 @@ module _ (f : List ℕ) (e : Event) where
       let numbers : event_numbers e ≡ take (length (kind_fields (kind_number e))) (drop 1 f) = rw n.0 n.1 in
       let few : leg_count e ≤ most_legs =
       legs_or_none e
-      (λ four one. rw (first-number four numbers) (leb-true (get_or f proposal_legs_field 0) most_legs (rw (eq-eqb k proposal_kind (sym n.0 ∙ four)) at both.0)))
+      (λ four one. rw (first_number four numbers) (leb-true (get_or f proposal_legs_field 0) most_legs (rw (eq-eqb k proposal_kind (sym n.0 ∙ four)) at both.0)))
       (λ no none. omega (arith, none)) in
-      record { kind = n.0; numbers = numbers; counted = λ four. first-number four numbers; few = few }
+      record { kind = n.0; numbers = numbers; counted = λ four. first_number four numbers; few = few }
 
-  pub legs-given : Given f e → legs_in f ≡ first_legs f (leg_count e)
+  pub legs_given : Given f e → legs_in f ≡ first_legs f (leg_count e)
   unfolding legs_in first_legs from
-  legs-given g =
+  legs_given g =
       rw (← g.kind) (legs_or_none e (λ four one. rw (g.counted four) (rw (eq-eqb (kind_number e) proposal_kind four) refl)) (λ no none. rw (none, no) refl))

@@ -8,7 +8,7 @@ use borrow.Author.Tests.{lt-ltb, le-ltb, lt-leb}
 use lib.Dec.{leb}
 use lib.ListN.{length, get_or, set}
 use Rattle.arith.specs.Lists.{over}
-use Rattle.arith.proofs.Beside.{over-then}
+use Rattle.arith.proofs.Beside.{over_then}
 use Rattle.arith.proofs.Runs.{length_run}
 use Rattle.arith.proofs.Tests.{and_false}
 use Rattle.arith.proofs.Writes.{stored}
@@ -19,7 +19,7 @@ use Rattle.rules.specs.Ranges.{most_holidays, most_members}
 use Rattle.rules.specs.Header.{Header, header_length, header_of, header_sound, begins_with_header, write_header_spec}
 use Rattle.header.specs.Journal.{header_from, header_columns}
 use Rattle.header.specs.declared.journal.JournalHeader.{JournalHeader}
-use Rattle.header.proofs.Headers.{holidays-many, members-wrong, columns_back, write-header-unsound}
+use Rattle.header.proofs.Headers.{holidays_many, members_wrong, columns_back, write_header_unsound}
 use Rattle.number_fields.specs.HeaderFields.{header_fields, members_field, holiday_count_field, limits_field, with_header, numbers_at, header_in, read_header_fields, write_header_fields}
 
 pub length_numbers : (f : List ℕ) (i n : ℕ) → length (numbers_at f i n) ≡ n
@@ -34,14 +34,14 @@ unfolding with_header
 header_put h row a b l e d =
     let four = h.first_year ∷ h.start_day ∷ h.members ∷ length h.holidays ∷ [] in
     let front = stored four row 0 (omega arith) in
-    let whole : a ≡ over 0 (four ++ h.holidays) row = over-then 4 four h.holidays row _ a front e refl (omega arith) in
+    let whole : a ≡ over 0 (four ++ h.holidays) row = over_then 4 four h.holidays row _ a front e refl (omega arith) in
     d ∙ rw whole refl
 
 -- ---- reading
 module _ (s row : List ℕ) where
-  pub read-header-short : length row < header_fields → record { answer = TableUnsound; after = row } ≡ read_header_fields s row
+  pub read_header_short : length row < header_fields → record { answer = TableUnsound; after = row } ≡ read_header_fields s row
   unfolding read_header_fields
-  read-header-short h = rw (lt-ltb (length row) header_fields h) refl
+  read_header_short h = rw (lt-ltb (length row) header_fields h) refl
 
   module _ (h : header_fields ≤ length row) where
     pub read-header-none : begins_with_header s ≡ false → record { answer = HeaderUnsound; after = row } ≡ read_header_fields s row
@@ -55,9 +55,9 @@ module _ (s row : List ℕ) where
 
 -- ---- writing
 module _ (row out : List ℕ) where
-  pub write-header-row-short : length row < header_fields → record { answer = TableUnsound; after = out } ≡ write_header_fields row out
+  pub write_header_row_short : length row < header_fields → record { answer = TableUnsound; after = out } ≡ write_header_fields row out
   unfolding write_header_fields
-  write-header-row-short h = rw (lt-ltb (length row) header_fields h) refl
+  write_header_row_short h = rw (lt-ltb (length row) header_fields h) refl
 
   module _ (h : header_fields ≤ length row) where
     pub write-header-by : write_header_fields row out ≡ write_header_spec (header_in row) out
@@ -65,13 +65,13 @@ module _ (row out : List ℕ) where
     write-header-by = rw (le-ltb (length row) header_fields h) refl
 
     unsound : header_sound (header_in row) ≡ false → record { answer = HeaderUnsound; after = out } ≡ write_header_fields row out
-    unsound e = write-header-unsound (header_in row) out e ∙ sym write-header-by
+    unsound e = write_header_unsound (header_in row) out e ∙ sym write-header-by
 
     pub write-many-members : most_members < get_or row members_field 0 → record { answer = HeaderUnsound; after = out } ≡ write_header_fields row out
-    write-many-members m = unsound (members-wrong (header_in row) (rw (lt-leb (get_or row members_field 0) most_members m, and_false (leb 1 (get_or row members_field 0))) refl))
+    write-many-members m = unsound (members_wrong (header_in row) (rw (lt-leb (get_or row members_field 0) most_members m, and_false (leb 1 (get_or row members_field 0))) refl))
 
     pub write-many-holidays : most_holidays < get_or row holiday_count_field 0 → record { answer = HeaderUnsound; after = out } ≡ write_header_fields row out
-    write-many-holidays m = unsound (holidays-many (header_in row) (rw (length_numbers row 4 (get_or row holiday_count_field 0)) m))
+    write-many-holidays m = unsound (holidays_many (header_in row) (rw (length_numbers row 4 (get_or row holiday_count_field 0)) m))
 
     pub columns-in : header_from (header_columns (header_in row)) ≡ header_in row
     columns-in = columns_back (header_in row) (length_numbers row limits_field (get_or row members_field 0))

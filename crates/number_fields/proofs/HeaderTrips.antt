@@ -7,21 +7,21 @@ use native.Mathlib.Omega.{arith}
 use lib.ListN.{length, get_or, take, drop, length-drop, take-append-drop, get_or-append}
 use lib.Seq.{length-take-le, get_or-append-add, get_or-take, get_or-drop, drop-drop}
 use Rattle.arith.specs.Lists.{from, over}
-use Rattle.arith.proofs.Overs.{over-length, over-inside, over-outside}
+use Rattle.arith.proofs.Overs.{over_length, over_inside, over_outside}
 use Rattle.arith.proofs.Runs.{run_of}
 use Rattle.arith.proofs.Tests.{le_or_lt, true_or}
-use Rattle.arith.proofs.Writes.{over-front, over-more}
+use Rattle.arith.proofs.Writes.{over_front, over_more}
 use Rattle.rules.specs.declared.answer.Answer.TheVariants.{Accepted}
 use Rattle.rules.specs.Answers.{Outcome, reply_of}
 use Rattle.rules.specs.Ranges.{most_holidays, most_members}
 use Rattle.rules.specs.Header.{Header, header_length, header_of, header_sound, begins_with_header, write_header_spec}
 use Rattle.header.specs.Journal.{firsts, header_from, header_columns}
-use Rattle.header.proofs.Headers.{take_firsts, columns-read, reading-sound}
+use Rattle.header.proofs.Headers.{take_firsts, columns_read, reading_sound}
 use Rattle.header.proofs.Readings.{counts, limits_length}
 use Rattle.header.proofs.Trips as header
 use Rattle.number_fields.specs.HeaderFields.{header_fields, members_field, holiday_count_field, holidays_field, limits_field, with_header, numbers_at, header_in, read_header_fields}
 use Rattle.number_fields.specs.Trips.{NumbersGiveHeader, HeaderGivesNumbers, HeaderReadIsWritten, HeaderWrittenIsRead}
-use Rattle.number_fields.proofs.HeaderOutcomes.{length_numbers, read-header-short, read-header-none, read-header-whole, write-header-row-short, write-header-by, columns-in}
+use Rattle.number_fields.proofs.HeaderOutcomes.{length_numbers, read_header_short, read-header-none, read-header-whole, write_header_row_short, write-header-by, columns-in}
 use Rattle.number_fields.proofs.RecordTrips.{refused, over_self}
 
 -- ---- a header's numbers give the header
@@ -32,52 +32,52 @@ module _ (h : Header) (row : List ℕ) (long : header_fields ≤ length row) (da
   inner : List ℕ
   inner = over 0 front row
 
-  inner-long : length inner ≡ length row
+  inner_long : length inner ≡ length row
   unfolding inner front
-  inner-long = over-length 0 front row (omega arith)
+  inner_long = over_length 0 front row (omega arith)
 
   fits : limits_field + length h.limits ≤ length inner
-  fits = omega (arith, inner-long)
+  fits = omega (arith, inner_long)
 
-  before-limits : (i : ℕ) → i < limits_field → get_or (with_header h row) i 0 ≡ get_or inner i 0
+  before_limits : (i : ℕ) → i < limits_field → get_or (with_header h row) i 0 ≡ get_or inner i 0
   unfolding with_header inner front
-  before-limits i l = over-outside limits_field h.limits inner fits i 0 (λ m. absurd (omega arith))
+  before_limits i l = over_outside limits_field h.limits inner fits i 0 (λ m. absurd (omega arith))
 
-  in-front : (i : ℕ) → i < 4 + length h.holidays → i < length front
+  in_front : (i : ℕ) → i < 4 + length h.holidays → i < length front
   unfolding front
-  in-front i l = omega arith
+  in_front i l = omega arith
 
   at_front : (i : ℕ) → i < 4 + length h.holidays → get_or (with_header h row) i 0 ≡ get_or front i 0
   unfolding inner
   at_front i l =
-      before-limits i (omega arith) ∙ (ap (λ x. get_or x i 0) (over-front front row) ∙ get_or-append front (drop (length front) row) 0 i (in-front i l))
+      before_limits i (omega arith) ∙ (ap (λ x. get_or x i 0) (over_front front row) ∙ get_or-append front (drop (length front) row) 0 i (in_front i l))
 
-  holidays-back : numbers_at (with_header h row) holidays_field (length h.holidays) ≡ h.holidays
+  holidays_back : numbers_at (with_header h row) holidays_field (length h.holidays) ≡ h.holidays
   unfolding numbers_at front
-  holidays-back =
+  holidays_back =
       run_of (λ j. get_or (with_header h row) (holidays_field + j) 0) h.holidays 0
       (λ i l. at_front (4 + i) (omega arith) ∙ get_or-append-add (h.first_year ∷ h.start_day ∷ h.members ∷ length h.holidays ∷ []) h.holidays i 0)
 
-  limits-back : numbers_at (with_header h row) limits_field (length h.limits) ≡ h.limits
+  limits_back : numbers_at (with_header h row) limits_field (length h.limits) ≡ h.limits
   unfolding numbers_at with_header inner front
-  limits-back =
-      run_of (λ j. get_or (with_header h row) (limits_field + j) 0) h.limits 0 (λ i l. over-inside limits_field h.limits inner fits i 0 l)
+  limits_back =
+      run_of (λ j. get_or (with_header h row) (limits_field + j) 0) h.limits 0 (λ i l. over_inside limits_field h.limits inner fits i 0 l)
 
-  with-long : length (with_header h row) ≡ length row
+  with_long : length (with_header h row) ≡ length row
   unfolding with_header inner front
-  with-long = over-length limits_field h.limits inner fits ∙ inner-long
+  with_long = over_length limits_field h.limits inner fits ∙ inner_long
 
-  header-back : header_in (with_header h row) ≡ h
+  header_back : header_in (with_header h row) ≡ h
   unfolding front
-  header-back =
+  header_back =
       let f = with_header h row in
       let members : get_or f members_field 0 ≡ h.members = at_front 2 (omega arith) in
-      let days : numbers_at f holidays_field (get_or f holiday_count_field 0) ≡ h.holidays = ap (numbers_at f holidays_field) (at_front 3 (omega arith)) ∙ holidays-back in
-      let limits : numbers_at f limits_field (get_or f members_field 0) ≡ h.limits = ap (numbers_at f limits_field) (members ∙ sym sized) ∙ limits-back in
+      let days : numbers_at f holidays_field (get_or f holiday_count_field 0) ≡ h.holidays = ap (numbers_at f holidays_field) (at_front 3 (omega arith)) ∙ holidays_back in
+      let limits : numbers_at f limits_field (get_or f members_field 0) ≡ h.limits = ap (numbers_at f limits_field) (members ∙ sym sized) ∙ limits_back in
       λ i. record { first_year = at_front 0 (omega arith) i; start_day = at_front 1 (omega arith) i; members = members i; holidays = days i; limits = limits i }
 
 pub numbers_give_header : NumbersGiveHeader
-numbers_give_header = header-back
+numbers_give_header = header_back
 
 -- ---- a row has the numbers of its header
 numbers_are : (f : List ℕ) (i n : ℕ) → i + n ≤ length f → numbers_at f i n ≡ take n (drop i f)
@@ -104,7 +104,7 @@ header_gives_numbers row long days few =
     let four : List ℕ = get_or row 0 0 ∷ get_or row 1 0 ∷ get_or row 2 0 ∷ get_or row 3 0 ∷ [] in
     let front : over 0 four row ≡ row = over_self four row (first_four row (omega arith)) in
     let inner : over 0 (four ++ numbers_at row 4 n) row ≡ row =
-    sym (over-more 4 four (numbers_at row 4 n) row refl) ∙ rw front (numbers_over row 4 n (omega arith)) in
+    sym (over_more 4 four (numbers_at row 4 n) row refl) ∙ rw front (numbers_over row 4 n (omega arith)) in
     rw (length_numbers row 4 n, inner) (numbers_over row limits_field (get_or row members_field 0) (omega arith))
 
 -- ---- what an accepted call tells
@@ -118,7 +118,7 @@ header_read : (s row : List ℕ) (k : ℕ) (after : List ℕ) → record { answe
 header_read s row k after w =
     le_or_lt header_fields (length row)
     (λ h. true_or (begins_with_header s) (λ b. whole h b) (λ b. refused (w ∙ sym (read-header-none s row h b)) (λ z. omega arith)))
-    (λ h. refused (w ∙ sym (read-header-short s row h)) (λ z. omega arith))
+    (λ h. refused (w ∙ sym (read_header_short s row h)) (λ z. omega arith))
   where
     whole : header_fields ≤ length row → begins_with_header s ≡ true → HeaderRead s row k after
     whole h b =
@@ -133,13 +133,13 @@ header_read_is_written s row out k after b room w =
     let most = counts h (header.begun s r.begins).2 in
     let back : header_in after ≡ h = rw r.put (numbers_give_header h row r.long most.2 (limits_length s) most.1) in
     let enough = r.long in
-    let long : header_fields ≤ length after = rw r.put (rw (with-long h row r.long most.2 (limits_length s) most.1) enough) in
-    let read = sym (reading-sound s k r.begins r.size) in
-    write-header-by after out long ∙ rw (back, ← columns-read s) (header.read_is_written s out k (header_columns h) b read room)
+    let long : header_fields ≤ length after = rw r.put (rw (with_long h row r.long most.2 (limits_length s) most.1) enough) in
+    let read = sym (reading_sound s k r.begins r.size) in
+    write-header-by after out long ∙ rw (back, ← columns_read s) (header.read_is_written s out k (header_columns h) b read room)
 
 pub header_written_is_read : HeaderWrittenIsRead
 header_written_is_read row out other k after room w =
-    le_or_lt header_fields (length row) (λ h. long h (w ∙ write-header-by row out h)) (λ h. refused (w ∙ sym (write-header-row-short row out h)) (λ z. omega arith))
+    le_or_lt header_fields (length row) (λ h. long h (w ∙ write-header-by row out h)) (λ h. refused (w ∙ sym (write_header_row_short row out h)) (λ z. omega arith))
   where
     long : header_fields ≤ length row → record { answer = Accepted k; after = after } ≡ write_header_spec (header_in row) out
         → (with_header (header_in row) row ≡ row) × (read_header_fields after other ≡ record { answer = Accepted k; after = with_header (header_in row) other })
@@ -148,7 +148,7 @@ header_written_is_read row out other k after room w =
         let same : header_from columns ≡ header_in row = columns-in row out h in
         let read = header.written_is_read columns out k after (rw same x) in
         let reply_of = header.given after k (header_columns (header_from columns)) read in
-        let back : header_of after ≡ header_in row = sym (columns-read after) ∙ (ap header_from (sym reply_of.2) ∙ (ap (λ y. header_from (header_columns y)) same ∙ same)) in
+        let back : header_of after ≡ header_in row = sym (columns_read after) ∙ (ap header_from (sym reply_of.2) ∙ (ap (λ y. header_from (header_columns y)) same ∙ same)) in
         let sound : header_sound (header_in row) ≡ true = rw (← back) (header.begun after reply_of.0).2 in
         let most = counts (header_in row) sound in
         let days : get_or row holiday_count_field 0 ≤ most_holidays = rw (length_numbers row holidays_field (get_or row holiday_count_field 0)) at most.2 in

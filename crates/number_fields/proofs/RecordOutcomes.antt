@@ -16,10 +16,10 @@ use Rattle.record_kinds.specs.Numbers.{leg_count}
 use Rattle.codec.specs.Columns.{leg_rows, leg_columns, held_legs}
 use Rattle.codec.specs.declared.legs.Legs.{Legs}
 use Rattle.codec.proofs.Fields.{said}
-use Rattle.codec.proofs.LegColumns.{rows_of_columns, rows-said}
+use Rattle.codec.proofs.LegColumns.{rows_of_columns, rows_said}
 use Rattle.codec.proofs.Written.{sound_event}
 use Rattle.number_fields.specs.RecordFields.{record_fields, leg_field, event_in, first_legs, legs_in, with_numbers, with_reading, read_fields, write_reading, write_fields}
-use Rattle.number_fields.proofs.Given.{given, legs-given}
+use Rattle.number_fields.proofs.Given.{given, legs_given}
 
 pub length_legs : (f : List ℕ) (n : ℕ) → length (first_legs f n) ≡ n
 unfolding first_legs
@@ -48,7 +48,7 @@ module _ (n : ℕ) (s row : List ℕ) where
       few-read = let known = said n s read in (sound_event n known.0 (legs_of s) e known.2).few
 
       pub rows-read : leg_rows (leg_count e) (leg_columns (held_legs s)) ≡ legs_of s
-      rows-read = let known = said n s read in rows-said n s e known.1 known.2
+      rows-read = let known = said n s read in rows_said n s e known.1 known.2
 
       pub read_sound : record_fields ≤ length row → {l : Legs} {o : Outcome (List ℕ)} → l ≡ leg_columns (held_legs s)
           → o ≡ with_numbers e (leg_rows (leg_count e) l) row → o ≡ read_fields n s row
@@ -58,9 +58,9 @@ module _ (n : ℕ) (s row : List ℕ) where
 
 -- ---- writing
 module _ (n : ℕ) (row out : List ℕ) where
-  pub write-short : length row < record_fields → record { answer = TableUnsound; after = out } ≡ write_fields n row out
+  pub write_short : length row < record_fields → record { answer = TableUnsound; after = out } ≡ write_fields n row out
   unfolding write_fields
-  write-short h = rw (lt-ltb (length row) record_fields h) refl
+  write_short h = rw (lt-ltb (length row) record_fields h) refl
 
   module _ {r : Reading} (q : r ≡ event_in row) where
     module _ (h : record_fields ≤ length row) where
@@ -78,7 +78,7 @@ module _ (n : ℕ) (row out : List ℕ) where
         rows_in : leg_rows (leg_count e) (leg_columns (first_legs row (leg_count e))) ≡ legs_in row
         rows_in =
             let legs = first_legs row (leg_count e) in
-            rw (length_legs row (leg_count e)) at (rows_of_columns legs) ∙ sym (legs-given row e (given row e h (sym q ∙ u)))
+            rw (length_legs row (leg_count e)) at (rows_of_columns legs) ∙ sym (legs_given row e (given row e h (sym q ∙ u)))
 
         pub write-event : {k : ℕ} {l : Legs} {o : Outcome (List ℕ)} → k ≡ leg_count e → l ≡ leg_columns (first_legs row k)
             → o ≡ write_spec n e (leg_rows (leg_count e) l) out → o ≡ write_fields n row out

@@ -11,10 +11,10 @@ use lib.ListN.{length, get_or, take, drop, take-append-drop, get_or-append}
 use lib.Seq.{drop-cons, drop-drop, get_or-append-add, take-append_seam}
 use lib.Dec.{T, leb, ltb}
 use Rattle.arith.specs.Lists.{from, every, over}
-use Rattle.arith.proofs.Alls.{all-always}
-use Rattle.arith.proofs.Overs.{over-length}
+use Rattle.arith.proofs.Alls.{all_always}
+use Rattle.arith.proofs.Overs.{over_length}
 use Rattle.arith.proofs.Tests.{le_or_lt}
-use Rattle.arith.proofs.Writes.{over-front}
+use Rattle.arith.proofs.Writes.{over_front}
 use Rattle.rules.specs.declared.answer.Answer.TheVariants.{Accepted}
 use Rattle.rules.specs.declared.event.Event.{Event}
 use Rattle.rules.specs.declared.event.Leg.{Leg}
@@ -24,7 +24,7 @@ use Rattle.rules.specs.Answers.{Outcome, reply_of}
 use Rattle.rules.specs.Fields.{proposal_kind, has_legs, kind_fields}
 use Rattle.rules.specs.Ranges.{most_legs}
 use Rattle.rules.specs.Records.{kind_number, event_numbers, leg_numbers, numbers_of, event_by_kind, leg_in, write_spec, legs_of, read_of}
-use Rattle.big_endian.proofs.Numbers.{all_back, all-again}
+use Rattle.big_endian.proofs.Numbers.{all_back, all_again}
 use Rattle.record_kinds.specs.Numbers.{leg_count}
 use Rattle.record_kinds.proofs.EachKind.{described, legs_or_none}
 use Rattle.codec.specs.Columns.{leg_rows, leg_columns, held_legs}
@@ -32,9 +32,9 @@ use Rattle.codec.proofs.LegColumns.{length_rows, rows_of_columns}
 use Rattle.codec.proofs.Trips as codec
 use Rattle.number_fields.specs.RecordFields.{record_fields, kind_field, proposal_legs_field, leg_field, row_event, event_in, first_legs, legs_in, read_fields, write_fields}
 use Rattle.number_fields.specs.Trips.{NumbersGiveEvent, EventGivesNumbers, ReadIsWritten, WrittenIsRead}
-use Rattle.number_fields.proofs.Given.{Given, given, legs-given}
-use Rattle.number_fields.proofs.Rows.{numbers-joined, most-numbers}
-use Rattle.number_fields.proofs.RecordOutcomes.{length_legs, read_short, read_by, few-read, rows-read, write-short, write-by}
+use Rattle.number_fields.proofs.Given.{Given, given, legs_given}
+use Rattle.number_fields.proofs.Rows.{numbers_joined, most_numbers_lem}
+use Rattle.number_fields.proofs.RecordOutcomes.{length_legs, read_short, read_by, few-read, rows-read, write_short, write-by}
 
 -- ---- an event's numbers give the event
 leg_back : (p q : List ℕ) (i : ℕ) → i ≡ length p → (g : Leg) → Unit {0} → leg_in (p ++ (leg_numbers g ++ q)) i ≡ g
@@ -48,7 +48,7 @@ leg_back p q i e g t =
 legs_back : (kind k : ℕ) (legs : List Leg) (rest : List ℕ) → length legs ≡ k → first_legs (kind ∷ k ∷ flat_map leg_numbers legs ++ rest) k ≡ legs
 unfolding first_legs
 legs_back kind k legs rest l =
-    let any = all-always (λ g. Unit {0}) legs (λ g. tt) in
+    let any = all_always (λ g. Unit {0}) legs (λ g. tt) in
     rw l at (all_back leg_numbers 3 (λ g. refl) leg_in (λ g. Unit {0}) leg_back legs (kind ∷ k ∷ []) rest 2 refl any)
 
 one_number : (l : List ℕ) → length l ≡ 1 → l ≡ get_or l 0 0 ∷ []
@@ -57,8 +57,8 @@ one_number (x ∷ []) h = refl
 one_number (x ∷ y ∷ l) h = absurd (omega arith)
 
 module _ (e : Event) (few : leg_count e ≤ most_legs) (f rest : List ℕ) (shape : f ≡ kind_number e ∷ event_numbers e ++ rest) where
-  row-kind : get_or f kind_field 0 ≡ kind_number e
-  row-kind = rw shape refl
+  row_kind : get_or f kind_field 0 ≡ kind_number e
+  row_kind = rw shape refl
 
   row_count : kind_number e ≡ proposal_kind → length (event_numbers e) ≡ 1 → get_or f proposal_legs_field 0 ≡ leg_count e
   row_count four one = rw (shape, eq-eqb (kind_number e) proposal_kind four) (get_or-append (event_numbers e) rest 0 0 (omega (arith, one)))
@@ -69,16 +69,16 @@ module _ (e : Event) (few : leg_count e ≤ most_legs) (f rest : List ℕ) (shap
       let event : event_by_kind (kind_number e) f ≡ Sound e = rw shape ((described e).back rest) in
       let test : not (has_legs (kind_number e)) || leb (get_or f proposal_legs_field 0) most_legs ≡ true =
       legs_or_none e (λ four one. rw (eq-eqb (kind_number e) proposal_kind four) (le-leb (get_or f proposal_legs_field 0) most_legs (rw (row_count four one) few))) (λ no none. rw no refl) in
-      rw (row-kind, test) event
+      rw (row_kind, test) event
 
-  row-legs : (legs : List Leg) (past : List ℕ) → length legs ≡ leg_count e → rest ≡ flat_map leg_numbers legs ++ past → legs_in f ≡ legs
+  row_legs : (legs : List Leg) (past : List ℕ) → length legs ≡ leg_count e → rest ≡ flat_map leg_numbers legs ++ past → legs_in f ≡ legs
   unfolding legs_in
-  row-legs legs past l r =
+  row_legs legs past l r =
       legs_or_none e
       (λ four one. let shaped : f ≡ kind_number e ∷ leg_count e ∷ flat_map leg_numbers legs ++ past =
       shape ∙ (ap (λ x. kind_number e ∷ x ++ rest) (numbers four one) ∙ ap (λ x. kind_number e ∷ leg_count e ∷ x) r) in
-      rw (row-kind, eq-eqb (kind_number e) proposal_kind four, row_count four one) (ap (λ x. first_legs x (leg_count e)) shaped ∙ legs_back (kind_number e) (leg_count e) legs past l))
-      (λ no none. rw (row-kind, no) (codec.none legs (l ∙ none)))
+      rw (row_kind, eq-eqb (kind_number e) proposal_kind four, row_count four one) (ap (λ x. first_legs x (leg_count e)) shaped ∙ legs_back (kind_number e) (leg_count e) legs past l))
+      (λ no none. rw (row_kind, no) (codec.none legs (l ∙ none)))
     where
       numbers : kind_number e ≡ proposal_kind → length (event_numbers e) ≡ 1 → event_numbers e ≡ leg_count e ∷ []
       numbers four one = one_number (event_numbers e) one ∙ ap (λ x. x ∷ []) (let k : leg_count e ≡ get_or (event_numbers e) 0 0 = rw (eq-eqb (kind_number e) proposal_kind four) refl in sym k)
@@ -87,44 +87,44 @@ pub numbers_give_event : NumbersGiveEvent
 numbers_give_event e legs rest l m =
     let past = flat_map leg_numbers legs ++ rest in
     let shape : numbers_of e legs ++ rest ≡ kind_number e ∷ event_numbers e ++ past =
-    rw (numbers-joined e legs l) (ap (λ x. kind_number e ∷ x) (append_assoc (event_numbers e) (flat_map leg_numbers legs) rest)) in
-    (row_gives e m _ past shape, row-legs e m _ past shape legs rest l refl)
+    rw (numbers_joined e legs l) (ap (λ x. kind_number e ∷ x) (append_assoc (event_numbers e) (flat_map leg_numbers legs) rest)) in
+    (row_gives e m _ past shape, row_legs e m _ past shape legs rest l refl)
 
 -- ---- a row that gives an event begins with its numbers
 module _ (f : List ℕ) where
   number_again : (i : ℕ) → i < length f → get_or f i 0 ∷ drop (i + 1) f ≡ drop i f
   number_again i h = rw add-one (sym (drop-cons f i 0 h))
 
-  leg-again : (i : ℕ) → i + 3 ≤ length f → leg_numbers (leg_in f i) ++ drop (i + 3) f ≡ drop i f
-  leg-again i h =
+  leg_again : (i : ℕ) → i + 3 ≤ length f → leg_numbers (leg_in f i) ++ drop (i + 3) f ≡ drop i f
+  leg_again i h =
       let second : i + 1 + 1 ≡ i + 2 = omega arith in
       let third : i + 2 + 1 ≡ i + 3 = omega arith in
       rw (← third, number_again (i + 2) (omega arith), ← second, number_again (i + 1) (omega arith)) (number_again i (omega arith))
 
-  front-again : {k : ℕ} {numbers : List ℕ} (n : ℕ) → k ≡ get_or f kind_field 0 → numbers ≡ take n (drop 1 f) → 0 < length f → k ∷ numbers ++ drop (1 + n) f ≡ f
-  front-again n k e h = rw (k, e, ← drop-drop n 1 f, take-append-drop n (drop 1 f)) (number_again 0 h)
+  front_again : {k : ℕ} {numbers : List ℕ} (n : ℕ) → k ≡ get_or f kind_field 0 → numbers ≡ take n (drop 1 f) → 0 < length f → k ∷ numbers ++ drop (1 + n) f ≡ f
+  front_again n k e h = rw (k, e, ← drop-drop n 1 f, take-append-drop n (drop 1 f)) (number_again 0 h)
 
   module _ (e : Event) (h : record_fields ≤ length f) (g : Given f e) where
     -- What stands past the event's own numbers.
     past-own : List ℕ
     past-own = drop (1 + length (kind_fields (kind_number e))) f
 
-    legs-again : (past : List ℕ) × (flat_map leg_numbers (legs_in f) ++ past ≡ past-own)
+    legs_again : (past : List ℕ) × (flat_map leg_numbers (legs_in f) ++ past ≡ past-own)
     unfolding past-own first_legs flat_map from
-    legs-again =
+    legs_again =
         legs_or_none e
         (λ four one. let fields : length (kind_fields (kind_number e)) ≡ 1 = sym (described e).counted ∙ one in
-        (drop (leg_field (leg_count e)) f, rw (legs-given f e g, fields) (all-again leg_numbers 3 leg_in f leg-again (leg_count e) 2 (omega (arith, g.few)))))
-        (λ no none. (drop (1 + length (kind_fields (kind_number e))) f, rw (legs-given f e g, none) refl))
+        (drop (leg_field (leg_count e)) f, rw (legs_given f e g, fields) (all_again leg_numbers 3 leg_in f leg_again (leg_count e) 2 (omega (arith, g.few)))))
+        (λ no none. (drop (1 + length (kind_fields (kind_number e))) f, rw (legs_given f e g, none) refl))
 
     again : take (length (numbers_of e (legs_in f))) f ≡ numbers_of e (legs_in f)
     unfolding past-own
     again =
         let legs = legs_in f in
-        let counted : length legs ≡ leg_count e = ap length (legs-given f e g) ∙ length_legs f (leg_count e) in
-        let past = legs-again.0 in
+        let counted : length legs ≡ leg_count e = ap length (legs_given f e g) ∙ length_legs f (leg_count e) in
+        let past = legs_again.0 in
         let whole : numbers_of e legs ++ past ≡ f =
-        rw (numbers-joined e legs counted, append_assoc (event_numbers e) (flat_map leg_numbers legs) past, legs-again.1) (front-again (length (kind_fields (kind_number e))) g.kind g.numbers (omega arith)) in
+        rw (numbers_joined e legs counted, append_assoc (event_numbers e) (flat_map leg_numbers legs) past, legs_again.1) (front_again (length (kind_fields (kind_number e))) g.kind g.numbers (omega arith)) in
         ap (take (length (numbers_of e legs))) (sym whole) ∙ take-append_seam (numbers_of e legs) past
 
 pub event_gives_numbers : EventGivesNumbers
@@ -159,7 +159,7 @@ record WrittenFrom (n : ℕ) (row out : List ℕ) (o : Outcome (List ℕ)) : Typ
 written_from : (n : ℕ) (row out : List ℕ) (k : ℕ) (after : List ℕ) → record { answer = Accepted k; after = after } ≡ write_fields n row out
     → WrittenFrom n row out (record { answer = Accepted k; after = after })
 written_from n row out k after w =
-    le_or_lt record_fields (length row) (λ h. go h (event_in row) refl) (λ h. refused (w ∙ sym (write-short n row out h)) (λ z. omega arith))
+    le_or_lt record_fields (length row) (λ h. go h (event_in row) refl) (λ h. refused (w ∙ sym (write_short n row out h)) (λ z. omega arith))
   where
     go : record_fields ≤ length row → (r : Reading) → r ≡ event_in row → WrittenFrom n row out (record { answer = Accepted k; after = after })
     go h (Sound e) q = record { event = e; long = h; says = sym q; given = given row e h (sym q); wrote = w ∙ write-by n row out q h }
@@ -176,9 +176,9 @@ read_then_written n s row out after e b h long said put =
     let numbers = numbers_of e legs in
     let rest = drop (length numbers) row in
     let back = numbers_give_event e legs rest counted few in
-    let shape : after ≡ numbers ++ rest = put ∙ over-front numbers row in
-    let most = most-numbers e legs counted few in
-    let as_long : length after ≡ length row = ap length put ∙ over-length 0 numbers row (omega arith) in
+    let shape : after ≡ numbers ++ rest = put ∙ over_front numbers row in
+    let most = most_numbers_lem e legs counted few in
+    let as_long : length after ≡ length row = ap length put ∙ over_length 0 numbers row (omega arith) in
     let same : legs_in after ≡ legs = ap legs_in shape ∙ back.1 in
     write-by n after out (sym (ap event_in shape ∙ back.0)) (omega arith) ∙ rw (same, ← rows) (codec.read_is_written n s e out b said h)
 
@@ -189,14 +189,14 @@ read_is_written n s row out k after b h w =
 
 -- a row that its own numbers are put in
 pub over_self : (xs l : List ℕ) → take (length xs) l ≡ xs → over 0 xs l ≡ l
-over_self xs l e = over-front xs l ∙ (ap (λ t. t ++ drop (length xs) l) (sym e) ∙ take-append-drop (length xs) l)
+over_self xs l e = over_front xs l ∙ (ap (λ t. t ++ drop (length xs) l) (sym e) ∙ take-append-drop (length xs) l)
 
 pub written_is_read : WrittenIsRead
 written_is_read n row out other k after room w =
     let x = written_from n row out k after w in
     let e = x.event in
     let legs = legs_in row in
-    let counted : length legs ≡ leg_count e = ap length (legs-given row e x.given) ∙ length_legs row (leg_count e) in
+    let counted : length legs ≡ leg_count e = ap length (legs_given row e x.given) ∙ length_legs row (leg_count e) in
     let rows : leg_rows (leg_count e) (leg_columns legs) ≡ legs = rw counted at (rows_of_columns legs) in
     let s = take k after in
     let read = codec.written_is_read n e (leg_columns legs) out k after (rw rows x.wrote) in

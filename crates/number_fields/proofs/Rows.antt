@@ -9,7 +9,7 @@ use lib.ListN.{length, take, drop, length-append, take-append-drop}
 use lib.Seq.{paste, take-length}
 use Rattle.arith.specs.Lists.{over}
 use Rattle.arith.proofs.Appends.{flat_length}
-use Rattle.arith.proofs.Beside.{over-then}
+use Rattle.arith.proofs.Beside.{over_then}
 use Rattle.rules.specs.declared.answer.Answer.TheVariants.{Accepted}
 use Rattle.rules.specs.declared.event.Event.{Event}
 use Rattle.rules.specs.declared.event.Leg.{Leg}
@@ -30,30 +30,30 @@ over_none a row = rw add-zero (take-append-drop a row)
 
 -- ---- an event with as many legs beside it as it says
 module _ (e : Event) (legs : List Leg) (counted : length legs ≡ leg_count e) where
-  pub numbers-joined : numbers_of e legs ≡ kind_number e ∷ event_numbers e ++ flat_map leg_numbers legs
+  pub numbers_joined : numbers_of e legs ≡ kind_number e ∷ event_numbers e ++ flat_map leg_numbers legs
   unfolding numbers_of flat_map
-  numbers-joined =
+  numbers_joined =
       legs_or_none e (λ four one. rw (eq-eqb (kind_number e) proposal_kind four) refl)
       (λ no none. rw (no, sym (codec.none legs (counted ∙ none))) refl)
 
-  numbers-count : 1 + length (kind_fields (kind_number e)) + 3 * leg_count e ≡ length (numbers_of e legs)
-  numbers-count =
-      rw (numbers-joined, length-append (event_numbers e) (flat_map leg_numbers legs), (described e).counted, flat_length 3 leg_numbers (λ g. refl) legs, counted) (omega arith)
+  numbers_count : 1 + length (kind_fields (kind_number e)) + 3 * leg_count e ≡ length (numbers_of e legs)
+  numbers_count =
+      rw (numbers_joined, length-append (event_numbers e) (flat_map leg_numbers legs), (described e).counted, flat_length 3 leg_numbers (λ g. refl) legs, counted) (omega arith)
 
-  pub most-numbers : leg_count e ≤ most_legs → length (numbers_of e legs) ≤ record_fields
-  most-numbers few =
-      legs_or_none e (λ four one. omega (arith, numbers-count, (described e).counted, one, few)) (λ no none. omega (arith, numbers-count, (described e).few, none))
+  pub most_numbers_lem : leg_count e ≤ most_legs → length (numbers_of e legs) ≤ record_fields
+  most_numbers_lem few =
+      legs_or_none e (λ four one. omega (arith, numbers_count, (described e).counted, one, few)) (λ no none. omega (arith, numbers_count, (described e).few, none))
 
   -- The event's own numbers, then its legs'.
-  put-joined : (row put after : List ℕ) → record_fields ≤ length row → put ≡ over 0 (kind_number e ∷ event_numbers e) row
+  put_joined : (row put after : List ℕ) → record_fields ≤ length row → put ≡ over 0 (kind_number e ∷ event_numbers e) row
       → after ≡ over first_leg_field (flat_map leg_numbers legs) put → record { answer = Accepted (1 + length (kind_fields (kind_number e)) + 3 * leg_count e); after = after } ≡ with_numbers e legs row
   unfolding flat_map
-  put-joined row put after h p q =
+  put_joined row put after h p q =
       let whole : after ≡ over 0 (numbers_of e legs) row =
-      rw numbers-joined (legs_or_none e
-      (λ four one. over-then first_leg_field (kind_number e ∷ event_numbers e) (flat_map leg_numbers legs) row put after p q (omega (arith, one)) (omega arith))
+      rw numbers_joined (legs_or_none e
+      (λ four one. over_then first_leg_field (kind_number e ∷ event_numbers e) (flat_map leg_numbers legs) row put after p q (omega (arith, one)) (omega arith))
       (λ no none. alone (kind_number e ∷ event_numbers e) put after (sym (codec.none legs (counted ∙ none))) p q)) in
-      rw (whole, numbers-count) refl
+      rw (whole, numbers_count) refl
     where
       alone : (numbers put after : List ℕ) → legs ≡ [] → put ≡ over 0 numbers row → after ≡ over first_leg_field (flat_map leg_numbers legs) put
           → after ≡ over 0 (numbers ++ flat_map leg_numbers legs) row
@@ -64,7 +64,7 @@ pub put_rows : {k n : ℕ} (e : Event) (l : Legs) (row put after : List ℕ) →
     → put ≡ over 0 (kind_number e ∷ event_numbers e) row → after ≡ over first_leg_field (flat_map leg_numbers (leg_rows k l)) put
     → record { answer = Accepted (1 + n + 3 * k); after = after } ≡ with_numbers e (leg_rows (leg_count e) l) row
 put_rows e l row put after count fields h p q =
-    rw (count, fields) (put-joined e (leg_rows (leg_count e) l) (length_rows (leg_count e) l) row put after h p (rw count at q))
+    rw (count, fields) (put_joined e (leg_rows (leg_count e) l) (length_rows (leg_count e) l) row put after h p (rw count at q))
 
 -- A list stored place by place.
 pub pasted : (row : List ℕ) (at : ℕ) (list : List ℕ) (i : ℕ) → i ≡ length list → paste row at list i ≡ over at list row

@@ -11,10 +11,10 @@ use lib.ListN.{length, get_or, set, take, drop, length-append, length-map}
 use lib.Seq.{length-take-le, set-get_or, get_or-set_other}
 use borrow.Author.Tests.{ne_eqb}
 use Rattle.arith.specs.Lists.{All, kept, from, over}
-use Rattle.arith.proofs.Overs.{over-outside}
+use Rattle.arith.proofs.Overs.{over_outside}
 use Rattle.arith.proofs.Tests.{true_or}
 use Rattle.arith.proofs.Appends.{from_more, from_length, map_append, flat_append, flat_one, flat_length, map_at, from_at}
-use Rattle.arith.proofs.Writes.{stored, over-more, again-long, again-front, again-many}
+use Rattle.arith.proofs.Writes.{stored, over_more, again_long, again_front, again_many}
 use Rattle.rules.specs.Ledger.{order_width}
 use Rattle.rules.specs.Ledger.{book_length}
 use Rattle.rules.specs.declared.order.Order.{Order}
@@ -69,29 +69,29 @@ staying_kept p (o ∷ os) a =
     (λ e. rw (e, ne_eqb o.lots.0 0 (λ z. omega (arith, a.0)), staying_kept p os a.1))
 
 module _ (p : Order → Bool) (n : ℕ) (b : List ℕ) where
-  pub staying-length : length (staying p (orders_in n b)) ≡ n
+  pub staying_length : length (staying p (orders_in n b)) ≡ n
   unfolding staying
-  staying-length = length-map (orders_in n b) (λ o. cond (p o) 0 o.lots.0) ∙ orders_length b n
+  staying_length = length-map (orders_in n b) (λ o. cond (p o) 0 o.lots.0) ∙ orders_length b n
 
-  pub staying-at : (i : ℕ) → i < n → get_or (staying p (orders_in n b)) i 0 ≡ cond (p (order_at b i)) 0 (order_at b i).lots.0
+  pub staying_at : (i : ℕ) → i < n → get_or (staying p (orders_in n b)) i 0 ≡ cond (p (order_at b i)) 0 (order_at b i).lots.0
   unfolding staying
-  staying-at i h =
+  staying_at i h =
       map_at (λ o. cond (p o) 0 o.lots.0) (orders_in n b) i (order_at b i) 0 (omega (arith, orders_length b n))
       ∙ ap (λ o. cond (p o) 0 o.lots.0) (map_at (order_at b) (from 0 n) i 0 (order_at b i) (omega (arith, from_length 0 n)) ∙ ap (order_at b) (from_at 0 n i 0 h ∙ zero-add i))
 
 -- the column as `remove_orders` lends it: the first n places of an array
 module _ (p : Order → Bool) (n : ℕ) (ys l b : List ℕ) (fits : n ≤ length l) (e : ys ≡ staying p (orders_in (length (take n l)) b)) where
   as_lent : length ys ≡ length (take n l)
-  as_lent = ap length e ∙ staying-length p (length (take n l)) b
+  as_lent = ap length e ∙ staying_length p (length (take n l)) b
 
-  pub column-long : n ≤ length (ys ++ drop n l)
-  column-long = again-long n ys l as_lent fits
+  pub column_long : n ≤ length (ys ++ drop n l)
+  column_long = again_long n ys l as_lent fits
 
-  pub column-many : n ≡ length (take n (ys ++ drop n l))
-  column-many = again-many n ys l as_lent fits
+  pub column_many : n ≡ length (take n (ys ++ drop n l))
+  column_many = again_many n ys l as_lent fits
 
-  pub column-kept : All (λ o. 1 ≤ o.lots.0) (orders_in n b) → left_over (take n (ys ++ drop n l)) (orders_in n b) ≡ kept (λ o. not (p o)) (orders_in n b)
-  column-kept a = rw (again-front n ys l as_lent fits, e, length-take-le n l fits) (staying_kept p (orders_in n b) a)
+  pub column_kept : All (λ o. 1 ≤ o.lots.0) (orders_in n b) → left_over (take n (ys ++ drop n l)) (orders_in n b) ≡ kept (λ o. not (p o)) (orders_in n b)
+  column_kept a = rw (again_front n ys l as_lent fits, e, length-take-le n l fits) (staying_kept p (orders_in n b) a)
 
 -- ---- one step
 -- An order behind what was written is read as it was.
@@ -99,18 +99,18 @@ pub order_there : (xs b : List ℕ) (i : ℕ) → length xs ≤ i * order_width 
 order_there xs b i h s l =
     let fits : 0 + length xs ≤ length b = omega arith in
     rw (
-      over-outside 0 xs b fits (i * order_width) 0 (λ _. omega arith),
-      over-outside 0 xs b fits (i * order_width + 1) 0 (λ _. omega arith),
-      over-outside 0 xs b fits (i * order_width + 2) 0 (λ _. omega arith),
-      over-outside 0 xs b fits (i * order_width + 3) 0 (λ _. omega arith),
-      over-outside 0 xs b fits (i * order_width + 4) 0 (λ _. omega arith),
-      over-outside 0 xs b fits (i * order_width + 5) 0 (λ _. omega arith),
-      over-outside 0 xs b fits (i * order_width + 6) 0 (λ _. omega arith),
-      over-outside 0 xs b fits (i * order_width + 7) 0 (λ _. omega arith),
+      over_outside 0 xs b fits (i * order_width) 0 (λ _. omega arith),
+      over_outside 0 xs b fits (i * order_width + 1) 0 (λ _. omega arith),
+      over_outside 0 xs b fits (i * order_width + 2) 0 (λ _. omega arith),
+      over_outside 0 xs b fits (i * order_width + 3) 0 (λ _. omega arith),
+      over_outside 0 xs b fits (i * order_width + 4) 0 (λ _. omega arith),
+      over_outside 0 xs b fits (i * order_width + 5) 0 (λ _. omega arith),
+      over_outside 0 xs b fits (i * order_width + 6) 0 (λ _. omega arith),
+      over_outside 0 xs b fits (i * order_width + 7) 0 (λ _. omega arith),
     )
 
 pub side_there : (xs b : List ℕ) (i : ℕ) → length xs ≤ i * order_width → i < 256 → book_length ≤ length b → side_at (over 0 xs b) i ≡ side_at b i
-side_there xs b i h s l = over-outside 0 xs b (omega arith) (i * order_width + 3) 0 (λ _. omega arith)
+side_there xs b i h s l = over_outside 0 xs b (omega arith) (i * order_width + 3) 0 (λ _. omega arith)
 
 -- An order written where it stands changes its lots.
 pub lots_written : (b : List ℕ) (i q : ℕ) → i * order_width + 8 ≤ length b → side_at b i ≤ 1 → set b (i * order_width + 5) q ≡ over (i * order_width) (order_places (with_lots q (order_at b i))) b
@@ -144,34 +144,34 @@ places_length os = flat_length 8 order_places (λ o. refl) os
 
 module _ (qs b : List ℕ) where
   -- what is left of the first i orders
-  abbrev pub leftTo : ℕ → List Order
-  leftTo i = left_over qs (orders_in i b)
+  abbrev pub left_to : ℕ → List Order
+  left_to i = left_over qs (orders_in i b)
 
-  pub left-few : (i : ℕ) → length (leftTo i) ≤ i
-  left-few i = omega (arith, left_most qs (orders_in i b), orders_length b i)
+  pub left_few : (i : ℕ) → length (left_to i) ≤ i
+  left_few i = omega (arith, left_most qs (orders_in i b), orders_length b i)
 
   module _ (i : ℕ) (small : i < 256) (long : book_length ≤ length b) (column : i < length qs) where
-    left-next : leftTo (i + 1) ≡ leftTo i ++ cond (eqb (get_or qs i 0) 0) [] (with_lots (get_or qs i 0) (order_at b i) ∷ [])
+    left-next : left_to (i + 1) ≡ left_to i ++ cond (eqb (get_or qs i 0) 0) [] (with_lots (get_or qs i 0) (order_at b i) ∷ [])
     left-next = rw (orders_more b i, left_more qs (orders_in i b) (order_at b i) (omega (arith, orders_length b i)), orders_length b i)
 
-    pub kept-count : (free : ℕ) → free ≡ length (leftTo i) → cond (eqb (get_or qs i 0) 0) free (free + 1) ≡ length (leftTo (i + 1))
+    pub kept-count : (free : ℕ) → free ≡ length (left_to i) → cond (eqb (get_or qs i 0) 0) free (free + 1) ≡ length (left_to (i + 1))
     kept-count free e =
-        rw (e, left-next, length-append (leftTo i) (cond (eqb (get_or qs i 0) 0) [] (with_lots (get_or qs i 0) (order_at b i) ∷ [])))
+        rw (e, left-next, length-append (left_to i) (cond (eqb (get_or qs i 0) 0) [] (with_lots (get_or qs i 0) (order_at b i) ∷ [])))
         (true_or (eqb (get_or qs i 0) 0) (λ t. rw t (omega arith)) (λ t. rw t (omega arith)))
 
     written : (o : Order) → o ≡ order_at b i
-        → cond (eqb (get_or qs i 0) 0) (over 0 (flat_map order_places (leftTo i)) b) (over (length (leftTo i) * order_width) (order_places (with_lots (get_or qs i 0) o))
-        (over 0 (flat_map order_places (leftTo i)) b))
-        ≡ over 0 (flat_map order_places (leftTo (i + 1))) b
+        → cond (eqb (get_or qs i 0) 0) (over 0 (flat_map order_places (left_to i)) b) (over (length (left_to i) * order_width) (order_places (with_lots (get_or qs i 0) o))
+        (over 0 (flat_map order_places (left_to i)) b))
+        ≡ over 0 (flat_map order_places (left_to (i + 1))) b
     written o e =
         let rest = with_lots (get_or qs i 0) (order_at b i) in
         rw (e, left-next)
-        (true_or (eqb (get_or qs i 0) 0) (λ t. rw (t, append-nil (leftTo i)))
-        (λ t. rw (t, flat_append order_places (leftTo i) (rest ∷ []), flat_one order_places rest)
-        (over-more (length (leftTo i) * order_width) (flat_map order_places (leftTo i)) (order_places rest) b (places_length (leftTo i)))))
+        (true_or (eqb (get_or qs i 0) 0) (λ t. rw (t, append-nil (left_to i)))
+        (λ t. rw (t, flat_append order_places (left_to i) (rest ∷ []), flat_one order_places rest)
+        (over_more (length (left_to i) * order_width) (flat_map order_places (left_to i)) (order_places rest) b (places_length (left_to i)))))
 
-    pub kept-book : (free : ℕ) (book : List ℕ) → free ≡ length (leftTo i) → book ≡ over 0 (flat_map order_places (leftTo i)) b
-        → cond (eqb (get_or qs i 0) 0) book (over (free * order_width) (order_places (with_lots (get_or qs i 0) (order_at book i))) book) ≡ over 0 (flat_map order_places (leftTo (i + 1))) b
+    pub kept-book : (free : ℕ) (book : List ℕ) → free ≡ length (left_to i) → book ≡ over 0 (flat_map order_places (left_to i)) b
+        → cond (eqb (get_or qs i 0) 0) book (over (free * order_width) (order_places (with_lots (get_or qs i 0) (order_at book i))) book) ≡ over 0 (flat_map order_places (left_to (i + 1))) b
     kept-book free book e f =
-        rw (f, e) (written (order_at (over 0 (flat_map order_places (leftTo i)) b) i)
-        (order_there (flat_map order_places (leftTo i)) b i (omega (arith, places_length (leftTo i), left-few i)) small long))
+        rw (f, e) (written (order_at (over 0 (flat_map order_places (left_to i)) b) i)
+        (order_there (flat_map order_places (left_to i)) b i (omega (arith, places_length (left_to i), left_few i)) small long))

@@ -18,15 +18,15 @@ module _ (p q m n : ℕ) (hp : p ≤ most_price) (hq : q ≤ most_price) (hm : m
   by_order : (x y : ℕ) (b : Bool) → (p < q → ltb x y ≡ b) → (q < p → ltb x y ≡ b) → (p ≡ q → ltb x y ≡ b) → b ≡ ltb x y
   by_order x y b f g h = le_or_lt p q (λ k. le_or_lt q p (λ l. sym (h (omega arith))) (λ l. sym (f l))) (λ k. sym (g k))
 
-  rank-order : (s : Side) → (better_price s p q || eqb p q && ltb m n) ≡ ltb (price_rank s p * order_numbers_end + m) (price_rank s q * order_numbers_end + n)
-  rank-order Buy =
+  rank_order : (s : Side) → (better_price s p q || eqb p q && ltb m n) ≡ ltb (price_rank s p * order_numbers_end + m) (price_rank s q * order_numbers_end + n)
+  rank_order Buy =
       let x = (most_price - p) * order_numbers_end + m in
       let y = (most_price - q) * order_numbers_end + n in
       by_order x y (ltb q p || eqb p q && ltb m n)
       (λ k. rw (le-ltb q p (omega arith), ne_eqb p q (λ e. omega arith)) (le-ltb x y (omega arith)))
       (λ k. rw (lt-ltb q p k) (lt-ltb x y (omega arith)))
       (λ e. rw (le-ltb q p (omega arith), eq-eqb p q e) (same_ltb x y m n (λ k. omega arith) (λ k. omega arith)))
-  rank-order Sell =
+  rank_order Sell =
       let x = p * order_numbers_end + m in
       let y = q * order_numbers_end + n in
       by_order x y (ltb p q || eqb p q && ltb m n)
@@ -38,7 +38,7 @@ module _ (p q m n : ℕ) (hp : p ≤ most_price) (hq : q ≤ most_price) (hm : m
 pub precedes_rank : (a b : Order) → a.side ≡ b.side → Ranked a → Ranked b → precedes a b ≡ ltb (rank_of a) (rank_of b)
 unfolding precedes rank_of
 precedes_rank a b e f g =
-    rank-order a.price.0 b.price.0 a.number b.number f.price g.price f.number g.number a.side
+    rank_order a.price.0 b.price.0 a.number b.number f.price g.price f.number g.number a.side
     ∙ ap (λ s. ltb (price_rank a.side a.price.0 * order_numbers_end + a.number) (price_rank s b.price.0 * order_numbers_end + b.number)) e
 
 pub price_below : (r : Order) → Ranked r → (price_rank r.side r.price.0 ≤ most_price) × (r.number < order_numbers_end)

@@ -21,9 +21,9 @@ use Rattle.order_book.specs.Left.{left_over}
 use Rattle.proposal_check.specs.Columns.{LegsFit, PlacesFit, column_legs, places_of}
 use Rattle.proposal.specs.Booking.{lines_to, left_after, order_lots}
 use Rattle.proposal_check.proofs.Named.{found_fit}
-use Rattle.proposal_check.proofs.Checks.{acceptable-not, places-many, places-named}
-use Rattle.proposal.proofs.Printed.{lines-length, lines-run, lines_of}
-use Rattle.proposal.proofs.Taken.{taken-columns}
+use Rattle.proposal_check.proofs.Checks.{acceptable_not, places_many, places-named}
+use Rattle.proposal.proofs.Printed.{lines_length_lem, lines_run, lines_of}
+use Rattle.proposal.proofs.Taken.{taken_columns}
 
 -- Lines leave the book as it is, so orders can be used after them.
 pub orders_after_lines : (ls : List Line) (os : List Order) (t : Tables) → with_orders os (booked ls t).after ≡ (booked ls (with_orders os t)).after
@@ -61,44 +61,44 @@ module _ (t : Tables) (places numbers lots prices : List ℕ) (fit : LegsFit (le
   found : every (λ p. ltb p (order_count t)) places ≡ true
   found =
       true_or (every (λ p. ltb p (order_count t)) places) (λ e. e)
-      (λ e. never (sym ok ∙ acceptable-not t (order_count t) t.book places numbers lots prices fit same at e))
+      (λ e. never (sym ok ∙ acceptable_not t (order_count t) t.book places numbers lots prices fit same at e))
 
-  there-all : PlacesFit (order_count t) places
-  there-all = found_fit (order_count t) places found
+  there_all : PlacesFit (order_count t) places
+  there_all = found_fit (order_count t) places found
 
-  many-all : length places ≡ length numbers
-  many-all = places-many t (order_count t) t.book places numbers lots prices fit same at
+  many_all : length places ≡ length numbers
+  many_all = places_many t (order_count t) t.book places numbers lots prices fit same at
 
-  lines-all : proposal_lines t (column_legs numbers lots prices) ≡ lines_to t.book places lots prices (length places)
+  lines_all : proposal_lines t (column_legs numbers lots prices) ≡ lines_to t.book places lots prices (length places)
   unfolding proposal_lines
-  lines-all =
+  lines_all =
       ap (λ os. map leg_line (named_legs os (column_legs numbers lots prices))) same
       ∙ lines_of t.book places lots prices numbers (orders_in (order_count t) t.book) (places-named t (order_count t) t.book places numbers lots prices fit same at found)
-      ∙ ap (lines_to t.book places lots prices) (sym many-all)
+      ∙ ap (lines_to t.book places lots prices) (sym many_all)
 
-  run-all : line_run (proposal_lines t (column_legs numbers lots prices)) ≡ total (λ i. get_or lots i 0) (from 0 (length lots))
-  run-all =
-      ap line_run lines-all ∙ lines-run t.book places lots prices (length places)
-      ∙ ap (λ n. total (λ i. get_or lots i 0) (from 0 n)) (many-all ∙ sym fit.lots_length)
+  run_all : line_run (proposal_lines t (column_legs numbers lots prices)) ≡ total (λ i. get_or lots i 0) (from 0 (length lots))
+  run_all =
+      ap line_run lines_all ∙ lines_run t.book places lots prices (length places)
+      ∙ ap (λ n. total (λ i. get_or lots i 0) (from 0 n)) (many_all ∙ sym fit.lots_length)
 
   used_all : All (λ o. 1 ≤ o.lots.0) (orders t) → distinct (map (λ o. o.number) (orders t)) ≡ true → (k : ℕ) → k ≡ order_count t
       → left_over (left_after places lots (length places) (order_lots k t.book)) (orders_in k t.book) ≡ used_by_legs (column_legs numbers lots prices) (orders t)
   unfolding orders
-  used_all each apart k e = rw e (taken-columns (order_count t) t.book numbers lots prices each apart places at there-all)
+  used_all each apart k e = rw e (taken_columns (order_count t) t.book numbers lots prices each apart places at there_all)
 
   pub named : Named t places numbers lots prices
   named =
       record {
-        there = there-all;
-        many = many-all;
-        lines_are = lines-all;
-        run_is = run-all;
+        there = there_all;
+        many = many_all;
+        lines_are = lines_all;
+        run_is = run_all;
         used = used_all;
       }
 
 module _ {t : Tables} {places numbers lots prices : List ℕ} (n : Named t places numbers lots prices) where
-  pub line-count : length numbers ≡ length (proposal_lines t (column_legs numbers lots prices))
-  line-count = sym (ap length n.lines_are ∙ lines-length t.book places lots prices (length places) ∙ n.many)
+  pub line_count : length numbers ≡ length (proposal_lines t (column_legs numbers lots prices))
+  line_count = sym (ap length n.lines_are ∙ lines_length_lem t.book places lots prices (length places) ∙ n.many)
 
   module _ (sum : ℕ) (e : sum ≡ total (λ i. get_or lots i 0) (from 0 (length lots))) where
     pub run-passes : most_lots_run < lots_run t + sum → run_would_pass t (proposal_lines t (column_legs numbers lots prices)) ≡ true

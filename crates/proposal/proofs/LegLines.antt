@@ -21,7 +21,7 @@ use Rattle.proposal_check.specs.Columns.{LegsFit, PlacesFit}
 use Rattle.deal_lines.specs.Room.{Bookable}
 use Rattle.proposal.specs.Booking.{leg_line_at, lines_to}
 use Rattle.deal_lines.proofs.Takes.{takes_line, less_room, line_members}
-use Rattle.proposal.proofs.Printed.{lines-length, lines_more}
+use Rattle.proposal.proofs.Printed.{lines_length_lem, lines_more}
 use Rattle.rules.proofs.Sides.{abs_signed}
 
 -- Where a leg's line is booked, with the order as the code reads it.
@@ -30,17 +30,17 @@ deal_line o q p = record { member = o.member; contract = o.contract; side = o.si
 
 module _ (book places lots prices : List ℕ) where
   -- The lots of the legs from i on.
-  abbrev pub lotsFrom : ℕ → ℕ
-  lotsFrom i = total (λ j. get_or lots j 0) (from i (length places - i))
+  abbrev pub lots_from : ℕ → ℕ
+  lots_from i = total (λ j. get_or lots j 0) (from i (length places - i))
 
-  lots-first : (i : ℕ) → i < length places → lotsFrom i ≡ get_or lots i 0 + lotsFrom (i + 1)
+  lots_first : (i : ℕ) → i < length places → lots_from i ≡ get_or lots i 0 + lots_from (i + 1)
   unfolding total
-  lots-first i h = rw (from_next i (length places) h)
+  lots_first i h = rw (from_next i (length places) h)
 
   -- Tables in which the first i legs are booked.
   pub record LegsBooked (head₀ : List ℕ) (rows₀ value₀ lines₀ : List ℤ) (i : ℕ) (head : List ℕ) (rows value lines : List ℤ) : Type 0 where
-    pub able : Bookable (lotsFrom i) head rows value lines
-    pub same-members : members_in head ≡ members_in head₀
+    pub able : Bookable (lots_from i) head rows value lines
+    pub same_members : members_in head ≡ members_in head₀
     pub tables : (t : Tables) → with_head head (with_rows rows value (with_lines lines t))
         ≡ (booked (lines_to book places lots prices i) (with_head head₀ (with_rows rows₀ value₀ (with_lines lines₀ t)))).after
 
@@ -50,7 +50,7 @@ module _ (book places lots prices : List ℕ) where
     legs-start able =
         record {
           able = rw (sub-zero (length places)) able;
-          same-members = refl;
+          same_members = refl;
           tables = λ t. sym (ap (λ x. x.after) (booked_none (with_head head₀ (with_rows rows₀ value₀ (with_lines lines₀ t)))));
         }
 
@@ -64,10 +64,10 @@ module _ (book places lots prices : List ℕ) where
       same_line = ap (λ x. line_of (deal_line x (get_or lots i 0) (get_or prices i 0))) at
 
       sound : LineFit head (leg_line_at book places lots prices i)
-      sound = record { contract_below = order_fit.contract_below; member_below = rw done.same-members order_fit.member_below; most_price_holds = fit.most_price_holds i below }
+      sound = record { contract_below = order_fit.contract_below; member_below = rw done.same_members order_fit.member_below; most_price_holds = fit.most_price_holds i below }
 
       pub leg-takes : Bookable (get_or lots i 0) head rows value lines × (LineFit head (line_of (deal_line o (get_or lots i 0) (get_or prices i 0))) × (i < least_lines))
-      leg-takes = (less_room _ _ (omega (arith, lots-first i below)) done.able, (rw same_line sound, omega (arith, fit.most_legs_holds)))
+      leg-takes = (less_room _ _ (omega (arith, lots_first i below)) done.able, (rw same_line sound, omega (arith, fit.most_legs_holds)))
 
       pub legs-next : (head' : List ℕ) (rows' value' lines' : List ℤ)
           → ((t : Tables) → with_head head' (with_rows rows' value' (with_lines lines' t)) ≡ with_line i (line_of (deal_line o (get_or lots i 0) (get_or prices i 0)))
@@ -79,13 +79,13 @@ module _ (book places lots prices : List ℕ) where
           let says-line : (t : Tables) → with_head head' (with_rows rows' value' (with_lines lines' t)) ≡ with_line i l (with_head head (with_rows rows value (with_lines lines t)))
           = λ t. says t ∙ ap (λ x. with_line i x (with_head head (with_rows rows value (with_lines lines t)))) same_line in
           record {
-            able = subst (λ x. Bookable (lotsFrom (i + 1)) x.head x.lots x.value x.lines) (sym (says-line u))
-                (takes_line (lotsFrom (i + 1)) i l u (omega (arith, fit.most_legs_holds)) sound room);
-            same-members = ap (λ x. members_in x.head) (says-line u) ∙ line_members i l u ∙ done.same-members;
+            able = subst (λ x. Bookable (lots_from (i + 1)) x.head x.lots x.value x.lines) (sym (says-line u))
+                (takes_line (lots_from (i + 1)) i l u (omega (arith, fit.most_legs_holds)) sound room);
+            same_members = ap (λ x. members_in x.head) (says-line u) ∙ line_members i l u ∙ done.same_members;
             tables = λ t. says-line t ∙ ap (with_line i l) (done.tables t)
-                ∙ booked_more (lines_to book places lots prices i) l i (with_head head₀ (with_rows rows₀ value₀ (with_lines lines₀ t))) (sym (lines-length book places lots prices i)) long
+                ∙ booked_more (lines_to book places lots prices i) l i (with_head head₀ (with_rows rows₀ value₀ (with_lines lines₀ t))) (sym (lines_length_lem book places lots prices i)) long
                 ∙ ap (λ ls. (booked ls (with_head head₀ (with_rows rows₀ value₀ (with_lines lines₀ t)))).after) (lines_more book places lots prices i);
           }
         where
-          room : Bookable (nat_abs (signed (order_at book (get_or places i 0)).side (get_or lots i 0)) + lotsFrom (i + 1)) head rows value lines
-          room = rw (abs_signed (order_at book (get_or places i 0)).side (get_or lots i 0), ← lots-first i below) done.able
+          room : Bookable (nat_abs (signed (order_at book (get_or places i 0)).side (get_or lots i 0)) + lots_from (i + 1)) head rows value lines
+          room = rw (abs_signed (order_at book (get_or places i 0)).side (get_or lots i 0), ← lots_first i below) done.able

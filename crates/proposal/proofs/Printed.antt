@@ -19,16 +19,16 @@ use Rattle.proposal_check.proofs.Lists.{total_map}
 use Rattle.rules.proofs.Sides.{abs_signed}
 
 module _ (book places lots prices : List ℕ) where
-  pub lines-length : (n : ℕ) → length (lines_to book places lots prices n) ≡ n
-  lines-length n = length-map (from 0 n) (leg_line_at book places lots prices) ∙ from_length 0 n
+  pub lines_length_lem : (n : ℕ) → length (lines_to book places lots prices n) ≡ n
+  lines_length_lem n = length-map (from 0 n) (leg_line_at book places lots prices) ∙ from_length 0 n
 
   pub lines_more : (n : ℕ) → lines_to book places lots prices n ++ (leg_line_at book places lots prices n ∷ []) ≡ lines_to book places lots prices (n + 1)
   lines_more n = sym (rw (add-one n, from_more 0 n, map_append (leg_line_at book places lots prices) (from 0 n) ((0 + n) ∷ []), zero-add n))
 
   -- Each line is of its leg's lots.
-  pub lines-run : (n : ℕ) → line_run (lines_to book places lots prices n) ≡ total (λ i. get_or lots i 0) (from 0 n)
+  pub lines_run : (n : ℕ) → line_run (lines_to book places lots prices n) ≡ total (λ i. get_or lots i 0) (from 0 n)
   unfolding line_run
-  lines-run n =
+  lines_run n =
       total_map (λ l. nat_abs l.lots) (leg_line_at book places lots prices) (from 0 n)
       ∙ total_same _ (λ i. get_or lots i 0) 0 n (λ i _ _. abs_signed (order_at book (get_or places i 0)).side (get_or lots i 0))
 

@@ -12,7 +12,7 @@ use lib.Seq.{length-take-le}
 use borrow.Author.Tests.{eqb-true, eqb-false, eq-eqb, ne_eqb, le-leb, lt-leb, not-true}
 use Rattle.arith.specs.Lists.{All, any, from}
 use Rattle.arith.proofs.Tests.{by_bool, true_or, same_or, le_or_lt, and_left, and_right, or_left, or_right}
-use Rattle.arith.proofs.Writes.{again-long, again-front, again-many}
+use Rattle.arith.proofs.Writes.{again_long, again_front, again_many}
 use Rattle.arith.proofs.Appends.{from_more, map_append, map_at}
 use Rattle.rules.specs.declared.event.Leg.{Leg}
 use Rattle.rules.specs.declared.order.Order.{Order}
@@ -93,11 +93,11 @@ legs_more numbers lots prices n = rw (from_more 0 n, map_append (column_leg numb
 
 module _ (count : ℕ) (book numbers lots prices : List ℕ) (each : All (λ o. 1 ≤ o.lots.0) (orders_in count book)) (apart : distinct (map (λ o. o.number) (orders_in count book)) ≡ true)
     (places : List ℕ) (at : places ≡ places_of count book numbers) (fit : PlacesFit count places) where
-  taken-to : (n : ℕ) → n ≤ length numbers
+  taken_to : (n : ℕ) → n ≤ length numbers
       → left_over (left_after places lots n (order_lots count book)) (orders_in count book) ≡ used_by_legs (map (column_leg numbers lots prices) (from 0 n)) (orders_in count book)
   unfolding left_after used_by_legs from
-  taken-to zero h = left_all (orders_in count book) each
-  taken-to (suc n) h =
+  taken_to zero h = left_all (orders_in count book) each
+  taken_to (suc n) h =
       let os = orders_in count book in
       let q = get_or lots n 0 in
       let left = left_after places lots n (order_lots count book) in
@@ -110,22 +110,22 @@ module _ (count : ℕ) (book numbers lots prices : List ℕ) (each : All (λ o. 
       let step : left_over (set left (get_or places n 0) (get_or left (get_or places n 0) 0 - q)) os ≡ used number q (left_over left os)
       = rw place (used_left number q left os long apart (omega (arith, place, below, orders_length book count))) in
       step
-      ∙ ap (used number q) (taken-to n (omega arith))
+      ∙ ap (used number q) (taken_to n (omega arith))
       ∙ sym (ap (λ gs. used_by_legs gs os) (legs_more numbers lots prices n) ∙ used_more legs (column_leg numbers lots prices n) os)
 
-  pub taken-columns : left_over (left_after places lots (length places) (order_lots count book)) (orders_in count book) ≡ used_by_legs (column_legs numbers lots prices) (orders_in count book)
+  pub taken_columns : left_over (left_after places lots (length places) (order_lots count book)) (orders_in count book) ≡ used_by_legs (column_legs numbers lots prices) (orders_in count book)
   unfolding column_legs
-  taken-columns =
+  taken_columns =
       let many : length places ≡ length numbers = ap length at ∙ length-map numbers (λ x. place_of x (orders_in count book)) in
-      rw many (taken-to (length numbers) (omega arith))
+      rw many (taken_to (length numbers) (omega arith))
 
 -- ---- the lots of each order
 module _ (n : ℕ) (book : List ℕ) where
   pub lots_length : length (order_lots n book) ≡ n
   lots_length = length-map (orders_in n book) (λ o. o.lots.0) ∙ orders_length book n
 
-  pub lots-at : (i : ℕ) → i < n → get_or (order_lots n book) i 0 ≡ (order_at book i).lots.0
-  lots-at i h = map_at (λ o. o.lots.0) (orders_in n book) i (order_at book i) 0 (omega (arith, orders_length book n)) ∙ ap (λ o. o.lots.0) (order_there n book i (order_at book i) h)
+  pub lots_at_lem : (i : ℕ) → i < n → get_or (order_lots n book) i 0 ≡ (order_at book i).lots.0
+  lots_at_lem i h = map_at (λ o. o.lots.0) (orders_in n book) i (order_at book i) 0 (omega (arith, orders_length book n)) ∙ ap (λ o. o.lots.0) (order_there n book i (order_at book i) h)
 
 pub after_next : (places lots : List ℕ) (n : ℕ) (left now : List ℕ) (r : ℕ) → now ≡ left_after places lots n left → r ≡ get_or now (get_or places n 0) 0 - get_or lots n 0
     → set now (get_or places n 0) r ≡ left_after places lots (n + 1) left
@@ -137,11 +137,11 @@ module _ (places lots : List ℕ) (k n : ℕ) (ys l book : List ℕ) (fits : n �
   as_lent : length ys ≡ length (take n l)
   as_lent = ap length e ∙ after_length places lots k (order_lots (length (take n l)) book) ∙ lots_length (length (take n l)) book
 
-  pub left-long : n ≤ length (ys ++ drop n l)
-  left-long = again-long n ys l as_lent fits
+  pub left_long : n ≤ length (ys ++ drop n l)
+  left_long = again_long n ys l as_lent fits
 
-  pub left-many : n ≡ length (take n (ys ++ drop n l))
-  left-many = again-many n ys l as_lent fits
+  pub left_many : n ≡ length (take n (ys ++ drop n l))
+  left_many = again_many n ys l as_lent fits
 
-  pub left-front : take n (ys ++ drop n l) ≡ left_after places lots k (order_lots n book)
-  left-front = again-front n ys l as_lent fits ∙ e ∙ ap (λ m. left_after places lots k (order_lots m book)) (length-take-le n l fits)
+  pub left_front : take n (ys ++ drop n l) ≡ left_after places lots k (order_lots n book)
+  left_front = again_front n ys l as_lent fits ∙ e ∙ ap (λ m. left_after places lots k (order_lots m book)) (length-take-le n l fits)

@@ -10,7 +10,7 @@ use borrow.Author.Tests.{eq-eqb}
 use Rattle.arith.specs.Lists.{every, any, total, from, all_of}
 use Rattle.arith.proofs.Overs.{zip_at}
 use Rattle.arith.proofs.Tests.{and_false, and_true}
-use Rattle.arith.proofs.Scans.{every_both, every-same}
+use Rattle.arith.proofs.Scans.{every_both, every_same}
 use Rattle.arith.proofs.Totals.{total_same}
 use Rattle.rules.specs.declared.order.Order.{Order}
 use Rattle.rules.specs.declared.order.Side.{Side}
@@ -26,7 +26,7 @@ use Rattle.tables.specs.Fit.{HeadFit, BookFit, order_count_in, orders_in}
 use Rattle.proposal_check.specs.Columns.{LegsFit, PlacesFit, ContractsFit, column_leg, column_legs, place_of, places_of}
 use Rattle.proposal_check.specs.Columns.{named_at, named_to, counts_at, in_month, balanced_months, is_before, is_ahead, is_full_leg}
 use Rattle.proposal_check.proofs.Lists.{map_places, any_map, total_map, every_same_from}
-use Rattle.proposal_check.proofs.Named.{columns_orders, named-columns, not_named, found_fit, places_wider, contracts_fit}
+use Rattle.proposal_check.proofs.Named.{columns_orders, named_columns, not_named, found_fit, places_wider, contracts_fit}
 use Rattle.proposal_check.proofs.Together.{two_first, hour_month, before, priority_orders}
 
 two_mapped : (f : Named → ℕ) (h : ℕ → Named) (n : ℕ) → 1 ≤ n → two_occur f (map h (from 0 n)) ≡ any (λ x. not (eqb (f x) (f (h 0)))) (map h (from 0 n))
@@ -42,13 +42,13 @@ module _ (book places numbers lots prices : List ℕ) (fit : LegsFit (length num
   ns = named_to book places numbers lots prices
 
   -- A test of the places is a test of the legs.
-  any-places : (p : ℕ → Bool) → any p places ≡ any (λ i. p (get_or places i 0)) (from 0 (length numbers))
-  any-places p = ap (any p) (sym (map_places places)) ∙ any_map p (λ i. get_or places i 0) (from 0 (length places)) ∙ ap (λ n. any (λ i. p (get_or places i 0)) (from 0 n)) as_many
+  any_places : (p : ℕ → Bool) → any p places ≡ any (λ i. p (get_or places i 0)) (from 0 (length numbers))
+  any_places p = ap (any p) (sym (map_places places)) ∙ any_map p (λ i. get_or places i 0) (from 0 (length places)) ∙ ap (λ n. any (λ i. p (get_or places i 0)) (from 0 n)) as_many
 
   -- ---- at least two members, two contracts
-  pub two-columns : (f : Order → ℕ) → any (λ p. not (eqb (f (order_at book p)) (f (order_at book (get_or places 0 0))))) places ≡ two_occur (λ n. f n.order) ns
-  two-columns f =
-      any-places (λ p. not (eqb (f (order_at book p)) (f (order_at book (get_or places 0 0)))))
+  pub two_columns : (f : Order → ℕ) → any (λ p. not (eqb (f (order_at book p)) (f (order_at book (get_or places 0 0))))) places ≡ two_occur (λ n. f n.order) ns
+  two_columns f =
+      any_places (λ p. not (eqb (f (order_at book p)) (f (order_at book (get_or places 0 0)))))
       ∙ sym (two_mapped (λ n. f n.order) named (length numbers) (omega (arith, fit.least_legs_holds))
       ∙ any_map (λ x. not (eqb (f x.order) (f (named 0).order))) named (from 0 (length numbers)))
 
@@ -70,9 +70,9 @@ module _ (book places numbers lots prices : List ℕ) (fit : LegsFit (length num
         every_same_from (λ m. eqb (in_hour k f Buy (24 * month_start (first_month k + m)) ns) (in_hour k f Sell (24 * month_start (first_month k + m)) ns))
         (λ m. eqb (in_month book places amounts Buy m) (in_month book places amounts Sell m)) 0 months_in_span (λ m l. rw (month-columns Buy m l, month-columns Sell m l))
 
-  pub balanced-columns : (k : Calendar) → balanced_months book places lots && balanced_months book places (zip_with (λ q p. q * p) lots prices) ≡ balanced k ns
+  pub balanced_columns : (k : Calendar) → balanced_months book places lots && balanced_months book places (zip_with (λ q p. q * p) lots prices) ≡ balanced k ns
   unfolding balanced balanced_in_hour
-  balanced-columns k =
+  balanced_columns k =
       let values = zip_with (λ q p. q * p) lots prices in
       let worth : (i : ℕ) → i < length numbers → get_or values i 0 ≡ leg_value (named i)
       = λ i h. zip_at (λ q p. q * p) lots prices i 0 (omega (arith, fit.lots_length)) (omega (arith, fit.prices_length_holds)) in
@@ -82,15 +82,15 @@ module _ (book places numbers lots prices : List ℕ) (fit : LegsFit (length num
   -- ---- priority
   ahead : (o : Order) → is_ahead book places o ≡ any (before o) ns
   unfolding is_ahead
-  ahead o = any-places (λ p. is_before o (order_at book p)) ∙ sym (any_map (before o) named (from 0 (length numbers)))
+  ahead o = any_places (λ p. is_before o (order_at book p)) ∙ sym (any_map (before o) named (from 0 (length numbers)))
 
   full : (o : Order) → is_full_leg numbers lots o ≡ in_full ns o
   unfolding is_full_leg in_full
   full o = sym (any_map (λ n. eqb n.leg.order o.number && eqb n.leg.lots.0 o.lots.0) named (from 0 (length numbers)))
 
-  pub priority-columns : (os : List Order) → every (λ o. not (is_ahead book places o) || is_full_leg numbers lots o) os ≡ every (priority_kept os ns) ns
-  priority-columns os =
-      every-same (λ o. not (is_ahead book places o) || is_full_leg numbers lots o) (λ o. not (any (before o) ns) || in_full ns o) (λ o. rw (ahead o, full o)) os
+  pub priority_columns : (os : List Order) → every (λ o. not (is_ahead book places o) || is_full_leg numbers lots o) os ≡ every (priority_kept os ns) ns
+  priority_columns os =
+      every_same (λ o. not (is_ahead book places o) || is_full_leg numbers lots o) (λ o. not (any (before o) ns) || in_full ns o) (λ o. rw (ahead o, full o)) os
       ∙ sym (priority_orders os ns)
 
 -- ---- all of them
@@ -111,19 +111,19 @@ second_fails a h m c p b k = and_false a
 module _ (t : Tables) (count : ℕ) (book places numbers lots prices : List ℕ) (fit : LegsFit (length numbers) lots prices) (same : orders t ≡ orders_in count book)
     (at : places ≡ places_of count book numbers) where
   -- Where a leg names no resting order the proposal is not acceptable.
-  pub acceptable-not : every (λ p. ltb p count) places ≡ false → acceptable t (column_legs numbers lots prices) ≡ false
+  pub acceptable_not : every (λ p. ltb p count) places ≡ false → acceptable t (column_legs numbers lots prices) ≡ false
   unfolding acceptable
-  acceptable-not e =
+  acceptable_not e =
       rw (same, not_named count book numbers lots prices (ap (every (λ p. ltb p count)) (sym at) ∙ e)) (second_fails _ _ _ _ _ _ _)
 
-  pub places-many : length places ≡ length numbers
-  places-many = ap length at ∙ length-map numbers (λ n. place_of n (orders_in count book))
+  pub places_many : length places ≡ length numbers
+  places_many = ap length at ∙ length-map numbers (λ n. place_of n (orders_in count book))
 
   module _ (found : every (λ p. ltb p count) places ≡ true) where
     pub places-named : named_legs (orders_in count book) (column_legs numbers lots prices) ≡ named_to book places numbers lots prices
     places-named =
         subst (λ ps. every (λ p. ltb p count) ps ≡ true → named_legs (orders_in count book) (column_legs numbers lots prices) ≡ named_to book ps numbers lots prices) (sym at)
-        (named-columns count book numbers lots prices) found
+        (named_columns count book numbers lots prices) found
 
     all_named : length (named_to book places numbers lots prices) ≡ length (column_legs numbers lots prices)
     unfolding column_legs

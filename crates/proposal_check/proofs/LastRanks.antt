@@ -9,7 +9,7 @@ use lib.ListN.{length, get_or, set, drop, replicate, length-replicate, get_or-re
 use lib.Seq.{get_or-set_same, get_or-set_other}
 use borrow.Author.Tests.{lt-ltb, le-ltb, eq-eqb, ne_eqb}
 use Rattle.arith.specs.Lists.{any, every, from}
-use Rattle.arith.proofs.Tests.{same_or, le_or_lt, and_false, or_false, any_next, any-end}
+use Rattle.arith.proofs.Tests.{same_or, le_or_lt, and_false, or_false, any_next, any_end}
 use Rattle.arith.proofs.Scans.{every_map}
 use Rattle.rules.specs.declared.order.Order.{Order}
 use Rattle.rules.specs.declared.order.Side.{Side}
@@ -39,12 +39,12 @@ module _ (book places : List ℕ) where
     pub long : length lasts ≡ side_places
     pub last : (k x : ℕ) → k < side_places → ltb x (get_or lasts k 0) || any (is_behind book k x) (drop i places) ≡ any (is_behind book k x) places
 
-  pub lasts-start : LastRanksTo 0 (replicate side_places 0)
-  lasts-start = record { long = length-replicate {A = ℕ} side_places 0; last = λ k x h. rw (get_or-replicate {A = ℕ} side_places k 0 0 h, le-ltb x 0 (omega arith)) }
+  pub lasts_start : LastRanksTo 0 (replicate side_places 0)
+  lasts_start = record { long = length-replicate {A = ℕ} side_places 0; last = λ k x h. rw (get_or-replicate {A = ℕ} side_places k 0 0 h, le-ltb x 0 (omega arith)) }
 
-  pub lasts-next : (i at r : ℕ) (lasts : List ℕ) → LastRanksTo i lasts → i < length places → at ≡ side_place_of (order_at book (get_or places i 0)) → at < side_places
+  pub lasts_next : (i at r : ℕ) (lasts : List ℕ) → LastRanksTo i lasts → i < length places → at ≡ side_place_of (order_at book (get_or places i 0)) → at < side_places
       → r ≡ rank_of (order_at book (get_or places i 0)) → LastRanksTo (i + 1) (set lasts at (max (get_or lasts at 0) r))
-  lasts-next i at r lasts s h e b f =
+  lasts_next i at r lasts s h e b f =
       record {
         long = length-set lasts at _ ∙ s.long;
         last = λ k x l. ap (λ t. t || any (is_behind book k x) (drop (i + 1) places)) (grown k x) ∙ any_next (is_behind book k x) places 0 i (ltb x (get_or lasts k 0)) (s.last k x l) h;
@@ -57,8 +57,8 @@ module _ (book places : List ℕ) where
           (λ d. rw (eq-eqb at k d, ← d, get_or-set_same lasts at (max (get_or lasts at 0) r) 0 (omega (arith, s.long))) (below_larger x (get_or lasts at 0) r))
           (λ d. rw (ne_eqb at k d, get_or-set_other lasts at k (max (get_or lasts at 0) r) 0 (λ c. d (sym c))) (sym (or_false (ltb x (get_or lasts k 0))))))
 
-  pub lasts-end : (i : ℕ) (lasts : List ℕ) → LastRanksTo i lasts → length places ≤ i → LastRanks book places lasts
-  lasts-end i lasts s h = record { long = s.long; last = λ k x l. any-end (is_behind book k x) places 0 i (ltb x (get_or lasts k 0)) (s.last k x l) h }
+  pub lasts_end : (i : ℕ) (lasts : List ℕ) → LastRanksTo i lasts → length places ≤ i → LastRanks book places lasts
+  lasts_end i lasts s h = record { long = s.long; last = λ k x l. any_end (is_behind book k x) places 0 i (ltb x (get_or lasts k 0)) (s.last k x l) h }
 
 -- ---- order by order
 any_at : (p q : ℕ → Bool) (l : List ℕ) → ((i : ℕ) → i < length l → p (get_or l i 0) ≡ q (get_or l i 0)) → any p l ≡ any q l
@@ -77,8 +77,8 @@ before_behind o b f g = rw (place_same b.contract o.contract b.side o.side) (go 
     go Sell Sell e = rw (e refl)
 
 module _ (count : ℕ) (book places : List ℕ) (fit : OrdersRanked count book) (there : PlacesFit count places) where
-  pub legs-ranked : LegsRanked book places
-  legs-ranked =
+  pub legs_ranked : LegsRanked book places
+  legs_ranked =
       record {
         long = fit.long;
         below = λ i h. omega (arith, there.below i h, fit.most_orders_holds);
@@ -91,7 +91,7 @@ module _ (count : ℕ) (book places : List ℕ) (fit : OrdersRanked count book) 
     unfolding is_ahead
     ahead-last o f h =
         s.last (side_place_of o) (rank_of o) h
-        ∙ sym (any_at _ _ places (λ i k. before_behind o (order_at book (get_or places i 0)) f (legs-ranked.ranked i k)))
+        ∙ sym (any_at _ _ places (λ i k. before_behind o (order_at book (get_or places i 0)) f (legs_ranked.ranked i k)))
 
     pub kept-last : (orders lots : List ℕ) → every (kept_by lasts orders lots) (orders_in count book) ≡ every (λ o. not (is_ahead book places o) || is_full_leg orders lots o) (orders_in count book)
     kept-last orders lots =
@@ -102,11 +102,11 @@ module _ (count : ℕ) (book places : List ℕ) (fit : OrdersRanked count book) 
         ∙ sym (every_map _ (order_at book) (from 0 count))
 
 module _ (lasts orders lots : List ℕ) (o : Order) (at r : ℕ) (e : at ≡ side_place_of o) (f : r ≡ rank_of o) where
-  pub kept-behind : get_or lasts at 0 ≤ r → true ≡ kept_by lasts orders lots o
-  kept-behind h = rw (← e, ← f, le-ltb r (get_or lasts at 0) h)
+  pub kept_behind : get_or lasts at 0 ≤ r → true ≡ kept_by lasts orders lots o
+  kept_behind h = rw (← e, ← f, le-ltb r (get_or lasts at 0) h)
 
-  pub kept-ahead : r < get_or lasts at 0 → is_full_leg orders lots o ≡ kept_by lasts orders lots o
-  kept-ahead h = rw (← e, ← f, lt-ltb r (get_or lasts at 0) h)
+  pub kept_ahead : r < get_or lasts at 0 → is_full_leg orders lots o ≡ kept_by lasts orders lots o
+  kept_ahead h = rw (← e, ← f, lt-ltb r (get_or lasts at 0) h)
 
 -- What tables that passed their tests give.
 pub orders_ranked : (head book : List ℕ) → HeadFit head → BookFit head book → OrdersRanked (order_count_in head) book

@@ -6,7 +6,7 @@ use mathlib.Core.List.{List, map}
 use lib.Dec.{eqb, leb}
 use lib.ListN.{length, get_or, length-map, get_or-map}
 use borrow.Author.Tests.{leb-true, eqb-true}
-use Rattle.arith.proofs.Alls.{all-place}
+use Rattle.arith.proofs.Alls.{all_place}
 use Rattle.arith.specs.Lists.{every}
 use Rattle.arith.proofs.Tests.{and_left, and_right}
 use Rattle.arith.proofs.Runs.{run_of}
@@ -43,15 +43,15 @@ module _ (legs : List Leg) where
   at_place : (f : Leg → ℕ) (i : ℕ) → f no_leg ≡ 0 → get_or (map f legs) i 0 ≡ f (get_or legs i no_leg)
   at_place f i z = ap (λ d. get_or (map f legs) i d) (sym z) ∙ get_or-map f legs i no_leg
 
-  pub columns-are : column_legs (map order_of legs) (map lots_of legs) (map price_of legs) ≡ legs
+  pub columns_are : column_legs (map order_of legs) (map lots_of legs) (map price_of legs) ≡ legs
   unfolding column_legs
-  columns-are = rw (length-map legs order_of) (run_of (column_leg (map order_of legs) (map lots_of legs) (map price_of legs)) legs no_leg row)
+  columns_are = rw (length-map legs order_of) (run_of (column_leg (map order_of legs) (map lots_of legs) (map price_of legs)) legs no_leg row)
     where
       row : (i : ℕ) → i < length legs → column_leg (map order_of legs) (map lots_of legs) (map price_of legs) i ≡ get_or legs i no_leg
       row i l = rw (at_place order_of i refl, at_place lots_of i refl, at_place price_of i refl) refl
 
-  pub columns-fit : (n k : ℕ) → event_sound n (Proposal k) legs ≡ true → LegsFit (length (map order_of legs)) (map lots_of legs) (map price_of legs)
-  columns-fit n k sound =
+  pub columns_fit : (n k : ℕ) → event_sound n (Proposal k) legs ≡ true → LegsFit (length (map order_of legs)) (map lots_of legs) (map price_of legs)
+  columns_fit n k sound =
       let size = length-map legs order_of in
       record {
         least_legs_holds = rw (size, (counted n k legs sound).1) (counted n k legs sound).0;
@@ -65,7 +65,7 @@ module _ (legs : List Leg) where
       }
     where
       leg : (i : ℕ) → i < length legs → leg_sound (get_or legs i no_leg) ≡ true
-      leg i h = all-place (λ g. leg_sound g ≡ true) no_leg legs (proposal n k legs sound).each i h
+      leg i h = all_place (λ g. leg_sound g ≡ true) no_leg legs (proposal n k legs sound).each i h
 
       leg-lots : (i : ℕ) → i < length legs → InRange 1 (lots_of (get_or legs i no_leg)) most_lots
       leg-lots i h =

@@ -41,8 +41,8 @@ any_map p f (x ∷ l) = rw (any_map p f l)
 
 -- ---- whether one of the numbers from i up to n passes
 module _ (p : ℕ → Bool) (n : ℕ) where
-  pub one-start : any p (from 0 (n - 0)) ≡ any p (from 0 n)
-  one-start = rw (sub-zero n)
+  pub one_start : any p (from 0 (n - 0)) ≡ any p (from 0 n)
+  one_start = rw (sub-zero n)
 
   module _ (i : ℕ) (found one : Bool) (known : found || any p (from i (n - i)) ≡ one) where
     pub one-next : i < n → (found || p i) || any p (from (i + 1) (n - (i + 1))) ≡ one
@@ -55,9 +55,9 @@ module _ (p : ℕ → Bool) (n : ℕ) where
 
 -- ---- what the numbers from i up to n are mapped to
 module _ {A : Type 0} (f : ℕ → A) (p : A → Bool) (n i : ℕ) (ok all : Bool) (known : ok && every p (map f (from i (n - i))) ≡ all) where
-  pub all-next : i < n → (ok && p (f i)) && every p (map f (from (i + 1) (n - (i + 1)))) ≡ all
+  pub all_next : i < n → (ok && p (f i)) && every p (map f (from (i + 1) (n - (i + 1)))) ≡ all
   unfolding every
-  all-next h = and_assoc ok (p (f i)) (every p (map f (from (i + 1) (n - (i + 1))))) ∙ rw (from_next i n h) at known
+  all_next h = and_assoc ok (p (f i)) (every p (map f (from (i + 1) (n - (i + 1))))) ∙ rw (from_next i n h) at known
 
   pub all_end : n ≤ i → ok ≡ all
   unfolding every

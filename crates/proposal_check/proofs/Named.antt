@@ -10,11 +10,11 @@ use lib.Dec.{eqb, leb, ltb}
 use lib.ListN.{length, get_or, take, drop, length-map}
 use lib.Seq.{length-take-le}
 use borrow.Author.Tests.{ltb-true, ltb-false, eq-eqb, ne_eqb}
-use Rattle.arith.proofs.Alls.{every-all, all-place}
+use Rattle.arith.proofs.Alls.{every_all, all_place}
 use Rattle.arith.specs.Lists.{every, from}
 use Rattle.arith.proofs.Tests.{by_bool, true_or, le_or_lt, and_left, and_right, never}
 use Rattle.arith.proofs.Appends.{from_length, map_at, from_at}
-use Rattle.arith.proofs.Writes.{again-long, again-front, again-many}
+use Rattle.arith.proofs.Writes.{again_long, again_front, again_many}
 use Rattle.arith.proofs.Scans.{from_next, from_end, every_map, map-map}
 use Rattle.rules.specs.declared.event.Leg.{Leg}
 use Rattle.rules.specs.declared.order.Order.{Order}
@@ -46,9 +46,9 @@ module _ (n : ℕ) (b : List ℕ) (count i all : ℕ) (known : i + place_of n (m
   unfolding place_of
   place_here h e = sym (add-zero i) ∙ rw (from_next i count h, eq-eqb (order_at b i).number n e) at known
 
-  pub place-next : i < count → ((order_at b i).number ≡ n → ⊥) → i + 1 + place_of n (map (order_at b) (from (i + 1) (count - (i + 1)))) ≡ all
+  pub place_next : i < count → ((order_at b i).number ≡ n → ⊥) → i + 1 + place_of n (map (order_at b) (from (i + 1) (count - (i + 1)))) ≡ all
   unfolding place_of
-  place-next h d = omega (arith, rw (from_next i count h, ne_eqb (order_at b i).number n d) at known)
+  place_next h d = omega (arith, rw (from_next i count h, ne_eqb (order_at b i).number n d) at known)
 
   pub place_end : count ≤ i → i ≡ all
   unfolding place_of
@@ -57,43 +57,43 @@ module _ (n : ℕ) (b : List ℕ) (count i all : ℕ) (known : i + place_of n (m
 -- ---- all legs
 module _ (os : List Order) (z : Order) where
   -- Whether the leg names a resting order.
-  abbrev pub isFound : Leg → Bool
-  isFound g = ltb (place_of g.order os) (length os)
+  abbrev pub is_found : Leg → Bool
+  is_found g = ltb (place_of g.order os) (length os)
 
   named_here : (g : Leg) (gs : List Leg) → place_of g.order os < length os
       → named_legs os (g ∷ gs) ≡ record { leg = g; order = get_or os (place_of g.order os) z } ∷ named_legs os gs
   unfolding named_legs
   named_here g gs h = rw (numbered_found g.order os z h, named_legs)
 
-  named-next : (g : Leg) (gs : List Leg) → length os ≤ place_of g.order os → named_legs os (g ∷ gs) ≡ named_legs os gs
+  named_next : (g : Leg) (gs : List Leg) → length os ≤ place_of g.order os → named_legs os (g ∷ gs) ≡ named_legs os gs
   unfolding named_legs
-  named-next g gs h = rw (numbered_none g.order os h, named_legs)
+  named_next g gs h = rw (numbered_none g.order os h, named_legs)
 
-  pub named-all : (legs : List Leg) → every isFound legs ≡ true → named_legs os legs ≡ map (λ g. record { leg = g; order = get_or os (place_of g.order os) z }) legs
+  pub named_all : (legs : List Leg) → every is_found legs ≡ true → named_legs os legs ≡ map (λ g. record { leg = g; order = get_or os (place_of g.order os) z }) legs
   unfolding named_legs every
-  named-all [] e = refl
-  named-all (g ∷ gs) e =
-      named_here g gs (ltb-true _ _ (and_left (isFound g) (every isFound gs) e))
-      ∙ ap (λ ns. record { leg = g; order = get_or os (place_of g.order os) z } ∷ ns) (named-all gs (and_right (isFound g) (every isFound gs) e))
+  named_all [] e = refl
+  named_all (g ∷ gs) e =
+      named_here g gs (ltb-true _ _ (and_left (is_found g) (every is_found gs) e))
+      ∙ ap (λ ns. record { leg = g; order = get_or os (place_of g.order os) z } ∷ ns) (named_all gs (and_right (is_found g) (every is_found gs) e))
 
-  named-most : (legs : List Leg) → length (named_legs os legs) ≤ length legs
+  named_most : (legs : List Leg) → length (named_legs os legs) ≤ length legs
   unfolding named_legs
-  named-most [] = omega arith
-  named-most (g ∷ gs) =
-      le_or_lt (length os) (place_of g.order os) (λ l. rw (named-next g gs l) (omega (arith, named-most gs)))
-      (λ l. rw (named_here g gs l) (omega (arith, named-most gs)))
+  named_most [] = omega arith
+  named_most (g ∷ gs) =
+      le_or_lt (length os) (place_of g.order os) (λ l. rw (named_next g gs l) (omega (arith, named_most gs)))
+      (λ l. rw (named_here g gs l) (omega (arith, named_most gs)))
 
-  named-fewer : (legs : List Leg) → every isFound legs ≡ false → length (named_legs os legs) < length legs
+  named_fewer : (legs : List Leg) → every is_found legs ≡ false → length (named_legs os legs) < length legs
   unfolding named_legs every
-  named-fewer [] e = never e
-  named-fewer (g ∷ gs) e =
-      true_or (isFound g)
-      (λ t. rw (named_here g gs (ltb-true _ _ t)) (omega (arith, named-fewer gs (rw t at e))))
-      (λ t. rw (named-next g gs (ltb-false _ _ t)) (omega (arith, named-most gs)))
+  named_fewer [] e = never e
+  named_fewer (g ∷ gs) e =
+      true_or (is_found g)
+      (λ t. rw (named_here g gs (ltb-true _ _ t)) (omega (arith, named_fewer gs (rw t at e))))
+      (λ t. rw (named_next g gs (ltb-false _ _ t)) (omega (arith, named_most gs)))
 
   -- A leg that names no resting order.
-  pub named-not : (legs : List Leg) → every isFound legs ≡ false → eqb (length (named_legs os legs)) (length legs) ≡ false
-  named-not legs e = ne_eqb (length (named_legs os legs)) (length legs) (λ same. omega (arith, named-fewer legs e))
+  pub named_not : (legs : List Leg) → every is_found legs ≡ false → eqb (length (named_legs os legs)) (length legs) ≡ false
+  named_not legs e = ne_eqb (length (named_legs os legs)) (length legs) (λ same. omega (arith, named_fewer legs e))
 
 -- ---- legs as columns
 pub columns_orders : (orders lots prices : List ℕ) → map (λ g. g.order) (column_legs orders lots prices) ≡ orders
@@ -106,7 +106,7 @@ order_there count book p z h =
 
 -- Where each leg names a resting order, its place is that of an order.
 pub found_fit : (count : ℕ) (places : List ℕ) → every (λ p. ltb p count) places ≡ true → PlacesFit count places
-found_fit count places e = record { below = λ i h. ltb-true _ count (all-place (λ p. ltb p count ≡ true) 0 places (every-all (λ p. ltb p count) places e) i h) }
+found_fit count places e = record { below = λ i h. ltb-true _ count (all_place (λ p. ltb p count ≡ true) 0 places (every_all (λ p. ltb p count) places e) i h) }
 
 pub places_wider : (a b : ℕ) (places : List ℕ) → a ≤ b → PlacesFit a places → PlacesFit b places
 places_wider a b places h f = record { below = λ i k. omega (arith, f.below i k) }
@@ -121,47 +121,47 @@ module _ (count : ℕ) (book orders lots prices : List ℕ) where
   abbrev os : List Order
   os = orders_in count book
 
-  abbrev placesIn : List ℕ
-  placesIn = places_of count book orders
+  abbrev places_in : List ℕ
+  places_in = places_of count book orders
 
-  found-same : every (λ p. ltb p count) placesIn ≡ every (isFound os (order_at book 0)) legs
-  found-same =
+  found_same : every (λ p. ltb p count) places_in ≡ every (is_found os (order_at book 0)) legs
+  found_same =
       every_map (λ p. ltb p count) (λ n. place_of n os) orders
       ∙ ap (every (λ n. ltb (place_of n os) count)) (sym (columns_orders orders lots prices))
       ∙ every_map (λ n. ltb (place_of n os) count) (λ g. g.order) legs
       ∙ ap (λ n. every (λ g. ltb (place_of g.order os) n) legs) (sym (orders_length book count))
 
-  place_at : (i : ℕ) → i < length orders → get_or placesIn i 0 ≡ place_of (get_or orders i 0) os
+  place_at : (i : ℕ) → i < length orders → get_or places_in i 0 ≡ place_of (get_or orders i 0) os
   place_at i h = map_at (λ n. place_of n os) orders i 0 0 h
 
-  order-at : (i : ℕ) → every (λ p. ltb p count) placesIn ≡ true → i < length orders → get_or os (place_of (get_or orders i 0) os) (order_at book 0) ≡ order_at book (get_or placesIn i 0)
-  order-at i e h =
-      let below = (found_fit count placesIn e).below i (omega (arith, length-map orders (λ n. place_of n os))) in
-      rw (← place_at i h) (order_there count book (get_or placesIn i 0) (order_at book 0) below)
+  order_at_lem : (i : ℕ) → every (λ p. ltb p count) places_in ≡ true → i < length orders → get_or os (place_of (get_or orders i 0) os) (order_at book 0) ≡ order_at book (get_or places_in i 0)
+  order_at_lem i e h =
+      let below = (found_fit count places_in e).below i (omega (arith, length-map orders (λ n. place_of n os))) in
+      rw (← place_at i h) (order_there count book (get_or places_in i 0) (order_at book 0) below)
 
-  pub named-columns : every (λ p. ltb p count) placesIn ≡ true → named_legs os legs ≡ named_to book placesIn orders lots prices
+  pub named_columns : every (λ p. ltb p count) places_in ≡ true → named_legs os legs ≡ named_to book places_in orders lots prices
   unfolding column_legs
-  named-columns e =
-      named-all os (order_at book 0) legs (sym found-same ∙ e)
+  named_columns e =
+      named_all os (order_at book 0) legs (sym found_same ∙ e)
       ∙ map-map (λ g. record { leg = g; order = get_or os (place_of g.order os) (order_at book 0) }) (column_leg orders lots prices) (from 0 (length orders))
-      ∙ map_from _ _ 0 (length orders) (λ i l u. ap (λ o. record { leg = column_leg orders lots prices i; order = o }) (order-at i e (omega arith)))
+      ∙ map_from _ _ 0 (length orders) (λ i l u. ap (λ o. record { leg = column_leg orders lots prices i; order = o }) (order_at_lem i e (omega arith)))
 
-  pub not_named : every (λ p. ltb p count) placesIn ≡ false → eqb (length (named_legs os legs)) (length legs) ≡ false
-  not_named e = named-not os (order_at book 0) legs (sym found-same ∙ e)
+  pub not_named : every (λ p. ltb p count) places_in ≡ false → eqb (length (named_legs os legs)) (length legs) ≡ false
+  not_named e = named_not os (order_at book 0) legs (sym found_same ∙ e)
 
 -- the column of places as it is lent: the first places of an array
 module _ (count : ℕ) (book numbers ys l : List ℕ) (e : ys ≡ places_of count book numbers) (room : length numbers ≤ length l) where
   as_lent : length ys ≡ length (take (length numbers) l)
   as_lent = ap length e ∙ length-map numbers (λ n. place_of n (orders_in count book)) ∙ sym (length-take-le (length numbers) l room)
 
-  pub places-long : length numbers ≤ length (ys ++ drop (length numbers) l)
-  places-long = again-long (length numbers) ys l as_lent room
+  pub places_long : length numbers ≤ length (ys ++ drop (length numbers) l)
+  places_long = again_long (length numbers) ys l as_lent room
 
-  pub places-as-many : length numbers ≡ length (take (length numbers) (ys ++ drop (length numbers) l))
-  places-as-many = again-many (length numbers) ys l as_lent room
+  pub places_as_many : length numbers ≡ length (take (length numbers) (ys ++ drop (length numbers) l))
+  places_as_many = again_many (length numbers) ys l as_lent room
 
-  pub places-front : take (length numbers) (ys ++ drop (length numbers) l) ≡ places_of count book numbers
-  places-front = again-front (length numbers) ys l as_lent room ∙ e
+  pub places_front : take (length numbers) (ys ++ drop (length numbers) l) ≡ places_of count book numbers
+  places_front = again_front (length numbers) ys l as_lent room ∙ e
 
 -- ---- a leg and its order as the code reads them
 pub within_same : (t : Tables) (g h : Leg) (o p : Order) (b : Bool) → g ≡ h → o ≡ p → b ≡ price_allowed t (record { leg = g; order = o })

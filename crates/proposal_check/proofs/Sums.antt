@@ -76,32 +76,32 @@ module _ (book places lots prices : List ℕ) (fit : LegsFit (length places) lot
   abbrev legs : ℕ
   legs = length places
 
-  abbrev placeOfLeg : ℕ → ℕ
-  placeOfLeg i = side_place_of (order_at book (get_or places i 0))
+  abbrev place_of_leg : ℕ → ℕ
+  place_of_leg i = side_place_of (order_at book (get_or places i 0))
 
   pub most_value : (i : ℕ) → i < legs → get_or lots i 0 * get_or prices i 0 ≤ most_lots * most_price
   most_value i h = mul-le-mul (fit.most_lots_holds i h) (fit.most_price_holds i h)
 
-  pub amount-two : (i : ℕ) → amount_at lots prices i ≡ get_or lots i 0 * lot_unit + get_or lots i 0 * get_or prices i 0
+  pub amount_two : (i : ℕ) → amount_at lots prices i ≡ get_or lots i 0 * lot_unit + get_or lots i 0 * get_or prices i 0
   unfolding amount_at
-  amount-two i = mul-add (get_or lots i 0) lot_unit (get_or prices i 0)
+  amount_two i = mul-add (get_or lots i 0) lot_unit (get_or prices i 0)
 
-  pub most-at : (i : ℕ) → i < legs → amount_at lots prices i ≤ most_amount
-  most-at i h = rw (amount-two i) (omega (arith, fit.most_lots_holds i h, most_value i h))
+  pub most_at : (i : ℕ) → i < legs → amount_at lots prices i ≤ most_amount
+  most_at i h = rw (amount_two i) (omega (arith, fit.most_lots_holds i h, most_value i h))
 
-  value-at : (i : ℕ) → i < legs → get_or values i 0 ≡ get_or lots i 0 * get_or prices i 0
-  value-at i h = zip_at (λ q p. q * p) lots prices i 0 (omega (arith, fit.lots_length)) (omega (arith, fit.prices_length_holds))
+  value_at_lem : (i : ℕ) → i < legs → get_or values i 0 ≡ get_or lots i 0 * get_or prices i 0
+  value_at_lem i h = zip_at (λ q p. q * p) lots prices i 0 (omega (arith, fit.lots_length)) (omega (arith, fit.prices_length_holds))
 
   -- ---- leg by leg
-  pub sums-start : SumsTo book places lots prices 0 (replicate side_places 0)
+  pub sums_start : SumsTo book places lots prices 0 (replicate side_places 0)
   unfolding sum_at total from
-  sums-start = record { long = length-replicate {A = ℕ} side_places 0; at = λ k h. get_or-replicate side_places k 0 0 h }
+  sums_start = record { long = length-replicate {A = ℕ} side_places 0; at = λ k h. get_or-replicate side_places k 0 0 h }
 
-  sum_more : (n k : ℕ) → sum_at book places lots prices (n + 1) k ≡ sum_at book places lots prices n k + cond (eqb (placeOfLeg n) k) (amount_at lots prices n) 0
+  sum_more : (n k : ℕ) → sum_at book places lots prices (n + 1) k ≡ sum_at book places lots prices n k + cond (eqb (place_of_leg n) k) (amount_at lots prices n) 0
   unfolding sum_at
-  sum_more n k = rw (add-one n, total_more (λ i. cond (eqb (placeOfLeg i) k) (amount_at lots prices i) 0) 0 n, zero-add n)
+  sum_more n k = rw (add-one n, total_more (λ i. cond (eqb (place_of_leg i) k) (amount_at lots prices i) 0) 0 n, zero-add n)
 
-  pub sums_next : (n at : ℕ) (sums : List ℕ) → SumsTo book places lots prices n sums → at ≡ placeOfLeg n → at < side_places
+  pub sums_next : (n at : ℕ) (sums : List ℕ) → SumsTo book places lots prices n sums → at ≡ place_of_leg n → at < side_places
       → SumsTo book places lots prices (n + 1) (set sums at (get_or sums at 0 + amount_at lots prices n))
   sums_next n at sums s e h =
       record {
@@ -112,56 +112,56 @@ module _ (book places lots prices : List ℕ) (fit : LegsFit (length places) lot
             (λ d. rw (ne_eqb at k d) (get_or-set_other sums at k _ 0 (λ f. d (sym f)) ∙ omega arith)));
       }
 
-  pub most-sum : (n k : ℕ) → n ≤ legs → sum_at book places lots prices n k ≤ n * most_amount
+  pub most_sum : (n k : ℕ) → n ≤ legs → sum_at book places lots prices n k ≤ n * most_amount
   unfolding sum_at
-  most-sum n k h =
+  most_sum n k h =
       total_most _ most_amount 0 n
-      (λ i _ l. by_bool (λ b. cond b (amount_at lots prices i) 0 ≤ most_amount) (eqb (placeOfLeg i) k) (λ _. most-at i (omega arith)) (λ _. omega arith))
+      (λ i _ l. by_bool (λ b. cond b (amount_at lots prices i) 0 ≤ most_amount) (eqb (place_of_leg i) k) (λ _. most_at i (omega arith)) (λ _. omega arith))
 
-  pub sums-fit : (sums : List ℕ) → SumsTo book places lots prices legs sums → SumsFit sums
-  sums-fit sums s =
-      record { long = s.long; most = λ k h. rw (s.at k h) (omega (arith, most-sum legs k (omega arith), fit.most_legs_holds)) }
+  pub sums_fit : (sums : List ℕ) → SumsTo book places lots prices legs sums → SumsFit sums
+  sums_fit sums s =
+      record { long = s.long; most = λ k h. rw (s.at k h) (omega (arith, most_sum legs k (omega arith), fit.most_legs_holds)) }
 
   -- ---- month by month
-  month-three : (s : Side) (m : ℕ) → total (λ i. cond (counts_at book s m (get_or places i 0)) (amount_at lots prices i) 0) (from 0 legs)
+  month_three : (s : Side) (m : ℕ) → total (λ i. cond (counts_at book s m (get_or places i 0)) (amount_at lots prices i) 0) (from 0 legs)
       ≡ sum_at book places lots prices legs (side_place (year_of m) s) + sum_at book places lots prices legs (side_place (quarter_of m) s) + sum_at book places lots prices legs (side_place (month_of m) s)
   unfolding sum_at
-  month-three s m =
+  month_three s m =
       total_same _ _ 0 legs (λ i _ _. leg_places (order_at book (get_or places i 0)).side s (order_at book (get_or places i 0)).contract m (amount_at lots prices i))
       ∙ total_plus _ _ (from 0 legs)
       ∙ ap (λ x. x + sum_at book places lots prices legs (side_place (month_of m) s)) (total_plus _ _ (from 0 legs))
 
-  month-two : (s : Side) (m : ℕ) → total (λ i. cond (counts_at book s m (get_or places i 0)) (amount_at lots prices i) 0) (from 0 legs)
+  month_two : (s : Side) (m : ℕ) → total (λ i. cond (counts_at book s m (get_or places i 0)) (amount_at lots prices i) 0) (from 0 legs)
       ≡ in_month book places lots s m * lot_unit + in_month book places values s m
   unfolding in_month
-  month-two s m =
+  month_two s m =
       total_same _ (λ i. cond (counts_at book s m (get_or places i 0)) (get_or lots i 0) 0 * lot_unit + cond (counts_at book s m (get_or places i 0)) (get_or values i 0) 0) 0 legs
-      (λ i _ h. rw (amount-two i, value-at i (omega arith))
+      (λ i _ h. rw (amount_two i, value_at_lem i (omega arith))
       (by_bool (λ b. cond b (get_or lots i 0 * lot_unit + get_or lots i 0 * get_or prices i 0) 0 ≡ cond b (get_or lots i 0) 0 * lot_unit + cond b (get_or lots i 0 * get_or prices i 0) 0)
       (counts_at book s m (get_or places i 0)) (λ _. refl) (λ _. refl)))
       ∙ total_two _ _ (from 0 legs)
 
-  value-below : (s : Side) (m : ℕ) → in_month book places values s m < lot_unit
+  value_below : (s : Side) (m : ℕ) → in_month book places values s m < lot_unit
   unfolding in_month
-  value-below s m =
+  value_below s m =
       omega (
         arith,
         fit.most_legs_holds,
         total_most (λ i. cond (counts_at book s m (get_or places i 0)) (get_or values i 0) 0) (most_lots * most_price) 0 legs
             (λ i _ h. by_bool (λ b. cond b (get_or values i 0) 0 ≤ most_lots * most_price) (counts_at book s m (get_or places i 0))
-            (λ _. rw (value-at i (omega arith)) (most_value i (omega arith))) (λ _. omega arith)),
+            (λ _. rw (value_at_lem i (omega arith)) (most_value i (omega arith))) (λ _. omega arith)),
       )
 
   module _ (sums : List ℕ) (s : SumsTo book places lots prices legs sums) where
     month-sum : (u : Side) (m : ℕ) → m < months_in_span → month_sum sums u m ≡ in_month book places lots u m * lot_unit + in_month book places values u m
     month-sum u m h =
         let below = months_below m h u in
-        rw (s.at (side_place (year_of m) u) below.0, s.at (side_place (quarter_of m) u) below.1, s.at (side_place (month_of m) u) below.2, ← month-three u m)
-        (month-two u m)
+        rw (s.at (side_place (year_of m) u) below.0, s.at (side_place (quarter_of m) u) below.1, s.at (side_place (month_of m) u) below.2, ← month_three u m)
+        (month_two u m)
 
     month-same : (m : ℕ) → m < months_in_span → eqb (month_sum sums Buy m) (month_sum sums Sell m)
         ≡ eqb (in_month book places lots Buy m) (in_month book places lots Sell m) && eqb (in_month book places values Buy m) (in_month book places values Sell m)
-    month-same m h = rw (month-sum Buy m h, month-sum Sell m h) (two_same _ _ _ _ (value-below Buy m) (value-below Sell m))
+    month-same m h = rw (month-sum Buy m h, month-sum Sell m h) (two_same _ _ _ _ (value_below Buy m) (value_below Sell m))
 
     pub sums-balanced : balanced_sums sums ≡ balanced_months book places lots && balanced_months book places values
     unfolding balanced_sums balanced_months

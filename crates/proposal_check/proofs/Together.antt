@@ -14,7 +14,7 @@ use Rattle.rules.specs.declared.order.Side.{Side}
 use Rattle.rules.specs.Ranges.{months_in_span}
 use Rattle.rules.specs.Days.{Calendar, first_month, month_start}
 use Rattle.rules.specs.OtherForms.{holds_month}
-use Rattle.rules.proofs.HourLaws.{holds-hour, first_hour}
+use Rattle.rules.proofs.HourLaws.{holds_hour_lem, first_hour}
 use Rattle.rules.specs.Sides.{same_side}
 use Rattle.rules.specs.Matching.{precedes}
 use Rattle.rules.specs.Synthetic.{Named, two_occur, in_hour, in_full, priority_kept}
@@ -44,7 +44,7 @@ pub hour_month : (k : Calendar) (f : Named → ℕ) (s : Side) (i : ℕ) (ns : L
     → in_hour k f s (24 * month_start (first_month k + i)) ns ≡ total (λ n. cond (same_side n.order.side s && holds_month n.order.contract i) (f n) 0) ns
 unfolding in_hour
 hour_month k f s i ns l =
-    simp (holds-hour k i (24 * month_start (first_month k + i)) (first_hour k i l))
+    simp (holds_hour_lem k i (24 * month_start (first_month k + i)) (first_hour k i l))
     (total_kept f (λ n. same_side n.order.side s && holds_month n.order.contract i) ns)
 
 -- ---- priority, order by order

@@ -27,7 +27,7 @@ use Rattle.codec.specs.Columns.{leg_columns, leg_row, leg_rows}
 use Rattle.codec.specs.declared.legs.Legs.{Legs}
 use Rattle.codec.proofs.LegColumns.{no_leg, rows_of_columns, many_legs}
 use Rattle.proposal_check.specs.Columns.{column_legs, LegsFit}
-use Rattle.proposal_check.proofs.LegColumns.{order_of, lots_of, price_of, counted, columns-are, columns-fit}
+use Rattle.proposal_check.proofs.LegColumns.{order_of, lots_of, price_of, counted, columns_are, columns_fit}
 use Rattle.proposal_legs.specs.Proposals.{legs_acceptable, with_leg}
 
 -- ---- the columns filled leg by leg
@@ -94,17 +94,17 @@ module _ (n k : ℕ) (l : Legs) (sound : event_sound n (Proposal k) (leg_rows k 
     column f c size at =
         take_firsts k c (omega (arith, few)) ∙ (sym (map_same (λ i. f (leg_row l i)) (λ i. get_or c i 0) (from 0 k) at) ∙ sym (map-map f (leg_row l) (from 0 k)))
 
-    orders-are : take k l.orders ≡ map order_of (leg_rows k l)
-    orders-are = column order_of l.orders o (λ i. refl)
+    orders_are : take k l.orders ≡ map order_of (leg_rows k l)
+    orders_are = column order_of l.orders o (λ i. refl)
 
-    lots-are : take k l.lots ≡ map lots_of (leg_rows k l)
-    lots-are = column lots_of l.lots q (λ i. refl)
+    lots_are : take k l.lots ≡ map lots_of (leg_rows k l)
+    lots_are = column lots_of l.lots q (λ i. refl)
 
-    prices-are : take k l.prices ≡ map price_of (leg_rows k l)
-    prices-are = column price_of l.prices p (λ i. refl)
+    prices_are : take k l.prices ≡ map price_of (leg_rows k l)
+    prices_are = column price_of l.prices p (λ i. refl)
 
     pub legs_fit : LegsFit (length (take k l.orders)) (take k l.lots) (take k l.prices)
-    legs_fit = rw (orders-are, lots-are, prices-are) (columns-fit (leg_rows k l) n k sound)
+    legs_fit = rw (orders_are, lots_are, prices_are) (columns_fit (leg_rows k l) n k sound)
 
-    pub legs-are : column_legs (take k l.orders) (take k l.lots) (take k l.prices) ≡ leg_rows k l
-    legs-are = rw (orders-are, lots-are, prices-are) (columns-are (leg_rows k l))
+    pub legs_are : column_legs (take k l.orders) (take k l.lots) (take k l.prices) ≡ leg_rows k l
+    legs_are = rw (orders_are, lots_are, prices_are) (columns_are (leg_rows k l))

@@ -34,22 +34,22 @@ module _ {M : Type 1} {𝓤 : Ura M} (𝓛 : Logic 𝓤) (R : RattleType) where
       use1 𝓛 (‵ (cell_at full_share (Array R n).mir (u ∷ []) b o)) (𝓛.laws.at_raw full_share (ty_array (lone R.mir) n) b o u) $ fjoin ! $
       fpack ! (List Val) (λ us. fsep (cell_at full_share (Array R n).mir us b o) ((Array R n).own_val xs us)) (u ∷ []) $ by ! (Array-apart 𝓛 R full_share one n xs b o)
 
-  pub row-parts : (q : Share) (n : ℕ) (xs : List R.Denot) (b o : ℕ)
+  pub row_parts : (q : Share) (n : ℕ) (xs : List R.Denot) (b o : ℕ)
       → ent 𝓤 (sem 𝓛 (row R q xs b o)) (sep 𝓤 (sem 𝓛 (row R q (take n xs) b o)) (sem 𝓛 (row R q (rest n xs) b (place (mem R).size o n))))
-  row-parts q zero xs b o = qed 𝓛 (‵ (row R q xs b o) ∷ []) ∵ nothing ! $ done !
-  row-parts q (suc n) [] b o = qed 𝓛 (‵ ftrue ∷ []) ∵ nothing ! $ done !
-  row-parts q (suc n) (x ∷ xs) b o =
+  row_parts q zero xs b o = qed 𝓛 (‵ (row R q xs b o) ∷ []) ∵ nothing ! $ done !
+  row_parts q (suc n) [] b o = qed 𝓛 (‵ ftrue ∷ []) ∵ nothing ! $ done !
+  row_parts q (suc n) (x ∷ xs) b o =
       qed 𝓛 (‵ (row R q (x ∷ xs) b o) ∷ []) ∵ fsplit ! $ move ! (1 ∷ []) $
-      use1 𝓛 (‵ (row R q (take n xs) b (o + (mem R).size)) ⊛ ‵ (row R q (rest n xs) b (place (mem R).size (o + (mem R).size) n))) (row-parts q n xs b (o + (mem R).size)) $
+      use1 𝓛 (‵ (row R q (take n xs) b (o + (mem R).size)) ⊛ ‵ (row R q (rest n xs) b (place (mem R).size (o + (mem R).size) n))) (row_parts q n xs b (o + (mem R).size)) $
       split ! $ move ! (2 ∷ 0 ∷ []) $ fjoin ! $ done !
 
-  pub row-joined : (q : Share) (n : ℕ) (xs : List R.Denot) (b o : ℕ)
+  pub row_joined : (q : Share) (n : ℕ) (xs : List R.Denot) (b o : ℕ)
       → ent 𝓤 (sep 𝓤 (sem 𝓛 (row R q (take n xs) b o)) (sem 𝓛 (row R q (rest n xs) b (place (mem R).size o n)))) (sem 𝓛 (row R q xs b o))
-  row-joined q zero xs b o = qed 𝓛 (‵ ftrue ∷ ‵ (row R q xs b o) ∷ []) ∵ drop ! $ done !
-  row-joined q (suc n) [] b o = qed 𝓛 (‵ ftrue ∷ ‵ ftrue ∷ []) ∵ drop ! $ done !
-  row-joined q (suc n) (x ∷ xs) b o =
+  row_joined q zero xs b o = qed 𝓛 (‵ ftrue ∷ ‵ (row R q xs b o) ∷ []) ∵ drop ! $ done !
+  row_joined q (suc n) [] b o = qed 𝓛 (‵ ftrue ∷ ‵ ftrue ∷ []) ∵ drop ! $ done !
+  row_joined q (suc n) (x ∷ xs) b o =
       qed 𝓛 (‵ (row R q (x ∷ take n xs) b o) ∷ ‵ (row R q (rest n xs) b (place (mem R).size (o + (mem R).size) n)) ∷ []) ∵ fsplit ! $ move ! (1 ∷ 2 ∷ []) $
-      use2 𝓛 (‵ (row R q xs b (o + (mem R).size))) (row-joined q n xs b (o + (mem R).size)) $ move ! (1 ∷ 0 ∷ []) $ fjoin ! $ done !
+      use2 𝓛 (‵ (row R q xs b (o + (mem R).size))) (row_joined q n xs b (o + (mem R).size)) $ move ! (1 ∷ 0 ∷ []) $ fjoin ! $ done !
 
   pub row_room : (vals : R.Denot → List Val) → Tells R (Is R) vals → (n : ℕ) (xs : List R.Denot) (b o : ℕ)
       → ent 𝓤 (sem 𝓛 ((arr_parts (shares R) n).part full_share xs b o)) (sem 𝓛 (froom (ty_array (lone R.mir) n) b o))

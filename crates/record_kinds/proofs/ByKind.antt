@@ -27,30 +27,30 @@ only f i h = let e : i ≡ 0 = omega arith in rw e refl
 
 -- A kind that is none of the first six is a close of day or none.
 module _ (k : ℕ) (a : k ≡ 1 → ⊥) (b : k ≡ 2 → ⊥) (c : k ≡ 3 → ⊥) (d : k ≡ 4 → ⊥) (e : k ≡ 5 → ⊥) (f : k ≡ 6 → ⊥) where
-  last-kind : kind_fields k ≡ cond (eqb k close_of_day_kind) close_of_day_fields []
+  last_kind : kind_fields k ≡ cond (eqb k close_of_day_kind) close_of_day_fields []
   unfolding kind_fields
-  last-kind = simp (ne_eqb _ _ a, ne_eqb _ _ b, ne_eqb _ _ c, ne_eqb _ _ d, ne_eqb _ _ e, ne_eqb _ _ f)
+  last_kind = simp (ne_eqb _ _ a, ne_eqb _ _ b, ne_eqb _ _ c, ne_eqb _ _ d, ne_eqb _ _ e, ne_eqb _ _ f)
 
-  pub time-at : (i : ℕ) → i < length (kind_fields k) → Time ≡ get_or (kind_fields k) i Kind
-  time-at i h = rw last-kind (go (eqb k close_of_day_kind) (rw last-kind at h))
+  pub time_at : (i : ℕ) → i < length (kind_fields k) → Time ≡ get_or (kind_fields k) i Kind
+  time_at i h = rw last_kind (go (eqb k close_of_day_kind) (rw last_kind at h))
     where
       go : (t : Bool) → i < length (cond t close_of_day_fields []) → Time ≡ get_or (cond t close_of_day_fields []) i Kind
       go true q = only Time i q
       go false q = absurd (omega arith)
 
   pub no_fields : (k ≡ 7 → ⊥) → [] ≡ kind_fields k
-  no_fields g = rw (last-kind, ne_eqb _ _ g) refl
+  no_fields g = rw (last_kind, ne_eqb _ _ g) refl
 
 -- ---- the bytes of fields, added from the first on
 module _ (fs : List Field) (i n : ℕ) where
-  pub widths-next : {f : Field} {w : ℕ} → i < length fs → f ≡ get_or fs i Kind → w ≡ width_of f → n + widths (drop i fs) ≡ widths fs → n + w + widths (drop (i + 1) fs) ≡ widths fs
+  pub widths_next : {f : Field} {w : ℕ} → i < length fs → f ≡ get_or fs i Kind → w ≡ width_of f → n + widths (drop i fs) ≡ widths fs → n + w + widths (drop (i + 1) fs) ≡ widths fs
   unfolding widths
-  widths-next {f} {w} h e u known =
+  widths_next {f} {w} h e u known =
       rw (add-one i, u, e, add_assoc n (width_of (get_or fs i Kind)) (widths (drop (suc i) fs))) (rw (drop-cons fs i Kind h) at known)
 
-  pub widths-end : length fs ≤ i → n + widths (drop i fs) ≡ widths fs → n ≡ widths fs
+  pub widths_end : length fs ≤ i → n + widths (drop i fs) ≡ widths fs → n ≡ widths fs
   unfolding widths
-  widths-end h known = sym (add-zero n) ∙ rw (drop_of_length-le fs h) at known
+  widths_end h known = sym (add-zero n) ∙ rw (drop_of_length-le fs h) at known
 
 -- ---- lengths of records, by whether there are fields
 module _ (kind legs : ℕ) where
@@ -79,8 +79,8 @@ module _ (f : List ℕ) where
   unfolding event_by_kind
   no_kind k n₁ n₂ n₃ n₄ n₅ n₆ n₇ = simp (ne_eqb k 1 n₁, ne_eqb k 2 n₂, ne_eqb k 3 n₃, ne_eqb k 4 n₄, ne_eqb k 5 n₅, ne_eqb k 6 n₆, ne_eqb k 7 n₇)
 
-  pub no-side : 1 < get_or f 4 0 → Unsound ≡ submit_of f
-  no-side h = rw (lt-leb (get_or f 4 0) 1 h) refl
+  pub no_side : 1 < get_or f 4 0 → Unsound ≡ submit_of f
+  no_side h = rw (lt-leb (get_or f 4 0) 1 h) refl
 
-  pub no-order-kind : 2 < get_or f 5 0 → Unsound ≡ submit_of f
-  no-order-kind h = rw (lt-leb (get_or f 5 0) 2 h, and_false (leb (get_or f 4 0) 1)) refl
+  pub no_order_kind : 2 < get_or f 5 0 → Unsound ≡ submit_of f
+  no_order_kind h = rw (lt-leb (get_or f 5 0) 2 h, and_false (leb (get_or f 4 0) 1)) refl

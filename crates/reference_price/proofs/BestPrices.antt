@@ -63,17 +63,17 @@ quote_better side o (some b) h =
     ∙ rw (h.0, ne_eqb b.price.0 0 (omega (arith, h.1))) (better_price_lem side b.price.0 o.price.0 (ltb b.number o.number))
 
 module _ (d s : ℕ) (side : Side) where
-  quotes-side : (c : ℕ) (o : Order) → eqb o.contract c && quotes_at d s side o ≡ true → o.side ≡ side
+  quotes_side : (c : ℕ) (o : Order) → eqb o.contract c && quotes_at d s side o ≡ true → o.side ≡ side
   unfolding quotes_at
-  quotes-side c o e = same_side_lem o.side side (and_left (same_side o.side side) _ (and_right (eqb o.contract c) _ e))
+  quotes_side c o e = same_side_lem o.side side (and_left (same_side o.side side) _ (and_right (eqb o.contract c) _ e))
 
-  price-more : (o : Order) (os : List Order) (c : ℕ) → All (λ o. 1 ≤ o.price.0) os
+  price_more : (o : Order) (os : List Order) (c : ℕ) → All (λ o. 1 ≤ o.price.0) os
       → best_price d s side (o ∷ os) c ≡ cond (eqb o.contract c && quotes_at d s side o) (better_quote side o.price.0 (best_price d s side os c)) (best_price d s side os c)
   unfolding best_price best
-  price-more o os c a =
+  price_more o os c a =
       let p : Order → Bool = λ o. eqb o.contract c && quotes_at d s side o in
       let held = best_holds (λ b. (b.side ≡ side) × (1 ≤ b.price.0)) p os
-      (all_map (λ o. 1 ≤ o.price.0) (λ o. p o ≡ true → (o.side ≡ side) × (1 ≤ o.price.0)) os (λ o l e. (quotes-side c o e, l)) a) in
+      (all_map (λ o. 1 ≤ o.price.0) (λ o. p o ≡ true → (o.side ≡ side) × (1 ≤ o.price.0)) os (λ o l e. (quotes_side c o e, l)) a) in
       by_bool (λ t. quote_of (cond t (better o (best p os)) (best p os)) ≡ cond t (better_quote side o.price.0 (quote_of (best p os))) (quote_of (best p os))) (p o)
       (λ _. quote_better side o (best p os) held) (λ _. refl)
 
@@ -88,14 +88,14 @@ module _ (d s : ℕ) (side : Side) where
       (λ e. rw (ne_eqb o.contract c e) (get_or-set_other q o.contract c x 0 (λ z. e (sym z))))))
       (λ t. rw t (by_bool (λ u. get_or q c 0 ≡ cond (u && false) (better_quote side o.price.0 (get_or q c 0)) (get_or q c 0)) (eqb o.contract c) (λ _. refl) (λ _. refl)))
 
-  pub quotes-next : (q : List ℕ) (o : Order) (os : List Order) → All (λ o. 1 ≤ o.price.0) os → o.contract < length q
+  pub quotes_next : (q : List ℕ) (o : Order) (os : List Order) → All (λ o. 1 ≤ o.price.0) os → o.contract < length q
       → ((c : ℕ) → c < contract_count → get_or q c 0 ≡ best_price d s side os c)
       → (c : ℕ) → c < contract_count → get_or (cond (quotes_at d s side o) (set q o.contract (better_quote side o.price.0 (get_or q o.contract 0))) q) c 0 ≡ best_price d s side (o ∷ os) c
-  quotes-next q o os a h f c b = noted q o c h ∙ rw (f c b) (sym (price-more o os c a))
+  quotes_next q o os a h f c b = noted q o c h ∙ rw (f c b) (sym (price_more o os c a))
 
-  pub quotes-none : (c : ℕ) → best_price d s side [] c ≡ 0
+  pub quotes_none : (c : ℕ) → best_price d s side [] c ≡ 0
   unfolding best_price best
-  quotes-none c = refl
+  quotes_none c = refl
 
   -- no price that quotes passes the most
   pub price_most : (os : List Order) (c : ℕ) → All (λ o. o.price.0 ≤ most_price) os → best_price d s side os c ≤ most_price

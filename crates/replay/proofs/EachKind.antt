@@ -33,16 +33,16 @@ use Rattle.rules.specs.Accounts.{lines_of}
 use Rattle.rules.proofs.SoundEvents.{SoundSubmission}
 use Rattle.rules.proofs.SoundTables.{Long, Undamaged}
 use Rattle.accounts.proofs.Closes.{closing_today}
-use Rattle.accounts.proofs.CloseOutLines.{close-out-fits}
+use Rattle.accounts.proofs.CloseOutLines.{close_out_fits}
 use Rattle.accounts.proofs.Lines.{Fits}
-use Rattle.accounts.proofs.Proposals.{named-all, proposal_fits}
+use Rattle.accounts.proofs.Proposals.{named_all, proposal_fits}
 use Rattle.accounts.proofs.Runs.{orders_same, sound_of}
 use Rattle.accounts.proofs.Submits.{submit_fits}
 use Rattle.accounts.proofs.Written.{lines_printed}
 use Rattle.replay.specs.Surplus.{SameButSurplus}
-use Rattle.replay.proofs.Same.{map_from_same, same-members, same-day, same-time, same-accepted, same_run, same-limit, same-defaulted, same-submits, same-lots, same-ggf, same_low, same-high, same-orders, same-calendar, same-open}
-use Rattle.replay.proofs.Alike.{Alike, alike_of, with-orders, with-booked, with-time, with-counted, with-mark, with-day, with-deals, with-limits}
-use Rattle.replay.proofs.Closing.{open_below, with-ggfs, with-closed}
+use Rattle.replay.proofs.Same.{map_from_same, same_members, same_day, same_time, same_accepted, same_run, same-limit, same-defaulted, same-submits, same-lots, same_ggf, same_low, same-high, same_orders, same-calendar, same-open}
+use Rattle.replay.proofs.Alike.{Alike, alike_of, with_orders_lem, with_booked, with_time_lem, with_counted, with_mark_lem, with_day_lem, with_deals_lem, with_limits}
+use Rattle.replay.proofs.Closing.{open_below, with_ggfs_lem, with_closed_lem}
 
 -- ---- two outcomes: the same answer, the same lines, and ledgers that agree but for surplus
 pub record OutcomesAlike (n k : ℕ) (o o' : Outcome Tables) : Type 0 where
@@ -57,7 +57,7 @@ booked_alike {n} {k} {q} {t} {u} a few ls ls' e fit = record {
   answer = ap (λ (x : List Line). Accepted (length x)) e;
   lines = lines_printed ls t.lines ∙ e ∙ sym (lines_printed ls' u.lines);
   count = q;
-  ledger = subst (λ (x : List Line). Alike n k q (booked ls t).after (booked x u).after) e (with-booked a few ls fit);
+  ledger = subst (λ (x : List Line). Alike n k q (booked ls t).after (booked x u).after) e (with_booked a few ls fit);
 }
 
 every_alike : {A : Type 0} (p q : A → Bool) (l : List A) → All (λ x. p x ≡ q x) l → every p l ≡ every q l
@@ -88,19 +88,19 @@ module _ (t u : Tables) (s : SameButSurplus t u) (a : Undamaged t) (l : Long u) 
   opens c = same-open t u s a.head.holidays≤ a.long.head l.head c
 
   os : orders t ≡ orders u
-  os = same-orders t u s
+  os = same_orders t u s
 
   -- ---- submit
   module _ (e : Submission) (f : SoundSubmission (members t) e) where
     same-incoming : incoming t e ≡ incoming u e
     same-incoming = λ r. record {
-      number = same-accepted t u s r;
+      number = same_accepted t u s r;
       member = e.member;
       contract = e.contract;
       side = e.side;
       price = e.price;
       lots = e.lots;
-      day = record { 0 = same-day t u s r };
+      day = record { 0 = same_day t u s r };
       time = e.time;
     }
 
@@ -118,7 +118,7 @@ module _ (t u : Tables) (s : SameButSurplus t u) (a : Undamaged t) (l : Long u) 
 
     same_at : submits_at t e.time e.member ≡ submits_at u e.time e.member
     unfolding submits_at
-    same_at = rw (same-time t u s, same-submits t u s e.member f.member<)
+    same_at = rw (same_time t u s, same-submits t u s e.member f.member<)
 
     same_above : above_limit t e ≡ above_limit u e
     unfolding above_limit resting_lots
@@ -127,7 +127,7 @@ module _ (t u : Tables) (s : SameButSurplus t u) (a : Undamaged t) (l : Long u) 
     pub submit-causes : submit_causes t e ≡ submit_causes u e
     submit-causes =
         rw (
-          same-time t u s,
+          same_time t u s,
           same-defaulted t u s e.member f.member<,
           opens e.contract,
           same_low t u s e.contract f.contract<,
@@ -138,7 +138,7 @@ module _ (t u : Tables) (s : SameButSurplus t u) (a : Undamaged t) (l : Long u) 
           same_rest,
           same_lines,
           same_run t u s,
-          same-accepted t u s,
+          same_accepted t u s,
         )
 
     same_after : submit_orders t e ≡ submit_orders u e
@@ -149,28 +149,28 @@ module _ (t u : Tables) (s : SameButSurplus t u) (a : Undamaged t) (l : Long u) 
     unfolding submit_booked
     submit-alike =
         rw (← same_after, ← same-matched)
-        (booked_alike (with-orders (with-deals (with-counted (with-time start few e.time) few e.member f.member<) e.contract f.contract< (submit_matched t e).deals) (submit_orders t e)) few
+        (booked_alike (with_orders_lem (with_deals_lem (with_counted (with_time_lem start few e.time) few e.member f.member<) e.contract f.contract< (submit_matched t e).deals) (submit_orders t e)) few
         (submit_lines t e) (submit_lines u e) same_lines (submit_fits t (sound_of a) e f.contract< f.member<))
 
   -- ---- cancel, day limits, default
-  pub cancel-causes : (e : Cancellation) → cancel_causes t e ≡ cancel_causes u e
-  cancel-causes e = rw (same-time t u s, os)
+  pub cancel_causes_lem : (e : Cancellation) → cancel_causes t e ≡ cancel_causes u e
+  cancel_causes_lem e = rw (same_time t u s, os)
 
-  pub cancel-alike : (e : Cancellation) → OutcomesAlike (members t) (holiday_count t) (cancel_booked t e) (cancel_booked u e)
-  cancel-alike e = rw (← os) (booked_alike (with-orders (with-time start few e.time) (kept (λ o. not (is_cancelled e o)) (orders t))) few [] [] refl tt)
+  pub cancel_alike : (e : Cancellation) → OutcomesAlike (members t) (holiday_count t) (cancel_booked t e) (cancel_booked u e)
+  cancel_alike e = rw (← os) (booked_alike (with_orders_lem (with_time_lem start few e.time) (kept (λ o. not (is_cancelled e o)) (orders t))) few [] [] refl tt)
 
-  pub limits-causes : (e : NewDayLimits) → day_limits_causes t e ≡ day_limits_causes u e
-  limits-causes e = rw (opens e.contract)
+  pub limits_causes : (e : NewDayLimits) → day_limits_causes t e ≡ day_limits_causes u e
+  limits_causes e = rw (opens e.contract)
 
-  pub limits-alike : (e : NewDayLimits) → e.contract < contract_count → OutcomesAlike (members t) (holiday_count t) (day_limits_booked t e) (day_limits_booked u e)
-  limits-alike e h = booked_alike (with-limits start e.contract e.low.0 e.high.0 h) few [] [] refl tt
+  pub limits_alike : (e : NewDayLimits) → e.contract < contract_count → OutcomesAlike (members t) (holiday_count t) (day_limits_booked t e) (day_limits_booked u e)
+  limits_alike e h = booked_alike (with_limits start e.contract e.low.0 e.high.0 h) few [] [] refl tt
 
-  pub default-causes : (m : ℕ) → m < members t → default_causes t m ≡ default_causes u m
-  default-causes m h = rw (same-defaulted t u s m h)
+  pub default_causes_lem : (m : ℕ) → m < members t → default_causes t m ≡ default_causes u m
+  default_causes_lem m h = rw (same-defaulted t u s m h)
 
   pub default_alike : (m : ℕ) → m < members t → OutcomesAlike (members t) (holiday_count t) (default_booked t m) (default_booked u m)
   unfolding default_booked
-  default_alike m h = rw (← os) (booked_alike (with-orders (with-mark start few m h) (kept (λ o. not (eqb o.member m)) (orders t))) few [] [] refl tt)
+  default_alike m h = rw (← os) (booked_alike (with_orders_lem (with_mark_lem start few m h) (kept (λ o. not (eqb o.member m)) (orders t))) few [] [] refl tt)
 
   -- ---- proposal
   module _ (legs : List Leg) where
@@ -178,16 +178,16 @@ module _ (t u : Tables) (s : SameButSurplus t u) (a : Undamaged t) (l : Long u) 
     same-price Sell n h = rw (same-high t u s n.order.contract h)
     same-price Buy n h = rw (same_low t u s n.order.contract h)
 
-    same-prices : every (price_allowed t) (named_legs (orders t) legs) ≡ every (price_allowed u) (named_legs (orders t) legs)
+    same_prices : every (price_allowed t) (named_legs (orders t) legs) ≡ every (price_allowed u) (named_legs (orders t) legs)
     unfolding price_allowed
-    same-prices =
+    same_prices =
         every_alike (price_allowed t) (price_allowed u) (named_legs (orders t) legs)
         (all_map (λ n. n.order.contract < contract_count) _ (named_legs (orders t) legs) (λ n h. same-price n.order.side n h)
-        (named-all (λ o. o.contract < contract_count) (orders t) legs (all_map _ (λ o. o.contract < contract_count) (orders t) (λ o q. q.contract<) a.book.each)))
+        (named_all (λ o. o.contract < contract_count) (orders t) legs (all_map _ (λ o. o.contract < contract_count) (orders t) (λ o q. q.contract<) a.book.each)))
 
     same-acceptable : acceptable t legs ≡ acceptable u legs
     unfolding acceptable
-    same-acceptable = rw (same-prices, os, calendars)
+    same-acceptable = rw (same_prices, os, calendars)
 
     same-proposal : proposal_lines t legs ≡ proposal_lines u legs
     unfolding proposal_lines
@@ -199,37 +199,37 @@ module _ (t u : Tables) (s : SameButSurplus t u) (a : Undamaged t) (l : Long u) 
     pub proposal-alike : OutcomesAlike (members t) (holiday_count t) (proposal_booked t legs) (proposal_booked u legs)
     unfolding proposal_booked
     proposal-alike =
-        rw (← os) (booked_alike (with-orders start (used_by_legs legs (orders t))) few (proposal_lines t legs) (proposal_lines u legs) same-proposal (proposal_fits t (sound_of a) legs))
+        rw (← os) (booked_alike (with_orders_lem start (used_by_legs legs (orders t))) few (proposal_lines t legs) (proposal_lines u legs) same-proposal (proposal_fits t (sound_of a) legs))
 
   -- ---- close of day
   same_next : has_next_day t ≡ has_next_day u
   unfolding has_next_day
-  same_next = λ r. elim (next_business_day (calendars r) (same-day t u s r)) [ On d ↦ true | NoDay ↦ false ]
+  same_next = λ r. elim (next_business_day (calendars r) (same_day t u s r)) [ On d ↦ true | NoDay ↦ false ]
 
-  same-next-day : next_day t ≡ next_day u
+  same_next_day : next_day t ≡ next_day u
   unfolding next_day
-  same-next-day = λ r. elim (next_business_day (calendars r) (same-day t u s r)) [ On d ↦ d.0 | NoDay ↦ same-day t u s r ]
+  same_next_day = λ r. elim (next_business_day (calendars r) (same_day t u s r)) [ On d ↦ d.0 | NoDay ↦ same_day t u s r ]
 
-  same-closing : closing_contracts t ≡ closing_contracts u
+  same_closing : closing_contracts t ≡ closing_contracts u
   unfolding closing_contracts
-  same-closing = rw (calendars, same-day t u s)
+  same_closing = rw (calendars, same_day t u s)
 
-  pub close-causes : (n : ℕ) → close_causes t n ≡ close_causes u n
-  close-causes n = rw (same-time t u s, same_next)
+  pub close_causes_lem : (n : ℕ) → close_causes t n ≡ close_causes u n
+  close_causes_lem n = rw (same_time t u s, same_next)
 
-  pub close-alike : (n : ℕ) → OutcomesAlike (members t) (holiday_count t) (close_booked t n) (close_booked u n)
+  pub close_alike : (n : ℕ) → OutcomesAlike (members t) (holiday_count t) (close_booked t n) (close_booked u n)
   unfolding close_booked first_lines from
-  close-alike n =
-      let p = with-ggfs start os calendars n in
+  close_alike n =
+      let p = with_ggfs_lem start os calendars n in
       let kept-orders = priced_orders n t ∙ os ∙ sym (priced_orders n u) in
       let listed = all_map _ (λ c. c < term_count) (closing_contracts t) (λ c q. q.0) (closing_today t) in
-      rw (← same-closing, ← same-next-day)
-      (record { answer = refl; lines = refl; count = _; ledger = with-day (with-closed p kept-orders few (closing_contracts t) listed) few (next_day t) })
+      rw (← same_closing, ← same_next_day)
+      (record { answer = refl; lines = refl; count = _; ledger = with_day_lem (with_closed_lem p kept-orders few (closing_contracts t) listed) few (next_day t) })
 
   -- ---- close-out
   module _ (e : CloseOutTerms) (h : e.contract < contract_count) where
     by-member : {A : Type 0} (f g : ℕ → A) → ((m : ℕ) → m < members t → f m ≡ g m) → by_member t f ≡ by_member u g
-    by-member f g q = map_from_same f g 0 (members t) (λ m _ k. q m (omega arith)) ∙ ap (λ n. map g (from 0 n)) (same-members t u s)
+    by-member f g q = map_from_same f g 0 (members t) (λ m _ k. q m (omega arith)) ∙ ap (λ n. map g (from 0 n)) (same_members t u s)
 
     longs : defaulted_longs t e.contract ≡ defaulted_longs u e.contract
     unfolding defaulted_longs
@@ -248,7 +248,7 @@ module _ (t u : Tables) (s : SameButSurplus t u) (a : Undamaged t) (l : Long u) 
     weight m k =
         total_alike (λ c. days_of (calendar t) c * nat_abs (lots_at t c m)) (λ c. days_of (calendar t) c * nat_abs (lots_at u c m)) (open_contracts (calendar t) (day t))
         (all_map (λ c. c < contract_count) _ (open_contracts (calendar t) (day t)) (λ c b. rw (same-lots t u s m k c b)) (open_below (calendar t) (day t)))
-        ∙ rw (calendars, same-day t u s)
+        ∙ rw (calendars, same_day t u s)
 
     all-weights : by_member t (λ m. cond (defaulted t m) 0 (open_weight t m)) ≡ by_member u (λ m. cond (defaulted u m) 0 (open_weight u m))
     all-weights = by-member _ _ (λ m k. rw (same-defaulted t u s m k, weight m k))
@@ -267,11 +267,11 @@ module _ (t u : Tables) (s : SameButSurplus t u) (a : Undamaged t) (l : Long u) 
 
     same-close-out : close_out_lines t e ≡ close_out_lines u e
     unfolding close_out_lines netting_changes defaulted_changes taker_changes longs_remaining shorts_remaining netted_longs netted_shorts smaller_total
-    same-close-out = rw (same_taken, same-ggf t u s e.contract h, longs, shorts)
+    same-close-out = rw (same_taken, same_ggf t u s e.contract h, longs, shorts)
 
     pub close-out-causes : close_out_causes t e ≡ close_out_causes u e
-    close-out-causes = rw (opens e.contract, same-ggf t u s e.contract h, longs, shorts, left, same-weights, same-close-out, same_run t u s)
+    close-out-causes = rw (opens e.contract, same_ggf t u s e.contract h, longs, shorts, left, same-weights, same-close-out, same_run t u s)
 
     pub close-out-alike : OutcomesAlike (members t) (holiday_count t) (close_out_booked t e) (close_out_booked u e)
     unfolding close_out_booked
-    close-out-alike = booked_alike start few (close_out_lines t e) (close_out_lines u e) same-close-out (close-out-fits t e h)
+    close-out-alike = booked_alike start few (close_out_lines t e) (close_out_lines u e) same-close-out (close_out_fits t e h)

@@ -21,7 +21,7 @@ use Rattle.accounts.proofs.LengthsStay.{lengths_stay}
 use Rattle.accounts.proofs.SameLengths.{stays_long}
 use Rattle.replay.specs.Surplus.{SameButSurplus}
 use Rattle.replay.specs.Replay.{SameRecord, answered, ReplaysAlike}
-use Rattle.replay.proofs.Same.{same-members}
+use Rattle.replay.proofs.Same.{same_members}
 use Rattle.replay.proofs.Damage.{same_unsound}
 use Rattle.replay.proofs.Alike.{Alike, alike_of, same_of}
 use Rattle.replay.proofs.EachKind.{OutcomesAlike}
@@ -29,26 +29,26 @@ use Rattle.replay.proofs.KindsReplay.{kind_replays}
 
 -- ---- one record
 module _ {n k q : ℕ} {t u : Tables} (a : Alike n k q t u) where
-  refused-alike : (x : Answer) → is_accepted x ≡ false → OutcomesAlike n k (record { answer = x; after = t }) (record { answer = x; after = u })
-  refused-alike x e = record { answer = refl; lines = rw e refl; count = q; ledger = a }
+  refused_alike : (x : Answer) → is_accepted x ≡ false → OutcomesAlike n k (record { answer = x; after = t }) (record { answer = x; after = u })
+  refused_alike x e = record { answer = refl; lines = rw e refl; count = q; ledger = a }
 
-  decide-alike : (causes : List Cause) (o o' : Outcome Tables) → Refuses causes → OutcomesAlike n k o o' → OutcomesAlike n k (decide causes t o) (decide causes u o')
-  decide-alike [] o o' r b = b
-  decide-alike ((true, x) ∷ causes) o o' r b = refused-alike x r.0
-  decide-alike ((false, x) ∷ causes) o o' r b = decide-alike causes o o' r.1 b
+  decide_alike : (causes : List Cause) (o o' : Outcome Tables) → Refuses causes → OutcomesAlike n k o o' → OutcomesAlike n k (decide causes t o) (decide causes u o')
+  decide_alike [] o o' r b = b
+  decide_alike ((true, x) ∷ causes) o o' r b = refused_alike x r.0
+  decide_alike ((false, x) ∷ causes) o o' r b = decide_alike causes o o' r.1 b
 
 module _ (t u : Tables) (s : SameButSurplus t u) (a : Undamaged t) (l : Long u) where
   start : Alike (members t) (holiday_count t) (order_count t) t u
   start = alike_of t u s a.long l
 
-  reading-alike : (x : Reading) (bytes : List ℕ) → read_of (members t) bytes ≡ x → OutcomesAlike (members t) (holiday_count t) (reading_spec t x (legs_of bytes)) (reading_spec u x (legs_of bytes))
+  reading_alike : (x : Reading) (bytes : List ℕ) → read_of (members t) bytes ≡ x → OutcomesAlike (members t) (holiday_count t) (reading_spec t x (legs_of bytes)) (reading_spec u x (legs_of bytes))
   unfolding reading_spec event_spec
-  reading-alike (Sound e) bytes r =
+  reading_alike (Sound e) bytes r =
       let legs = legs_of bytes in
       let k = kind_replays e t legs a (read_sound (members t) bytes e r) in
       subst (λ causes. OutcomesAlike (members t) (holiday_count t) (decide (kind_causes t e legs) t (kind_booked t e legs)) (decide causes u (kind_booked u e legs))) (k.causes u s l)
-      (decide-alike start (kind_causes t e legs) (kind_booked t e legs) (kind_booked u e legs) (causes_refuse t e legs) (k.alike u s l))
-  reading-alike Unsound bytes r = refused-alike start RecordUnsound refl
+      (decide_alike start (kind_causes t e legs) (kind_booked t e legs) (kind_booked u e legs) (causes_refuse t e legs) (k.alike u s l))
+  reading_alike Unsound bytes r = refused_alike start RecordUnsound refl
 
 -- the same answer, the same lines, and ledgers that agree but for surplus
 pub record SameOutcome (o o' : Outcome Tables) : Type 0 where
@@ -71,7 +71,7 @@ apply_alike t u bytes s short =
         let a = undamaged t e in
         let l = (undamaged u f).long in
         let whole : OutcomesAlike (members t) (holiday_count t) (apply_spec t bytes) (apply_spec u bytes) = unfold apply_spec in
-        rw (e, f, ← same-members t u s) (reading-alike t u s a l (read_of (members t) bytes) bytes refl) in
+        rw (e, f, ← same_members t u s) (reading_alike t u s a l (read_of (members t) bytes) bytes refl) in
         outcome_of_lem whole (stays_long (lengths_stay t bytes) a.long) (stays_long (lengths_stay u bytes) l)
 
 -- ---- every list

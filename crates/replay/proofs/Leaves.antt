@@ -10,7 +10,7 @@ use lib.IntN.{pos}
 use Rattle.arith.specs.Lists.{All, kept, over}
 use Rattle.arith.proofs.Alls.{all_map}
 use Rattle.arith.proofs.Appends.{flat_length}
-use Rattle.arith.proofs.Overs.{over-outside}
+use Rattle.arith.proofs.Overs.{over_outside}
 use Rattle.arith.proofs.Tests.{by_bool}
 use Rattle.rules.specs.declared.order.Order.{Order}
 use Rattle.rules.specs.Answers.{Outcome}
@@ -22,13 +22,13 @@ use Rattle.rules.proofs.SoundTables.{Undamaged}
 use Rattle.accounts.proofs.Books.{BookKept, orders_count}
 use Rattle.accounts.proofs.Closes.{closing_today}
 use Rattle.accounts.proofs.Lines as lines
-use Rattle.accounts.proofs.OrdersAfter.{close-orders}
+use Rattle.accounts.proofs.OrdersAfter.{close_orders}
 use Rattle.accounts.proofs.SameLengths.{Fits}
 use Rattle.replay.specs.Surplus.{LinesUntouched, BookUntouched}
 use Rattle.replay.proofs.Closing.{open_below}
 use Rattle.replay.proofs.EachKind.{priced_orders}
 use Rattle.replay.proofs.SurplusParts.{priced_stay}
-use Rattle.replay.proofs.SurplusTables.{TablesSurplus, untouched, with-prices, with-orders, with-lines, with-day, with-closed}
+use Rattle.replay.proofs.SurplusTables.{TablesSurplus, untouched, with_prices_lem, with_orders_lem, with_lines_lem, with_day_lem, with_closed_lem}
 
 pub record Leaves (t : Tables) (o : Outcome Tables) : Type 0 where
   pub lines : LinesUntouched t o
@@ -41,7 +41,7 @@ past_written : {A B : Type 0} (z : A) (w : ℕ) (places : B → List A) → ((b 
 past_written z w places each bs l l' e fit i past =
     let xs = flat_map places bs in
     let wide = flat_length w places each bs in
-    over-outside 0 xs l' (omega (arith, ap length e)) i z (λ _. omega arith) ∙ ap (λ x. get_or x i z) e
+    over_outside 0 xs l' (omega (arith, ap length e)) i z (λ _. omega arith) ∙ ap (λ x. get_or x i z) e
 
 -- the orders os that a record leaves were written in the book l'
 past_orders : (t v : Tables) (os : List Order) (l' : List ℕ) → l' ≡ t.book → book_length ≤ length t.book → orders v ≡ os → order_count v ≤ most_orders → v.book ≡ over 0 (flat_map order_places os) l'
@@ -75,29 +75,29 @@ module _ (t : Tables) (u : Undamaged t) where
   lines_left v ls e f i h = past_written (pos 0) line_width line_places (λ _. refl) ls t.lines v.lines e (omega (arith, u.lines, f.few refl)) i (h refl)
 
   -- a record that writes no order
-  pub booked-leaves : (v : Tables) (ls : List Line) → Unwritten t v → TablesSurplus (members t) (holiday_count t) t v → All (lines.Fits (members t)) ls → Fits t (booked ls v) → Leaves t (booked ls v)
-  booked-leaves v ls e a fit f = record {
+  pub booked_leaves : (v : Tables) (ls : List Line) → Unwritten t v → TablesSurplus (members t) (holiday_count t) t v → All (lines.Fits (members t)) ls → Fits t (booked ls v) → Leaves t (booked ls v)
+  booked_leaves v ls e a fit f = record {
     lines = lines_left v ls e.lines f;
     book = λ i h. unfold booked in ap (λ l. get_or l i 0) e.book;
-    surplus = with-lines few a ls fit;
+    surplus = with_lines_lem few a ls fit;
   }
 
   -- one that writes the orders os
-  pub ordered-leaves : (v : Tables) (os : List Order) (ls : List Line) → Unwritten t v → TablesSurplus (members t) (holiday_count t) t v → orders (booked ls (with_orders os v)).after ≡ os
+  pub ordered_leaves : (v : Tables) (os : List Order) (ls : List Line) → Unwritten t v → TablesSurplus (members t) (holiday_count t) t v → orders (booked ls (with_orders os v)).after ≡ os
       → All (lines.Fits (members t)) ls → Fits t (booked ls (with_orders os v)) → BookKept (booked ls (with_orders os v)).after → Leaves t (booked ls (with_orders os v))
-  ordered-leaves v os ls e a is fit f k =
+  ordered_leaves v os ls e a is fit f k =
       let o = booked ls (with_orders os v) in
       record {
         lines = lines_left (with_orders os v) ls (unfold with_orders in e.lines) f;
         book = past_orders t o.after os v.book e.book u.long.book is k.few (unfold booked with_orders in refl);
-        surplus = with-lines few (with-orders few a os (most_left o.after os is k)) ls fit;
+        surplus = with_lines_lem few (with_orders_lem few a os (most_left o.after os is k)) ls fit;
       }
 
-  pub close-leaves : (s : ℕ) → BookKept (close_booked t s).after → Leaves t (close_booked t s)
-  close-leaves s k =
+  pub close_leaves : (s : ℕ) → BookKept (close_booked t s).after → Leaves t (close_booked t s)
+  close_leaves s k =
       let cs = closing_contracts t in
       let others : Order → Bool = λ o. not (is_of_any cs o) in
-      let left = close-orders t u s in
+      let left = close_orders t u s in
       let most = most_left (close_booked t s).after (kept others (orders t)) left k in
       let prices = priced_stay t s (open_contracts (calendar t) (day t)) (open_below (calendar t) (day t)) u.long.prices in
       let listed = all_map _ (λ c. c < term_count) cs (λ c x. x.0) (closing_today t) in
@@ -106,5 +106,5 @@ module _ (t : Tables) (u : Undamaged t) where
         book =
             past_orders t (close_booked t s).after (kept others (orders t)) t.book refl u.long.book left k.few
             (unfold close_booked priced with_closed with_orders on_day in ap (λ (os : List Order). over 0 (flat_map order_places (kept others os)) t.book) (priced_orders s t));
-        surplus = unfold close_booked priced in with-day few (with-closed few (with-prices few (untouched t u) prices) cs listed (rw (priced_orders s t) most)) (next_day t);
+        surplus = unfold close_booked priced in with_day_lem few (with_closed_lem few (with_prices_lem few (untouched t u) prices) cs listed (rw (priced_orders s t) most)) (next_day t);
       }

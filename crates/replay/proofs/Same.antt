@@ -26,29 +26,29 @@ module _ (t u : Tables) (s : SameButSurplus t u) where
   at : (i : ℕ) → i < holidays_from → get_or t.head i 0 ≡ get_or u.head i 0
   at i h = s.head i (of_ledger h)
 
-  pub same-year : first_year t ≡ first_year u
-  same-year = at first_year_place (omega arith)
+  pub same_year : first_year t ≡ first_year u
+  same_year = at first_year_place (omega arith)
 
-  pub same-members : members t ≡ members u
-  same-members = at members_place (omega arith)
+  pub same_members : members t ≡ members u
+  same_members = at members_place (omega arith)
 
   pub same_count : holiday_count t ≡ holiday_count u
   same_count = at holiday_count_place (omega arith)
 
-  pub same-day : day t ≡ day u
-  same-day = at day_place (omega arith)
+  pub same_day : day t ≡ day u
+  same_day = at day_place (omega arith)
 
-  pub same-time : time t ≡ time u
-  same-time = at time_place (omega arith)
+  pub same_time : time t ≡ time u
+  same_time = at time_place (omega arith)
 
-  pub same-accepted : accepted_submits t ≡ accepted_submits u
-  same-accepted = at accepted_submits_place (omega arith)
+  pub same_accepted : accepted_submits t ≡ accepted_submits u
+  same_accepted = at accepted_submits_place (omega arith)
 
   pub same_run : lots_run t ≡ lots_run u
   same_run = at lots_run_place (omega arith)
 
-  pub same-order-count : order_count t ≡ order_count u
-  same-order-count = at order_count_place (omega arith)
+  pub same_order_count : order_count t ≡ order_count u
+  same_order_count = at order_count_place (omega arith)
 
   -- a member's own
   module _ (m : ℕ) (h : m < members t) where
@@ -69,8 +69,8 @@ module _ (t u : Tables) (s : SameButSurplus t u) where
 
   -- a contract's own
   module _ (c : ℕ) (h : c < contract_count) where
-    pub same-ggf : ggf t c ≡ ggf u c
-    same-ggf = rw (add-zero (c * price_width)) at (s.prices c 0 h (omega arith))
+    pub same_ggf : ggf t c ≡ ggf u c
+    same_ggf = rw (add-zero (c * price_width)) at (s.prices c 0 h (omega arith))
 
     pub same_low : low t c ≡ low u c
     same_low = s.prices c 1 h (omega arith)
@@ -85,8 +85,8 @@ module _ (t u : Tables) (s : SameButSurplus t u) where
     same-day-value = s.prices c 4 h (omega arith)
 
   -- the orders
-  same-order : (i : ℕ) → i < order_count t → order_at t.book i ≡ order_at u.book i
-  same-order i h = λ r. record {
+  same_order : (i : ℕ) → i < order_count t → order_at t.book i ≡ order_at u.book i
+  same_order i h = λ r. record {
     number = (rw (add-zero (i * order_width)) at (s.book i 0 h (omega arith))) r;
     member = s.book i 1 h (omega arith) r;
     contract = s.book i 2 h (omega arith) r;
@@ -100,9 +100,9 @@ module _ (t u : Tables) (s : SameButSurplus t u) where
   pub same_side_lem : (i : ℕ) → i < order_count t → side_at t.book i ≡ side_at u.book i
   same_side_lem i h = s.book i 3 h (omega arith)
 
-  pub same-orders : orders t ≡ orders u
+  pub same_orders : orders t ≡ orders u
   unfolding orders
-  same-orders = map_from_same (order_at t.book) (order_at u.book) 0 (order_count t) (λ i _ h. same-order i (omega arith)) ∙ ap (λ n. map (order_at u.book) (from 0 n)) same-order-count
+  same_orders = map_from_same (order_at t.book) (order_at u.book) 0 (order_count t) (λ i _ h. same_order i (omega arith)) ∙ ap (λ n. map (order_at u.book) (from 0 n)) same_order_count
 
   -- the calendar, where the holidays are no more than there is room for
   module _ (few : holiday_count t ≤ most_holidays) (long : head_length ≤ length t.head) (long' : head_length ≤ length u.head) where
@@ -117,8 +117,8 @@ module _ (t u : Tables) (s : SameButSurplus t u) where
         ∙ ap (λ k. take k (drop holidays_from l')) same_count
 
     pub same-calendar : calendar t ≡ calendar u
-    same-calendar = λ r. record { first_year = same-year r; holidays = same_holidays r }
+    same-calendar = λ r. record { first_year = same_year r; holidays = same_holidays r }
 
     pub same-open : (c : ℕ) → is_open t c ≡ is_open u c
     unfolding is_open
-    same-open c = rw (same-calendar, same-day)
+    same-open c = rw (same-calendar, same_day)

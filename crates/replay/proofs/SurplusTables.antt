@@ -8,7 +8,7 @@ use lib.Dec.{ltb}
 use lib.ListN.{length, get_or, set}
 use Rattle.arith.specs.Lists.{All, kept}
 use Rattle.arith.proofs.Appends.{flat_length}
-use Rattle.arith.proofs.Overs.{over-length, over-outside}
+use Rattle.arith.proofs.Overs.{over_length, over_outside}
 use Rattle.arith.proofs.Tests.{by_bool}
 use Rattle.rules.specs.declared.order.Order.{Order}
 use Rattle.rules.specs.Ranges.{contract_count, term_count, most_members, most_orders}
@@ -20,7 +20,7 @@ use Rattle.rules.specs.CloseOfDay.{is_of_any, with_closed, on_day}
 use Rattle.rules.proofs.SoundTables.{Undamaged}
 use Rattle.accounts.proofs.Lines.{Fits}
 use Rattle.replay.specs.Surplus.{of_ledger, of_mark, of_submits}
-use Rattle.replay.proofs.SurplusParts.{HeadSurplus, head-set, head-zeros, PricesSurplus, price_set, RowsSurplus, posted_stay, all-cascaded-stay}
+use Rattle.replay.proofs.SurplusParts.{HeadSurplus, head_set, head_zeros, PricesSurplus, price_set, RowsSurplus, posted_stay, all_cascaded_stay}
 
 pub record TablesSurplus (n k : ℕ) (t v : Tables) : Type 0 where
   pub head : HeadSurplus n k t.head v.head
@@ -41,31 +41,31 @@ untouched t u = record {
 }
 
 module _ {n k : ℕ} {t v : Tables} (few : n ≤ most_members) (a : TablesSurplus n k t v) where
-  pub with-head : {l : List ℕ} → HeadSurplus n k t.head l → TablesSurplus n k t (with_head l v)
-  with-head h = record { head = h; prices = a.prices; lots = a.lots; value = a.value; book_long = a.book_long; book = a.book }
+  pub with_head_lem : {l : List ℕ} → HeadSurplus n k t.head l → TablesSurplus n k t (with_head l v)
+  with_head_lem h = record { head = h; prices = a.prices; lots = a.lots; value = a.value; book_long = a.book_long; book = a.book }
 
-  pub with-prices : {l : List ℕ} → PricesSurplus t.prices l → TablesSurplus n k t (with_prices l v)
-  with-prices p = record { head = a.head; prices = p; lots = a.lots; value = a.value; book_long = a.book_long; book = a.book }
+  pub with_prices_lem : {l : List ℕ} → PricesSurplus t.prices l → TablesSurplus n k t (with_prices l v)
+  with_prices_lem p = record { head = a.head; prices = p; lots = a.lots; value = a.value; book_long = a.book_long; book = a.book }
 
-  pub with-orders : (os : List Order) → length os ≤ most_orders → TablesSurplus n k t (with_orders os v)
+  pub with_orders_lem : (os : List Order) → length os ≤ most_orders → TablesSurplus n k t (with_orders os v)
   unfolding with_orders
-  with-orders os most =
+  with_orders_lem os most =
       let xs = flat_map order_places os in
       let wide = flat_length order_width order_places (λ _. refl) os in
       let fit : 0 + length xs ≤ length v.book = omega (arith, a.book_long) in
       record {
-        head = head-set a.head order_count_place (length os) (omega arith) (of_ledger (omega arith));
+        head = head_set a.head order_count_place (length os) (omega arith) (of_ledger (omega arith));
         prices = a.prices;
         lots = a.lots;
         value = a.value;
-        book_long = omega (arith, over-length 0 xs v.book fit, a.book_long);
-        book = λ i h. over-outside 0 xs v.book fit i 0 (λ _. omega arith) ∙ a.book i h;
+        book_long = omega (arith, over_length 0 xs v.book fit, a.book_long);
+        book = λ i h. over_outside 0 xs v.book fit i 0 (λ _. omega arith) ∙ a.book i h;
       }
 
-  pub with-lines : (ls : List Line) → All (Fits n) ls → TablesSurplus n k t (booked ls v).after
+  pub with_lines_lem : (ls : List Line) → All (Fits n) ls → TablesSurplus n k t (booked ls v).after
   unfolding booked
-  with-lines ls fit = record {
-    head = head-set a.head lots_run_place (lots_run v + line_run ls) (omega arith) (of_ledger (omega arith));
+  with_lines_lem ls fit = record {
+    head = head_set a.head lots_run_place (lots_run v + line_run ls) (omega arith) (of_ledger (omega arith));
     prices = a.prices;
     lots = posted_stay few line_lots ls fit a.lots;
     value = posted_stay few line_value ls fit a.value;
@@ -73,44 +73,44 @@ module _ {n k : ℕ} {t v : Tables} (few : n ≤ most_members) (a : TablesSurplu
     book = a.book;
   }
 
-  without-submits : HeadSurplus n k t.head (without_submits v).head
+  without_submits_lem : HeadSurplus n k t.head (without_submits v).head
   unfolding without_submits
-  without-submits = rw a.head.size (head-zeros a.head few)
+  without_submits_lem = rw a.head.size (head_zeros a.head few)
 
-  pub with-time : (s : ℕ) → TablesSurplus n k t (timed s v)
+  pub with_time_lem : (s : ℕ) → TablesSurplus n k t (timed s v)
   unfolding timed
-  with-time s =
+  with_time_lem s =
       by_bool (λ b. TablesSurplus n k t (cond b (with_head (set (without_submits v).head time_place s) v) v)) (ltb (time v) s)
-      (λ _. with-head (head-set without-submits time_place s (omega arith) (of_ledger (omega arith)))) (λ _. a)
+      (λ _. with_head_lem (head_set without_submits_lem time_place s (omega arith) (of_ledger (omega arith)))) (λ _. a)
 
-  pub with-counted : (m : ℕ) → m < n → TablesSurplus n k t (counted m v)
+  pub with_counted : (m : ℕ) → m < n → TablesSurplus n k t (counted m v)
   unfolding counted
-  with-counted m h =
-      with-head (head-set (head-set a.head (submits_from + m) (submits_this_second v m + 1) (omega arith) (of_submits m h refl)) accepted_submits_place (accepted_submits v + 1) (omega arith) (of_ledger (omega arith)))
+  with_counted m h =
+      with_head_lem (head_set (head_set a.head (submits_from + m) (submits_this_second v m + 1) (omega arith) (of_submits m h refl)) accepted_submits_place (accepted_submits v + 1) (omega arith) (of_ledger (omega arith)))
 
-  pub with-mark : (m : ℕ) → m < n → TablesSurplus n k t (with_head (with_mark m v.head) v)
-  with-mark m h = with-head (head-set a.head (marks_from + m) default_mark (omega arith) (of_mark m h refl))
+  pub with_mark_lem : (m : ℕ) → m < n → TablesSurplus n k t (with_head (with_mark m v.head) v)
+  with_mark_lem m h = with_head_lem (head_set a.head (marks_from + m) default_mark (omega arith) (of_mark m h refl))
 
-  pub with-day : (d : ℕ) → TablesSurplus n k t (on_day d v)
+  pub with_day_lem : (d : ℕ) → TablesSurplus n k t (on_day d v)
   unfolding on_day
-  with-day d = with-head (head-set (head-set without-submits day_place d (omega arith) (of_ledger (omega arith))) time_place 0 (omega arith) (of_ledger (omega arith)))
+  with_day_lem d = with_head_lem (head_set (head_set without_submits_lem day_place d (omega arith) (of_ledger (omega arith))) time_place 0 (omega arith) (of_ledger (omega arith)))
 
-  pub with-deals : (c : ℕ) → c < contract_count → (ds : List Deal) → TablesSurplus n k t (with_deals c ds v)
+  pub with_deals_lem : (c : ℕ) → c < contract_count → (ds : List Deal) → TablesSurplus n k t (with_deals c ds v)
   unfolding with_deals
-  with-deals c h ds = with-prices (price_set (price_set a.prices (day_lots_place c) _ (omega arith)) (day_value_place c) _ (omega arith))
+  with_deals_lem c h ds = with_prices_lem (price_set (price_set a.prices (day_lots_place c) _ (omega arith)) (day_value_place c) _ (omega arith))
 
-  pub with-limits : (c low high : ℕ) → c < contract_count → TablesSurplus n k t (with_prices (with_day_limits c low high v.prices) v)
-  with-limits c low high h = with-prices (price_set (price_set a.prices (low_place c) low (omega arith)) (high_place c) high (omega arith))
+  pub with_limits : (c low high : ℕ) → c < contract_count → TablesSurplus n k t (with_prices (with_day_limits c low high v.prices) v)
+  with_limits c low high h = with_prices_lem (price_set (price_set a.prices (low_place c) low (omega arith)) (high_place c) high (omega arith))
 
-  pub with-closed : (cs : List ℕ) → All (λ c. c < term_count) cs → length (kept (λ o. not (is_of_any cs o)) (orders v)) ≤ most_orders → TablesSurplus n k t (with_closed cs v)
+  pub with_closed_lem : (cs : List ℕ) → All (λ c. c < term_count) cs → length (kept (λ o. not (is_of_any cs o)) (orders v)) ≤ most_orders → TablesSurplus n k t (with_closed cs v)
   unfolding with_closed
-  with-closed cs b most =
-      let w = with-orders (kept (λ o. not (is_of_any cs o)) (orders v)) most in
+  with_closed_lem cs b most =
+      let w = with_orders_lem (kept (λ o. not (is_of_any cs o)) (orders v)) most in
       record {
         head = w.head;
         prices = w.prices;
-        lots = rw a.head.size (all-cascaded-stay n few cs b a.lots);
-        value = rw a.head.size (all-cascaded-stay n few cs b a.value);
+        lots = rw a.head.size (all_cascaded_stay n few cs b a.lots);
+        value = rw a.head.size (all_cascaded_stay n few cs b a.value);
         book_long = w.book_long;
         book = w.book;
       }

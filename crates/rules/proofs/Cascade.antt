@@ -15,7 +15,7 @@ use Rattle.arith.proofs.Tests.{by_eqb, le_or_lt, same_or, and_false}
 use Rattle.arith.proofs.Among.{not_among}
 use Rattle.arith.proofs.Sums.{sorted}
 use Rattle.arith.proofs.Terms.{when_or}
-use Rattle.arith.proofs.Overs.{over-length, over-inside, over-outside, zip_length, zip_at}
+use Rattle.arith.proofs.Overs.{over_length, over_inside, over_outside, zip_length, zip_at}
 use Rattle.rules.specs.Ranges.{contract_count, term_count}
 use Rattle.rules.specs.ContractTerms.{has_term, children_of}
 use Rattle.rules.specs.Ledger.{rows_length}
@@ -28,8 +28,8 @@ row_of l c m = get_or l (c * 32 + m) (pos 0)
 
 -- The first n rows of a contract.
 module _ (n c : ℕ) (l : List ℤ) (s : rows_length ≤ length l) (hc : c < contract_count) (hn : n ≤ 32) where
-  pub rows-length : length (contract_rows n c l) ≡ n
-  rows-length = simp (length-take, length-drop) (omega arith)
+  pub rows_length_lem : length (contract_rows n c l) ≡ n
+  rows_length_lem = simp (length-take, length-drop) (omega arith)
 
   pub rows_at : (m : ℕ) → m < n → get_or (contract_rows n c l) m (pos 0) ≡ row_of l c m
   rows_at m hm = get_or-take n (drop (c * 32) l) m (pos 0) hm ∙ get_or-drop (c * 32) l m (pos 0)
@@ -37,13 +37,13 @@ module _ (n c : ℕ) (l : List ℤ) (s : rows_length ≤ length l) (hc : c < con
   -- new ones in their place
   module _ (xs : List ℤ) (e : length xs ≡ n) where
     pub put-length : length (over (c * 32) xs l) ≡ length l
-    put-length = over-length (c * 32) xs l (omega arith)
+    put-length = over_length (c * 32) xs l (omega arith)
 
     pub put-row : (d m : ℕ) → m < n → row_of (over (c * 32) xs l) d m ≡ cond (eqb c d) (get_or xs m (pos 0)) (row_of l d m)
     put-row d m hm =
         by_eqb (λ b. row_of (over (c * 32) xs l) d m ≡ cond b (get_or xs m (pos 0)) (row_of l d m)) c d
-        (λ q. rw (← q) (over-inside (c * 32) xs l (omega arith) m (pos 0) (omega arith)))
-        (λ q. over-outside (c * 32) xs l (omega arith) (d * 32 + m) (pos 0) (λ h. same_or c d (λ z. absurd (q z)) (λ z. omega arith)))
+        (λ q. rw (← q) (over_inside (c * 32) xs l (omega arith) m (pos 0) (omega arith)))
+        (λ q. over_outside (c * 32) xs l (omega arith) (d * 32 + m) (pos 0) (λ h. same_or c d (λ z. absurd (q z)) (λ z. omega arith)))
 
 module _ (n p : ℕ) (hp : p < contract_count) (hn : n ≤ 32) where
   -- p's rows added to those of a later contract
@@ -55,7 +55,7 @@ module _ (n p : ℕ) (hp : p < contract_count) (hn : n ≤ 32) where
     grown = over (c * 32) sums l
 
     pub sums-length : length sums ≡ n
-    sums-length = zip_length ◌+ℤ◌ _ _ (rows-length n c l s hc hn ∙ sym (rows-length n p l s hp hn)) ∙ rows-length n c l s hc hn
+    sums-length = zip_length ◌+ℤ◌ _ _ (rows_length_lem n c l s hc hn ∙ sym (rows_length_lem n p l s hp hn)) ∙ rows_length_lem n c l s hc hn
 
     pub grown-length : length grown ≡ length l
     grown-length = put-length n c l s hc hn _ sums-length
@@ -64,29 +64,29 @@ module _ (n p : ℕ) (hp : p < contract_count) (hn : n ≤ 32) where
     grown-row d m hm =
         put-row n c l s hc hn _ sums-length d m hm
         ∙ by_eqb (λ b. cond b (get_or sums m (pos 0)) (row_of l d m) ≡ row_of l d m +ℤ when b (row_of l p m)) c d
-        (λ q. zip_at ◌+ℤ◌ _ _ m (pos 0) (rw (rows-length n c l s hc hn) hm) (rw (rows-length n p l s hp hn) hm)
+        (λ q. zip_at ◌+ℤ◌ _ _ m (pos 0) (rw (rows_length_lem n c l s hc hn) hm) (rw (rows_length_lem n p l s hp hn) hm)
         ∙ rw (rows_at n c l s hc hn m hm, rows_at n p l s hp hn m hm, q))
         (λ q. simp sorted)
 
   -- a contract's rows added to those of k later contracts that follow each other
-  pub added-length : (k a : ℕ) (l : List ℤ) → rows_length ≤ length l → a + k ≤ contract_count → p < a → length (added_to n p (from a k) l) ≡ length l
+  pub added_length : (k a : ℕ) (l : List ℤ) → rows_length ≤ length l → a + k ≤ contract_count → p < a → length (added_to n p (from a k) l) ≡ length l
   unfolding added_to from
-  added-length zero a l s ha hl = refl
-  added-length (suc k) a l s ha hl =
+  added_length zero a l s ha hl = refl
+  added_length (suc k) a l s ha hl =
       let e = grown-length a l s (omega arith) hl in
-      added-length k (suc a) (grown a l s (omega arith) hl) (omega arith) (omega arith) (omega arith) ∙ e
+      added_length k (suc a) (grown a l s (omega arith) hl) (omega arith) (omega arith) (omega arith) ∙ e
 
-  pub added-row : (k a : ℕ) (l : List ℤ) (d m : ℕ) → rows_length ≤ length l → a + k ≤ contract_count → p < a → m < n
+  pub added_row : (k a : ℕ) (l : List ℤ) (d m : ℕ) → rows_length ≤ length l → a + k ≤ contract_count → p < a → m < n
       → row_of (added_to n p (from a k) l) d m ≡ row_of l d m +ℤ when (any (λ x. eqb x d) (from a k)) (row_of l p m)
   unfolding added_to from any
-  added-row zero a l d m s ha hl hm = simp sorted
-  added-row (suc k) a l d m s ha hl hm =
+  added_row zero a l d m s ha hl hm = simp sorted
+  added_row (suc k) a l d m s ha hl hm =
       let e = grown-length a l s (omega arith) hl in
       let h : a < contract_count = omega arith in
       let g = grown a l s h hl in
       let later = any (λ x. eqb x d) (from (suc a) k) in
       let stays : row_of g p m ≡ row_of l p m = grown-row a l s h hl p m hm ∙ rw (ne_eqb a p (omega arith)) (simp sorted) in
-      added-row k (suc a) g d m (omega arith) (omega arith) (omega arith) hm
+      added_row k (suc a) g d m (omega arith) (omega arith) (omega arith) hm
       ∙ ap₂ (λ r w. r +ℤ when later w) (grown-row a l s h hl d m hm) stays
       ∙ rw (when_or (eqb a d) later (row_of l p m) (λ t. not_among (suc a) k d (omega (arith, eqb-true a d t)))) (simp +ℤ_assoc)
 
@@ -114,26 +114,26 @@ module _ (n c : ℕ) (l : List ℤ) (s : rows_length ≤ length l) (hc : c < ter
     grownAll = added_to n c (from k.first (suc k.more)) l
 
     all-length : length grownAll ≡ length l
-    all-length = added-length n c (omega arith) hn (suc k.more) k.first l s (omega (arith, k.fit)) k.after
+    all-length = added_length n c (omega arith) hn (suc k.more) k.first l s (omega (arith, k.fit)) k.after
 
-    pub cascaded-parent : cascaded n c l ≡ over (c * 32) (replicate n (pos 0)) grownAll
+    pub cascaded_parent : cascaded n c l ≡ over (c * 32) (replicate n (pos 0)) grownAll
     unfolding cascaded zero_rows
-    cascaded-parent = rw (lt-ltb c term_count hc, le-leb (c % 17) 4 k.parent, k.are)
+    cascaded_parent = rw (lt-ltb c term_count hc, le-leb (c % 17) 4 k.parent, k.are)
 
     parent-length : length (cascaded n c l) ≡ length l
-    parent-length = rw cascaded-parent (put-length n c grownAll (omega (arith, all-length)) (omega arith) hn _ (length-replicate n (pos 0)) ∙ all-length)
+    parent-length = rw cascaded_parent (put-length n c grownAll (omega (arith, all-length)) (omega arith) hn _ (length-replicate n (pos 0)) ∙ all-length)
 
     parent_row : (d m : ℕ) → m < n → row_of (cascaded n c l) d m ≡ cond (eqb c d) (pos 0) (row_of l d m +ℤ when (any (λ x. eqb x d) (children_of c)) (row_of l c m))
     parent_row d m hm =
-        rw (cascaded-parent, k.are)
+        rw (cascaded_parent, k.are)
         (put-row n c grownAll (omega (arith, all-length)) (omega arith) hn _ (length-replicate n (pos 0)) d m hm
-        ∙ ap₂ (λ z r. cond (eqb c d) z r) (get_or-replicate n m (pos 0) (pos 0) hm) (added-row n c (omega arith) hn (suc k.more) k.first l d m s (omega (arith, k.fit)) k.after hm))
+        ∙ ap₂ (λ z r. cond (eqb c d) z r) (get_or-replicate n m (pos 0) (pos 0) hm) (added_row n c (omega arith) hn (suc k.more) k.first l d m s (omega (arith, k.fit)) k.after hm))
 
-  pub cascaded-length : length (cascaded n c l) ≡ length l
-  cascaded-length = le_or_lt 5 (c % 17) (λ h. ap length (cascaded_month n c l h)) (λ h. parent-length (children c hc (cascading c hc h)))
+  pub cascaded_length : length (cascaded n c l) ≡ length l
+  cascaded_length = le_or_lt 5 (c % 17) (λ h. ap length (cascaded_month n c l h)) (λ h. parent-length (children c hc (cascading c hc h)))
 
   -- A year's or quarter's rows are added to its children's, and set to zero.
-  pub cascaded-row : (d m : ℕ) → c % 17 < 5 → m < n
+  pub cascaded_row : (d m : ℕ) → c % 17 < 5 → m < n
       → get_or (cascaded n c l) (d * 32 + m) (pos 0)
       ≡ cond (eqb c d) (pos 0) (get_or l (d * 32 + m) (pos 0) +ℤ when (any (λ x. eqb x d) (children_of c)) (get_or l (c * 32 + m) (pos 0)))
-  cascaded-row d m h hm = parent_row (children c hc (cascading c hc h)) d m hm
+  cascaded_row d m h hm = parent_row (children c hc (cascading c hc h)) d m hm

@@ -44,17 +44,17 @@ pub first_hour : (k : Calendar) (i : ℕ) → i < months_in_span → InMonth k i
 first_hour k i l = record { month< = l; begun = omega arith; unfinished = omega (arith, month_lt (first_month k + i) (first_month k + suc i) (omega arith)) }
 
 module _ (c i : ℕ) where
-  holds-year : year_of i ≡ c → holds_month c i ≡ true
+  holds_year : year_of i ≡ c → holds_month c i ≡ true
   unfolding holds_month
-  holds-year e = rw (eq-eqb (year_of i) c e)
+  holds_year e = rw (eq-eqb (year_of i) c e)
 
-  holds-quarter : quarter_of i ≡ c → holds_month c i ≡ true
+  holds_quarter : quarter_of i ≡ c → holds_month c i ≡ true
   unfolding holds_month
-  holds-quarter e = rw (ne_eqb (year_of i) c (omega arith), eq-eqb (quarter_of i) c e)
+  holds_quarter e = rw (ne_eqb (year_of i) c (omega arith), eq-eqb (quarter_of i) c e)
 
-  holds-itself : month_of i ≡ c → holds_month c i ≡ true
+  holds_itself : month_of i ≡ c → holds_month c i ≡ true
   unfolding holds_month
-  holds-itself e = rw (ne_eqb (year_of i) c (omega arith), ne_eqb (quarter_of i) c (omega arith), eq-eqb (month_of i) c e)
+  holds_itself e = rw (ne_eqb (year_of i) c (omega arith), ne_eqb (quarter_of i) c (omega arith), eq-eqb (month_of i) c e)
 
   holds_not : (year_of i ≡ c → ⊥) → (quarter_of i ≡ c → ⊥) → (month_of i ≡ c → ⊥) → holds_month c i ≡ false
   unfolding holds_month
@@ -62,44 +62,44 @@ module _ (c i : ℕ) where
 
 module _ (k : Calendar) (i h : ℕ) (lies : InMonth k i h) where
   -- A month has begun exactly if it is no later than i.
-  begun-le : (j : ℕ) → month_start (first_month k + j) ≤ h / 24 → j ≤ i
-  begun-le j b = le_or_lt j i (λ l. l) (λ l. absurd (omega (arith, month_le (first_month k + suc i) (first_month k + j) (omega arith))))
+  begun_le : (j : ℕ) → month_start (first_month k + j) ≤ h / 24 → j ≤ i
+  begun_le j b = le_or_lt j i (λ l. l) (λ l. absurd (omega (arith, month_le (first_month k + suc i) (first_month k + j) (omega arith))))
 
-  le-begun : (j : ℕ) → j ≤ i → month_start (first_month k + j) ≤ h / 24
-  le-begun j l = omega (arith, month_le (first_month k + j) (first_month k + i) (omega arith))
+  le_begun : (j : ℕ) → j ≤ i → month_start (first_month k + j) ≤ h / 24
+  le_begun j l = omega (arith, month_le (first_month k + j) (first_month k + i) (omega arith))
 
   -- So the hour lies in the w months from a on exactly if i is one of them.
-  in-months : (a w : ℕ) (b : Bool) → (a ≤ i → i < a + w → b ≡ true) → ((a ≤ i → i < a + w → ⊥) → b ≡ false)
+  in_months : (a w : ℕ) (b : Bool) → (a ≤ i → i < a + w → b ≡ true) → ((a ≤ i → i < a + w → ⊥) → b ≡ false)
       → leb (month_start (first_month k + a)) (h / 24) && ltb (h / 24) (month_start (first_month k + (a + w))) ≡ b
-  in-months a w b f g =
+  in_months a w b f g =
       let end = month_start (first_month k + (a + w)) in
       by_span (λ t. t ≡ b) (month_start (first_month k + a)) end (h / 24)
-      (λ x y. sym (f (begun-le a x) (le_or_lt (a + w) i (λ l. absurd (omega (arith, le-begun (a + w) l))) (λ l. l))))
-      (λ out. sym (g (λ x y. out (le-begun a x) (le_or_lt end (h / 24) (λ l. absurd (omega (arith, begun-le (a + w) l))) (λ l. l)))))
+      (λ x y. sym (f (begun_le a x) (le_or_lt (a + w) i (λ l. absurd (omega (arith, le_begun (a + w) l))) (λ l. l))))
+      (λ out. sym (g (λ x y. out (le_begun a x) (le_or_lt end (h / 24) (λ l. absurd (omega (arith, begun_le (a + w) l))) (λ l. l)))))
 
-  holds-period : (c : ℕ) → leb (first_day k c) (h / 24) && ltb (h / 24) (day_after k c) ≡ holds_month c i
+  holds_period : (c : ℕ) → leb (first_day k c) (h / 24) && ltb (h / 24) (day_after k c) ≡ holds_month c i
   unfolding term_first_day term_day_after
-  holds-period c =
+  holds_period c =
       same_or (c % 17) 0
-      (λ z. rw (term_year c z) (in-months (12 * (c / 17)) 12 (holds_month c i) (λ x y. holds-year c i (omega arith))
+      (λ z. rw (term_year c z) (in_months (12 * (c / 17)) 12 (holds_month c i) (λ x y. holds_year c i (omega arith))
       (λ out. holds_not c i (λ e. out (omega arith) (omega arith)) (omega arith) (omega arith))))
       (λ z. le_or_lt (c % 17) 4
-      (λ l. rw (term_quarter c (omega arith) l) (in-months (3 * (4 * (c / 17) + (c % 17 - 1))) 3 (holds_month c i) (λ x y. holds-quarter c i (omega arith))
+      (λ l. rw (term_quarter c (omega arith) l) (in_months (3 * (4 * (c / 17) + (c % 17 - 1))) 3 (holds_month c i) (λ x y. holds_quarter c i (omega arith))
       (λ out. holds_not c i (omega arith) (λ e. out (omega arith) (omega arith)) (omega arith))))
-      (λ l. rw (term_month c l) (in-months (1 * (12 * (c / 17) + (c % 17 - 5))) 1 (holds_month c i) (λ x y. holds-itself c i (omega arith))
+      (λ l. rw (term_month c l) (in_months (1 * (12 * (c / 17) + (c % 17 - 5))) 1 (holds_month c i) (λ x y. holds_itself c i (omega arith))
       (λ out. holds_not c i (omega arith) (omega arith) (λ e. out (omega arith) (omega arith))))))
 
   -- Exactly three contracts hold the hour.
-  pub holds-hour : (c : ℕ) → holds_hour k c h ≡ holds_month c i
+  pub holds_hour_lem : (c : ℕ) → holds_hour k c h ≡ holds_month c i
   unfolding holds_hour holds_day
-  holds-hour c =
+  holds_hour_lem c =
       let l = lies.month< in
       le_or_lt term_count c (λ w. rw (le-ltb c term_count w) (sym (holds_not c i (omega arith) (omega arith) (omega arith))))
-      (λ w. rw (lt-ltb c term_count w) (holds-period c))
+      (λ w. rw (lt-ltb c term_count w) (holds_period c))
 
 -- Two hours of a month lie in the same contracts.
 pub same_month : (k : Calendar) (i h h' : ℕ) → InMonth k i h → InMonth k i h' → (c : ℕ) → holds_hour k c h ≡ holds_hour k c h'
-same_month k i h h' l l' c = holds-hour k i h l c ∙ sym (holds-hour k i h' l' c)
+same_month k i h h' l l' c = holds_hour_lem k i h l c ∙ sym (holds_hour_lem k i h' l' c)
 
 -- ---- a proposal that is balanced in the first hour of each month is balanced in every hour
 pub balanced_every_hour : (k : Calendar) (ns : List Named) → T (balanced k ns) → (h : ℕ) → 24 * span_start k ≤ h → h < 24 * day_after_span k → T (balanced_in_hour k ns h)

@@ -54,13 +54,13 @@ sum_most (x ∷ l) most f = rw (sum_cons x l, suc-mul (length l) most) (omega (a
 
 -- ---- given up
 module _ (q : ℕ) (held : List ℕ) (i : ℕ) where
-  pub given-next : i < length held → given_up q (drop i held) ≡ min q (get_or held i 0) ∷ given_up (q - min q (get_or held i 0)) (drop (i + 1) held)
+  pub given_next : i < length held → given_up q (drop i held) ≡ min q (get_or held i 0) ∷ given_up (q - min q (get_or held i 0)) (drop (i + 1) held)
   unfolding given_up
-  given-next h = rw (add-one, drop-cons held i 0 h)
+  given_next h = rw (add-one, drop-cons held i 0 h)
 
-  pub given-end : length held ≤ i → given_up q (drop i held) ≡ []
+  pub given_end : length held ≤ i → given_up q (drop i held) ≡ []
   unfolding given_up
-  given-end h = rw (drop_of_length-le held h)
+  given_end h = rw (drop_of_length-le held h)
 
 pub given_length : (q : ℕ) (held : List ℕ) → length (given_up q held) ≡ length held
 unfolding given_up

@@ -16,7 +16,7 @@ use Rattle.rules.specs.declared.contract.ContractKind.TheVariants.{Year, Quarter
 use Rattle.rules.specs.Ranges.{term_count}
 use Rattle.rules.specs.Days.{Calendar, month_start, month_length, month_days, leap_year, first_month}
 use Rattle.rules.specs.ContractTerms.{open_count, same_kind, has_term, kind_of, term_of, contracts_of, months_in, term_first_day, term_day_after, first_day, day_after, days_of, still_to_close, open_of_kind, open_contracts, open_on}
-use Rattle.rules.proofs.CalendarLaws.{month_next, open-listed}
+use Rattle.rules.proofs.CalendarLaws.{month_next, open_listed}
 
 -- ---- listed numbers
 listed_kept : (p : ℕ → Bool) (l : List ℕ) (c : ℕ) → listed (kept p l) c ≡ true → p c ≡ true
@@ -59,41 +59,41 @@ one_of false true c x f g h = rw (h refl) (omega arith)
 one_of false false c x f g h = omega arith
 
 module _ (k : Calendar) (d : ℕ) where
-  open-kind : (s : ContractKind) (c : ℕ) → listed (open_of_kind k d s) c ≡ true → same_kind (kind_of c) s ≡ true
+  open_kind : (s : ContractKind) (c : ℕ) → listed (open_of_kind k d s) c ≡ true → same_kind (kind_of c) s ≡ true
   unfolding open_of_kind contracts_of
-  open-kind s c h =
+  open_kind s c h =
       let all = contracts_of s in
       let left = kept (λ x. still_to_close k d (term_of x)) all in
       listed_kept (λ x. same_kind (kind_of x) s) (from 0 term_count) c (listed_before (λ x. still_to_close k d (term_of x)) all c (listed_take (open_count s) left c h))
 
   exclusive : (s t : ContractKind) (c : ℕ) → same_kind s t ≡ false → listed (open_of_kind k d s) c ≡ true → listed (open_of_kind k d t) c ≡ false
   exclusive s t c n h =
-      true_or (listed (open_of_kind k d t) c) (λ g. never (sym (same_twice (kind_of c) s t (open-kind s c h) (open-kind t c g)) ∙ n)) (λ g. g)
+      true_or (listed (open_of_kind k d t) c) (λ g. never (sym (same_twice (kind_of c) s t (open_kind s c h) (open_kind t c g)) ∙ n)) (λ g. g)
 
-  open-rising : (s : ContractKind) → Rising term_count 0 (open_of_kind k d s)
+  open_rising : (s : ContractKind) → Rising term_count 0 (open_of_kind k d s)
   unfolding open_of_kind contracts_of
-  open-rising s =
+  open_rising s =
       rising_take (open_count s) (rising_kept (λ x. still_to_close k d (term_of x)) (rising_kept (λ x. same_kind (kind_of x) s) (rising_from 0 term_count term_count (omega arith))))
 
-  kind-total : (f : ℕ → ℕ) (s : ContractKind) → total f (open_of_kind k d s) ≡ total (λ c. cond (listed (open_of_kind k d s) c) (f c) 0) (from 0 term_count)
-  kind-total f s = total_listed f term_count 0 term_count (open_of_kind k d s) (omega arith) (open-rising s)
+  kind_total : (f : ℕ → ℕ) (s : ContractKind) → total f (open_of_kind k d s) ≡ total (λ c. cond (listed (open_of_kind k d s) c) (f c) 0) (from 0 term_count)
+  kind_total f s = total_listed f term_count 0 term_count (open_of_kind k d s) (omega arith) (open_rising s)
 
-  open-one : (c x : ℕ) → cond (listed (open_of_kind k d Year) c) x 0 + (cond (listed (open_of_kind k d Quarter) c) x 0 + cond (listed (open_of_kind k d Month) c) x 0) ≡ cond (open_on k d c) x 0
+  open_one : (c x : ℕ) → cond (listed (open_of_kind k d Year) c) x 0 + (cond (listed (open_of_kind k d Quarter) c) x 0 + cond (listed (open_of_kind k d Month) c) x 0) ≡ cond (open_on k d c) x 0
   unfolding open_contracts
-  open-one c x =
-      let either = rw (any_append, any_append) at (open-listed k d c) in
+  open_one c x =
+      let either = rw (any_append, any_append) at (open_listed k d c) in
       rw (← either) (one_of _ _ _ x (exclusive Year Quarter c refl) (exclusive Year Month c refl) (exclusive Quarter Month c refl))
 
   -- A total over the open contracts is one over all that have a term, of which those open count.
-  pub open-total : (f : ℕ → ℕ) → total f (open_contracts k d) ≡ total (λ c. cond (open_on k d c) (f c) 0) (from 0 term_count)
+  pub open_total : (f : ℕ → ℕ) → total f (open_contracts k d) ≡ total (λ c. cond (open_on k d c) (f c) 0) (from 0 term_count)
   unfolding open_contracts
-  open-total f =
+  open_total f =
       let count : ContractKind → ℕ → ℕ = λ s c. cond (listed (open_of_kind k d s) c) (f c) 0 in
       let all = from 0 term_count in
-      rw (total_append, total_append, kind-total f Year, kind-total f Quarter, kind-total f Month)
+      rw (total_append, total_append, kind_total f Year, kind_total f Quarter, kind_total f Month)
       (sym (ap (λ n. total (count Year) all + n) (total_plus (count Quarter) (count Month) all))
       ∙ sym (total_plus (count Year) (λ c. count Quarter c + count Month c) all)
-      ∙ total_same (λ c. count Year c + (count Quarter c + count Month c)) (λ c. cond (open_on k d c) (f c) 0) 0 term_count (λ c h g. open-one c (f c)))
+      ∙ total_same (λ c. count Year c + (count Quarter c + count Month c)) (λ c. cond (open_on k d c) (f c) 0) 0 term_count (λ c h g. open_one c (f c)))
 
 -- ---- days
 most_days_lem : (a b c : Bool) → cond a (cond b 29 28) (cond c 30 31) ≤ 31

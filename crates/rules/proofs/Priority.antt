@@ -95,8 +95,8 @@ pub record IsBest (p : Order → Bool) (s : Side) (os : List Order) (r : Order) 
 
 module _ (p : Order → Bool) (s : Side) where
   -- an order put before those whose best is b
-  best-more : (o b r : Order) (os : List Order) → p o ≡ true → o.side ≡ s → IsBest p s os b → better o (some b) ≡ some r → IsBest p s (o ∷ os) r
-  best-more o b r os h e i =
+  best_more : (o b r : Order) (os : List Order) → p o ≡ true → o.side ≡ s → IsBest p s os b → better o (some b) ≡ some r → IsBest p s (o ∷ os) r
+  best_more o b r os h e i =
       by_priority (λ c. cond c (some b) (some o) ≡ some r → IsBest p s (o ∷ os) r) b o (i.side ∙ sym e)
       (λ x f. let is : b ≡ r = cc in subst (IsBest p s (o ∷ os)) is (record { passes = i.passes; side = i.side; first = (λ _. (e, x), i.first) }))
       (λ x f. let is : o ≡ r = cc in subst (IsBest p s (o ∷ os)) is (record {
@@ -110,8 +110,8 @@ module _ (p : Order → Bool) (s : Side) where
       }))
 
   -- an order that is the only one to pass
-  best-only : (o r : Order) (os : List Order) → p o ≡ true → o.side ≡ s → All (λ a. p a ≡ false) os → better o none ≡ some r → IsBest p s (o ∷ os) r
-  best-only o r os h e a f =
+  best_only : (o r : Order) (os : List Order) → p o ≡ true → o.side ≡ s → All (λ a. p a ≡ false) os → better o none ≡ some r → IsBest p s (o ∷ os) r
+  best_only o r os h e a f =
       let is : o ≡ r = cc in
       subst (IsBest p s (o ∷ os)) is (record {
         passes = h;
@@ -119,14 +119,14 @@ module _ (p : Order → Bool) (s : Side) where
         first = (λ _. (e, same refl (omega arith)), all_map (λ a. p a ≡ false) (λ a. p a ≡ true → (a.side ≡ s) × After a o) os (λ a y q. never (sym q ∙ y)) a);
       })
 
-  pub best-is : (os : List Order) → All (λ o. p o ≡ true → o.side ≡ s) os → (r : Order) → best p os ≡ some r → IsBest p s os r
+  pub best_is : (os : List Order) → All (λ o. p o ≡ true → o.side ≡ s) os → (r : Order) → best p os ≡ some r → IsBest p s os r
   unfolding best
-  best-is [] h r e = absurd (let z : ◌≡◌ {A = ℕ} 0 1 = cc in omega arith)
-  best-is (o ∷ os) h r e =
+  best_is [] h r e = absurd (let z : ◌≡◌ {A = ℕ} 0 1 = cc in omega arith)
+  best_is (o ∷ os) h r e =
       by_bool (λ b. p o ≡ b → cond b (better o (best p os)) (best p os) ≡ some r → IsBest p s (o ∷ os) r) (p o)
-      (λ _ q f. go (best p os) refl q f (best-is os h.1))
-      (λ _ q f. let i = best-is os h.1 r f in record { passes = i.passes; side = i.side; first = (λ t. never (sym t ∙ q), i.first) }) refl e
+      (λ _ q f. go (best p os) refl q f (best_is os h.1))
+      (λ _ q f. let i = best_is os h.1 r f in record { passes = i.passes; side = i.side; first = (λ t. never (sym t ∙ q), i.first) }) refl e
     where
       go : (x : Option Order) → best p os ≡ x → p o ≡ true → better o x ≡ some r → ((b : Order) → x ≡ some b → IsBest p s os b) → IsBest p s (o ∷ os) r
-      go none n q f ih = best-only o r os q (h.0 q) (best_none p os n) f
-      go (some b) n q f ih = best-more o b r os q (h.0 q) (ih b refl) f
+      go none n q f ih = best_only o r os q (h.0 q) (best_none p os n) f
+      go (some b) n q f ih = best_more o b r os q (h.0 q) (ih b refl) f

@@ -42,10 +42,10 @@ module _ (l : List ℕ) (i : ℕ) (ok : Bool) (known : ok && rising (drop i l) �
   one : i + 1 < length l → drop (i + 1) l ≡ get_or l (i + 1) 0 ∷ drop (suc (suc i)) l
   one h = rw (add-one i) (drop-cons l (suc i) 0 (omega arith))
 
-  pub rising-next : i + 1 < length l → (ok && ltb (get_or l i 0) (get_or l (i + 1) 0)) && rising (drop (i + 1) l) ≡ rising l
-  rising-next h =
+  pub rising_next : i + 1 < length l → (ok && ltb (get_or l i 0) (get_or l (i + 1) 0)) && rising (drop (i + 1) l) ≡ rising l
+  rising_next h =
       and_assoc ok (ltb (get_or l i 0) (get_or l (i + 1) 0)) (rising (drop (i + 1) l))
       ∙ rw (one h, ← rising_cons (get_or l i 0) (get_or l (i + 1) 0) (drop (suc (suc i)) l), ← two h) known
 
-  pub rising-end : length l ≤ i + 1 → ok ≡ rising l
-  rising-end h = sym (and_true ok) ∙ rw (rising_short (drop i l) (rw (length-drop i l) (omega arith))) at known
+  pub rising_end : length l ≤ i + 1 → ok ≡ rising l
+  rising_end h = sym (and_true ok) ∙ rw (rising_short (drop i l) (rw (length-drop i l) (omega arith))) at known

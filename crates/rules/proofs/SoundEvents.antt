@@ -8,7 +8,7 @@ use lib.Dec.{eqb, leb, ltb}
 use lib.ListN.{length}
 use borrow.Author.Tests.{leb-true, ltb-true, eqb-true}
 use Rattle.arith.specs.Lists.{All, every}
-use Rattle.arith.proofs.Alls.{every-all}
+use Rattle.arith.proofs.Alls.{every_all}
 use Rattle.arith.proofs.Tests.{and_left, and_right}
 use Rattle.rules.specs.declared.event.Cancellation.{Cancellation}
 use Rattle.rules.specs.declared.event.CloseOutTerms.{CloseOutTerms}
@@ -105,7 +105,7 @@ proposal n k legs q =
     let lengthIs = eqb (length legs) k in
     let three = and_left (counts && lengthIs) (every leg_sound legs) q in
     let most = leb-true k most_legs (and_right (leb 2 k) (leb k most_legs) (and_left counts lengthIs three)) in
-    record { few = omega (arith, eqb-true (length legs) k (and_right counts lengthIs three)); each = every-all leg_sound legs (and_right (counts && lengthIs) (every leg_sound legs) q) }
+    record { few = omega (arith, eqb-true (length legs) k (and_right counts lengthIs three)); each = every_all leg_sound legs (and_right (counts && lengthIs) (every leg_sound legs) q) }
 
 pub default_member : (n m : ℕ) (legs : List Leg) → event_sound n (Default m) legs ≡ true → m < n
 unfolding event_sound

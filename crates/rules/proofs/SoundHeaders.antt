@@ -7,7 +7,7 @@ use lib.Dec.{eqb, leb}
 use lib.ListN.{length, take}
 use borrow.Author.Tests.{leb-true, eqb-true}
 use Rattle.arith.specs.Lists.{All, every}
-use Rattle.arith.proofs.Alls.{all_map, every-all}
+use Rattle.arith.proofs.Alls.{all_map, every_all}
 use Rattle.arith.proofs.Tests.{and_left, and_right}
 use Rattle.rules.specs.Ranges.{least_first_year, most_first_year, most_holidays, most_members, most_limit}
 use Rattle.rules.specs.Days.{Calendar, in_span}
@@ -57,7 +57,7 @@ header_gives h e =
       members_range = in_range 1 h.members most_members (and_right (days && start) size three);
       one_limit = eqb-true (length h.limits) h.members (and_right (days && start && size) one four);
       limits≤ = all_map (λ l. limit_sound l ≡ true) (λ l. l ≤ most_limit) h.limits (λ l q. leb-true l most_limit q)
-          (every-all limit_sound h.limits (and_right (days && start && size && one) low e));
+          (every_all limit_sound h.limits (and_right (days && start && size && one) low e));
     }
 
 pub begun : (s : List ℕ) → begins_with_header s ≡ true → header_sound (header_of s) ≡ true

@@ -8,7 +8,7 @@ use lib.Dec.{ltb}
 use lib.ListN.{length}
 use borrow.Author.Tests.{leb-true, ltb-true, ltb-false, lt-ltb, le-leb, le-ltb, not-false}
 use Rattle.arith.specs.Lists.{All, from}
-use Rattle.arith.proofs.Alls.{all_hold, hold_all, all_map, every-all}
+use Rattle.arith.proofs.Alls.{all_hold, hold_all, all_map, every_all}
 use Rattle.arith.proofs.Among.{every_from}
 use Rattle.arith.proofs.Tests.{or_left, or_right, passed, passes}
 use Rattle.rules.specs.declared.order.Order.{Order}
@@ -149,7 +149,7 @@ pub book_gives : (t : Tables) → book_sound t ≡ true → SoundBook t
 unfolding book_sound
 book_gives t e =
     let a = all_hold _ e in
-    record { sides = a.0; each = all_map (λ o. order_sound t o ≡ true) (SoundOrder t) (orders t) (order_gives t) (every-all (order_sound t) (orders t) a.1.0); numbers = a.1.1.0 }
+    record { sides = a.0; each = all_map (λ o. order_sound t o ≡ true) (SoundOrder t) (orders t) (order_gives t) (every_all (order_sound t) (orders t) a.1.0); numbers = a.1.1.0 }
 
 -- ---- all of it
 pub record Undamaged (t : Tables) : Type 0 where

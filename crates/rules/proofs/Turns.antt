@@ -16,23 +16,23 @@ use Rattle.rules.proofs.Netting.{sum_set}
 
 -- ---- a turn
 module _ (mins : List ℕ) (i : ℕ) (d : List ℕ) (k : ℕ) where
-  pub turn-deals : 0 < k → get_or d i 0 < get_or mins i 0 → turn mins i (record { received = d; undealt = k }) ≡ record { received = set d i (get_or d i 0 + 1); undealt = k - 1 }
+  pub turn_deals : 0 < k → get_or d i 0 < get_or mins i 0 → turn mins i (record { received = d; undealt = k }) ≡ record { received = set d i (get_or d i 0 + 1); undealt = k - 1 }
   unfolding turn
-  turn-deals p q = rw (lt-ltb 0 k p, lt-ltb (get_or d i 0) (get_or mins i 0) q)
+  turn_deals p q = rw (lt-ltb 0 k p, lt-ltb (get_or d i 0) (get_or mins i 0) q)
 
-  pub turn-full : get_or mins i 0 ≤ get_or d i 0 → turn mins i (record { received = d; undealt = k }) ≡ record { received = d; undealt = k }
+  pub turn_full : get_or mins i 0 ≤ get_or d i 0 → turn mins i (record { received = d; undealt = k }) ≡ record { received = d; undealt = k }
   unfolding turn
-  turn-full q = rw (le-ltb (get_or d i 0) (get_or mins i 0) q, and_false (ltb 0 k))
+  turn_full q = rw (le-ltb (get_or d i 0) (get_or mins i 0) q, and_false (ltb 0 k))
 
-  pub turn-none : k ≤ 0 → turn mins i (record { received = d; undealt = k }) ≡ record { received = d; undealt = k }
+  pub turn_none : k ≤ 0 → turn mins i (record { received = d; undealt = k }) ≡ record { received = d; undealt = k }
   unfolding turn
-  turn-none q = rw (le-ltb 0 k q)
+  turn_none q = rw (le-ltb 0 k q)
 
 -- ---- a round
 pub round_none : (mins is d : List ℕ) (k : ℕ) → k ≤ 0 → round mins is (record { received = d; undealt = k }) ≡ record { received = d; undealt = k }
 unfolding round
 round_none mins [] d k h = refl
-round_none mins (i ∷ is) d k h = rw (turn-none mins i d k h) (round_none mins is d k h)
+round_none mins (i ∷ is) d k h = rw (turn_none mins i d k h) (round_none mins is d k h)
 
 -- What a round keeps: the number of members, and the lots received and undealt together.
 pub record Keeps (d : List ℕ) (k : ℕ) (s : Dealing) : Type 0 where
@@ -46,26 +46,26 @@ round_keeps mins [] d k b = record { long = refl; whole = refl; less = omega ari
 round_keeps mins (i ∷ is) d k b =
     le_or_lt (suc (get_or d i 0)) (get_or mins i 0)
     (λ q. le_or_lt 1 k
-    (λ p. rw (turn-deals mins i d k p q)
+    (λ p. rw (turn_deals mins i d k p q)
     (let d' = set d i (get_or d i 0 + 1) in
     let r = round_keeps mins is d' (k - 1) (λ j. rw length-set (b (suc j))) in
     record { long = r.long ∙ length-set d i (get_or d i 0 + 1); whole = omega (arith, r.whole, sum_set d i (b 0)); less = omega (arith, r.less) }))
-    (λ p. rw (turn-none mins i d k (omega arith)) (round_keeps mins is d k (λ j. b (suc j)))))
-    (λ q. rw (turn-full mins i d k (omega arith)) (round_keeps mins is d k (λ j. b (suc j))))
+    (λ p. rw (turn_none mins i d k (omega arith)) (round_keeps mins is d k (λ j. b (suc j)))))
+    (λ q. rw (turn_full mins i d k (omega arith)) (round_keeps mins is d k (λ j. b (suc j))))
 
 -- A round read from its front: the turn of the member at place i.
 module _ (mins is d : List ℕ) (k i : ℕ) (within : i < length is) where
   abbrev deals : Bool
   deals = ltb 0 k && ltb (get_or d (get_or is i 0) 0) (get_or mins (get_or is i 0) 0)
 
-  pub round-deals : deals ≡ true
+  pub round_deals : deals ≡ true
       → round mins (drop (i + 1) is) (record { received = set d (get_or is i 0) (get_or d (get_or is i 0) 0 + 1); undealt = k - 1 }) ≡ round mins (drop i is) (record { received = d; undealt = k })
   unfolding round turn
-  round-deals e = rw (drop-cons is i 0 within, round, turn, e, add-one)
+  round_deals e = rw (drop-cons is i 0 within, round, turn, e, add-one)
 
-  pub round-passes : deals ≡ false → round mins (drop (i + 1) is) (record { received = d; undealt = k }) ≡ round mins (drop i is) (record { received = d; undealt = k })
+  pub round_passes : deals ≡ false → round mins (drop (i + 1) is) (record { received = d; undealt = k }) ≡ round mins (drop i is) (record { received = d; undealt = k })
   unfolding round turn
-  round-passes e = rw (drop-cons is i 0 within, round, turn, e, add-one)
+  round_passes e = rw (drop-cons is i 0 within, round, turn, e, add-one)
 
 pub round_end : (mins is : List ℕ) (s : Dealing) (i : ℕ) → length is ≤ i → round mins (drop i is) s ≡ s
 unfolding round

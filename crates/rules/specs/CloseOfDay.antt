@@ -2,7 +2,7 @@
 use Rattle.std.specs.Prelude.{ℕ, ◌+◌, ◌*◌, ◌/◌, Bool, true, false, cond, not, ◌&&◌, ◌||◌, eqb, leb, ltb, take, drop, replicate, ℤ, pos, ◌+ℤ◌}
 use mathlib.Core.List.{List, [], ◌∷◌, ◌++◌, zip_with}
 use Rattle.std.proofs.Math.Option.{Option, none, some}
-use Rattle.arith.specs.Lists.{any, kept, over, inEachBlock}
+use Rattle.arith.specs.Lists.{any, kept, over, in_each_block}
 use Rattle.rules.specs.declared.answer.Answer.TheVariants.{Accepted}
 use Rattle.rules.specs.declared.contract.ContractKind.TheVariants.{Year, Quarter, Month}
 use Rattle.rules.specs.declared.order.Order.{Order}
@@ -59,7 +59,7 @@ with_ggfs t s [] l = l
 with_ggfs t s (c ∷ cs) l = with_ggfs t s cs (with_ggf c (ggf_at_close t s c) l)
 
 unfoldable pub without_deals : List ℕ → List ℕ
-without_deals l = inEachBlock price_width (over (day_lots_place 0) (0 ∷ 0 ∷ [])) contract_count l
+without_deals l = in_each_block price_width (over (day_lots_place 0) (0 ∷ 0 ∷ [])) contract_count l
 
 -- A new GGF for every open contract; M and V of all contracts become 0.
 unfoldable pub priced : ℕ → Tables → Tables

@@ -2,7 +2,7 @@
 use Rattle.std.specs.Prelude.{ℕ}
 use mathlib.Core.List.{List, [], ◌∷◌, flat_map, zip_with}
 use Rattle.arith.specs.Ints.{up, dn}
-use Rattle.arith.specs.Lists.{every, any, kept, howMany, total, over, everyBlock, inEachBlock, all_of, from, count}
+use Rattle.arith.specs.Lists.{every, any, kept, how_many, total, over, every_block, in_each_block, all_of, from, count}
 use Rattle.rules.specs.Answers.{Outcome, Reply, reply_of}
 use Rattle.rules.specs.Days.{leap_year, month_days, year_start, month_length, month_start, business_day, span_start, day_after_span, in_span, first_business_day, next_business_day, business_day_before}
 use Rattle.rules.specs.ContractTerms.{term_of, contracts_of, children_of, term_first_day, term_day_after, days_of, holds_day, holds_hour, term_closing_day, still_to_close, open_of_kind}
@@ -41,7 +41,7 @@ tables_after t (r ∷ rs) = tables_after (apply_spec t r).after rs
 
 -- `unfolding computed` opens every definition of the rules, so that what they say of a list computes.
 unfoldable pub computed : {A : Type 0} → A → A
-unfolding up dn every any kept howMany total over everyBlock inEachBlock all_of from count flat_map zip_with leap_year
+unfolding up dn every any kept how_many total over every_block in_each_block all_of from count flat_map zip_with leap_year
     month_days year_start month_length month_start business_day span_start day_after_span in_span first_business_day
     next_business_day business_day_before term_of contracts_of children_of term_first_day term_day_after days_of holds_day
     holds_hour term_closing_day still_to_close open_of_kind open_contracts open_on has_cascaded u16_at u32_at u16_bytes u32_bytes

@@ -2,7 +2,7 @@
 -- docs/LAYOUT.md has the same places for the author of a host.
 use Rattle.std.specs.Prelude.{ℕ, ◌+◌, ◌*◌, Bool, cond, ◌||◌, eqb, ltb, length, take, drop, get_or, set, replicate, ℤ, pos, nat_abs, ◌+ℤ◌, ◌*ℤ◌}
 use mathlib.Core.List.{List, [], ◌∷◌, map, flat_map}
-use Rattle.arith.specs.Lists.{from, over, total, inEachBlock}
+use Rattle.arith.specs.Lists.{from, over, total, in_each_block}
 use Rattle.rules.specs.declared.answer.Answer.TheVariants.{Accepted}
 use Rattle.rules.specs.declared.order.Order.{Order}
 use Rattle.rules.specs.Answers.{Outcome}
@@ -385,10 +385,10 @@ fresh_head h l =
     (over holidays_from h.holidays (over first_year_place (h.first_year ∷ n ∷ length h.holidays ∷ h.start_day ∷ 0 ∷ 0 ∷ 0 ∷ 0 ∷ []) l))))
 
 unfoldable pub fresh_prices : List ℕ → List ℕ
-fresh_prices l = inEachBlock price_width (λ five. 0 ∷ 1 ∷ most_price ∷ 0 ∷ 0 ∷ []) contract_count l
+fresh_prices l = in_each_block price_width (λ five. 0 ∷ 1 ∷ most_price ∷ 0 ∷ 0 ∷ []) contract_count l
 
 unfoldable pub fresh_rows : ℕ → List ℤ → List ℤ
-fresh_rows n l = inEachBlock row_width (over 0 (replicate n (pos 0))) contract_count l
+fresh_rows n l = in_each_block row_width (over 0 (replicate n (pos 0))) contract_count l
 
 unfoldable pub fresh : Header → Tables → Tables
 fresh h t =

@@ -1,5 +1,5 @@
 -- What code says in other words than the paper. rules/proofs has the law that each says the same: CalendarLaws
--- (`term_number`, `contracts_of_lem`, `open-by-count`) and HourLaws (`holds-hour`).
+-- (`term_number`, `contracts_of_lem`, `open_by_count_lem`) and HourLaws (`holds_hour_lem`).
 use Rattle.std.specs.Prelude.{ℕ, ◌+◌, ◌*◌, ◌-◌, ◌/◌, ◌%◌, Bool, ◌&&◌, ◌||◌, eqb, ltb}
 use Rattle.arith.specs.Lists.{count}
 use Rattle.rules.specs.declared.contract.ContractKind.{ContractKind}

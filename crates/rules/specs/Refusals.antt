@@ -1,6 +1,6 @@
 -- Document 01, "Why a record is turned back": damage, the causes of each kind of record in the order of their ranks, and one call.
 use Rattle.std.specs.Prelude.{ℕ, ◌+◌, ◌*◌, Bool, true, not, ◌&&◌, ◌||◌, List, [], ◌∷◌, map, eqb, leb, ltb, length, take, get_or, ℤ, nat_abs}
-use Rattle.arith.specs.Lists.{every, any, kept, from, everyBlock, all_of}
+use Rattle.arith.specs.Lists.{every, any, kept, from, every_block, all_of}
 use Rattle.rules.specs.declared.answer.Answer.TheVariants.{Accepted, TableUnsound, HeaderUnsound, RecordUnsound, TimeBelowLedger, MemberDefaulted, ContractNotOpen}
 use Rattle.rules.specs.declared.answer.Answer.TheVariants.{PriceOutsideLimits, SixthSubmit, AboveLimit, CannotMatchInFull, BookFull, NoSuchOrder, NotAcceptable}
 use Rattle.rules.specs.declared.answer.Answer.TheVariants.{NoReferencePrice, NoDefaultedLots, NoTaker, TotalPassed, NoLaterDay}
@@ -30,7 +30,7 @@ use Rattle.rules.specs.Default.{default_booked, sum_of, defaulted_longs, default
 -- ---- damage (1)
 -- Every row of the members of every contract.
 unfoldable pub every_row : (ℤ → Bool) → ℕ → List ℤ → Bool
-every_row p n l = everyBlock row_width (λ rows. every p (take n rows)) contract_count l
+every_row p n l = every_block row_width (λ rows. every p (take n rows)) contract_count l
 
 -- A row's lots do not pass the lots run in absolute size, nor its value 1,000,000 times that.
 unfoldable pub rows_sound : Tables → Bool
@@ -51,7 +51,7 @@ contract_prices_sound run prices =
     ∷ [])
 
 unfoldable pub prices_sound : Tables → Bool
-prices_sound t = everyBlock price_width (contract_prices_sound (lots_run t)) contract_count t.prices
+prices_sound t = every_block price_width (contract_prices_sound (lots_run t)) contract_count t.prices
 
 -- A member's limit, mark and count in the present second.
 unfoldable pub member_sound : Tables → ℕ → Bool

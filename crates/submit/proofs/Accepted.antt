@@ -12,11 +12,11 @@ use Rattle.rules.specs.Ledger.{with_submits_this_second, submits_from, with_head
 use Rattle.rules.specs.Matching.{incoming, submit_matched, submit_lines, would_rest, submit_orders, counted, submit_booked}
 use Rattle.tables.specs.Fit.{HeadFit, PricesFit, RowsFit, BookFit, members_in, accepted_in, lots_run_in, order_count_in, orders_in}
 use Rattle.matching.specs.Crossing.{crossing_in}
-use Rattle.tables.proofs.Heads.{timed-length, timed-place}
+use Rattle.tables.proofs.Heads.{timed_length, timed_place}
 use Rattle.submit_causes.specs.Fit.{SubmissionFit, Acceptable}
 use Rattle.submit.specs.Deals.{Tradable}
 use Rattle.submit.specs.Placing.{Placeable, order_booked}
-use Rattle.submit.proofs.Heads.{timed_submits, counted-length, counted-place}
+use Rattle.submit.proofs.Heads.{timed_submits, counted_length, counted_place}
 
 module _ (t : Tables) (e : Submission)
     (h : HeadFit t.head) (p : PricesFit (lots_run_in t.head) t.prices) (b : BookFit t.head t.book) (f : SubmissionFit t.head e) where
@@ -34,10 +34,10 @@ module _ (t : Tables) (e : Submission)
     pub countable : (head_length ≤ length timedHead) × (e.member < most_members) × (get_or timedHead (submits_from + e.member) 0 ≤ most_submits_in_second) ×
         (accepted_in timedHead ≤ most_accepted_submits)
     countable = (
-      omega (arith, h.long, ap length time-is ∙ timed-length e.time t h.long h.most_members_holds),
+      omega (arith, h.long, ap length time-is ∙ timed_length e.time t h.long h.most_members_holds),
       omega (arith, f.member_below, h.most_members_holds),
       omega (arith, ap (λ l. get_or l (submits_from + e.member) 0) time-is ∙ timed_submits e.time t e.member h.long h.most_members_holds f.member_below, a.most_submits),
-      omega (arith, ap (λ l. accepted_in l) time-is ∙ timed-place e.time t h.long h.most_members_holds accepted_submits_place (omega arith) (λ z. omega arith), h.most_accepted),
+      omega (arith, ap (λ l. accepted_in l) time-is ∙ timed_place e.time t h.long h.most_members_holds accepted_submits_place (omega arith) (λ z. omega arith), h.most_accepted),
     )
 
     pub counted_is : (head₁ : List ℕ)
@@ -52,10 +52,10 @@ module _ (t : Tables) (e : Submission)
     head-is = ap (λ x. x.head) same
 
     pub head_long : head_length ≤ length head₁
-    head_long = omega (arith, h.long, ap length head-is ∙ counted-length e.time t e.member h.long h.most_members_holds f.member_below)
+    head_long = omega (arith, h.long, ap length head-is ∙ counted_length e.time t e.member h.long h.most_members_holds f.member_below)
 
     place : (i : ℕ) → i < submits_from → (i ≡ time_place → ⊥) → (i ≡ accepted_submits_place → ⊥) → get_or head₁ i 0 ≡ get_or t.head i 0
-    place i below other next = ap (λ l. get_or l i 0) head-is ∙ counted-place e.time t e.member h.long h.most_members_holds f.member_below i below other next
+    place i below other next = ap (λ l. get_or l i 0) head-is ∙ counted_place e.time t e.member h.long h.most_members_holds f.member_below i below other next
 
     pub count_same : order_count_in head₁ ≡ order_count_in t.head
     count_same = place order_count_place (omega arith) (λ z. omega arith) (λ z. omega arith)
@@ -64,8 +64,8 @@ module _ (t : Tables) (e : Submission)
     unfolding orders
     orders_same = rw count_same
 
-    pub members-same : members_in head₁ ≡ members_in t.head
-    members-same = place members_place (omega arith) (λ z. omega arith) (λ z. omega arith)
+    pub members_same : members_in head₁ ≡ members_in t.head
+    members_same = place members_place (omega arith) (λ z. omega arith) (λ z. omega arith)
 
     pub run-same : lots_run_in head₁ ≡ lots_run_in t.head
     run-same = place lots_run_place (omega arith) (λ z. omega arith) (λ z. omega arith)
@@ -98,14 +98,14 @@ module _ (t : Tables) (e : Submission)
           tradable = tradable;
           bookable = record {
             long = head_long;
-            most_members_holds = omega (arith, members-same, h.most_members_holds);
-            lots_fit = rw (members-same, run-same) l;
-            value_fit = rw (members-same, run-same) v;
+            most_members_holds = omega (arith, members_same, h.most_members_holds);
+            lots_fit = rw (members_same, run-same) l;
+            value_fit = rw (members_same, run-same) v;
             lines_long = n;
             most_run = rw (run-same, count_same) a.most_run;
           };
-          member_below = omega (arith, members-same, f.member_below);
-          members_below = λ i k. omega (arith, members-same, (b.order_fit i (omega (arith, count_same))).member_below);
+          member_below = omega (arith, members_same, f.member_below);
+          members_below = λ i k. omega (arith, members_same, (b.order_fit i (omega (arith, count_same))).member_below);
           place = rw count_same a.place;
         }
 

@@ -19,7 +19,7 @@ use Rattle.submit_causes.specs.declared.causes.Verdict.{Verdict}
 use Rattle.submit_causes.specs.declared.causes.Verdict.TheVariants.{Refused, Sound}
 use Rattle.submit_causes.specs.Fit.{SubmissionFit, Acceptable}
 use Rattle.submit_causes.specs.Causes.{outcome, first_causes, measured_causes}
-use Rattle.submit_causes.proofs.Judged.{judged-first, judged, acceptable}
+use Rattle.submit_causes.proofs.Judged.{judged_first, judged, acceptable}
 use Rattle.rules.proofs.Distinct.{Distinct, distinct_orders}
 
 -- What both verdicts on a submit tell, where so many lots cross.
@@ -44,10 +44,10 @@ module _ (t : Tables) (e : Submission) (h : HeadFit t.head) (b : BookFit t.head 
   unfolding orders
   many = orders_length t.book (order_count_in t.head)
 
-  pub refused-first : (first : Verdict) → ((x : Outcome Tables) → outcome first t x ≡ decide (first_causes t e) t x) → (a : Answer) → first ≡ Refused a
+  pub refused_first : (first : Verdict) → ((x : Outcome Tables) → outcome first t x ≡ decide (first_causes t e) t x) → (a : Answer) → first ≡ Refused a
       → record { answer = a; after = t } ≡ submit_spec t e
   unfolding submit_spec
-  refused-first first k a s = rw s at (judged-first t e ranked numbers has_lots_holds f.least_lots many h.most_orders_holds first k (submit_booked t e))
+  refused_first first k a s = rw s at (judged_first t e ranked numbers has_lots_holds f.least_lots many h.most_orders_holds first k (submit_booked t e))
 
   -- with what the book tells of the order
   module _ (o : Order) (same : o ≡ incoming t e) (own crossing : ℕ) (own_is : own ≡ own_in o (orders_in (order_count_in t.head) t.book))
@@ -73,9 +73,9 @@ module _ (t : Tables) (e : Submission) (h : HeadFit t.head) (b : BookFit t.head 
         }
 
 module _ {t : Tables} {e : Submission} {first second : Verdict} {crossing : ℕ} (j : Judged t e first second crossing) (s : first ≡ Sound) where
-  pub refused-second : (a : Answer) → second ≡ Refused a → record { answer = a; after = t } ≡ submit_spec t e
+  pub refused_second : (a : Answer) → second ≡ Refused a → record { answer = a; after = t } ≡ submit_spec t e
   unfolding submit_spec
-  refused-second a r = rw (s, r) at (j.verdict (submit_booked t e))
+  refused_second a r = rw (s, r) at (j.verdict (submit_booked t e))
 
   pub accepted : second ≡ Sound → submit_booked t e ≡ submit_spec t e
   unfolding submit_spec

@@ -26,18 +26,18 @@ module _ (l : List ℕ) where
   deals_length k = length-map (from 0 k) (deal_at l) ∙ from_length 0 k
 
   module _ (f : Counterparty → ℕ) where
-    pub total-next : (k : ℕ) → total f (deals_in (k + 1) l) ≡ total f (deals_in k l) + f (deal_at l k)
-    total-next k = rw (deals_next k, total_append f (deals_in k l) (deal_at l k ∷ []), total_one f (deal_at l k))
+    pub total_next : (k : ℕ) → total f (deals_in (k + 1) l) ≡ total f (deals_in k l) + f (deal_at l k)
+    total_next k = rw (deals_next k, total_append f (deals_in k l) (deal_at l k ∷ []), total_one f (deal_at l k))
 
     pub total-prefix : (k n : ℕ) → k ≤ n → total f (deals_in k l) ≤ total f (deals_in n l)
     total-prefix k n h = let e : k + (n - k) ≡ n = omega arith in rw (← e) (go (n - k))
       where
         go : (d : ℕ) → total f (deals_in k l) ≤ total f (deals_in (k + d) l)
         go zero = rw (add-zero k) (omega arith)
-        go (suc d) = let e : k + suc d ≡ k + d + 1 = omega arith in rw e (omega (arith, go d, total-next (k + d)))
+        go (suc d) = let e : k + suc d ≡ k + d + 1 = omega arith in rw e (omega (arith, go d, total_next (k + d)))
 
     pub total-at : (j n : ℕ) → j < n → f (deal_at l j) ≤ total f (deals_in n l)
-    total-at j n h = omega (arith, total-next j, total-prefix (j + 1) n (omega arith))
+    total-at j n h = omega (arith, total_next j, total-prefix (j + 1) n (omega arith))
 
   -- ---- their lines
   module _ (o : Order) where
@@ -46,8 +46,8 @@ module _ (l : List ℕ) where
         rw (deals_next k, flat_append (lines_with o) (deals_in k l) (deal_at l k ∷ []), flat_one (lines_with o) (deal_at l k))
         (sym (append_assoc (flat_map (lines_with o) (deals_in k l)) (line_in o (deal_at l k) ∷ []) (line_out o (deal_at l k) ∷ [])))
 
-    pub lines-length : (k : ℕ) → length (flat_map (lines_with o) (deals_in k l)) ≡ k * 2
-    lines-length k = flat_length 2 (lines_with o) (λ d. refl) (deals_in k l) ∙ ap (λ n. n * 2) (deals_length k)
+    pub lines_length_lem : (k : ℕ) → length (flat_map (lines_with o) (deals_in k l)) ≡ k * 2
+    lines_length_lem k = flat_length 2 (lines_with o) (λ d. refl) (deals_in k l) ∙ ap (λ n. n * 2) (deals_length k)
 
 -- ---- the worth of the first k deals
 pub record WorthTo (l : List ℕ) (k worth : ℕ) : Type 0 where
@@ -62,6 +62,6 @@ pub worth_next : (l : List ℕ) (n k worth : ℕ) → DealColumnFit n l → k < 
 worth_next l n k worth f h w d e =
     rw e
     (record {
-      sum = ap (λ m. m + worth_of (deal_at l k)) w.sum ∙ sym (total-next l worth_of k);
+      sum = ap (λ m. m + worth_of (deal_at l k)) w.sum ∙ sym (total_next l worth_of k);
       most = omega (arith, w.most, mul-le-mul (f.most_lots_holds k h) (f.most_price_holds k h));
     })

@@ -20,52 +20,52 @@ use Rattle.deal_lines.specs.Room.{Bookable}
 use Rattle.deal_lines.proofs.Booked.{booked_more}
 use Rattle.deal_lines.proofs.Takes.{Takes, takes_line, less_room, line_members}
 use Rattle.submit.specs.Deals.{lots_dealt}
-use Rattle.submit.proofs.Kept.{total-next, total-prefix, lines_next, lines-length}
+use Rattle.submit.proofs.Kept.{total_next, total-prefix, lines_next, lines_length_lem}
 
 -- ---- one deal
 module _ (o : Order) (d : Counterparty) (k : ℕ) (below : k < most_lots) (t : Tables) (incoming : LineFit t.head (line_in o d)) (resting : LineFit t.head (line_out o d)) where
   abbrev first : Tables
   first = with_line (k * 2) (line_in o d) t
 
-  pub resting-fit : LineFit first.head (line_out o d)
-  resting-fit =
+  pub resting_fit : LineFit first.head (line_out o d)
+  resting_fit =
       record { member_below = rw (line_members (k * 2) (line_in o d) t) resting.member_below; contract_below = resting.contract_below; most_price_holds = resting.most_price_holds }
 
-  pub first-takes : (room : ℕ) → Takes (d.lots.0 + room) t → Takes room first
-  first-takes room f = takes_line room (k * 2) (line_in o d) t (omega arith) incoming (rw (abs_signed o.side d.lots.0) f)
+  pub first_takes : (room : ℕ) → Takes (d.lots.0 + room) t → Takes room first
+  first_takes room f = takes_line room (k * 2) (line_in o d) t (omega arith) incoming (rw (abs_signed o.side d.lots.0) f)
 
-  pub both-take : (room : ℕ) → Takes (2 * d.lots.0 + room) t → Takes room (with_line (k * 2 + 1) (line_out o d) first)
-  both-take room f =
-      takes_line room (k * 2 + 1) (line_out o d) first (omega arith) resting-fit
-      (rw (abs_signed (other_side o.side) d.lots.0) (first-takes (d.lots.0 + room) (less_room _ _ (omega arith) f)))
+  pub both_take : (room : ℕ) → Takes (2 * d.lots.0 + room) t → Takes room (with_line (k * 2 + 1) (line_out o d) first)
+  both_take room f =
+      takes_line room (k * 2 + 1) (line_out o d) first (omega arith) resting_fit
+      (rw (abs_signed (other_side o.side) d.lots.0) (first_takes (d.lots.0 + room) (less_room _ _ (omega arith) f)))
 
-  pub both-members : members_in (with_line (k * 2 + 1) (line_out o d) first).head ≡ members_in t.head
-  both-members = line_members (k * 2 + 1) (line_out o d) first ∙ line_members (k * 2) (line_in o d) t
+  pub both_members : members_in (with_line (k * 2 + 1) (line_out o d) first).head ≡ members_in t.head
+  both_members = line_members (k * 2 + 1) (line_out o d) first ∙ line_members (k * 2) (line_in o d) t
 
 -- ---- the first k deals booked
 module _ (o : Order) (deals : List ℕ) (count : ℕ) (head₀ : List ℕ) (lots₀ value₀ lines₀ : List ℤ) where
   -- The lots of the deals that are not booked yet, on both sides.
-  abbrev to-book : ℕ → ℕ
-  to-book k = 2 * total lots_dealt (deals_in count deals) - 2 * total lots_dealt (deals_in k deals)
+  abbrev to_book : ℕ → ℕ
+  to_book k = 2 * total lots_dealt (deals_in count deals) - 2 * total lots_dealt (deals_in k deals)
 
   pub record Booking (k : ℕ) (head : List ℕ) (lots value lines : List ℤ) : Type 0 where
-    pub able : Bookable (to-book k) head lots value lines
-    pub members-same : members_in head ≡ members_in head₀
+    pub able : Bookable (to_book k) head lots value lines
+    pub members_same : members_in head ≡ members_in head₀
     pub same : (t : Tables) → with_head head (with_rows lots value (with_lines lines t)) ≡ (booked (flat_map (lines_with o) (deals_in k deals))
         (with_head head₀ (with_rows lots₀ value₀ (with_lines lines₀ t)))).after
 
-  pub booking-start : Bookable (2 * total lots_dealt (deals_in count deals)) head₀ lots₀ value₀ lines₀ → Booking 0 head₀ lots₀ value₀ lines₀
+  pub booking_start : Bookable (2 * total lots_dealt (deals_in count deals)) head₀ lots₀ value₀ lines₀ → Booking 0 head₀ lots₀ value₀ lines₀
   unfolding deals_in from total flat_map
-  booking-start able =
+  booking_start able =
       record {
         able = less_room _ _ (omega arith) able;
-        members-same = refl;
+        members_same = refl;
         same = λ t. sym (ap (λ x. x.after) (booked_none (with_head head₀ (with_rows lots₀ value₀ (with_lines lines₀ t)))));
       }
 
   module _ (k : ℕ) (below : k < count) (head : List ℕ) (lots value lines : List ℤ) (g : Booking k head lots value lines) (d : Counterparty) (e : d ≡ deal_at deals k) where
-    room_next : to-book k ≡ 2 * d.lots.0 + to-book (k + 1)
-    room_next = omega (arith, total-next deals lots_dealt k, total-prefix deals lots_dealt (k + 1) count (omega arith), ap lots_dealt e)
+    room_next : to_book k ≡ 2 * d.lots.0 + to_book (k + 1)
+    room_next = omega (arith, total_next deals lots_dealt k, total-prefix deals lots_dealt (k + 1) count (omega arith), ap lots_dealt e)
 
     pub deal-takes : Bookable (2 * d.lots.0) head lots value lines
     deal-takes = less_room _ _ (omega (arith, room_next)) g.able
@@ -77,10 +77,10 @@ module _ (o : Order) (deals : List ℕ) (count : ℕ) (head₀ : List ℕ) (lots
     booking-next head' lots' value' lines' long few incoming resting after =
         let u = with_head head (with_rows lots value (with_lines lines zero_tables)) in
         let ls = flat_map (lines_with o) (deals_in k deals) in
-        let many = lines-length deals o k in
+        let many = lines_length_lem deals o k in
         record {
-          able = subst (λ (x : Tables). Takes (to-book (k + 1)) x) (sym (after u)) (both-take o d k few u incoming resting (to-book (k + 1)) (rw (← room_next) g.able));
-          members-same = ap (λ (x : Tables). members_in x.head) (after u) ∙ both-members o d k few u incoming resting ∙ g.members-same;
+          able = subst (λ (x : Tables). Takes (to_book (k + 1)) x) (sym (after u)) (both_take o d k few u incoming resting (to_book (k + 1)) (rw (← room_next) g.able));
+          members_same = ap (λ (x : Tables). members_in x.head) (after u) ∙ both_members o d k few u incoming resting ∙ g.members_same;
           same = λ t.
               let v = with_head head₀ (with_rows lots₀ value₀ (with_lines lines₀ t)) in
               after t

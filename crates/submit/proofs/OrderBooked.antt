@@ -26,7 +26,7 @@ use Rattle.matching.proofs.Totals.{lines_kept, run_of_lines}
 use Rattle.submit.specs.Deals.{Traded, lots_dealt}
 use Rattle.deal_lines.specs.Room.{Bookable}
 use Rattle.submit.specs.Placing.{Placeable, order_booked}
-use Rattle.submit.proofs.Kept.{lines-length}
+use Rattle.submit.proofs.Kept.{lines_length_lem}
 use Rattle.submit.proofs.Orders.{rest_written}
 use Rattle.submit.proofs.Trading.{untraded}
 
@@ -122,7 +122,7 @@ module _ (head prices : List ℕ) (lots value : List ℤ) (book : List ℕ) (lin
       unfolding order_booked orders
       booked-is head₄ lots₄ value₄ lines₄ b t =
           let ls = flat_map (lines_with o) (deals_in m.deals deals) in
-          ap (λ n. record { answer = Accepted n; after = with_head head₄ (with_prices prices₂ (with_rows lots₄ value₄ (with_book book₃ (with_lines lines₄ t)))) }) (sym (lines-length deals o m.deals))
+          ap (λ n. record { answer = Accepted n; after = with_head head₄ (with_prices prices₂ (with_rows lots₄ value₄ (with_book book₃ (with_lines lines₄ t)))) }) (sym (lines_length_lem deals o m.deals))
           ∙ ap (λ u. record { answer = Accepted (length ls); after = u }) (b (with_prices prices₂ (with_book book₃ (of t))))
           ∙ whole ls (with_head head₃ (with_book book₃ (with_prices prices₂ (of t))))
           ∙ ap (booked ls) (tables-is t)

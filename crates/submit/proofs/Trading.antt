@@ -23,7 +23,7 @@ use Rattle.matching.specs.Deals.{deal_width, deals_in, counterparty_of}
 use Rattle.matching.specs.Matching.{Matchable, Ended, MatchMade}
 use Rattle.matching.proofs.Totals.{dealt_and_left, lots_kept, worth_kept}
 use Rattle.submit.specs.Deals.{DealColumnFit, Tradable, Traded, lots_dealt, worth_of}
-use Rattle.submit_causes.proofs.Judged.{still, resting-still}
+use Rattle.submit_causes.proofs.Judged.{still, resting_still}
 use Rattle.submit.proofs.Kept.{total-at}
 use Rattle.submit.proofs.Orders.{written_back}
 use Rattle.rules.proofs.Distinct.{Distinct, distinct_orders}
@@ -111,7 +111,7 @@ module _ (head prices book : List ℕ) (o : Order) (x : Tradable head prices boo
     pub untraded : (deals : List ℕ) → Traded o head prices book (record { deals = 0; left = o.lots }) head prices book deals
     unfolding deals_in from
     untraded deals =
-        let rs = resting-still o os ranked apart has_lots_holds x.least_lots none in
+        let rs = resting_still o os ranked apart has_lots_holds x.least_lots none in
         let zero-dealt = nothing (matched o os).deals untouched.deals in
         let c = o.contract in
         record {

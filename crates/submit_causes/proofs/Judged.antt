@@ -54,25 +54,25 @@ module _ (o : Order) (os : List Order) (ranked : All Ranked os) (numbers : Disti
   pub still : crossing_in o os ≡ 0 → Ended o os (map lots_of os) o.lots.0 []
   still e = untouched o os o ranked numbers (map lots_of os) o.lots.0 [] start (crossing_all o os ∙ e)
 
-  pub resting-still : crossing_in o os ≡ 0 → (matched o os).resting ≡ os
-  resting-still e = (still e).resting ∙ left_all os has_lots_holds
+  pub resting_still : crossing_in o os ≡ 0 → (matched o os).resting ≡ os
+  resting_still e = (still e).resting ∙ left_all os has_lots_holds
 
   -- full after the deals: only where none cross
   full_is : (n : ℕ) → length os ≡ n → n ≤ most_orders → ltb 0 (matched o os).left && leb most_orders (length (matched o os).resting) ≡ eqb (crossing_in o os) 0 && leb most_orders n
   full_is n l few =
       same_or (crossing_in o os) 0
-      (λ e. rw (resting-still e, left_is, e, l, lt-ltb 0 (o.lots.0 - 0) (omega arith)))
+      (λ e. rw (resting_still e, left_is, e, l, lt-ltb 0 (o.lots.0 - 0) (omega arith)))
       (λ e. rw (ne_eqb (crossing_in o os) 0 e)
       (true_or (ltb 0 (matched o os).left)
       (λ t. rw t (lt-leb most_orders (length (matched o os).resting)
       (omega (arith, known.fewer (omega (arith, e, crossing_all o os)) (ltb-true 0 (matched o os).left t), count_most (map lots_of os), length-map os lots_of))))
       (λ t. rw t)))
 
-  dealt-is : total (λ d. d.lots) (matched o os).deals ≡ min o.lots.0 (crossing_in o os)
-  dealt-is = omega (arith, dealt_and_left o os, left_is)
+  dealt_is : total (λ d. d.lots) (matched o os).deals ≡ min o.lots.0 (crossing_in o os)
+  dealt_is = omega (arith, dealt_and_left o os, left_is)
 
   run_is : line_run (flat_map (lines_with o) (map counterparty_of (matched o os).deals)) ≡ 2 * min o.lots.0 (crossing_in o os)
-  run_is = run_of_lines o (map counterparty_of (matched o os).deals) ∙ ap (λ n. 2 * n) (sym (lots_kept (matched o os).deals) ∙ dealt-is)
+  run_is = run_of_lines o (map counterparty_of (matched o os).deals) ∙ ap (λ n. 2 * n) (sym (lots_kept (matched o os).deals) ∙ dealt_is)
 
 -- ---- verdicts
 pass_all : (cs : List (Bool × Answer)) (t : Tables) → ((b : Outcome Tables) → b ≡ decide cs t b) → All (λ c. c.0 ≡ false) cs
@@ -98,40 +98,40 @@ module _ (t : Tables) (e : Submission) (ranked : All Ranked (orders t)) (numbers
   unfolding resting_lots own_in own_lots
   own_is = total_kept (is_own o) (orders t)
 
-  above-is : above_limit t e ≡ lt_z (pos (limit t e.member)) (mirrored e.side (lots_at t e.contract e.member) +ℤ pos (own_in o (orders t) + e.lots.0))
+  above_is : above_limit t e ≡ lt_z (pos (limit t e.member)) (mirrored e.side (lots_at t e.contract e.member) +ℤ pos (own_in o (orders t) + e.lots.0))
   unfolding above_limit
-  above-is = ap (λ n. lt_z (pos (limit t e.member)) (mirrored e.side (lots_at t e.contract e.member) +ℤ pos (n + e.lots.0))) own_is
+  above_is = ap (λ n. lt_z (pos (limit t e.member)) (mirrored e.side (lots_at t e.contract e.member) +ℤ pos (n + e.lots.0))) own_is
 
-  teye-is : is_teye e.kind && ltb 0 (submit_matched t e).left ≡ is_teye e.kind && ltb cross e.lots.0
+  teye_is : is_teye e.kind && ltb 0 (submit_matched t e).left ≡ is_teye e.kind && ltb cross e.lots.0
   unfolding submit_matched
-  teye-is =
+  teye_is =
       ap (λ n. is_teye e.kind && ltb 0 n) (left_is o (orders t) ranked numbers has_lots_holds some)
       ∙ ap (λ b. is_teye e.kind && b) (same_ltb 0 (e.lots.0 - cross) cross e.lots.0 (λ k. omega arith) (λ k. omega arith))
 
-  rest-is : would_rest t e && leb most_orders (length (submit_matched t e).resting) ≡ is_resting e.kind && (eqb cross 0 && leb most_orders (order_count t))
+  rest_is : would_rest t e && leb most_orders (length (submit_matched t e).resting) ≡ is_resting e.kind && (eqb cross 0 && leb most_orders (order_count t))
   unfolding would_rest submit_matched
-  rest-is =
+  rest_is =
       and_assoc (is_resting e.kind) (ltb 0 (matched o (orders t)).left) (leb most_orders (length (matched o (orders t)).resting))
       ∙ ap (λ b. is_resting e.kind && b) (full_is o (orders t) ranked numbers has_lots_holds some (order_count t) many few)
 
-  total-is : run_would_pass t (submit_lines t e) ≡ ltb most_lots_run (lots_run t + 2 * min e.lots.0 cross)
+  total_is : run_would_pass t (submit_lines t e) ≡ ltb most_lots_run (lots_run t + 2 * min e.lots.0 cross)
   unfolding submit_lines submit_matched
-  total-is = ap (λ n. ltb most_lots_run (lots_run t + n)) (ap line_run (lines_kept o (matched o (orders t)).deals) ∙ run_is o (orders t) ranked numbers has_lots_holds some)
+  total_is = ap (λ n. ltb most_lots_run (lots_run t + n)) (ap line_run (lines_kept o (matched o (orders t)).deals) ∙ run_is o (orders t) ranked numbers has_lots_holds some)
 
-  causes-are : submit_causes t e ≡ first_causes t e ++ measured_causes (own_in o (orders t)) cross t e
-  causes-are = rw (above-is, teye-is, rest-is, total-is)
+  causes_are : submit_causes t e ≡ first_causes t e ++ measured_causes (own_in o (orders t)) cross t e
+  causes_are = rw (above_is, teye_is, rest_is, total_is)
 
   -- the first part decides alone where it refuses
-  pub judged-first : (first : Verdict) → ((b : Outcome Tables) → outcome first t b ≡ decide (first_causes t e) t b) → (b : Outcome Tables)
+  pub judged_first : (first : Verdict) → ((b : Outcome Tables) → outcome first t b ≡ decide (first_causes t e) t b) → (b : Outcome Tables)
       → outcome first t (decide (measured_causes (own_in o (orders t)) cross t e) t b) ≡ decide (submit_causes t e) t b
-  judged-first first h b =
+  judged_first first h b =
       h (decide (measured_causes (own_in o (orders t)) cross t e) t b)
-      ∙ sym (decide_both (first_causes t e) (measured_causes (own_in o (orders t)) cross t e) t b) ∙ ap (λ cs. decide cs t b) (sym causes-are)
+      ∙ sym (decide_both (first_causes t e) (measured_causes (own_in o (orders t)) cross t e) t b) ∙ ap (λ cs. decide cs t b) (sym causes_are)
 
   module _ (first second : Verdict) (h : (b : Outcome Tables) → outcome first t b ≡ decide (first_causes t e) t b)
       (k : (b : Outcome Tables) → outcome second t b ≡ decide (measured_causes (own_in o (orders t)) cross t e) t b) where
     pub judged : (b : Outcome Tables) → outcome first t (outcome second t b) ≡ decide (submit_causes t e) t b
-    judged b = ap (outcome first t) (k b) ∙ judged-first first h b
+    judged b = ap (outcome first t) (k b) ∙ judged_first first h b
 
     pub acceptable : first ≡ Sound → second ≡ Sound → Acceptable t e cross
     acceptable x y =

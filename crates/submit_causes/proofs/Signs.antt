@@ -12,11 +12,11 @@ module _ (z : ℤ) (h : nat_abs z < 2 ^ 63) where
   opposite : pos 0 -ℤ rd z ≡ neg_ℤ z
   opposite = rw (back z h) (+ℤ_idl (neg_ℤ z))
 
-  pub opposite-ok : SFits w64 (pos 0 -ℤ rd z)
-  opposite-ok = rw opposite (sfits_abs (neg_ℤ z) (omega (arith, abs_neg z)))
+  pub opposite_ok : SFits w64 (pos 0 -ℤ rd z)
+  opposite_ok = rw opposite (sfits_abs (neg_ℤ z) (omega (arith, abs_neg z)))
 
-  pub opposite-is : rd (pos 0 -ℤ rd z) ≡ neg_ℤ z
-  opposite-is = rw opposite (back (neg_ℤ z) (omega (arith, abs_neg z)))
+  pub opposite_is : rd (pos 0 -ℤ rd z) ≡ neg_ℤ z
+  opposite_is = rw opposite (back (neg_ℤ z) (omega (arith, abs_neg z)))
 
 pub sum_is : (z : ℤ) (n : ℕ) → nat_abs z + n < 2 ^ 63 → rd (rd z +ℤ to_z w64 n) ≡ z +ℤ pos n
 sum_is z n h = ap (λ y. rd (rd z +ℤ y)) (rd_pos n (omega arith) ∙ sym (back (pos n) (omega arith))) ∙ add_is z (pos n) h

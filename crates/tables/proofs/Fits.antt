@@ -10,9 +10,9 @@ use lib.IntN.{ℤ, pos, nat_abs}
 use lib.ListN.{length, get_or, take, length-take, length-drop}
 use lib.Seq.{get_or-take}
 use borrow.Author.Tests.{leb-true}
-use Rattle.arith.proofs.Alls.{all_hold, every-all, all-place}
+use Rattle.arith.proofs.Alls.{all_hold, every_all, all_place}
 use Rattle.arith.proofs.Among.{every_from}
-use Rattle.arith.proofs.EachBlock.{block, block_at, block-passes}
+use Rattle.arith.proofs.EachBlock.{block, block_at, block_passes}
 use Rattle.arith.specs.Lists.{every, from}
 use Rattle.arith.proofs.Tests.{and_left, and_right, passed, passes}
 use Rattle.rules.specs.Ledger.{price_width, row_width}
@@ -56,17 +56,17 @@ contract_fits run l c e =
     let ggf-at : get_or b 0 0 ≡ get_or l (c * price_width) 0 = block_at 5 c 0 l 0 (omega arith) ∙ ap (λ i. get_or l i 0) (add-zero (c * price_width)) in
     let low-at = block_at 5 c 1 l 0 (omega arith) in
     let high-at = block_at 5 c 2 l 0 (omega arith) in
-    let lots-at = block_at 5 c 3 l 0 (omega arith) in
-    let value-at = block_at 5 c 4 l 0 (omega arith) in
+    let lots_at_lem = block_at 5 c 3 l 0 (omega arith) in
+    let value_at_lem = block_at 5 c 4 l 0 (omega arith) in
     let low_and = and_left (leb 1 (get_or b 1 0) && leb (get_or b 1 0) (get_or b 2 0)) (leb (get_or b 2 0) most_price) all.1.0 in
     record {
       most_ggf = omega (arith, ggf-at, leb-true (get_or b 0 0) most_price all.0);
       least_low = omega (arith, low-at, leb-true 1 (get_or b 1 0) (and_left (leb 1 (get_or b 1 0)) (leb (get_or b 1 0) (get_or b 2 0)) low_and));
       low_high = omega (arith, low-at, high-at, leb-true (get_or b 1 0) (get_or b 2 0) (and_right (leb 1 (get_or b 1 0)) (leb (get_or b 1 0) (get_or b 2 0)) low_and));
       most_high = omega (arith, high-at, leb-true (get_or b 2 0) most_price (and_right (leb 1 (get_or b 1 0) && leb (get_or b 1 0) (get_or b 2 0)) (leb (get_or b 2 0) most_price) all.1.0));
-      most_day_lots = omega (arith, lots-at, leb-true (get_or b 3 0) run all.1.1.0);
-      least_day_value = omega (arith, lots-at, value-at, leb-true (get_or b 3 0) (get_or b 4 0) all.1.1.1.0);
-      most_day_value = omega (arith, lots-at, value-at, leb-true (get_or b 4 0) (most_price * get_or b 3 0) all.1.1.1.1.0);
+      most_day_lots = omega (arith, lots_at_lem, leb-true (get_or b 3 0) run all.1.1.0);
+      least_day_value = omega (arith, lots_at_lem, value_at_lem, leb-true (get_or b 3 0) (get_or b 4 0) all.1.1.1.0);
+      most_day_value = omega (arith, lots_at_lem, value_at_lem, leb-true (get_or b 4 0) (most_price * get_or b 3 0) all.1.1.1.1.0);
     }
 
 prices_fit : (t : Tables) → Undamaged t → PricesFit (lots_run t) t.prices
@@ -74,19 +74,19 @@ unfolding prices_sound
 prices_fit t u =
     record {
       long = u.long.prices;
-      contract_fit = λ c h. contract_fits (lots_run t) t.prices c (block-passes 5 (contract_prices_sound (lots_run t)) contract_count t.prices u.prices_sound_holds c h);
+      contract_fit = λ c h. contract_fits (lots_run t) t.prices c (block_passes 5 (contract_prices_sound (lots_run t)) contract_count t.prices u.prices_sound_holds c h);
     }
 
 rows_fit : (n b : ℕ) (l : List ℤ) → n ≤ 32 → rows_length ≤ length l → every_row (λ z. leb (nat_abs z) b) n l ≡ true → RowsFit n b l
 unfolding every_row
-rows_fit n b l few long e = record { long = long; within = λ c m h k. one c m h k (block-passes 32 (λ rows. every (λ z. leb (nat_abs z) b) (take n rows)) contract_count l e c h) }
+rows_fit n b l few long e = record { long = long; within = λ c m h k. one c m h k (block_passes 32 (λ rows. every (λ z. leb (nat_abs z) b) (take n rows)) contract_count l e c h) }
   where
     one : (c m : ℕ) → c < contract_count → m < n → every (λ z. leb (nat_abs z) b) (take n (block 32 c l)) ≡ true → nat_abs (get_or l (c * row_width + m) (pos 0)) ≤ b
     one c m h k f =
         let rows = take n (block 32 c l) in
         let fits : length rows ≡ n = simp (length-take, length-drop) (omega arith) in
         let same : get_or rows m (pos 0) ≡ get_or l (c * row_width + m) (pos 0) = get_or-take n (block 32 c l) m (pos 0) k ∙ block_at 32 c m l (pos 0) (omega arith) in
-        rw same at (leb-true _ b (all-place (λ z. leb (nat_abs z) b ≡ true) (pos 0) rows (every-all (λ z. leb (nat_abs z) b) rows f) m (omega arith)))
+        rw same at (leb-true _ b (all_place (λ z. leb (nat_abs z) b ≡ true) (pos 0) rows (every_all (λ z. leb (nat_abs z) b) rows f) m (omega arith)))
 
 order_fits : (t : Tables) (i : ℕ) → side_sound (side_at t.book i) ≡ true → order_sound t (order_at t.book i) ≡ true → OrderFit t.head t.book i
 order_fits t i s e =

@@ -94,21 +94,21 @@ decimal_reads_back n = reads_back (suc n) n (omega arith)
 
 -- ---- the writer of digits
 module _ (n a : ℕ) where
-  more-length : 10 ≤ n → length (decimal n) ≡ length (decimal (n / 10)) + 1
-  more-length h = rw (decimal_more n h) (length-append (decimal (n / 10)) (digit (n % 10) ∷ []))
+  more_length : 10 ≤ n → length (decimal n) ≡ length (decimal (n / 10)) + 1
+  more_length h = rw (decimal_more n h) (length-append (decimal (n / 10)) (digit (n % 10) ∷ []))
 
   pub room_small : {k : ℕ} → n < 10 → a + length (decimal n) ≤ k → a < k
   room_small h r = let e : length (decimal n) ≡ 1 = ap length (decimal_small n h) in omega arith
 
-  pub room-more : {k : ℕ} → 10 ≤ n → a + length (decimal n) ≤ k → a + length (decimal (n / 10)) < k
-  room-more h r = omega (arith, more-length h)
+  pub room_more : {k : ℕ} → 10 ≤ n → a + length (decimal n) ≤ k → a + length (decimal (n / 10)) < k
+  room_more h r = omega (arith, more_length h)
 
-  pub wrote-small : {l m : List ℕ} {r : ℕ} → n < 10 → Wrote a (digit n ∷ []) l m r → Wrote a (decimal n) l m r
-  wrote-small h w = rw (decimal_small n h) w
+  pub wrote_small : {l m : List ℕ} {r : ℕ} → n < 10 → Wrote a (digit n ∷ []) l m r → Wrote a (decimal n) l m r
+  wrote_small h w = rw (decimal_small n h) w
 
-  pub wrote-more : {b c : ℕ} {l m k : List ℕ} → 10 ≤ n → a + length (decimal n) ≤ length l
+  pub wrote_more : {b c : ℕ} {l m k : List ℕ} → 10 ≤ n → a + length (decimal n) ≤ length l
       → Wrote a (decimal (n / 10)) l m b → Wrote b (digit (n % 10) ∷ []) m k c → Wrote a (decimal n) l k c
-  wrote-more h r p q = rw (decimal_more n h) (then p q (omega (arith, more-length h)))
+  wrote_more h r p q = rw (decimal_more n h) (then p q (omega (arith, more_length h)))
 
 -- ---- the writer of a signed number, as a machine's number is tested; s is its size
 module _ (z : ℤ) (f : SFits w64 z) (s : ℕ) (e : s ≡ nat_abs (rd z)) (a : ℕ) where

@@ -2,13 +2,13 @@ use mathlib.Core.Path.{refl}
 use native.Mathlib.Omega.{arith}
 use borrow.Author.Rules.{rules}
 use Rattle.rules.specs.Header.{u16_bytes, u32_bytes}
-use Rattle.arith.proofs.Beside.{over-next}
+use Rattle.arith.proofs.Beside.{over_next}
 use Rattle.big_endian.proofs.put_u32.Statement.{statement}
 use Rattle.big_endian.proofs.put_u32.Tie as tie
 
 returns : tie.Need-returns
 unfolding u16_bytes u32_bytes
-returns c = over-next _ _ _ _ _ _ _ c.before.before.before.before.before.before.put-u16.ensures c.before.before.put-u162.ensures refl (omega arith)
+returns c = over_next _ _ _ _ _ _ _ c.before.before.before.before.before.before.put-u16.ensures c.before.before.put-u162.ensures refl (omega arith)
 
 pub put-u32-spec : {M : Type 1} → statement M
 put-u32-spec =

@@ -7,7 +7,7 @@ use borrow.Author.Tests.{lt-ltb, le-ltb, not-true, not-false}
 use Rattle.rules.specs.Ledger.{orders, with_head, with_book, zero_tables}
 use Rattle.rules.specs.Refusals.{cancel_spec}
 use Rattle.rules.proofs.LinesRun.{booked_none}
-use Rattle.tables.proofs.Heads.{orders_fit, timed-place}
+use Rattle.tables.proofs.Heads.{orders_fit, timed_place}
 use borrow.Author.Rules.{rules}
 use Rattle.cancel.proofs.apply.Statement.{statement}
 use Rattle.cancel.proofs.apply.Tie as tie
@@ -37,7 +37,7 @@ remove-orders-requires c κs =
     let a = c.before.before.before.before.before.before.before.before.before.before.before.before.before.before.args in
     let set-time = c.before.before.before.before.set-time in
     let u = with_head a.head.now (with_book a.book.now zero_tables) in
-    let count = ap (λ t. get_or t.head order_count_place 0) (set-time.ensures u) ∙ timed-place a.e.time u pre.0.long pre.0.most_members_holds 7 (omega arith) (λ e. omega arith) in
+    let count = ap (λ t. get_or t.head order_count_place 0) (set-time.ensures u) ∙ timed_place a.e.time u pre.0.long pre.0.most_members_holds 7 (omega arith) (λ e. omega arith) in
     (omega (arith, set-time.auto.0, pre.0.long), subst (λ n. OrdersFit n a.book.now) (sym count) (orders_fit a.head.now a.book.now pre.0 pre.1))
 
 returns-3 : tie.Need-returns-3
@@ -52,7 +52,7 @@ returns-3 c =
     let remove-orders = c.before.before.before.before.remove-orders in
     λ t.
     let u = with_head a.head.now (with_book a.book.now t) in
-    let count = ap (λ t. get_or t.head order_count_place 0) (set-time.ensures u) ∙ timed-place a.e.time u pre.0.long pre.0.most_members_holds 7 (omega arith) (λ e. omega arith) in
+    let count = ap (λ t. get_or t.head order_count_place 0) (set-time.ensures u) ∙ timed_place a.e.time u pre.0.long pre.0.most_members_holds 7 (omega arith) (λ e. omega arith) in
     rw (
       le-ltb a.e.time (get_or a.head.now time_place 0) if1.false,
       sym would-any-leave.ensures ∙ not-false _ if2.false,

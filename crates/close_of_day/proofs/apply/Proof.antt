@@ -1,6 +1,6 @@
 use Rattle.rules.specs.Ledger.{time_place}
 use Rattle.rules.specs.Ledger.{with_head, with_prices, with_rows, with_book}
-use Rattle.close_of_day.proofs.Closes.{close-last, close-next}
+use Rattle.close_of_day.proofs.Closes.{close_last, close_next}
 use mathlib.Core.Path.{◌≡◌, sym, ◌∙◌}
 use Prim.Native.Nat.{◌+◌, ◌-◌}
 use native.Mathlib.Omega.{arith}
@@ -29,7 +29,7 @@ returns-2 c =
     let found = rw cut at (sym next-business-day.ensures ∙ next.given.1) in
     λ t.
     let u = with_head h (with_prices a.prices.now (with_rows a.lots.now a.value.now (with_book a.book.now t))) in
-    rw (close.ensures t) (sym (close-next u a.time _ if1.false found))
+    rw (close.ensures t) (sym (close_next u a.time _ if1.false found))
 
 returns-3 : tie.Need-returns-3
 returns-3 c =
@@ -39,7 +39,7 @@ returns-3 c =
     let none = rw cut at (sym c.before.before.next-business-day.ensures ∙ c.enum_told.given.1) in
     λ t.
     let u = with_head h (with_prices a.prices.now (with_rows a.lots.now a.value.now (with_book a.book.now t))) in
-    sym (close-last u a.time c.before.before.before.before.before.before.before.if1.false none)
+    sym (close_last u a.time c.before.before.before.before.before.before.before.if1.false none)
 
 pub apply-spec : {M : Type 1} → statement M
 apply-spec =

@@ -9,7 +9,7 @@ use Rattle.rules.specs.Ledger.{zero_tables, with_head, with_prices, with_rows, w
 use Rattle.rules.specs.CloseOfDay.{all_cascaded, on_day}
 use Rattle.tables.specs.Fit.{orders_in}
 use Rattle.contract_phases.specs.Phases.{closes, closing}
-use Rattle.contract_phases.proofs.Phases.{phases-length}
+use Rattle.contract_phases.proofs.Phases.{phases_length}
 use Rattle.close_of_day.proofs.Closes.{book_reads, closed_is}
 use borrow.Author.Rules.{rules}
 use Rattle.close_of_day.proofs.close.Statement.{statement}
@@ -24,7 +24,7 @@ cascade-all-requires c κs =
       record { long = fit.long; within = λ x m u k. omega (arith, fit.within x m u k, head_fit.most_run) },
       head_fit.most_members_holds,
       ap length write-phases.ensures
-          ∙ phases-length _ _,
+          ∙ phases_length _ _,
     )
 
 cascade-all-requires-2 : tie.Need-cascade-all-requires-2
@@ -36,7 +36,7 @@ cascade-all-requires-2 c κs =
       record { long = fit.long; within = λ x m u k. omega (arith, fit.within x m u k, head_fit.most_run) },
       head_fit.most_members_holds,
       ap length write-phases.ensures
-          ∙ phases-length _ _,
+          ∙ phases_length _ _,
     )
 
 remove-closing-requires : tie.Need-remove-closing-requires

@@ -8,7 +8,7 @@ use Rattle.rules.specs.Days.{in_span, business_day}
 use Rattle.rules.specs.Header.{day_sound}
 use Rattle.rules.specs.Ledger.{day_place}
 use Rattle.tables.specs.Fit.{calendar_in}
-use Rattle.months.proofs.Starts.{day-most}
+use Rattle.months.proofs.Starts.{day_most}
 use Rattle.close_of_day.proofs.write_phases.Statement.{statement}
 use Rattle.close_of_day.proofs.write_phases.Tie as tie
 
@@ -19,7 +19,7 @@ write-phases-requires c κs =
     let head = start.args.head.now in
     let k = calendar_in head in
     let d = get_or head day_place 0 in
-    (start.requires.0.years, day-most k d start.requires.0.years.1 (and_left (in_span k d) (business_day k d) start.requires.0.today), start.requires.1)
+    (start.requires.0.years, day_most k d start.requires.0.years.1 (and_left (in_span k d) (business_day k d) start.requires.0.today), start.requires.1)
 
 returns : tie.Need-returns
 returns c =

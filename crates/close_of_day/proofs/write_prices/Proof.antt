@@ -8,7 +8,7 @@ use Rattle.rules.specs.CloseOfDay.{priced, without_deals}
 use Rattle.order_book.proofs.Left.{all_orders}
 use Rattle.contract_phases.specs.Phases.{all_open_in}
 use Rattle.reference_price.specs.Columns.{ggfs_from}
-use Rattle.contract_phases.proofs.Phases.{phases-length}
+use Rattle.contract_phases.proofs.Phases.{phases_length}
 use Rattle.reference_price.proofs.BestPrices.{price_most}
 use Rattle.close_of_day.proofs.Closes.{book_reads, deals_fit, priced_is}
 use borrow.Author.Rules.{rules}
@@ -38,7 +38,7 @@ write-ggfs-requires c κs =
       deals_fit a.head.now a.prices.now pre.0.0 pre.0.1,
       record { all = search rules; most = λ x h. rw (write-quotes.ensures x h) (price_most _ _ _ _ x most) },
       record { all = search rules; most = λ x h. rw (write-quotes2.ensures x h) (price_most _ _ _ _ x most) },
-      ap length pre.1 ∙ phases-length _ _,
+      ap length pre.1 ∙ phases_length _ _,
     )
 
 returns : tie.Need-returns

@@ -3,7 +3,7 @@ use mathlib.Core.Path.{◌∙◌}
 use native.Mathlib.Omega.{arith}
 use Rattle.rules.specs.Ranges.{most_members, most_lots_run}
 use Rattle.deal_lines.proofs.Takes.{with_room}
-use Rattle.close_out.proofs.Verdicts.{rows_fit, most-netted, most-remaining, no-lots, no_taker, passed, booked-so, dealable}
+use Rattle.close_out.proofs.Verdicts.{rows_fit, most_netted, most_remaining, no-lots, no_taker, passed, booked-so, dealable}
 use borrow.Author.Rules.{rules}
 use Rattle.close_out.proofs.close_out_lots.Statement.{statement}
 use Rattle.close_out.proofs.close_out_lots.Tie as tie
@@ -29,7 +29,7 @@ most c =
     let pre = (start c).requires in
     let e = (start c).args.e in
     let d = c.find-defaulted.ensures in
-    (most-netted _ _ _ _ pre.0.1 e pre.1.0.0 _ _ _ _ d, most-remaining _ _ _ _ pre.0.1 e pre.1.0.0 _ _ _ _ d)
+    (most_netted _ _ _ _ pre.0.1 e pre.1.0.0 _ _ _ _ d, most_remaining _ _ _ _ pre.0.1 e pre.1.0.0 _ _ _ _ d)
 
 find-defaulted-requires : tie.Need-find-defaulted-requires
 find-defaulted-requires c κs =

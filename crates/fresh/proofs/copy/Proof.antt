@@ -4,7 +4,7 @@ use mathlib.Core.Path.{◌≡◌, refl, ◌∙◌}
 use mathlib.Core.List.{◌++◌}
 use Prim.Native.Nat.{◌-◌, ◌≤◌}
 use lib.ListN.{length, take, drop, length-set}
-use Rattle.arith.proofs.Writes.{front-next, front-end}
+use Rattle.arith.proofs.Writes.{front_next, front_end}
 use Rattle.fresh.proofs.copy.Statement.{statement}
 use Rattle.fresh.proofs.copy.Tie as tie
 
@@ -21,10 +21,10 @@ loop-again : tie.Need-loop-preserved invariant-loop decreases-loop
 loop-again c =
     let a = c.before.before.before.args in
     let l = c.before.before.loop in
-    (omega arith, simp length-set (omega arith), rw l.invariant.2 (front-next l.i a.list.now a.places.now 0 (omega arith) (omega arith)))
+    (omega arith, simp length-set (omega arith), rw l.invariant.2 (front_next l.i a.list.now a.places.now 0 (omega arith) (omega arith)))
 
 returns : tie.Need-returns invariant-loop decreases-loop
-returns c = let a = c.before.before.args in let l = c.before.loop in l.invariant.2 ∙ front-end l.i a.list.now a.places.now (omega arith) (omega arith)
+returns c = let a = c.before.before.args in let l = c.before.loop in l.invariant.2 ∙ front_end l.i a.list.now a.places.now (omega arith) (omega arith)
 
 pub copy_spec : {M : Type 1} → statement M
 copy_spec =

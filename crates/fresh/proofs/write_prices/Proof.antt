@@ -6,22 +6,22 @@ use mathlib.Core.Path.{◌≡◌, refl, ◌∙◌}
 use mathlib.Core.List.{List, [], ◌∷◌}
 use Prim.Native.Nat.{ℕ, ◌*◌, ◌-◌, ◌≤◌}
 use lib.ListN.{length, take, drop, length-set, length-take}
-use Rattle.arith.specs.Lists.{inEachBlock}
+use Rattle.arith.specs.Lists.{in_each_block}
 use Rattle.rules.specs.Ledger.{price_width}
 use Rattle.rules.specs.Ranges.{contract_count, most_price}
 use Rattle.rules.specs.Ledger.{fresh_prices}
-use Rattle.arith.proofs.Writes.{stored, over-all, block_written}
+use Rattle.arith.proofs.Writes.{stored, over_all, block_written}
 use Rattle.fresh.proofs.write_prices.Statement.{statement}
 use Rattle.fresh.proofs.write_prices.Tie as tie
 
 abbrev invariant-loop : tie.invariant-loop
-invariant-loop prices₀ contract₀ prices contract = (contract ≤ contract_count) × (length prices ≡ length prices₀) × (prices ≡ inEachBlock 5 (λ five. 0 ∷ 1 ∷ most_price ∷ 0 ∷ 0 ∷ []) contract prices₀)
+invariant-loop prices₀ contract₀ prices contract = (contract ≤ contract_count) × (length prices ≡ length prices₀) × (prices ≡ in_each_block 5 (λ five. 0 ∷ 1 ∷ most_price ∷ 0 ∷ 0 ∷ []) contract prices₀)
 
 abbrev decreases-loop : tie.decreases-loop
 decreases-loop prices₀ contract₀ prices contract = contract_count - contract
 
 loop-holds : tie.Need-loop-init invariant-loop decreases-loop
-unfolding inEachBlock
+unfolding in_each_block
 loop-holds c = (omega arith, refl, refl)
 
 slice-write-prices-2 : tie.Need-slice-write-prices-2 invariant-loop decreases-loop
@@ -46,7 +46,7 @@ loop-again c =
       omega arith,
       simp length-set (omega arith),
       rw (add-zero at, add-one at, add-two at, add-three at, add-four at, add-one l.contract) (stored five l.prices at (omega arith)
-          ∙ rw l.invariant.2 (block_written 5 (λ x. five) (λ x e. refl) five l.contract d (over-all five block (omega (arith, length-take 5 (drop at d)))) (omega arith) (omega arith))),
+          ∙ rw l.invariant.2 (block_written 5 (λ x. five) (λ x e. refl) five l.contract d (over_all five block (omega (arith, length-take 5 (drop at d)))) (omega arith) (omega arith))),
     )
 
 returns : tie.Need-returns invariant-loop decreases-loop

@@ -5,23 +5,23 @@ use mathlib.Core.Path.{◌≡◌, refl, ◌∙◌}
 use Prim.Native.Nat.{◌*◌, ◌-◌, ◌≤◌}
 use lib.IntN.{pos}
 use lib.ListN.{length, take, drop, replicate, length-replicate}
-use Rattle.arith.specs.Lists.{over, inEachBlock}
-use Rattle.arith.proofs.Overs.{over-length}
+use Rattle.arith.specs.Lists.{over, in_each_block}
+use Rattle.arith.proofs.Overs.{over_length}
 use Rattle.rules.specs.Ledger.{row_width}
 use Rattle.rules.specs.Ranges.{contract_count}
 use Rattle.rules.specs.Ledger.{fresh_rows}
-use Rattle.arith.proofs.Writes.{filled, over-front, block_written}
+use Rattle.arith.proofs.Writes.{filled, over_front, block_written}
 use Rattle.fresh.proofs.write_rows.Statement.{statement}
 use Rattle.fresh.proofs.write_rows.Tie as tie
 
 abbrev invariant-loop : tie.invariant-loop
-invariant-loop rows₀ members contract₀ rows contract = (contract ≤ contract_count) × (length rows ≡ length rows₀) × (rows ≡ inEachBlock 32 (over 0 (replicate members (pos 0))) contract rows₀)
+invariant-loop rows₀ members contract₀ rows contract = (contract ≤ contract_count) × (length rows ≡ length rows₀) × (rows ≡ in_each_block 32 (over 0 (replicate members (pos 0))) contract rows₀)
 
 abbrev decreases-loop : tie.decreases-loop
 decreases-loop rows₀ members contract₀ rows contract = contract_count - contract
 
 loop-holds : tie.Need-loop-init invariant-loop decreases-loop
-unfolding inEachBlock
+unfolding in_each_block
 loop-holds c = (omega arith, refl, refl)
 
 loop-again : tie.Need-loop-preserved invariant-loop decreases-loop
@@ -33,9 +33,9 @@ loop-again c =
     let count = length-replicate n (pos 0) in
     let step = filled (l.contract * row_width) n l.rows (pos 0) (omega arith) in (
       omega arith,
-      rw (c.before.clear-rows.ensures, step) (over-length (l.contract * row_width) zeros l.rows (omega arith) ∙ l.invariant.1),
+      rw (c.before.clear-rows.ensures, step) (over_length (l.contract * row_width) zeros l.rows (omega arith) ∙ l.invariant.1),
       rw (c.before.clear-rows.ensures, step, l.invariant.2, add-one l.contract)
-          (block_written 32 (over 0 zeros) (λ x e. over-length 0 zeros x (omega arith) ∙ e) zeros l.contract d (over-front zeros (take 32 (drop (l.contract * row_width) d)))
+          (block_written 32 (over 0 zeros) (λ x e. over_length 0 zeros x (omega arith) ∙ e) zeros l.contract d (over_front zeros (take 32 (drop (l.contract * row_width) d)))
           (omega arith) (omega arith)),
     )
 

@@ -3,8 +3,8 @@ use mathlib.Core.Path.{sym, ◌∙◌}
 use native.Mathlib.Omega.{arith}
 use borrow.Author.Rules.{rules}
 use borrow.Author.Tests.{le-leb, lt-leb}
-use Rattle.rules.proofs.CalendarLaws.{open-closed, open-first}
-use Rattle.contract_phases.proofs.Least.{to-close-from}
+use Rattle.rules.proofs.CalendarLaws.{open_closed, open_first}
+use Rattle.contract_phases.proofs.Least.{to_close_from}
 use Rattle.contracts.proofs.InLedger.{earlier}
 use Rattle.open_days.proofs.OpenDays.{open_from}
 use Rattle.open_days.proofs.is_open_from.Statement.{statement}
@@ -23,13 +23,13 @@ returns : tie.Need-returns
 returns c =
     let start = c.before.before.before.before.before in
     let test = rw c.before.before.before.months_in_lem.ensures at c.if1.true in
-    λ k d e g. sym (open-closed k d start.args.t (to-close-from k start.args.t start.requires.1 d _ g ∙ lt-leb _ _ (rw e at test)))
+    λ k d e g. sym (open_closed k d start.args.t (to_close_from k start.args.t start.requires.1 d _ g ∙ lt-leb _ _ (rw e at test)))
 
 returns-2 : tie.Need-returns-2
 returns-2 c =
     let start = c.before.before.before.before.before.before.before in
     let test = rw c.before.before.before.before.before.months_in_lem.ensures at c.before.before.if1.false in
-    λ k d e g. sym (open-first k d start.args.t (to-close-from k start.args.t start.requires.1 d _ g ∙ le-leb _ _ (rw e at test)) (rw c.before.open-count.ensures at c.if2.true))
+    λ k d e g. sym (open_first k d start.args.t (to_close_from k start.args.t start.requires.1 d _ g ∙ le-leb _ _ (rw e at test)) (rw c.before.open-count.ensures at c.if2.true))
 
 mul-result : tie.Need-overflow-mul-result
 mul-result c =
@@ -56,7 +56,7 @@ returns-3 c =
     let open-count = c.before.before.before.open-count in
     let test = rw months.ensures at c.before.before.before.before.if1.false in
     λ k d e g.
-    let still = to-close-from k t start.requires.1 d _ g ∙ le-leb _ _ (rw e at test) in
+    let still = to_close_from k t start.requires.1 d _ g ∙ le-leb _ _ (rw e at test) in
     rw (e, months.ensures, open-count.ensures) (open_from k t start.requires.1 d _ g still (rw open-count.ensures at c.before.before.if2.false))
 
 pub is-open-from-spec : {M : Type 1} → statement M

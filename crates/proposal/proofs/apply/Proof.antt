@@ -3,7 +3,7 @@ use mathlib.Core.Path.{sym}
 use lib.ListN.{get_or, replicate}
 use lib.Seq.{length-take-le}
 use Rattle.rules.specs.Ledger.{order_count_place}
-use Rattle.proposal_check.proofs.Named.{places-long, places-as-many, places-front}
+use Rattle.proposal_check.proofs.Named.{places_long, places_as_many, places_front}
 use borrow.Author.Rules.{rules}
 use Rattle.proposal.proofs.apply.Statement.{statement}
 use Rattle.proposal.proofs.apply.Tie as tie
@@ -23,13 +23,13 @@ array-share-prefix-places : tie.Need-array-share-prefix-places
 array-share-prefix-places c =
     let at-write-places = c.before.before.before.before.before.before in
     let start = at-write-places.before.before.before.before.before.before.before.before.before.before in
-    let a = start.args in places-long (get_or a.head.now order_count_place 0) a.book.now a.orders.now _ (replicate 12 0) at-write-places.write-places.ensures start.requires.1.1.most_legs_holds
+    let a = start.args in places_long (get_or a.head.now order_count_place 0) a.book.now a.orders.now _ (replicate 12 0) at-write-places.write-places.ensures start.requires.1.1.most_legs_holds
 
 slice-aggregate-apply-at : tie.Need-slice-aggregate-apply-at
 slice-aggregate-apply-at c =
     let at-write-places = c.before.before.before.before.before.before.before in
     let start = at-write-places.before.before.before.before.before.before.before.before.before.before in
-    let a = start.args in places-as-many (get_or a.head.now order_count_place 0) a.book.now a.orders.now _ (replicate 12 0) at-write-places.write-places.ensures
+    let a = start.args in places_as_many (get_or a.head.now order_count_place 0) a.book.now a.orders.now _ (replicate 12 0) at-write-places.write-places.ensures
     start.requires.1.1.most_legs_holds
 
 apply-at-requires : tie.Need-apply-at-requires
@@ -42,7 +42,7 @@ apply-at-requires c κs =
         start.requires.1.0,
         (
           start.requires.1.1,
-          places-front (get_or a.head.now order_count_place 0) a.book.now a.orders.now _ (replicate 12 0) at-write-places.write-places.ensures
+          places_front (get_or a.head.now order_count_place 0) a.book.now a.orders.now _ (replicate 12 0) at-write-places.write-places.ensures
               start.requires.1.1.most_legs_holds,
         ),
       ),

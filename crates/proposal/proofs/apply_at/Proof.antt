@@ -14,7 +14,7 @@ use Rattle.tables.specs.Fit.{order_count_in}
 use Rattle.order_book.proofs.Left.{all_orders}
 use Rattle.proposal_check.specs.Columns.{LegsFit, PlacesFit, column_legs}
 use Rattle.proposal.specs.Booking.{lines_to}
-use Rattle.proposal.proofs.Accepted.{Named, count_after_lines, all_booked, named, line-count, run-passes, run_fits}
+use Rattle.proposal.proofs.Accepted.{Named, count_after_lines, all_booked, named, line_count, run-passes, run_fits}
 use borrow.Author.Rules.{rules}
 use Rattle.proposal.proofs.apply_at.Statement.{statement}
 use Rattle.proposal.proofs.apply_at.Tie as tie
@@ -118,7 +118,7 @@ returns-3 c =
     let used = n.used each s.pre.0.2.numbers_distinct _ (count_at b) in
     let after = with_head l.0 (with_rows l.1.0 l.1.1.0 (with_lines l.1.1.1.0 (with_prices a.prices.now (with_book a.book.now t)))) in
     rw (ok k t, run_fits n total.result.0 total.ensures.0 b.before.before.before.before.before.before.if2.false)
-    (all_booked (proposal_lines u (legs s)) (used_by_legs (legs s) (orders u)) (length a.orders.now) u after _ (line-count n)
+    (all_booked (proposal_lines u (legs s)) (used_by_legs (legs s) (orders u)) (length a.orders.now) u after _ (line_count n)
     (b.book-legs.ensures (with_prices a.prices.now (with_book a.book.now t)) ∙ ap (λ ls. (booked ls u).after) (sym n.lines_are))
     (c.before.before.before.before.use-orders.ensures (with_prices a.prices.now (with_rows l.1.0 l.1.1.0 (with_lines l.1.1.1.0 t))) ∙ ap (λ os. with_orders os after) used))
 

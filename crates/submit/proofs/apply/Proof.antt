@@ -2,7 +2,7 @@ use mathlib.Core.Path.{◌≡◌, ◌∙◌}
 use native.Mathlib.Omega.{arith}
 use Rattle.rules.specs.Ledger.{Tables, with_head, with_prices, with_rows, with_book, with_lines}
 use Rattle.submit_causes.specs.declared.causes.Verdict.TheVariants.{Sound}
-use Rattle.submit.proofs.Applied.{Judged, refused-first, judged-both, refused-second, accepted}
+use Rattle.submit.proofs.Applied.{Judged, refused_first, judged-both, refused_second, accepted}
 use borrow.Author.Rules.{rules}
 use Rattle.submit.proofs.apply.Statement.{statement}
 use Rattle.submit.proofs.apply.Tie as tie
@@ -41,7 +41,7 @@ returns c =
     let k = c.before.before.before in
     let s = start k in
     let f = s.pre.0 in
-    λ t. refused-first (tables s t) s.args.e f.0 f.2 f.3 _ (k.first-cause.ensures (tables s t)) _ c.before.first.given.1
+    λ t. refused_first (tables s t) s.args.e f.0 f.2 f.3 _ (k.first-cause.ensures (tables s t)) _ c.before.first.given.1
 
 measure-requires : tie.Need-measure-requires
 measure-requires c κs =
@@ -58,7 +58,7 @@ measured-cause-requires c κs =
 returns-2 : tie.Need-returns-2
 returns-2 c =
     let k = c.before.before.before in
-    λ t. refused-second (judged-at k t) (sound k) _ c.before.second.given.1
+    λ t. refused_second (judged-at k t) (sound k) _ c.before.second.given.1
 
 book-submit-requires : tie.Need-book-submit-requires
 book-submit-requires c κs =

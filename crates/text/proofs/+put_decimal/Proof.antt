@@ -1,6 +1,6 @@
 use mathlib.Core.Path.{◌∙◌}
 use native.Mathlib.Omega.{arith}
-use Rattle.text.proofs.Decimals.{room_small, room-more, wrote-small, wrote-more}
+use Rattle.text.proofs.Decimals.{room_small, room_more, wrote_small, wrote_more}
 use Prim.Native.Nat.{ℕ, ◌<◌}
 use borrow.Fn.Kinds.{In}
 use borrow.Fn.PlainCycle.{Measures, is, falls, and}
@@ -60,7 +60,7 @@ put-decimal-returns : (t : ℕ) → put-decimal-lts.Need-returns (
   put-decimal-below t,
   put-decimal.Post,
 ) (put-decimal-at t) put-decimal.Post
-put-decimal-returns t c = wrote-small _ _ c.before.before.before.before.if1.true c.before.before.put_byte.ensures
+put-decimal-returns t c = wrote_small _ _ c.before.before.before.before.if1.true c.before.before.put_byte.ensures
 
 put-decimal-put-decimal-requires : (t : ℕ) → put-decimal-lts.Need-put-decimal-requires (
   put-byte-reads.Asked,
@@ -69,7 +69,7 @@ put-decimal-put-decimal-requires : (t : ℕ) → put-decimal-lts.Need-put-decima
   put-decimal.Post,
 ) (put-decimal-at t) put-decimal.Post
 put-decimal-put-decimal-requires t c κs =
-    (rw (← c.before.before.before.requires.0) (omega arith), omega (arith, room-more _ _ c.before.if1.false c.before.before.before.requires.1))
+    (rw (← c.before.before.before.requires.0) (omega arith), omega (arith, room_more _ _ c.before.if1.false c.before.before.before.requires.1))
 
 put-decimal-cast-put-byte-2 : (t : ℕ) → put-decimal-lts.Need-overflow-cast-put-byte-2 (
   put-byte-reads.Asked,
@@ -96,7 +96,7 @@ put-decimal-put-byte-requires-2 : (t : ℕ) → put-decimal-lts.Need-put-byte-re
 put-decimal-put-byte-requires-2 t c κs =
     let start = c.before.before.before.before.before.before.before in
     let inner = c.before.before.before.put-decimal in
-    omega (arith, inner.ensures.after, inner.auto.0, room-more _ _ c.before.before.before.before.before.if1.false start.requires.1)
+    omega (arith, inner.ensures.after, inner.auto.0, room_more _ _ c.before.before.before.before.before.if1.false start.requires.1)
 
 put-decimal-same-length-2 : (t : ℕ) → put-decimal-lts.Need-same-length-2 (
   put-byte-reads.Asked,
@@ -113,7 +113,7 @@ put-decimal-returns-2 : (t : ℕ) → put-decimal-lts.Need-returns-2 (
   put-decimal.Post,
 ) (put-decimal-at t) put-decimal.Post
 put-decimal-returns-2 t c =
-    wrote-more _ _ c.before.before.before.before.before.before.before.before.if1.false
+    wrote_more _ _ c.before.before.before.before.before.before.before.before.if1.false
     c.before.before.before.before.before.before.before.before.before.before.requires.1
     c.before.before.before.before.before.before.put-decimal.ensures c.before.before.put-byte2.ensures
 

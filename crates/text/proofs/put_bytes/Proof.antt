@@ -4,7 +4,7 @@ use mathlib.Core.Path.{◌≡◌}
 use native.Mathlib.Omega.{arith}
 use lib.ListN.{length, take}
 use Rattle.text.specs.Wrote.{Wrote}
-use Rattle.text.proofs.Writing.{wrote_none, wrote-next, wrote-all, copied}
+use Rattle.text.proofs.Writing.{wrote_none, wrote_next, wrote_all, copied}
 use Rattle.text.proofs.put_bytes.Statement.{statement}
 use Rattle.text.proofs.put_bytes.Tie as tie
 
@@ -24,13 +24,13 @@ loop-again : tie.Need-loop-preserved invariant-loop decreases-loop
 loop-again c = (
   search rules,
   search rules,
-  wrote-next _ c.before.before.before.before.before.before.loop.i _
+  wrote_next _ c.before.before.before.before.before.before.loop.i _
       c.before.before.before.before.before.before.loop.invariant.2 c.before.before.before.before.before.loop-test.true
       c.before.before.before.before.before.before.before.before.before.requires c.before.before.put_byte.ensures,
 )
 
 returns : tie.Need-returns invariant-loop decreases-loop
-returns c = wrote-all _ c.before.loop.i _ c.before.loop.invariant.2 c.loop-test.false
+returns c = wrote_all _ c.before.loop.i _ c.before.loop.invariant.2 c.loop-test.false
 
 pub put-bytes-spec : {M : Type 1} → statement M
 put-bytes-spec =

@@ -3,7 +3,7 @@ use Prim.Native.Nat.{ℕ, ◌≤◌}
 use mathlib.Core.Path.{◌≡◌, refl, sym, ◌∙◌}
 use native.Mathlib.Omega.{arith}
 use Rattle.rules.specs.Days.{business_day_before}
-use Rattle.calendar.proofs.Steps.{back_last, back_more, back-idle, back_end}
+use Rattle.calendar.proofs.Steps.{back_last, back_more, back_idle, back_end}
 use Rattle.calendar.proofs.days.business_day_before.Statement.{statement}
 use Rattle.calendar.proofs.days.business_day_before.Tie as tie
 
@@ -35,7 +35,7 @@ loop-again-2 : tie.Need-loop-preserved-2 invariant-loop decreases-loop
 loop-again-2 c =
     let test = c.before.before.loop-test in
     let loop = c.before.before.before.loop in
-    (omega arith, omega arith, λ y. sym (back-idle _ _ _ test.true (sym (c.before.is-business-day.ensures y) ∙ c.if1.false)) ∙ loop.invariant.2 y)
+    (omega arith, omega arith, λ y. sym (back_idle _ _ _ test.true (sym (c.before.is-business-day.ensures y) ∙ c.if1.false)) ∙ loop.invariant.2 y)
 
 returns-2 : tie.Need-returns-2 invariant-loop decreases-loop
 returns-2 c = λ y. sym (back_end _ _ _ c.loop-test.false) ∙ c.before.loop.invariant.2 y

@@ -6,7 +6,7 @@ use native.Mathlib.Omega.{arith}
 use lib.ListN.{length, drop}
 use lib.Dec.{eqb}
 use Rattle.arith.specs.Lists.{any}
-use Rattle.arith.proofs.Tests.{any_next, any-end}
+use Rattle.arith.proofs.Tests.{any_next, any_end}
 use Rattle.calendar.proofs.days.is_holiday.Statement.{statement}
 use Rattle.calendar.proofs.days.is_holiday.Tie as tie
 
@@ -24,7 +24,7 @@ loop-again c =
     (omega arith, any_next _ start.args.holidays.now 0 loop.i loop.found loop.invariant.1 test.true)
 
 returns : tie.Need-returns invariant-loop decreases-loop
-returns c = any-end _ c.before.before.args.holidays.now 0 c.before.loop.i c.before.loop.found c.before.loop.invariant.1 c.loop-test.false
+returns c = any_end _ c.before.before.args.holidays.now 0 c.before.loop.i c.before.loop.found c.before.loop.invariant.1 c.loop-test.false
 
 pub is-holiday-spec : {M : Type 1} → statement M
 is-holiday-spec =

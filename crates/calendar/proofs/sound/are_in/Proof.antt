@@ -5,7 +5,7 @@ use mathlib.Core.Bool.{◌&&◌}
 use Prim.Native.Nat.{◌-◌, ◌≤◌}
 use lib.ListN.{length, drop}
 use Rattle.arith.specs.Lists.{every}
-use Rattle.arith.proofs.Scans.{every-next, every-end}
+use Rattle.arith.proofs.Scans.{every_next, every_end}
 use Rattle.rules.specs.Days.{Calendar, in_span}
 use Rattle.months.specs.Spans.{IsSpan}
 use Rattle.months.proofs.Starts.{lies_in}
@@ -27,10 +27,10 @@ loop-again c =
     let loop = c.before.before.before.loop in
     let start = c.before.before.before.before.before in
     let l = loop in
-    (omega arith, λ k s. rw (c.is-in.ensures, lies_in k start.args.span _ s) (every-next (in_span k) start.args.days.now 0 l.i l.ok (l.invariant.1 k s) test.true))
+    (omega arith, λ k s. rw (c.is-in.ensures, lies_in k start.args.span _ s) (every_next (in_span k) start.args.days.now 0 l.i l.ok (l.invariant.1 k s) test.true))
 
 returns : tie.Need-returns invariant-loop decreases-loop
-returns c = let l = c.before.loop in λ k s. every-end (in_span k) c.before.before.before.args.days.now 0 l.i l.ok (l.invariant.1 k s) c.loop-test.false
+returns c = let l = c.before.loop in λ k s. every_end (in_span k) c.before.before.before.args.days.now 0 l.i l.ok (l.invariant.1 k s) c.loop-test.false
 
 pub are-in-spec : {M : Type 1} → statement M
 are-in-spec =

@@ -5,7 +5,7 @@ use mathlib.Core.Bool.{◌&&◌}
 use Prim.Native.Nat.{◌-◌, ◌≤◌}
 use lib.ListN.{length, drop}
 use Rattle.rules.specs.Header.{rising}
-use Rattle.rules.proofs.Rising.{rising-next, rising-end}
+use Rattle.rules.proofs.Rising.{rising_next, rising_end}
 use Rattle.calendar.proofs.sound.are_rising.Statement.{statement}
 use Rattle.calendar.proofs.sound.are_rising.Tie as tie
 
@@ -23,10 +23,10 @@ loop-again c =
     let test = c.before.before.loop-test in
     let loop = c.before.before.before.loop in
     let start = c.before.before.before.before in
-    let l = loop in (omega arith, rising-next start.args.numbers.now l.i l.ok l.invariant.1 test.true)
+    let l = loop in (omega arith, rising_next start.args.numbers.now l.i l.ok l.invariant.1 test.true)
 
 returns : tie.Need-returns invariant-loop decreases-loop
-returns c = let l = c.before.loop in rising-end c.before.before.args.numbers.now l.i l.ok l.invariant.1 c.loop-test.false
+returns c = let l = c.before.loop in rising_end c.before.before.args.numbers.now l.i l.ok l.invariant.1 c.loop-test.false
 
 pub are-rising-spec : {M : Type 1} → statement M
 are-rising-spec =

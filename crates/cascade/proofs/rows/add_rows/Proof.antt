@@ -7,7 +7,7 @@ use lib.ListN.{length, get_or, take, drop, set, length-set}
 use lib.IntN.{pos, ◌+ℤ◌}
 use Rattle.arith.proofs.Overs.{zip_at}
 use Rattle.arith.proofs.Signed.{add_ok, add_is}
-use Rattle.arith.proofs.Writes.{front-next, front-end}
+use Rattle.arith.proofs.Writes.{front_next, front_end}
 use Rattle.cascade.proofs.Cascades.{zip_short, front_rest}
 use Rattle.cascade.proofs.rows.add_rows.Statement.{statement}
 use Rattle.cascade.proofs.rows.add_rows.Tie as tie
@@ -43,7 +43,7 @@ loop-again c =
     let here = add_is x y (rw e (pre.1 l.i (omega arith))) ∙ ap (λ v. v +ℤ y) e ∙ sym (zip_at ◌+ℤ◌ a.child.now a.t2 l.i (pos 0) (omega arith) (omega arith)) in (
       omega arith,
       simp length-set (omega arith),
-      ap (set l.child l.i) here ∙ ap (λ r. set r l.i (get_or sums l.i (pos 0))) l.invariant.2 ∙ front-next l.i sums a.child.now (pos 0) (omega arith) (omega arith),
+      ap (set l.child l.i) here ∙ ap (λ r. set r l.i (get_or sums l.i (pos 0))) l.invariant.2 ∙ front_next l.i sums a.child.now (pos 0) (omega arith) (omega arith),
     )
 
 returns : tie.Need-returns invariant-loop decreases-loop
@@ -51,7 +51,7 @@ returns c =
     let a = c.before.before.args in
     let l = c.before.loop in
     let many = zip_short ◌+ℤ◌ a.child.now a.t2 (omega arith) in
-    l.invariant.2 ∙ front-end l.i (zip_with ◌+ℤ◌ a.child.now a.t2) a.child.now (omega arith) (omega arith)
+    l.invariant.2 ∙ front_end l.i (zip_with ◌+ℤ◌ a.child.now a.t2) a.child.now (omega arith) (omega arith)
 
 pub add-rows-spec : {M : Type 1} → statement M
 add-rows-spec =

@@ -9,7 +9,7 @@ use Rattle.arith.specs.Lists.{from}
 use Rattle.arith.proofs.Scans.{from_end}
 use Rattle.rules.specs.CloseOfDay.{added_to}
 use Rattle.rules.proofs.Cascade.{rows_at}
-use Rattle.cascade.proofs.Cascades.{Adding, adding-next}
+use Rattle.cascade.proofs.Cascades.{Adding, adding_next}
 use Rattle.cascade.proofs.rows.add_to_children.Statement.{statement}
 use Rattle.cascade.proofs.rows.add_to_children.Tie as tie
 
@@ -56,7 +56,7 @@ loop-again c =
     let rows-from = c.before.before.before.before.before.rows-from in
     let l = c.before.before.before.before.loop in
     rw c.before.add-to-child.ensures
-    (adding-next a.members a.contract a.end (length a.rows.now) _ rows-from.result (omega arith) (omega arith) pre.0.0.long l.child l.rows
+    (adding_next a.members a.contract a.end (length a.rows.now) _ rows-from.result (omega arith) (omega arith) pre.0.0.long l.child l.rows
     (omega arith) l.invariant)
 
 same_length : tie.Need-same-length invariant-loop decreases-loop

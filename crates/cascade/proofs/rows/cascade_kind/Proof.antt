@@ -1,4 +1,4 @@
-use Rattle.cascade.proofs.Cascades.{kind-start, kind-end}
+use Rattle.cascade.proofs.Cascades.{kind_start, kind_end}
 use borrow.Author.Rules.{rules}
 use mathlib.Core.Path.{refl}
 use Prim.Native.Nat.{◌*◌, ◌-◌, ◌<◌}
@@ -11,7 +11,7 @@ use Rattle.rules.specs.CloseOfDay.{all_cascaded}
 use Rattle.contract_phases.specs.Phases.{closes}
 use Rattle.contract_phases.proofs.Phases.{number_below}
 use Rattle.cascade.specs.Rows.{most_row}
-use Rattle.cascade.proofs.Cascades.{KindRun, kind-next, number_parent}
+use Rattle.cascade.proofs.Cascades.{KindRun, kind_next, number_parent}
 use Rattle.cascade.proofs.rows.cascade_kind.Statement.{statement}
 use Rattle.cascade.proofs.rows.cascade_kind.Tie as tie
 
@@ -24,7 +24,7 @@ decreases-loop rows₀ column members kind count i₀ rows i = count - i
 loop-holds : tie.Need-loop-init invariant-loop decreases-loop
 loop-holds c =
     let a = c.before.before.args in
-    kind-start a.members (length a.rows.now) (7 * most_row) a.kind a.column.now _ (omega arith) (omega arith) a.rows.now refl c.before.before.requires.0.0 refl
+    kind_start a.members (length a.rows.now) (7 * most_row) a.kind a.column.now _ (omega arith) (omega arith) a.rows.now refl c.before.before.requires.0.0 refl
 
 contract-of-requires : tie.Need-contract-of-requires invariant-loop decreases-loop
 contract-of-requires c κs = omega (arith, c.before.before.contracts-in.ensures)
@@ -59,7 +59,7 @@ loop-again c =
     let l = c.before.before.before.before.before.before.loop in
     let contract-of = c.before.before.before.before.contract-of in
     rw (c.before.cascade-closing.ensures, contract-of.ensures)
-    (kind-next a.members (length a.rows.now) (7 * most_row) a.kind a.column.now _ (omega arith) (omega arith) l.i l.rows (omega (arith, contracts-in.ensures))
+    (kind_next a.members (length a.rows.now) (7 * most_row) a.kind a.column.now _ (omega arith) (omega arith) l.i l.rows (omega (arith, contracts-in.ensures))
     l.invariant)
 
 same_length : tie.Need-same-length invariant-loop decreases-loop
@@ -70,7 +70,7 @@ returns c =
     let a = c.before.before.before.before.args in
     let contracts-in = c.before.before.contracts-in in
     let l = c.before.loop in
-    kind-end a.members (length a.rows.now) (7 * most_row) a.kind a.column.now _ (omega arith) (omega arith) l.i l.rows (omega (arith, contracts-in.ensures))
+    kind_end a.members (length a.rows.now) (7 * most_row) a.kind a.column.now _ (omega arith) (omega arith) l.i l.rows (omega (arith, contracts-in.ensures))
     l.invariant
 
 pub cascade-kind-spec : {M : Type 1} → statement M

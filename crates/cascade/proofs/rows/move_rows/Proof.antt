@@ -4,7 +4,7 @@ use lib.IntN.{pos}
 use Rattle.arith.specs.Lists.{from}
 use Rattle.arith.proofs.Writes.{filled}
 use Rattle.rules.specs.CloseOfDay.{added_to, zero_rows}
-use Rattle.rules.proofs.Cascade.{added-length}
+use Rattle.rules.proofs.Cascade.{added_length}
 use borrow.Author.Rules.{rules}
 use Rattle.cascade.proofs.rows.move_rows.Statement.{statement}
 use Rattle.cascade.proofs.rows.move_rows.Tie as tie
@@ -17,7 +17,7 @@ returns c =
     let add-to-children = c.before.before.before.before.add-to-children in
     let t = a.rows.now in
     let long = pre.0.0.long in
-    let same = added-length a.members a.contract (omega arith) (omega arith) (a.end - a.first) a.first t long (omega arith) (omega arith) in
+    let same = added_length a.members a.contract (omega arith) (omega arith) (a.end - a.first) a.first t long (omega arith) (omega arith) in
     rw (c.before.clear-rows.ensures, add-to-children.ensures)
     (filled (a.contract * 32) a.members (added_to a.members a.contract (from a.first (a.end - a.first)) t) (pos 0) (omega arith))
 

@@ -7,7 +7,7 @@ use lib.Seq.{length-take-le}
 use Rattle.rules.specs.Ledger.{order_count_place}
 use Rattle.rules.specs.declared.order.Order.{Order}
 use Rattle.rules.specs.Ledger.{with_head, with_book, with_orders}
-use Rattle.order_book.proofs.Left.{all_orders, column-long, column-many, column-kept}
+use Rattle.order_book.proofs.Left.{all_orders, column_long, column_many, column_kept}
 use Rattle.contract_phases.specs.Phases.{closes}
 use borrow.Author.Rules.{rules}
 use Rattle.close_of_day.proofs.orders.remove_closing.Statement.{statement}
@@ -28,7 +28,7 @@ array-share-prefix-left c =
     let a = c.before.before.before.before.before.before.before.before.before.before.args in
     let write-left = c.before.before.before.write-left in
     let p : Order → Bool = λ o. closes a.column.now o.contract in
-    column-long p (get_or a.head.now order_count_place 0) _ (replicate 256 0) a.book.now pre.1.most_orders_holds write-left.ensures
+    column_long p (get_or a.head.now order_count_place 0) _ (replicate 256 0) a.book.now pre.1.most_orders_holds write-left.ensures
 
 slice-aggregate-keep-orders : tie.Need-slice-aggregate-keep-orders
 slice-aggregate-keep-orders c =
@@ -36,7 +36,7 @@ slice-aggregate-keep-orders c =
     let a = c.before.before.before.before.before.before.before.before.before.before.before.args in
     let write-left = c.before.before.before.before.write-left in
     let p : Order → Bool = λ o. closes a.column.now o.contract in
-    column-many p (get_or a.head.now order_count_place 0) _ (replicate 256 0) a.book.now pre.1.most_orders_holds write-left.ensures
+    column_many p (get_or a.head.now order_count_place 0) _ (replicate 256 0) a.book.now pre.1.most_orders_holds write-left.ensures
 
 keep-orders-requires : tie.Need-keep-orders-requires
 keep-orders-requires c κs =
@@ -46,7 +46,7 @@ keep-orders-requires c κs =
     let p : Order → Bool = λ o. closes a.column.now o.contract in
     let reads = start.requires.1 in
     let left = c.before.before.before.before.write-left in
-    let many = column-many p n left.new.1.1.0 (replicate 256 0) a.book.now reads.most_orders_holds left.ensures in
+    let many = column_many p n left.new.1.1.0 (replicate 256 0) a.book.now reads.most_orders_holds left.ensures in
     ((start.requires.0, reads.long, reads.most_orders_holds, rw (← many) (omega arith)), reads.most_side)
 
 returns : tie.Need-returns
@@ -59,7 +59,7 @@ returns c =
     let p : Order → Bool = λ o. closes a.column.now o.contract in
     λ t. keep-orders.ensures t
     ∙ ap (λ os. with_orders os (with_head a.head.now (with_book a.book.now t)))
-    (column-kept p n _ (replicate 256 0) a.book.now pre.1.most_orders_holds write-left.ensures (all_orders (λ o. 1 ≤ o.lots.0) a.book.now n pre.1.least_lots))
+    (column_kept p n _ (replicate 256 0) a.book.now pre.1.most_orders_holds write-left.ensures (all_orders (λ o. 1 ≤ o.lots.0) a.book.now n pre.1.least_lots))
 
 pub remove-closing-spec : {M : Type 1} → statement M
 remove-closing-spec =

@@ -5,11 +5,11 @@ use mathlib.Core.List.{◌++◌}
 use Prim.Native.Nat.{◌-◌, ◌≤◌}
 use native.Mathlib.Omega.{arith}
 use lib.ListN.{length, take, drop, get_or, length-set}
-use Rattle.arith.proofs.Writes.{front-next, front-end}
+use Rattle.arith.proofs.Writes.{front_next, front_end}
 use Rattle.rules.specs.declared.order.Order.{Order}
 use Rattle.tables.specs.Fit.{orders_in}
 use Rattle.order_book.specs.Left.{staying}
-use Rattle.order_book.proofs.Left.{staying-length, staying-at}
+use Rattle.order_book.proofs.Left.{staying_length, staying_at}
 use Rattle.contract_phases.specs.Phases.{closes}
 use Rattle.close_of_day.proofs.orders.write_left.Statement.{statement}
 use Rattle.close_of_day.proofs.orders.write_left.Tie as tie
@@ -34,10 +34,10 @@ loop-again c =
     let p : Order → Bool = λ o. closes a.column.now o.contract in
     let all = staying p (orders_in n a.book.now) in
     let here : c.left-of.result.0 ≡ get_or all l.i 0
-    = rw c.before.phase-at.ensures at c.left-of.ensures ∙ ap (λ o. cond (p o) 0 o.lots.0) c.before.before.order-at.ensures ∙ sym (staying-at p n a.book.now l.i (omega arith)) in (
+    = rw c.before.phase-at.ensures at c.left-of.ensures ∙ ap (λ o. cond (p o) 0 o.lots.0) c.before.before.order_at_lem.ensures ∙ sym (staying_at p n a.book.now l.i (omega arith)) in (
       length-set l.left l.i c.left-of.result.0 ∙ l.invariant.0,
       omega arith,
-      rw (here, l.invariant.2) (front-next l.i all a.left.now 0 (omega (arith, staying-length p n a.book.now)) (omega arith)),
+      rw (here, l.invariant.2) (front_next l.i all a.left.now 0 (omega (arith, staying_length p n a.book.now)) (omega arith)),
     )
 
 returns : tie.Need-returns invariant-loop decreases-loop
@@ -46,7 +46,7 @@ returns c =
     let l = c.before.loop in
     let n = length a.left.now in
     let p : Order → Bool = λ o. closes a.column.now o.contract in
-    l.invariant.2 ∙ front-end l.i (staying p (orders_in n a.book.now)) a.left.now (omega (arith, staying-length p n a.book.now)) (omega arith)
+    l.invariant.2 ∙ front_end l.i (staying p (orders_in n a.book.now)) a.left.now (omega (arith, staying_length p n a.book.now)) (omega arith)
 
 pub write-left-spec : {M : Type 1} → statement M
 write-left-spec =

@@ -1,5 +1,5 @@
 use Rattle.close_out_weights.specs.declared.columns.Part.TheVariants.{DefaultedLongs, DefaultedShorts}
-use Rattle.close_out.proofs.Verdicts.{read_fits, defaulted-found}
+use Rattle.close_out.proofs.Verdicts.{read_fits, defaulted_found}
 use borrow.Author.Rules.{rules}
 use Rattle.close_out.proofs.defaulted.find_defaulted.Statement.{statement}
 use Rattle.close_out.proofs.defaulted.find_defaulted.Tie as tie
@@ -18,7 +18,7 @@ returns : tie.Need-returns
 returns c =
     let shorts = c.before.before.before.before.before.before.before in
     let longs = shorts.before.before.before.before in
-    defaulted-found _ _ _ _ _ longs.read-column.ensures shorts.read-column2.ensures _ _ _ c.before.before.before.sum_of.ensures c.before.sum-of2.ensures c.smaller.ensures
+    defaulted_found _ _ _ _ _ longs.read-column.ensures shorts.read-column2.ensures _ _ _ c.before.before.before.sum_of.ensures c.before.sum-of2.ensures c.smaller.ensures
 
 pub find-defaulted-spec : {M : Type 1} → statement M
 find-defaulted-spec =

@@ -1,7 +1,7 @@
 use mathlib.Core.Path.{sym, ◌∙◌}
 use native.Mathlib.Omega.{arith}
 use borrow.Author.Rules.{rules}
-use Rattle.close_out.proofs.StepColumns.{netting-count, netting-tables, netting-room, remaining_is, given_fits}
+use Rattle.close_out.proofs.StepColumns.{netting_count, netting_tables, netting_room, remaining_is, given_fits}
 use Rattle.deal_lines.proofs.Takes.{less_room}
 use Rattle.close_out.proofs.netting.net_columns.Statement.{statement}
 use Rattle.close_out.proofs.netting.net_columns.Tie as tie
@@ -23,7 +23,7 @@ book-changes-requires c κs =
     let gs = give-up2.ensures in
     let long = (given_fits _ _ _ gl).0 ∙ pre.1.0.2 in
     let wide = (given_fits _ _ _ gs).0 ∙ pre.1.0.3 in
-    (less_room _ _ (netting-room 0 0 _ _ _ _ _ gl gs) pre.0, ((omega (arith, wide, pre.0.most_members_holds), pre.1.0.0, pre.1.0.1), (wide, long ∙ sym wide)))
+    (less_room _ _ (netting_room 0 0 _ _ _ _ _ gl gs) pre.0, ((omega (arith, wide, pre.0.most_members_holds), pre.1.0.0, pre.1.0.1), (wide, long ∙ sym wide)))
 
 subtract-requires : tie.Need-subtract-requires
 subtract-requires c κs =
@@ -50,10 +50,10 @@ returns c =
     let subtract2 = c.before.before.subtract2 in
     let gl = give-up.ensures in
     let gs = give-up2.ensures in (
-      netting-count a.contract a.price.0 _ _ _ _ _ gl gs _ book-changes.ensures.0,
+      netting_count a.contract a.price.0 _ _ _ _ _ gl gs _ book-changes.ensures.0,
       (
         remaining_is _ _ _ _ gl subtract.ensures,
-        (remaining_is _ _ _ _ gs subtract2.ensures, λ t. netting-tables a.contract a.price.0 _ _ _ _ _ gl gs _ _ (book-changes.ensures.1 t)),
+        (remaining_is _ _ _ _ gs subtract2.ensures, λ t. netting_tables a.contract a.price.0 _ _ _ _ _ gl gs _ _ (book-changes.ensures.1 t)),
       ),
     )
 

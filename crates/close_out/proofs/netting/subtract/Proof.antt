@@ -4,10 +4,10 @@ use mathlib.Core.List.{◌++◌}
 use native.Mathlib.Omega.{arith}
 use lib.ListN.{length, take, drop, length-set}
 use borrow.Author.Rules.{rules}
-use Rattle.arith.proofs.Columns.{written_next, written-end}
+use Rattle.arith.proofs.Columns.{written_next, written_end}
 use Rattle.rules.specs.Default.{less}
-use Rattle.close_out_weights.proofs.Still.{still-at, still_after}
-use Rattle.close_out.proofs.StepColumns.{less_end, remaining-next}
+use Rattle.close_out_weights.proofs.Still.{still_at, still_after}
+use Rattle.close_out.proofs.StepColumns.{less_end, remaining_next}
 use Rattle.close_out.proofs.netting.subtract.Statement.{statement}
 use Rattle.close_out.proofs.netting.subtract.Tie as tie
 
@@ -25,7 +25,7 @@ sub-remaining c =
     let pre = c.before.before.before.before.requires in
     let args = c.before.before.before.before.args in
     let l = c.before.before.before.loop in
-    omega (arith, still-at l.held args.held.now l.i l.invariant.2, pre.1 l.i)
+    omega (arith, still_at l.held args.held.now l.i l.invariant.2, pre.1 l.i)
 
 loop-again : tie.Need-loop-preserved invariant-loop decreases-loop
 loop-again c =
@@ -36,11 +36,11 @@ loop-again c =
       simp length-set l.invariant.1,
       still_after l.held a.held.now l.i l.invariant.2 _,
       written_next l.held l.i _ _ _ (omega arith)
-          (rw (remaining-next l.held a.held.now l.i l.invariant.2 a.given.now (omega arith) (omega (arith, pre.0))) at l.invariant.3),
+          (rw (remaining_next l.held a.held.now l.i l.invariant.2 a.given.now (omega arith) (omega (arith, pre.0))) at l.invariant.3),
     )
 
 returns : tie.Need-returns invariant-loop decreases-loop
-returns c = written-end c.before.loop.held c.before.loop.i _ _ (omega arith) (less_end _ _ c.before.loop.i (omega arith)) c.before.loop.invariant.3
+returns c = written_end c.before.loop.held c.before.loop.i _ _ (omega arith) (less_end _ _ c.before.loop.i (omega arith)) c.before.loop.invariant.3
 
 pub subtract-spec : {M : Type 1} → statement M
 subtract-spec =

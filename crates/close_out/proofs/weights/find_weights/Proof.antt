@@ -9,7 +9,7 @@ use Rattle.rules.specs.Ranges.{most_members}
 use Rattle.dealing.specs.Levels.{most_weight}
 use Rattle.close_out_weights.specs.declared.columns.Part.TheVariants.{Others}
 use Rattle.close_out.proofs.Running.{blank}
-use Rattle.close_out_weights.proofs.ColumnFits.{column_fits, days-column, weights-here, weights-days, sum_fits}
+use Rattle.close_out_weights.proofs.ColumnFits.{column_fits, days_column, weights_here, weights_days, sum_fits}
 use Rattle.close_out.proofs.weights.find_weights.Statement.{statement}
 use Rattle.close_out.proofs.weights.find_weights.Tie as tie
 
@@ -39,7 +39,7 @@ returns c =
     let r = read-column.ensures in
     let s = with_head a.head.now (with_rows a.lots.now [] blank) in (
       λ t v k. let u = with_head a.head.now (with_rows a.lots.now v t) in
-          r t v ∙ weights-here u a.e a.remaining k (rw (← r t v, ← c.before.sum_of.ensures) c.if1.true),
+          r t v ∙ weights_here u a.e a.remaining k (rw (← r t v, ← c.before.sum_of.ensures) c.if1.true),
       rw (r blank []) (column_fits s pre.0.0.most_members_holds pre.0.1 Others a.e.contract pre.1.0),
     )
 
@@ -55,8 +55,8 @@ returns-2 c =
     let w = weigh-by-days.ensures in
     let s = with_head a.head.now (with_rows a.lots.now [] blank) in (
       λ t v k. let u = with_head a.head.now (with_rows a.lots.now v t) in
-          w t v ∙ weights-days u a.e a.remaining k (rw (← r t v, ← sum_of.ensures) if1.false),
-      rw (w blank []) (days-column s pre.0.0.most_members_holds pre.0.1),
+          w t v ∙ weights_days u a.e a.remaining k (rw (← r t v, ← sum_of.ensures) if1.false),
+      rw (w blank []) (days_column s pre.0.0.most_members_holds pre.0.1),
     )
 
 pub find-weights-spec : {M : Type 1} → statement M

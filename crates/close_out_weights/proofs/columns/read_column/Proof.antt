@@ -8,7 +8,7 @@ use lib.IntN.{pos}
 use lib.ListN.{length, get_or, take, length-set}
 use borrow.Author.Rules.{rules}
 use Rattle.arith.proofs.Signed.{back_mag}
-use Rattle.arith.proofs.Columns.{mapped_next, mapped_end, written_next, written-end}
+use Rattle.arith.proofs.Columns.{mapped_next, mapped_end, written_next, written_end}
 use Rattle.arith.specs.Lists.{from}
 use Rattle.rules.specs.Ledger.{marks_from, row_place}
 use Rattle.close_out_weights.specs.Columns.{lots_in, column_of}
@@ -42,7 +42,7 @@ returns : tie.Need-returns invariant-loop decreases-loop
 unfolding column_of
 returns c =
     let pre = c.before.before.before.before.requires in
-    λ t v. rw (← pre.1.0) (written-end c.before.loop.column c.before.loop.i _ _ (omega arith) (mapped_end _ c.before.loop.i _ (omega arith))
+    λ t v. rw (← pre.1.0) (written_end c.before.loop.column c.before.loop.i _ _ (omega arith) (mapped_end _ c.before.loop.i _ (omega arith))
     c.before.loop.invariant.2)
 
 pub read-column-spec : {M : Type 1} → statement M

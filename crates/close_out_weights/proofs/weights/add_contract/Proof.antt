@@ -7,12 +7,12 @@ use lib.IntN.{pos, nat_abs}
 use lib.ListN.{length, get_or, take, drop, length-set}
 use borrow.Author.Rules.{rules}
 use Rattle.arith.proofs.Signed.{back_mag}
-use Rattle.arith.proofs.Columns.{mapped_next, mapped_end, written_next, written-end}
+use Rattle.arith.proofs.Columns.{mapped_next, mapped_end, written_next, written_end}
 use Rattle.arith.specs.Lists.{from}
 use Rattle.rules.specs.Ledger.{row_place}
 use Rattle.rules.specs.Ranges.{most_lots_run}
 use Rattle.dealing.specs.Levels.{most_days}
-use Rattle.close_out_weights.proofs.Still.{still-at, still_after}
+use Rattle.close_out_weights.proofs.Still.{still_at, still_after}
 use Rattle.close_out_weights.proofs.weights.add_contract.Statement.{statement}
 use Rattle.close_out_weights.proofs.weights.add_contract.Tie as tie
 
@@ -41,7 +41,7 @@ add-sums c =
     let l = c.before.before.before.before.loop in
     let net = get_or start.args.lots.now (row_place start.args.contract l.i) (pos 0) in
     let e : c.before.size.result ≡ nat_abs net = c.before.size.ensures ∙ ap nat_abs (back_mag net c.before.before.size-arg.given) in
-    let sum : get_or l.sums l.i 0 ≤ start.args.contract * (most_days * most_lots_run) = rw (still-at l.sums start.args.sums.now l.i l.invariant.2) (start.requires.1 l.i) in
+    let sum : get_or l.sums l.i 0 ≤ start.args.contract * (most_days * most_lots_run) = rw (still_at l.sums start.args.sums.now l.i l.invariant.2) (start.requires.1 l.i) in
     omega (arith, mul-le-mul start.requires.0.1 (rw (← e) at (start.requires.0.2.within start.args.contract l.i start.requires.0.0 (omega arith))))
 
 loop-again : tie.Need-loop-preserved invariant-loop decreases-loop
@@ -54,12 +54,12 @@ loop-again c =
       omega arith,
       simp length-set l.invariant.1,
       still_after l.sums a.sums.now l.i l.invariant.2 _,
-      rw (e, still-at l.sums a.sums.now l.i l.invariant.2)
+      rw (e, still_at l.sums a.sums.now l.i l.invariant.2)
           (written_next l.sums l.i (f l.i) _ _ (omega arith) (rw (mapped_next (length a.sums.now) l.i f (omega arith)) at l.invariant.3)),
     )
 
 returns : tie.Need-returns invariant-loop decreases-loop
-returns c = written-end c.before.loop.sums c.before.loop.i _ _ (omega arith) (mapped_end _ c.before.loop.i _ (omega arith)) c.before.loop.invariant.3
+returns c = written_end c.before.loop.sums c.before.loop.i _ _ (omega arith) (mapped_end _ c.before.loop.i _ (omega arith)) c.before.loop.invariant.3
 
 pub add-contract-spec : {M : Type 1} → statement M
 add-contract-spec =

@@ -8,8 +8,8 @@ use Rattle.arith.proofs.Columns.{mapped_length}
 use Rattle.arith.specs.Lists.{from}
 use Rattle.rules.specs.Ranges.{term_count}
 use Rattle.close_out_weights.specs.Columns.{weight_by}
-use Rattle.close_out_weights.proofs.DayWeights.{sums-start, sums_next}
-use Rattle.close_out_weights.proofs.ColumnFits.{sums-most}
+use Rattle.close_out_weights.proofs.DayWeights.{sums_start, sums_next}
+use Rattle.close_out_weights.proofs.ColumnFits.{sums_most}
 use Rattle.close_out_weights.proofs.weights.add_contracts.Statement.{statement}
 use Rattle.close_out_weights.proofs.weights.add_contracts.Tie as tie
 
@@ -22,7 +22,7 @@ decreases-loop lots days sums₀ contract₀ sums contract = term_count - contra
 loop-holds : tie.Need-loop-init invariant-loop decreases-loop
 loop-holds c =
     let start = c.before.before in
-    (omega arith, refl, start.requires.1.2 ∙ sums-start start.args.days.now start.args.lots.now (length start.args.sums.now))
+    (omega arith, refl, start.requires.1.2 ∙ sums_start start.args.days.now start.args.lots.now (length start.args.sums.now))
 
 add-if-open-requires : tie.Need-add-if-open-requires invariant-loop decreases-loop
 add-if-open-requires c κs =
@@ -31,7 +31,7 @@ add-if-open-requires c κs =
     let l = c.before.before.before.loop in
     let few = start.requires.1.1 in (
       (omega arith, start.requires.0.1 l.contract, rw l.invariant.1 start.requires.1.0, omega arith),
-      λ m. rw l.invariant.2 (sums-most a.days.now a.lots.now (length a.sums.now) l.contract start.requires.0.1 start.requires.1.0 (omega arith) m),
+      λ m. rw l.invariant.2 (sums_most a.days.now a.lots.now (length a.sums.now) l.contract start.requires.0.1 start.requires.1.0 (omega arith) m),
     )
 
 loop-again : tie.Need-loop-preserved invariant-loop decreases-loop

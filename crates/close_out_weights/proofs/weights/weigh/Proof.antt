@@ -8,7 +8,7 @@ use Rattle.arith.proofs.Columns.{mapped_length}
 use Rattle.rules.specs.Ledger.{marks_from}
 use Rattle.rules.specs.Ranges.{most_lots_run}
 use Rattle.tables.specs.Fit.{RowsFit, members_in}
-use Rattle.close_out_weights.proofs.DayWeights.{sums-read}
+use Rattle.close_out_weights.proofs.DayWeights.{sums_read}
 use Rattle.close_out_weights.proofs.weights.weigh.Statement.{statement}
 use Rattle.close_out_weights.proofs.weights.weigh.Tie as tie
 
@@ -35,7 +35,7 @@ returns c =
     let a = start.args in
     let e : length a.sums.now ≡ members_in a.head.now = ap length start.requires.0.3 ∙ length-replicate _ _ in
     write-weights.ensures
-    ∙ sums-read a.days.now a.lots.now (members_in a.head.now) (λ m. eqb (get_or a.head.now (marks_from + m) 0) 1) _ (rw e at add-contracts.ensures)
+    ∙ sums_read a.days.now a.lots.now (members_in a.head.now) (λ m. eqb (get_or a.head.now (marks_from + m) 0) 1) _ (rw e at add-contracts.ensures)
 
 pub weigh-spec : {M : Type 1} → statement M
 weigh-spec =

@@ -9,7 +9,7 @@ use lib.Dec.{eqb}
 use lib.ListN.{length, get_or, take, length-set}
 use borrow.Author.Rules.{rules}
 use borrow.Author.Tests.{eq-eqb, ne_eqb}
-use Rattle.arith.proofs.Columns.{mapped_next, mapped_end, written_next, written-end}
+use Rattle.arith.proofs.Columns.{mapped_next, mapped_end, written_next, written_end}
 use Rattle.arith.specs.Lists.{from}
 use Rattle.rules.specs.Ledger.{marks_from}
 use Rattle.tables.specs.Fit.{members_in}
@@ -35,7 +35,7 @@ loop-again c = let a = c.before.before.before.before.args in
     (omega arith, simp length-set l.invariant.1, rw e (written_next l.weights l.i _ _ _ (omega arith) (rw (mapped_next (members_in a.head.now) l.i f (omega arith)) at l.invariant.2)))
 
 returns : tie.Need-returns invariant-loop decreases-loop
-returns c = written-end c.before.loop.weights c.before.loop.i _ _ (omega arith) (mapped_end _ c.before.loop.i _ (omega arith)) c.before.loop.invariant.2
+returns c = written_end c.before.loop.weights c.before.loop.i _ _ (omega arith) (mapped_end _ c.before.loop.i _ (omega arith)) c.before.loop.invariant.2
 
 pub write-weights-spec : {M : Type 1} → statement M
 write-weights-spec =

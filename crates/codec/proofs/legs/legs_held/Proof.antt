@@ -1,19 +1,19 @@
 use mathlib.Core.Path.{sym, ◌∙◌}
 use Rattle.rules.specs.Records.{record_length}
-use Rattle.codec.proofs.LegColumns.{held-other, held-many, held-uneven, held_whole}
+use Rattle.codec.proofs.LegColumns.{held_other, held_many, held_uneven, held_whole}
 use borrow.Author.Rules.{rules}
 use Rattle.codec.proofs.legs.legs_held.Statement.{statement}
 use Rattle.codec.proofs.legs.legs_held.Tie as tie
 
 returns : tie.Need-returns
-returns c = held-other _ (λ e. c.if1.true (c.before.u8-or-zero.ensures.0 ∙ e))
+returns c = held_other _ (λ e. c.if1.true (c.before.u8-or-zero.ensures.0 ∙ e))
 
 returns-2 : tie.Need-returns-2
-returns-2 c = held-many _ (rw c.before.u8-or-zero2.ensures.0 at c.if2.true)
+returns-2 c = held_many _ (rw c.before.u8-or-zero2.ensures.0 at c.if2.true)
 
 returns-3 : tie.Need-returns-3
 unfolding record_length
-returns-3 c = held-uneven _ (λ e. c.if3.true (e ∙ sym (rw c.before.before.before.u8-or-zero2.ensures.0 at c.before.record_length_holds.ensures)))
+returns-3 c = held_uneven _ (λ e. c.if3.true (e ∙ sym (rw c.before.before.before.u8-or-zero2.ensures.0 at c.before.record_length_holds.ensures)))
 
 returns-4 : tie.Need-returns-4
 unfolding record_length

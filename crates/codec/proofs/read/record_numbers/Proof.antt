@@ -8,7 +8,7 @@ use Rattle.arith.specs.Columns.{padded}
 use Rattle.rules.specs.Fields.{widths, kind_fields, numbers_at}
 use Rattle.record_kinds.specs.Numbers.{most_numbers}
 use Rattle.codec.proofs.FieldBytes.{width}
-use Rattle.codec.proofs.FieldLoops.{place-next, field-inside, numbers-next}
+use Rattle.codec.proofs.FieldLoops.{place_next, field_inside, numbers_next}
 use Rattle.codec.proofs.Fields.{numbers_read}
 use Rattle.codec.proofs.read.record_numbers.Statement.{statement}
 use Rattle.codec.proofs.read.record_numbers.Tie as tie
@@ -33,13 +33,13 @@ number-at-requires c κs =
     let l = c.before.before.before.loop in
     let w = c.width_of_lem.ensures.0 in
     let here = c.before.before.before.before.field-count.ensures in
-    (rw w (width c.before.field_of.result), field-inside _ l.i (omega arith) c.before.field_of.ensures w l.invariant.1 _ c.before.before.before.before.before.before.requires.1)
+    (rw w (width c.before.field_of.result), field_inside _ l.i (omega arith) c.before.field_of.ensures w l.invariant.1 _ c.before.before.before.before.before.before.requires.1)
 
 add_at : tie.Need-overflow-add-at invariant-loop decreases-loop
 add_at c =
     let l = c.before.before.before.before.loop in
     let here = c.before.before.before.before.before.field-count.ensures in
-    let inside = field-inside _ l.i (omega arith) c.before.before.field_of.ensures c.before.width_of_lem.ensures.0 l.invariant.1 _ c.before.before.before.before.before.before.before.requires.1 in
+    let inside = field_inside _ l.i (omega arith) c.before.before.field_of.ensures c.before.width_of_lem.ensures.0 l.invariant.1 _ c.before.before.before.before.before.before.before.requires.1 in
     omega arith
 
 loop-again : tie.Need-loop-preserved invariant-loop decreases-loop
@@ -49,7 +49,7 @@ loop-again c =
     let field = c.before.before.field_of.ensures in
     let w = c.before.width_of_lem.ensures.0 in
     let place = l.invariant.1 in
-    (omega arith, place-next _ l.i (omega arith) field w place, numbers-next _ l.i (omega arith) field w place _ _ most_numbers (omega arith) c.number_at.ensures l.invariant.2)
+    (omega arith, place_next _ l.i (omega arith) field w place, numbers_next _ l.i (omega arith) field w place _ _ most_numbers (omega arith) c.number_at.ensures l.invariant.2)
 
 returns : tie.Need-returns invariant-loop decreases-loop
 returns c =

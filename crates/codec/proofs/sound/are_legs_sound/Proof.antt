@@ -5,7 +5,7 @@ use mathlib.Core.Path.{◌≡◌, ap, ◌∙◌}
 use mathlib.Core.Bool.{◌&&◌}
 use Prim.Native.Nat.{◌-◌, ◌≤◌}
 use Rattle.arith.specs.Lists.{every, from}
-use Rattle.arith.proofs.Runs.{run_start, run-passed, run_end}
+use Rattle.arith.proofs.Runs.{run_start, run_passed, run_end}
 use Rattle.rules.specs.Records.{leg_sound}
 use Rattle.codec.specs.Columns.{leg_row, leg_rows}
 use Rattle.codec.proofs.sound.are_legs_sound.Statement.{statement}
@@ -25,7 +25,7 @@ loop-again : tie.Need-loop-preserved invariant-loop decreases-loop
 loop-again c =
     let l = c.before.before.before.loop in
     let judged = c.is-leg-sound.ensures ∙ ap leg_sound c.before.leg-of.ensures in
-    (omega arith, rw judged (run-passed leg_sound (leg_row c.before.before.before.before.args.legs) _ l.i l.ok l.invariant.1 c.before.before.loop-test.true))
+    (omega arith, rw judged (run_passed leg_sound (leg_row c.before.before.before.before.args.legs) _ l.i l.ok l.invariant.1 c.before.before.loop-test.true))
 
 returns : tie.Need-returns invariant-loop decreases-loop
 returns c = let l = c.before.loop in run_end leg_sound (leg_row c.before.before.args.legs) _ l.i l.ok l.invariant.1 c.loop-test.false

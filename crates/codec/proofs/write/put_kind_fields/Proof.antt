@@ -7,7 +7,7 @@ use lib.Seq.{get_or-drop}
 use Rattle.arith.specs.Lists.{over}
 use Rattle.rules.specs.Fields.{widths, kind_fields, bytes_by}
 use Rattle.codec.proofs.FieldBytes.{width}
-use Rattle.codec.proofs.FieldLoops.{place-next, field-inside, put_next, enough, number_fits, fields-put, none_put}
+use Rattle.codec.proofs.FieldLoops.{place_next, field_inside, put_next, enough, number_fits, fields_put, none_put}
 use Rattle.codec.proofs.write.put_kind_fields.Statement.{statement}
 use Rattle.codec.proofs.write.put_kind_fields.Tie as tie
 
@@ -37,7 +37,7 @@ put-number-requires c κs =
     let w = c.before.width_of_lem.ensures.0 in
     let room = rw (← kind) at start.requires.0 in (
       rw w (width c.before.before.field_of.result),
-      field-inside _ l.i (omega arith) field w l.invariant.1 _ (omega arith),
+      field_inside _ l.i (omega arith) field w l.invariant.1 _ (omega arith),
       number_fits start.args.event _ _ c.before.before.before.before.before.before.put-numbers.ensures kind start.requires.1 l.i (omega arith) field w,
     )
 
@@ -47,7 +47,7 @@ add_at c =
     let l = c.before.before.before.before.before.before.before.loop in
     let here = c.before.before.before.before.before.before.before.before.before.before.before.field-count.ensures in
     let room = rw (← c.before.before.before.before.before.before.before.before.before.before.before.before.kind-number.ensures.0) at start.requires.0 in
-    let inside = field-inside _ l.i (omega arith) c.before.before.before.before.before.field_of.ensures c.before.before.before.before.width_of_lem.ensures.0 l.invariant.1 (length start.args.out.now) (omega arith) in
+    let inside = field_inside _ l.i (omega arith) c.before.before.before.before.before.field_of.ensures c.before.before.before.before.width_of_lem.ensures.0 l.invariant.1 (length start.args.out.now) (omega arith) in
     omega arith
 
 loop-again : tie.Need-loop-preserved invariant-loop decreases-loop
@@ -61,16 +61,16 @@ loop-again c =
     let field = c.before.before.before.before.before.field_of.ensures in
     let w = c.before.before.before.before.width_of_lem.ensures.0 in
     let room = rw (← kind) at start.requires.0 in
-    let inside = field-inside _ l.i (omega arith) field w l.invariant.1 (length a.out.now) (omega arith) in
+    let inside = field_inside _ l.i (omega arith) field w l.invariant.1 (length a.out.now) (omega arith) in
     let more = enough a.event _ _ put-numbers.ensures kind in (
       omega arith,
-      place-next _ l.i (omega arith) field w l.invariant.1,
+      place_next _ l.i (omega arith) field w l.invariant.1,
       omega arith,
       put_next _ l.i (omega arith) field w l.invariant.1 _ (omega arith) _ _ _ (sym (get_or-drop 1 put-numbers.new.0 l.i 0)) l.invariant.3 c.before.before.put-number.ensures (omega arith),
     )
 
 returns : tie.Need-returns invariant-loop decreases-loop
-returns c = let l = c.before.loop in fields-put c.before.before.before.before.before.before.before.before.args.event _ _ c.before.before.before.put-numbers.ensures c.before.before.before.before.before.before.kind-number.ensures.0 l.i _ (omega (arith, c.before.before.before.before.before.field-count.ensures)) l.invariant.3
+returns c = let l = c.before.loop in fields_put c.before.before.before.before.before.before.before.before.args.event _ _ c.before.before.before.put-numbers.ensures c.before.before.before.before.before.before.kind-number.ensures.0 l.i _ (omega (arith, c.before.before.before.before.before.field-count.ensures)) l.invariant.3
 
 pub put-kind-fields-spec : {M : Type 1} → statement M
 put-kind-fields-spec =

@@ -1,6 +1,6 @@
 use mathlib.Core.Path.{refl}
 use native.Mathlib.Omega.{arith}
-use Rattle.arith.proofs.Beside.{over-next}
+use Rattle.arith.proofs.Beside.{over_next}
 use Rattle.rules.specs.Fields.{bytes_by}
 use Rattle.rules.specs.Header.{u16_bytes, u32_bytes}
 use borrow.Author.Rules.{rules}
@@ -14,7 +14,7 @@ returns c =
     let put-u16 = c.before.before.before.before.before.before.put-u16 in
     let at-10 = c.before.before.before.before.before.before.before.before.before.before in
     let put-u32 = at-10.put-u32 in
-    over-next _ _ _ _ _ _ _ (over-next _ _ _ _ _ _ _ put-u32.ensures put-u16.ensures refl (omega arith))
+    over_next _ _ _ _ _ _ _ (over_next _ _ _ _ _ _ _ put-u32.ensures put-u16.ensures refl (omega arith))
     put-u322.ensures refl (omega arith)
 
 pub put-leg-spec : {M : Type 1} → statement M

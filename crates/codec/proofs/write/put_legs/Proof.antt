@@ -4,7 +4,7 @@ use mathlib.Core.List.{flat_map, map}
 use mathlib.Core.Path.{◌≡◌, refl}
 use Prim.Native.Nat.{◌-◌, ◌≤◌}
 use lib.ListN.{length}
-use Rattle.arith.proofs.Widths.{blocks-none, blocks-next}
+use Rattle.arith.proofs.Widths.{blocks_none, blocks_next}
 use Rattle.arith.specs.Lists.{from, over}
 use Rattle.rules.specs.Records.{leg_bytes}
 use Rattle.codec.specs.Columns.{leg_row, leg_rows}
@@ -19,7 +19,7 @@ abbrev decreases-loop : tie.decreases-loop
 decreases-loop out₀ count legs i₀ out i = count - i
 
 loop-holds : tie.Need-loop-init invariant-loop decreases-loop
-loop-holds c = (omega arith, refl, blocks-none leg_bytes 10 leg_wide (leg_row c.before.args.legs) 2 _)
+loop-holds c = (omega arith, refl, blocks_none leg_bytes 10 leg_wide (leg_row c.before.args.legs) 2 _)
 
 put-leg-requires : tie.Need-put-leg-requires invariant-loop decreases-loop
 put-leg-requires c κs = rw c.before.leg-place.ensures (omega arith)
@@ -35,7 +35,7 @@ loop-again c =
     let l = loop in
     let put = rw leg-place.ensures at put-leg.ensures in
     let leg = leg-of.ensures in
-    (omega arith, omega arith, blocks-next leg_bytes 10 leg_wide (leg_row start.args.legs) 2 l.i _ _ _ _ leg l.invariant.2 put (omega arith))
+    (omega arith, omega arith, blocks_next leg_bytes 10 leg_wide (leg_row start.args.legs) 2 l.i _ _ _ _ leg l.invariant.2 put (omega arith))
 
 returns : tie.Need-returns invariant-loop decreases-loop
 unfolding leg_rows

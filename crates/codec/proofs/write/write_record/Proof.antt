@@ -4,13 +4,13 @@ use Rattle.arith.proofs.Tests.{asked_true, asked_false}
 use Rattle.record_kinds.specs.Numbers.{leg_count}
 use Rattle.codec.specs.Columns.{leg_rows}
 use Rattle.codec.proofs.LegColumns.{length_rows}
-use Rattle.codec.proofs.Written.{length_record, sound_event, some_bytes, record_put, write-few, write-unsound, write-short, write-whole}
+use Rattle.codec.proofs.Written.{length_record, sound_event, some_bytes, record_put, write_few, write-unsound, write_short, write-whole}
 use borrow.Author.Rules.{rules}
 use Rattle.codec.proofs.write.write_record.Statement.{statement}
 use Rattle.codec.proofs.write.write_record.Tie as tie
 
 returns : tie.Need-returns
-returns c = write-few _ _ _ _ (asked_false c.before.is-member-count-sound.ensures c.if1.true)
+returns c = write_few _ _ _ _ (asked_false c.before.is-member-count-sound.ensures c.if1.true)
 
 returns-2 : tie.Need-returns-2
 returns-2 c =
@@ -36,7 +36,7 @@ returns-3 c =
     let few = asked_true is-member-count-sound.ensures if1.false in
     let sized = rw (kind-number.ensures.0, leg-count.ensures) at c.before.record_length_holds.ensures in
     let whole = length_record e (leg_rows (leg_count e) args.legs) (length_rows (leg_count e) args.legs) in
-    write-short _ _ _ _ few (asked_true is-event-sound.ensures if2.false) (omega (arith, sized, whole))
+    write_short _ _ _ _ few (asked_true is-event-sound.ensures if2.false) (omega (arith, sized, whole))
 
 put-u8-requires : tie.Need-put-u8-requires
 put-u8-requires c κs =

@@ -5,7 +5,7 @@ use native.Mathlib.Omega.{arith}
 use lib.ListN.{length, take, length-set}
 use borrow.Author.Rules.{rules}
 use Rattle.arith.specs.Lists.{from}
-use Rattle.arith.proofs.Columns.{mapped_next, mapped_end, written_next, written-end}
+use Rattle.arith.proofs.Columns.{mapped_next, mapped_end, written_next, written_end}
 use Rattle.rules.specs.declared.contract.ContractKind.{ContractKind}
 use Rattle.rules.specs.Ranges.{term_count}
 use Rattle.rules.specs.Days.{Calendar}
@@ -47,7 +47,7 @@ loop-again c =
 returns : tie.Need-returns invariant-loop decreases-loop
 returns c =
     let l = c.before.loop in
-    λ k d e g h. written-end l.column l.contract _ _ (omega arith) (mapped_end term_count l.contract _ (omega arith)) (l.invariant.2 k d e g h)
+    λ k d e g h. written_end l.column l.contract _ _ (omega arith) (mapped_end term_count l.contract _ (omega arith)) (l.invariant.2 k d e g h)
 
 pub write-from-spec : {M : Type 1} → statement M
 write-from-spec =

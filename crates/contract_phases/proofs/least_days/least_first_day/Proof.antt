@@ -5,7 +5,7 @@ use native.Mathlib.Omega.{arith}
 use borrow.Author.Rules.{rules}
 use Rattle.rules.specs.Days.{Calendar}
 use Rattle.contract_phases.specs.Least.{day_after_nth, least_first_day}
-use Rattle.contract_phases.proofs.Least.{none-to-count, idle-day, counted-day, nth-day}
+use Rattle.contract_phases.proofs.Least.{none_to_count, idle-day, counted-day, nth-day}
 use Rattle.contract_phases.proofs.least_days.least_first_day.Statement.{statement}
 use Rattle.contract_phases.proofs.least_days.least_first_day.Tie as tie
 
@@ -36,7 +36,7 @@ loop-again c =
     c.if2.branch
 
 returns-2 : tie.Need-returns-2 invariant-loop decreases-loop
-returns-2 c = let loop = c.before.before.before.loop in λ y. sym (none-to-count _ _ _ loop.to-count loop.x (omega arith)) ∙ loop.invariant.1 y
+returns-2 c = let loop = c.before.before.before.loop in λ y. sym (none_to_count _ _ _ loop.to-count loop.x (omega arith)) ∙ loop.invariant.1 y
 
 pub least-first-day-spec : {M : Type 1} → statement M
 least-first-day-spec =

@@ -3,10 +3,10 @@ use native.Mathlib.Nat.{sub-zero}
 use Rattle.arith.specs.Lists.{every, from}
 use Rattle.arith.proofs.Tests.{asked_true, asked_false}
 use Rattle.arith.proofs.Bits.{or_below, falls}
-use Rattle.arith.proofs.Scans.{each_next, each-stop, each-end}
+use Rattle.arith.proofs.Scans.{each_next, each_stop, each_end}
 use Rattle.rules.specs.Ledger.{side_at}
 use Rattle.damage.specs.Orders.{number_at, place_sound, places_sound}
-use Rattle.damage.proofs.Numbers.{rises_from, rises_next, rises-end, rises_distinct}
+use Rattle.damage.proofs.Numbers.{rises_from, rises_next, rises_end, rises_distinct}
 use Rattle.damage.proofs.book.are_orders_sound.Statement.{statement}
 use Rattle.damage.proofs.book.are_orders_sound.Tie as tie
 
@@ -27,7 +27,7 @@ returns c =
     let a = c.before.before.before.before.before.args in
     let l = c.before.before.before.loop in
     let sound = place_sound a.accepted a.members a.span.start.0 a.span.end.0 a.book.now in
-    rw (each-stop sound a.count l.i (ltb l.sides 2) _ l.invariant.2 c.before.before.loop-test.true (rw (le-ltb _ _ c.if1.true)))
+    rw (each_stop sound a.count l.i (ltb l.sides 2) _ l.invariant.2 c.before.before.loop-test.true (rw (le-ltb _ _ c.if1.true)))
 
 returns-2 : tie.Need-returns-2 invariant-loop decreases-loop
 returns-2 c =
@@ -36,7 +36,7 @@ returns-2 c =
     let loop-test = c.before.before.before.before.loop-test in
     let if1 = c.before.before.if1 in
     let sound = place_sound a.accepted a.members a.span.start.0 a.span.end.0 a.book.now in
-    rw (each-stop sound a.count l.i (ltb l.sides 2) _ l.invariant.2 loop-test.true
+    rw (each_stop sound a.count l.i (ltb l.sides 2) _ l.invariant.2 loop-test.true
     (rw (lt-ltb _ _ if1.false, asked_false c.before.are-fields-in-range.ensures c.if2.true)))
 
 loop-again : tie.Need-loop-preserved invariant-loop decreases-loop
@@ -64,7 +64,7 @@ returns-3 c =
     let a = c.before.before.before.before.args in
     let l = c.before.before.loop in
     let sound = place_sound a.accepted a.members a.span.start.0 a.span.end.0 a.book.now in
-    let all = each-end sound a.count l.i (ltb l.sides 2) _ l.invariant.2 c.before.loop-test.false in
+    let all = each_end sound a.count l.i (ltb l.sides 2) _ l.invariant.2 c.before.loop-test.false in
     rw (sym all, le-ltb _ _ c.if3.true)
 
 returns-4 : tie.Need-returns-4 invariant-loop decreases-loop
@@ -73,8 +73,8 @@ returns-4 c =
     let l = c.before.before.before.loop in
     let f = number_at a.book.now in
     let sound = place_sound a.accepted a.members a.span.start.0 a.span.end.0 a.book.now in
-    let all = each-end sound a.count l.i (ltb l.sides 2) _ l.invariant.2 c.before.before.loop-test.false in
-    let rise = rises-end f a.count l.i l.least (ltb l.falls (2 ^ 63)) _ l.invariant.3 c.before.before.loop-test.false in
+    let all = each_end sound a.count l.i (ltb l.sides 2) _ l.invariant.2 c.before.before.loop-test.false in
+    let rise = rises_end f a.count l.i l.least (ltb l.falls (2 ^ 63)) _ l.invariant.3 c.before.before.loop-test.false in
     rw (sym all, lt-ltb l.sides 2 (omega arith), rises_distinct 0 (map f (from 0 a.count)) (sym rise ∙ lt-ltb _ _ c.if4.true))
 
 returns-5 : tie.Need-returns-5 invariant-loop decreases-loop
@@ -82,7 +82,7 @@ returns-5 c =
     let a = c.before.before.before.before.before.before.args in
     let l = c.before.before.before.before.loop in
     let sound = place_sound a.accepted a.members a.span.start.0 a.span.end.0 a.book.now in
-    let all = each-end sound a.count l.i (ltb l.sides 2) _ l.invariant.2 c.before.before.before.loop-test.false in
+    let all = each_end sound a.count l.i (ltb l.sides 2) _ l.invariant.2 c.before.before.before.loop-test.false in
     rw (sym all, lt-ltb l.sides 2 (omega arith)) c.is-none-repeated.ensures
 
 pub are-orders-sound-spec : {M : Type 1} → statement M

@@ -1,6 +1,6 @@
 use Rattle.std.proofs.Common.{[], ◌∙◌, rules}
 use Rattle.rules.specs.Ledger.{with_head, with_book}
-use Rattle.damage.proofs.BookPlaces.{span_rises, book-is}
+use Rattle.damage.proofs.BookPlaces.{span_rises, book_is}
 use Rattle.damage.proofs.book.is_book_sound.Statement.{statement}
 use Rattle.damage.proofs.book.is_book_sound.Tie as tie
 
@@ -13,7 +13,7 @@ are-orders-sound-requires c κs =
 returns : tie.Need-returns
 returns c =
     let a = c.before.before.before.before.before.before.args in
-    λ t. c.are-orders-sound.ensures ∙ book-is (with_head a.head.now (with_book a.book.now t)) a.span (c.before.before.before.before.before.before.requires.0.1 _)
+    λ t. c.are-orders-sound.ensures ∙ book_is (with_head a.head.now (with_book a.book.now t)) a.span (c.before.before.before.before.before.before.requires.0.1 _)
 
 pub is-book-sound-spec : {M : Type 1} → statement M
 is-book-sound-spec =

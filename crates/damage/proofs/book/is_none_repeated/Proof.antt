@@ -3,7 +3,7 @@ use native.Mathlib.Nat.{sub-zero}
 use Rattle.arith.specs.Lists.{from}
 use Rattle.rules.specs.Refusals.{distinct}
 use Rattle.damage.specs.Orders.{number_at}
-use Rattle.damage.proofs.Numbers.{distinct-next, distinct-end}
+use Rattle.damage.proofs.Numbers.{distinct_next, distinct_end}
 use Rattle.damage.proofs.book.is_none_repeated.Statement.{statement}
 use Rattle.damage.proofs.book.is_none_repeated.Tie as tie
 
@@ -22,14 +22,14 @@ loop-again c =
     let s = c.before.before.loop in (
       omega arith,
       rw c.is-repeated.ensures
-          (distinct-next (number_at a.book.now) a.count s.i s.ok (distinct (map (number_at a.book.now) (from 0 a.count))) s.invariant.1
+          (distinct_next (number_at a.book.now) a.count s.i s.ok (distinct (map (number_at a.book.now) (from 0 a.count))) s.invariant.1
           c.before.loop-test.true),
     )
 
 returns : tie.Need-returns invariant-loop decreases-loop
 returns c =
     let a = c.before.before.before.args in
-    let s = c.before.loop in distinct-end (number_at a.book.now) a.count s.i s.ok (distinct (map (number_at a.book.now) (from 0 a.count))) s.invariant.1
+    let s = c.before.loop in distinct_end (number_at a.book.now) a.count s.i s.ok (distinct (map (number_at a.book.now) (from 0 a.count))) s.invariant.1
     c.loop-test.false
 
 pub is-none-repeated-spec : {M : Type 1} → statement M

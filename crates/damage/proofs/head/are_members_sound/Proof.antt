@@ -3,7 +3,7 @@ use Rattle.arith.specs.Lists.{every, from}
 use Rattle.rules.specs.Ranges.{most_limit}
 use Rattle.rules.specs.Ledger.{Tables, with_head, limits_from, marks_from, submits_from}
 use Rattle.rules.specs.Refusals.{member_sound}
-use Rattle.arith.proofs.Scans.{each_start, each_next, each-end}
+use Rattle.arith.proofs.Scans.{each_start, each_next, each_end}
 use Rattle.damage.proofs.Tests.{all_three}
 use Rattle.damage.proofs.head.are_members_sound.Statement.{statement}
 use Rattle.damage.proofs.head.are_members_sound.Tie as tie
@@ -36,7 +36,7 @@ returns c =
     let args = c.before.before.args in
     let h = args.head.now in
     let s = c.before.loop in
-    λ t. each-end (member_sound (with_head h t)) args.members s.m s.ok (every (member_sound (with_head h t)) (from 0 args.members)) (s.invariant.1 t)
+    λ t. each_end (member_sound (with_head h t)) args.members s.m s.ok (every (member_sound (with_head h t)) (from 0 args.members)) (s.invariant.1 t)
     c.loop-test.false
 
 pub are-members-sound-spec : {M : Type 1} → statement M

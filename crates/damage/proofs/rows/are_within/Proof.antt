@@ -1,7 +1,7 @@
 use Rattle.std.proofs.Common.{◌≡◌, ◌-◌, ◌≤◌, ◌&&◌, leb, length, get_or, drop, pos, nat_abs, refl, arith, rules}
 use Rattle.arith.specs.Lists.{every}
 use Rattle.arith.proofs.Signed.{back_mag}
-use Rattle.arith.proofs.Scans.{every-next, every-end}
+use Rattle.arith.proofs.Scans.{every_next, every_end}
 use Rattle.damage.proofs.rows.are_within.Statement.{statement}
 use Rattle.damage.proofs.rows.are_within.Tie as tie
 
@@ -22,11 +22,11 @@ loop-again c =
     let x = get_or a.rows.now l.i (pos 0) in (
       omega arith,
       rw (c.is_Within.ensures, back_mag x c.before.x.given)
-          (every-next (λ z. leb (nat_abs z) a.bound) a.rows.now (pos 0) l.i l.ok l.invariant.1 loop-test.true),
+          (every_next (λ z. leb (nat_abs z) a.bound) a.rows.now (pos 0) l.i l.ok l.invariant.1 loop-test.true),
     )
 
 returns : tie.Need-returns invariant-loop decreases-loop
-returns c = let a = c.before.before.args in let l = c.before.loop in every-end (λ z. leb (nat_abs z) a.bound) a.rows.now (pos 0) l.i l.ok l.invariant.1 c.loop-test.false
+returns c = let a = c.before.before.args in let l = c.before.loop in every_end (λ z. leb (nat_abs z) a.bound) a.rows.now (pos 0) l.i l.ok l.invariant.1 c.loop-test.false
 
 pub are-within-spec : {M : Type 1} → statement M
 are-within-spec =

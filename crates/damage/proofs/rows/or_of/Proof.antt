@@ -3,7 +3,7 @@ use Rattle.arith.specs.Bits.{in_window}
 use Rattle.arith.specs.Lists.{every}
 use Rattle.arith.proofs.Bits.{or_window, none_below}
 use Rattle.arith.proofs.Signed.{back_mag}
-use Rattle.arith.proofs.Scans.{every-next, every-end}
+use Rattle.arith.proofs.Scans.{every_next, every_end}
 use Rattle.damage.specs.Windows.{IsHalf}
 use Rattle.damage.proofs.rows.or_of.Statement.{statement}
 use Rattle.damage.proofs.rows.or_of.Tie as tie
@@ -25,14 +25,14 @@ loop-again c =
     let fits = c.before.x.given in (
       omega arith,
       λ k h. rw (or_window k l.seen c.raised.result a.half x h fits (rw (back_mag x fits) at c.raised.ensures))
-          (every-next (in_window (2 ^ k)) a.rows.now (pos 0) l.i (ltb l.seen (2 ^ k)) (l.invariant.1 k h) c.before.before.loop-test.true),
+          (every_next (in_window (2 ^ k)) a.rows.now (pos 0) l.i (ltb l.seen (2 ^ k)) (l.invariant.1 k h) c.before.before.loop-test.true),
     )
 
 returns : tie.Need-returns invariant-loop decreases-loop
 returns c =
     let a = c.before.before.args in
     let l = c.before.loop in
-    λ k h. every-end (in_window (2 ^ k)) a.rows.now (pos 0) l.i (ltb l.seen (2 ^ k)) (l.invariant.1 k h) c.loop-test.false
+    λ k h. every_end (in_window (2 ^ k)) a.rows.now (pos 0) l.i (ltb l.seen (2 ^ k)) (l.invariant.1 k h) c.loop-test.false
 
 pub or-of-spec : {M : Type 1} → statement M
 or-of-spec =

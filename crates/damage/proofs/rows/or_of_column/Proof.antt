@@ -2,10 +2,10 @@ use Rattle.std.proofs.Common.{◌≡◌, ℕ, ◌+◌, ◌-◌, ◌*◌, ◌^◌
 use Rattle.rules.specs.Ledger.{row_width}
 use Rattle.rules.specs.Ranges.{contract_count}
 use Rattle.arith.specs.Bits.{in_window}
-use Rattle.arith.specs.Lists.{everyBlock}
+use Rattle.arith.specs.Lists.{every_block}
 use Rattle.arith.proofs.Bits.{or_window, none_below}
 use Rattle.arith.proofs.Signed.{back_mag}
-use Rattle.arith.proofs.Scans.{block-next, block-end}
+use Rattle.arith.proofs.Scans.{block_next, block_end}
 use Rattle.arith.proofs.Rows.{place_at}
 use Rattle.damage.specs.Windows.{every_column, IsHalf}
 use Rattle.damage.proofs.rows.or_of_column.Statement.{statement}
@@ -13,7 +13,7 @@ use Rattle.damage.proofs.rows.or_of_column.Tie as tie
 
 abbrev invariant-loop : tie.invariant-loop
 invariant-loop rows member half seen₀ contract₀ seen contract = (contract ≤ contract_count)
-    × ((k : ℕ) → IsHalf half k → ltb seen (2 ^ k) && everyBlock 32 (λ rows. in_window (2 ^ k) (get_or rows member (pos 0))) (contract_count - contract) (drop (contract * row_width) rows) ≡ every_column
+    × ((k : ℕ) → IsHalf half k → ltb seen (2 ^ k) && every_block 32 (λ rows. in_window (2 ^ k) (get_or rows member (pos 0))) (contract_count - contract) (drop (contract * row_width) rows) ≡ every_column
     (in_window (2 ^ k)) member rows)
 
 abbrev decreases-loop : tie.decreases-loop
@@ -35,7 +35,7 @@ loop-again c =
         or_window k l.seen c.raised.result a.half x h fits (rw (back_mag x fits) at c.raised.ensures),
         ← place_at a.rows.now (pos 0) 32 l.contract a.member (omega arith),
       )
-          (block-next 32 (λ rows. in_window (2 ^ k) (get_or rows a.member (pos 0))) contract_count a.rows.now l.contract (ltb l.seen (2 ^ k))
+          (block_next 32 (λ rows. in_window (2 ^ k) (get_or rows a.member (pos 0))) contract_count a.rows.now l.contract (ltb l.seen (2 ^ k))
           (every_column (in_window (2 ^ k)) a.member a.rows.now) (l.invariant.1 k h) loop-test.true),
     )
 
@@ -43,7 +43,7 @@ returns : tie.Need-returns invariant-loop decreases-loop
 returns c =
     let a = c.before.before.args in
     let l = c.before.loop in
-    λ k h. block-end 32 (λ rows. in_window (2 ^ k) (get_or rows a.member (pos 0))) contract_count a.rows.now l.contract (ltb l.seen (2 ^ k))
+    λ k h. block_end 32 (λ rows. in_window (2 ^ k) (get_or rows a.member (pos 0))) contract_count a.rows.now l.contract (ltb l.seen (2 ^ k))
     (every_column (in_window (2 ^ k)) a.member a.rows.now) (l.invariant.1 k h) c.loop-test.false
 
 pub or-of-column-spec : {M : Type 1} → statement M

@@ -2,10 +2,10 @@ use Rattle.std.proofs.Common.{◌≡◌, ℕ, ◌+◌, ◌-◌, ◌*◌, ◌^◌
 use Rattle.rules.specs.Ledger.{row_width}
 use Rattle.rules.specs.Ranges.{contract_count}
 use Rattle.arith.specs.Bits.{in_window}
-use Rattle.arith.specs.Lists.{everyBlock}
+use Rattle.arith.specs.Lists.{every_block}
 use Rattle.arith.proofs.Bits.{or_windows, none_below}
 use Rattle.arith.proofs.Signed.{back_mag}
-use Rattle.arith.proofs.Scans.{block-next, block-end}
+use Rattle.arith.proofs.Scans.{block_next, block_end}
 use Rattle.arith.proofs.Rows.{place_at, blocks_both}
 use Rattle.damage.specs.Windows.{every_column, IsHalf}
 use Rattle.damage.proofs.rows.or_of_pair.Statement.{statement}
@@ -17,7 +17,7 @@ bothIn w member b = in_window w (get_or b member (pos 0)) && in_window w (get_or
 
 abbrev invariant-loop : tie.invariant-loop
 invariant-loop rows member half seen₀ contract₀ seen contract = (contract ≤ contract_count)
-    × ((k : ℕ) → IsHalf half k → ltb seen (2 ^ k) && everyBlock 32 (bothIn (2 ^ k) member) (contract_count - contract) (drop (contract * row_width) rows) ≡ everyBlock 32
+    × ((k : ℕ) → IsHalf half k → ltb seen (2 ^ k) && every_block 32 (bothIn (2 ^ k) member) (contract_count - contract) (drop (contract * row_width) rows) ≡ every_block 32
     (bothIn (2 ^ k) member) contract_count rows)
 
 abbrev decreases-loop : tie.decreases-loop
@@ -51,7 +51,7 @@ loop-again c =
         ← place_at rows (pos 0) 32 l.contract a.member (omega arith),
         ← place_at rows (pos 0) 32 l.contract (a.member + 1) (omega arith),
       )
-          (block-next 32 (bothIn (2 ^ k) a.member) contract_count rows l.contract (ltb l.seen (2 ^ k)) (everyBlock 32 (bothIn (2 ^ k) a.member) contract_count rows) (l.invariant.1 k h)
+          (block_next 32 (bothIn (2 ^ k) a.member) contract_count rows l.contract (ltb l.seen (2 ^ k)) (every_block 32 (bothIn (2 ^ k) a.member) contract_count rows) (l.invariant.1 k h)
           loop-test.true),
     )
 
@@ -61,7 +61,7 @@ returns c =
     let a = c.before.before.args in
     let l = c.before.loop in
     let rows = a.rows.now in
-    λ k h. block-end 32 (bothIn (2 ^ k) a.member) contract_count rows l.contract (ltb l.seen (2 ^ k)) (everyBlock 32 (bothIn (2 ^ k) a.member) contract_count rows) (l.invariant.1 k h)
+    λ k h. block_end 32 (bothIn (2 ^ k) a.member) contract_count rows l.contract (ltb l.seen (2 ^ k)) (every_block 32 (bothIn (2 ^ k) a.member) contract_count rows) (l.invariant.1 k h)
     c.loop-test.false
     ∙ blocks_both (λ b. in_window (2 ^ k) (get_or b a.member (pos 0))) (λ b. in_window (2 ^ k) (get_or b (a.member + 1) (pos 0))) 32 contract_count rows
 

@@ -4,7 +4,7 @@ use Rattle.calendar.proofs.FirstYears.{first_year_holds}
 use Rattle.rules.specs.Ledger.{Tables, with_head, with_prices, with_rows, with_book, zero_tables, first_year, ledger_short}
 use Rattle.rules.specs.Refusals.{head_sound, prices_sound}
 use Rattle.rules.proofs.SoundTables.{Long, long_enough, SoundHead, head_gives}
-use Rattle.damage.proofs.Sound.{year_fails, ledger-short, head-fails, prices-fail, lots-fail, value-fails, book-decides}
+use Rattle.damage.proofs.Sound.{year_fails, ledger_short_lem, head_fails, prices_fail, lots_fail, value_fails, book_decides}
 use Rattle.arith.proofs.Tests.{asked_true, asked_false}
 use Rattle.damage.proofs.unsound.is_ledger_unsound.Statement.{statement}
 use Rattle.damage.proofs.unsound.is_ledger_unsound.Tie as tie
@@ -36,7 +36,7 @@ gives : (c : tie.Else3) → SoundHead (head-left c zero_tables)
 gives c = head_gives (head-left c zero_tables) (head-good c zero_tables)
 
 returns : tie.Need-returns
-returns c = λ t. ledger-short (of c.before.before.before.before.before t) (sym (c.before.is-ledger-short.ensures t) ∙ c.if1.true)
+returns c = λ t. ledger_short_lem (of c.before.before.before.before.before t) (sym (c.before.is-ledger-short.ensures t) ∙ c.if1.true)
 
 shared-slice-read-first-year : tie.Need-shared-slice-read-first-year
 shared-slice-read-first-year c = omega (arith, (long-at c.before).head)
@@ -53,7 +53,7 @@ is-head-sound-requires c κs = ((long-at c.before.before.before.before).head, ye
 returns-3 : tie.Need-returns-3
 returns-3 c =
     let start = c.before.before.before.before.before.before.before.before.before.before.before in
-    λ t. head-fails (of start t) (asked_false (c.before.is-head-sound.ensures (of start t)) c.if3.true)
+    λ t. head_fails (of start t) (asked_false (c.before.is-head-sound.ensures (of start t)) c.if3.true)
 
 shared-slice-read-members : tie.Need-shared-slice-read-members
 shared-slice-read-members c = omega (arith, (long-at c.before.before.before.before.before.before.before).head)
@@ -66,7 +66,7 @@ are-prices-sound-requires c κs = ((long-at c.before.before.before.before.before
 
 returns-4 : tie.Need-returns-4
 unfolding prices_sound
-returns-4 c = λ t. prices-fail (of c.before.before.before.before.before.before.before.before.before.before.before.before.before.before.before t) (asked_false c.before.are-prices-sound.ensures c.if4.true)
+returns-4 c = λ t. prices_fail (of c.before.before.before.before.before.before.before.before.before.before.before.before.before.before.before t) (asked_false c.before.are-prices-sound.ensures c.if4.true)
 
 are-rows-within-requires : tie.Need-are-rows-within-requires
 are-rows-within-requires c κs =
@@ -74,7 +74,7 @@ are-rows-within-requires c κs =
     ((long-at c.before.before.before.before.before.before.before.before.before.before).lots, h.members_range.to, omega arith)
 
 returns-5 : tie.Need-returns-5
-returns-5 c = λ t. lots-fail (of c.before.before.before.before.before.before.before.before.before.before.before.before.before.before.before.before.before t) (asked_false c.before.are-rows-within.ensures c.if5.true)
+returns-5 c = λ t. lots_fail (of c.before.before.before.before.before.before.before.before.before.before.before.before.before.before.before.before.before t) (asked_false c.before.are-rows-within.ensures c.if5.true)
 
 mul-are-rows-within : tie.Need-overflow-mul-are-rows-within
 mul-are-rows-within c = omega (arith, (gives c.before.before.before.before.before.before).run≤)
@@ -85,7 +85,7 @@ are-rows-within-requires-2 c κs =
     ((long-at c.before.before.before.before.before.before.before.before.before.before.before.before).value, h.members_range.to, omega arith)
 
 returns-6 : tie.Need-returns-6
-returns-6 c = λ t. value-fails (of c.before.before.before.before.before.before.before.before.before.before.before.before.before.before.before.before.before.before.before t) (asked_false c.before.are-rows-within2.ensures c.if6.true)
+returns-6 c = λ t. value_fails (of c.before.before.before.before.before.before.before.before.before.before.before.before.before.before.before.before.before.before.before t) (asked_false c.before.are-rows-within2.ensures c.if6.true)
 
 is-book-sound-requires : tie.Need-is-book-sound-requires
 is-book-sound-requires c κs =
@@ -102,7 +102,7 @@ returns-7 c =
     let prices = asked_true c.before.before.before.before.before.before.are-prices-sound.ensures c.before.before.before.before.before.if4.false in
     let lots = asked_true c.before.before.before.before.are-rows-within.ensures c.before.before.before.if5.false in
     let value = asked_true c.before.before.are-rows-within2.ensures c.before.if6.false in
-    λ t. rw (c.is-book-sound.ensures (of start t)) (book-decides (of start t) (long at-if1 t) (head-good at-if3 t) prices lots value)
+    λ t. rw (c.is-book-sound.ensures (of start t)) (book_decides (of start t) (long at-if1 t) (head-good at-if3 t) prices lots value)
 
 pub is-ledger-unsound-spec : {M : Type 1} → statement M
 is-ledger-unsound-spec =

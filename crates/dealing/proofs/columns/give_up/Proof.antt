@@ -4,9 +4,9 @@ use mathlib.Core.List.{◌++◌}
 use native.Mathlib.Omega.{arith}
 use lib.ListN.{length, take, drop, length-set}
 use borrow.Author.Rules.{rules}
-use Rattle.arith.proofs.Columns.{written_next, written-end}
+use Rattle.arith.proofs.Columns.{written_next, written_end}
 use Rattle.rules.specs.Default.{given_up}
-use Rattle.rules.proofs.Netting.{given-next, given-end}
+use Rattle.rules.proofs.Netting.{given_next, given_end}
 use Rattle.dealing.proofs.columns.give_up.Statement.{statement}
 use Rattle.dealing.proofs.columns.give_up.Tie as tie
 
@@ -25,7 +25,7 @@ sub-remaining c = omega (arith, c.smaller.ensures)
 loop-again : tie.Need-loop-preserved invariant-loop decreases-loop
 loop-again c = let a = c.before.before.before.before.before.before.args in
     let l = c.before.before.before.loop in
-    let rest = given-next l.remaining a.held.now l.i c.before.before.loop-test.true in (
+    let rest = given_next l.remaining a.held.now l.i c.before.before.loop-test.true in (
       omega arith,
       simp length-set l.invariant.1,
       rw c.smaller.ensures
@@ -34,7 +34,7 @@ loop-again c = let a = c.before.before.before.before.before.before.args in
 
 returns : tie.Need-returns invariant-loop decreases-loop
 returns c = let l = c.before.loop in
-    written-end l.given l.i _ _ (omega arith) (given-end l.remaining _ l.i c.loop-test.false) l.invariant.2
+    written_end l.given l.i _ _ (omega arith) (given_end l.remaining _ l.i c.loop-test.false) l.invariant.2
 
 pub give-up-spec : {M : Type 1} → statement M
 give-up-spec =

@@ -3,7 +3,7 @@ use mathlib.Core.Path.{◌≡◌}
 use native.Mathlib.Omega.{arith}
 use lib.ListN.{length, drop}
 use borrow.Author.Rules.{rules}
-use Rattle.arith.proofs.Columns.{total-next, total-end}
+use Rattle.arith.proofs.Columns.{total_next, total_end}
 use Rattle.arith.specs.Lists.{total}
 use Rattle.rules.specs.Default.{sum_of}
 use Rattle.dealing.specs.Levels.{most_weight}
@@ -29,11 +29,11 @@ loop-again c =
       omega arith,
       omega (arith, start.requires.each c.before.before.loop.i),
       omega
-          (arith, total-next start.args.numbers.now c.before.before.loop.i (λ n. n) 0 c.before.loop-test.true, c.before.before.loop.invariant.2),
+          (arith, total_next start.args.numbers.now c.before.before.loop.i (λ n. n) 0 c.before.loop-test.true, c.before.before.loop.invariant.2),
     )
 
 returns : tie.Need-returns invariant-loop decreases-loop
-returns c = omega (arith, total-end c.before.before.args.numbers.now c.before.loop.i (λ n. n) c.loop-test.false, c.before.loop.invariant.2)
+returns c = omega (arith, total_end c.before.before.args.numbers.now c.before.loop.i (λ n. n) c.loop-test.false, c.before.loop.invariant.2)
 
 pub sum-of-spec : {M : Type 1} → statement M
 sum-of-spec =

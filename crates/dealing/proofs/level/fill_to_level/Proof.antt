@@ -4,7 +4,7 @@ use mathlib.Core.List.{◌++◌, map}
 use native.Mathlib.Omega.{arith}
 use lib.ListN.{length, take, drop, length-set}
 use borrow.Author.Rules.{rules}
-use Rattle.arith.proofs.Columns.{map_next, map-end, written_next, written-end}
+use Rattle.arith.proofs.Columns.{map_next, map_end, written_next, written_end}
 use Rattle.dealing.specs.Levels.{at_level}
 use Rattle.dealing.proofs.level.fill_to_level.Statement.{statement}
 use Rattle.dealing.proofs.level.fill_to_level.Tie as tie
@@ -27,7 +27,7 @@ loop-again c = let a = c.before.before.before.before.before.before.args in
 
 returns : tie.Need-returns invariant-loop decreases-loop
 returns c = let l = c.before.loop in
-    written-end l.received l.i _ _ (omega arith) (map-end _ l.i (min c.before.before.before.before.args.level) c.loop-test.false) l.invariant.2
+    written_end l.received l.i _ _ (omega arith) (map_end _ l.i (min c.before.before.before.before.args.level) c.loop-test.false) l.invariant.2
 
 pub fill-to-level-spec : {M : Type 1} → statement M
 fill-to-level-spec =

@@ -3,7 +3,7 @@ use mathlib.Core.Path.{◌≡◌}
 use native.Mathlib.Omega.{arith}
 use lib.ListN.{length, drop}
 use borrow.Author.Rules.{rules}
-use Rattle.arith.proofs.Columns.{total-next, total-end}
+use Rattle.arith.proofs.Columns.{total_next, total_end}
 use Rattle.arith.specs.Lists.{total}
 use Rattle.rules.specs.Default.{sum_of}
 use Rattle.rules.proofs.Netting.{sum_map}
@@ -32,11 +32,11 @@ loop-again c =
       omega arith,
       omega (arith, c.smaller.ensures),
       omega
-          (arith, c.smaller.ensures, total-next start.args.minima.now loop.i (min start.args.level) 0 c.before.before.loop-test.true, loop.invariant.2),
+          (arith, c.smaller.ensures, total_next start.args.minima.now loop.i (min start.args.level) 0 c.before.before.loop-test.true, loop.invariant.2),
     )
 
 returns : tie.Need-returns invariant-loop decreases-loop
-returns c = omega (arith, total-end c.before.before.before.args.minima.now c.before.loop.i (min c.before.before.before.args.level) c.loop-test.false, c.before.loop.invariant.2)
+returns c = omega (arith, total_end c.before.before.before.args.minima.now c.before.loop.i (min c.before.before.before.args.level) c.loop-test.false, c.before.loop.invariant.2)
 
 pub lots-at-level-spec : {M : Type 1} → statement M
 lots-at-level-spec =

@@ -5,7 +5,7 @@ use native.Mathlib.Omega.{arith}
 use native.Mathlib.Nat.{mul-le-mul}
 use lib.ListN.{length, take, drop, length-set}
 use borrow.Author.Rules.{rules}
-use Rattle.arith.proofs.Columns.{map_next, map-end, written_next, written-end}
+use Rattle.arith.proofs.Columns.{map_next, map_end, written_next, written_end}
 use Rattle.rules.specs.Default.{minimum, minimums}
 use Rattle.rules.proofs.Netting.{sum_most}
 use Rattle.dealing.specs.Levels.{most_weight}
@@ -60,7 +60,7 @@ returns : tie.Need-returns invariant-loop decreases-loop
 returns c =
     let start = c.before.before.before.before.before in
     let l = c.before.loop in
-    written-end l.minima l.i _ _ (omega arith) (map-end _ l.i (minimum start.args.lots c.before.before.sum_of.result) c.loop-test.false) l.invariant.2
+    written_end l.minima l.i _ _ (omega arith) (map_end _ l.i (minimum start.args.lots c.before.before.sum_of.result) c.loop-test.false) l.invariant.2
 
 pub find-minimums-spec : {M : Type 1} → statement M
 find-minimums-spec =

@@ -4,10 +4,10 @@ use native.Mathlib.Omega.{arith}
 use lib.ListN.{length, length-take, length-append}
 use lib.Seq.{take_at}
 use borrow.Author.Rules.{rules}
-use Rattle.rules.proofs.MembersInOrder.{order-length, order_below}
+use Rattle.rules.proofs.MembersInOrder.{order_length, order_below}
 use Rattle.arith.proofs.Appends.{from_length}
 use Rattle.rules.proofs.Minimums.{minimums_length}
-use Rattle.dealing.proofs.Dealt.{some_members, dealt-by-round}
+use Rattle.dealing.proofs.Dealt.{some_members, dealt_by_round}
 use Rattle.dealing.proofs.turns.deal_by_minimums.Statement.{statement}
 use Rattle.dealing.proofs.turns.deal_by_minimums.Tie as tie
 
@@ -39,13 +39,13 @@ array-share-prefix-order : tie.Need-array-share-prefix-order
 array-share-prefix-order c =
     let start = c.before.before.before.before.before.before.before.before.before.before.before.before in
     let put-in-order = c.before.before.before.before.before.before.before.put-in-order in
-    simp length-append (omega (arith, ap length put-in-order.ensures ∙ order-length _ _ ∙ from_length 0 (length start.args.weights.now)))
+    simp length-append (omega (arith, ap length put-in-order.ensures ∙ order_length _ _ ∙ from_length 0 (length start.args.weights.now)))
 
 slice-aggregate-take-turns : tie.Need-slice-aggregate-take-turns
 slice-aggregate-take-turns c =
     let start = c.before.before.before.before.before.before.before.before.before.before.before.before.before in
     let put-in-order = c.before.before.before.before.before.before.before.before.put-in-order in
-    let long : length put-in-order.new.1.1.0 ≡ length start.args.weights.now = ap length put-in-order.ensures ∙ order-length _ _ ∙ from_length 0
+    let long : length put-in-order.new.1.1.0 ≡ length start.args.weights.now = ap length put-in-order.ensures ∙ order_length _ _ ∙ from_length 0
     (length start.args.weights.now) in
     sym (ap length (take_at put-in-order.new.1.1.0 _ _ long) ∙ long)
 
@@ -56,7 +56,7 @@ take-turns-requires c κs =
     let fill-to-level = c.before.before.before.before.fill-to-level in
     let a = start.args in
     let n = length a.weights.now in
-    let long : length put-in-order.new.1.1.0 ≡ n = ap length put-in-order.ensures ∙ order-length _ _ ∙ from_length 0 n in
+    let long : length put-in-order.new.1.1.0 ≡ n = ap length put-in-order.ensures ∙ order_length _ _ ∙ from_length 0 n in
     let wide : length a.minima.now ≡ n = ap length start.requires.1.1 ∙ minimums_length _ _ in
     let back = take_at put-in-order.new.1.1.0 _ n long in (
       (ap length back ∙ long ∙ sym wide, fill-to-level.auto.1.1.0 ∙ start.requires.0.2 ∙ sym wide),
@@ -73,8 +73,8 @@ returns c =
     let fill-to-level = c.before.before.before.before.before.before.before.fill-to-level in
     let a = start.args in
     let n = length a.weights.now in
-    let long : length put-in-order.new.1.1.0 ≡ n = ap length put-in-order.ensures ∙ order-length _ _ ∙ from_length 0 n in
-    dealt-by-round a.lots a.weights.now start.requires.0.1 a.minima.now _ _ highest-level.result _ _ start.requires.1.1
+    let long : length put-in-order.new.1.1.0 ≡ n = ap length put-in-order.ensures ∙ order_length _ _ ∙ from_length 0 n in
+    dealt_by_round a.lots a.weights.now start.requires.0.1 a.minima.now _ _ highest-level.result _ _ start.requires.1.1
     (take_at _ _ n long ∙ put-in-order.ensures) highest-level.ensures fill-to-level.ensures (ap (λ s. a.lots - s) lots-at-level.ensures)
     c.before.before.take-turns.ensures
 

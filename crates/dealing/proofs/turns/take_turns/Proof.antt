@@ -8,7 +8,7 @@ use borrow.Author.Tests.{ltb-true}
 use borrow.Author.Rules.{rules}
 use Rattle.arith.proofs.Tests.{and_left, and_right}
 use Rattle.rules.specs.Default.{round}
-use Rattle.rules.proofs.Turns.{round-deals, round-passes, round_end}
+use Rattle.rules.proofs.Turns.{round_deals, round_passes, round_end}
 use Rattle.dealing.proofs.turns.take_turns.Statement.{statement}
 use Rattle.dealing.proofs.turns.take_turns.Tie as tie
 
@@ -53,8 +53,8 @@ sub-undealt c = let some : 0 < c.before.before.before.before.before.loop.undealt
 loop-again : tie.Need-loop-preserved invariant-loop decreases-loop
 loop-again c = let l = c.before.before.before.before.before.loop in
     ⊎_elim
-    (λ w. rw (w.1, w.2) (omega arith, simp length-set l.invariant.1, round-deals _ _ l.received l.undealt l.i c.before.before.before.before.loop-test.true w.0.taken ∙ l.invariant.2))
-    (λ w. rw (w.1, w.2) (omega arith, l.invariant.1, round-passes _ _ l.received l.undealt l.i c.before.before.before.before.loop-test.true w.0.left ∙ l.invariant.2)) c.if1.branch
+    (λ w. rw (w.1, w.2) (omega arith, simp length-set l.invariant.1, round_deals _ _ l.received l.undealt l.i c.before.before.before.before.loop-test.true w.0.taken ∙ l.invariant.2))
+    (λ w. rw (w.1, w.2) (omega arith, l.invariant.1, round_passes _ _ l.received l.undealt l.i c.before.before.before.before.loop-test.true w.0.left ∙ l.invariant.2)) c.if1.branch
 
 returns : tie.Need-returns invariant-loop decreases-loop
 returns c = sym (round_end _ _ _ c.before.loop.i c.loop-test.false) ∙ c.before.loop.invariant.2

@@ -2,7 +2,7 @@ use mathlib.Core.Path.{ap, ◌∙◌}
 use Rattle.rules.specs.declared.event.Reading.TheVariants.{Sound}
 use Rattle.rules.specs.Ledger.{lent}
 use Rattle.rules.specs.Refusals.{event_spec, submit_spec, cancel_spec, day_limits_spec, proposal_spec, default_spec, close_out_spec, close_spec}
-use Rattle.engine.proofs.Events.{submission-fits, limits-contract, member_below, close-out-contract-below, close-out-ratio, most_run_left}
+use Rattle.engine.proofs.Events.{submission_fits, limits_contract, member_below, close_out_contract_below, close_out_ratio, most_run_left}
 use borrow.Author.Rules.{rules}
 use Rattle.engine.proofs.event.apply_event.Statement.{statement}
 use Rattle.engine.proofs.event.apply_event.Tie as tie
@@ -13,7 +13,7 @@ apply-requires c κs =
     let a = c.before.before.before.before.before.before.before.before.before.before.before.before.before.args in
     let event = c.before.before.before.before.before.before.before.event in
     let f = pre.0 in
-    let e = submission-fits a.head.now a.bytes.now _ (pre.1 ∙ ap Sound event.given.1) in
+    let e = submission_fits a.head.now a.bytes.now _ (pre.1 ∙ ap Sound event.given.1) in
     ((f.head_fit, f.prices_fit, f.book_fit, e, f.lines_long), (f.lots_fit, f.value_fit))
 
 apply-requires-3 : tie.Need-apply-requires-3
@@ -22,7 +22,7 @@ apply-requires-3 c κs =
     let a = c.before.before.before.before.before.before.before.before.before.args in
     let event3 = c.before.before.before.event3 in
     let f = pre.0 in
-    (f.head_fit, f.prices_fit.long, limits-contract a.head.now a.bytes.now _ (pre.1 ∙ ap Sound event3.given.1))
+    (f.head_fit, f.prices_fit.long, limits_contract a.head.now a.bytes.now _ (pre.1 ∙ ap Sound event3.given.1))
 
 apply-legs-requires : tie.Need-apply-legs-requires
 apply-legs-requires c κs =
@@ -52,7 +52,7 @@ apply-requires-5 c κs =
         record { long = h.long; most_members_holds = h.most_members_holds; lots_fit = f.lots_fit; value_fit = f.value_fit; lines_long = f.lines_long; most_run = run },
         f.prices_fit,
       ),
-      (close-out-contract-below a.head.now a.bytes.now _ r, close-out-ratio a.head.now a.bytes.now _ r),
+      (close_out_contract_below a.head.now a.bytes.now _ r, close_out_ratio a.head.now a.bytes.now _ r),
     )
 
 apply-requires-6 : tie.Need-apply-requires-6

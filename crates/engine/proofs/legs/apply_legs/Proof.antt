@@ -4,7 +4,7 @@ use lib.Seq.{length-take-le}
 use Rattle.rules.specs.Ledger.{members_place}
 use Rattle.rules.specs.Ledger.{lent}
 use Rattle.rules.specs.Refusals.{proposal_spec}
-use Rattle.engine.proofs.Events.{orders-room, lots-room, prices-room, legs_fit, legs-are}
+use Rattle.engine.proofs.Events.{orders_room, lots_room, prices_room, legs_fit, legs_are}
 use borrow.Author.Rules.{rules}
 use Rattle.engine.proofs.legs.apply_legs.Statement.{statement}
 use Rattle.engine.proofs.legs.apply_legs.Tie as tie
@@ -14,42 +14,42 @@ array-share-prefix-orders c =
     let pre = c.before.before.before.before.before.before.before.before.before.before.before.before.before.requires in
     let a = c.before.before.before.before.before.before.before.before.before.before.before.before.before.args in
     let read-legs = c.before.before.before.before.before.before.before.before.read-legs in
-    orders-room (get_or a.head.now members_place 0) a.count a.bytes.now read-legs.result read-legs.ensures pre.1
+    orders_room (get_or a.head.now members_place 0) a.count a.bytes.now read-legs.result read-legs.ensures pre.1
 
 slice-aggregate-apply : tie.Need-slice-aggregate-apply
 slice-aggregate-apply c =
     let pre = c.before.before.before.before.before.before.before.before.before.before.before.before.before.before.requires in
     let a = c.before.before.before.before.before.before.before.before.before.before.before.before.before.before.args in
     let read-legs = c.before.before.before.before.before.before.before.before.before.read-legs in
-    sym (length-take-le a.count read-legs.result.orders (orders-room (get_or a.head.now members_place 0) a.count a.bytes.now read-legs.result read-legs.ensures pre.1))
+    sym (length-take-le a.count read-legs.result.orders (orders_room (get_or a.head.now members_place 0) a.count a.bytes.now read-legs.result read-legs.ensures pre.1))
 
 array-share-prefix-leg-lots : tie.Need-array-share-prefix-leg-lots
 array-share-prefix-leg-lots c =
     let pre = c.before.before.before.before.before.before.before.before.before.before.before.before.before.before.requires in
     let a = c.before.before.before.before.before.before.before.before.before.before.before.before.before.before.args in
     let read-legs = c.before.before.before.before.before.before.before.before.before.read-legs in
-    lots-room (get_or a.head.now members_place 0) a.count a.bytes.now read-legs.result read-legs.ensures pre.1
+    lots_room (get_or a.head.now members_place 0) a.count a.bytes.now read-legs.result read-legs.ensures pre.1
 
 slice-aggregate-apply-2 : tie.Need-slice-aggregate-apply-2
 slice-aggregate-apply-2 c =
     let pre = c.before.before.before.before.before.before.before.before.before.before.before.before.before.before.before.requires in
     let a = c.before.before.before.before.before.before.before.before.before.before.before.before.before.before.before.args in
     let read-legs = c.before.before.before.before.before.before.before.before.before.before.read-legs in
-    sym (length-take-le a.count read-legs.result.lots (lots-room (get_or a.head.now members_place 0) a.count a.bytes.now read-legs.result read-legs.ensures pre.1))
+    sym (length-take-le a.count read-legs.result.lots (lots_room (get_or a.head.now members_place 0) a.count a.bytes.now read-legs.result read-legs.ensures pre.1))
 
 array-share-prefix-leg-prices : tie.Need-array-share-prefix-leg-prices
 array-share-prefix-leg-prices c =
     let pre = c.before.before.before.before.before.before.before.before.before.before.before.before.before.before.before.requires in
     let a = c.before.before.before.before.before.before.before.before.before.before.before.before.before.before.before.args in
     let read-legs = c.before.before.before.before.before.before.before.before.before.before.read-legs in
-    prices-room (get_or a.head.now members_place 0) a.count a.bytes.now read-legs.result read-legs.ensures pre.1
+    prices_room (get_or a.head.now members_place 0) a.count a.bytes.now read-legs.result read-legs.ensures pre.1
 
 slice-aggregate-apply-3 : tie.Need-slice-aggregate-apply-3
 slice-aggregate-apply-3 c =
     let pre = c.before.before.before.before.before.before.before.before.before.before.before.before.before.before.before.before.requires in
     let a = c.before.before.before.before.before.before.before.before.before.before.before.before.before.before.before.before.args in
     let read-legs = c.before.before.before.before.before.before.before.before.before.before.before.read-legs in
-    sym (length-take-le a.count read-legs.result.prices (prices-room (get_or a.head.now members_place 0) a.count a.bytes.now read-legs.result read-legs.ensures pre.1))
+    sym (length-take-le a.count read-legs.result.prices (prices_room (get_or a.head.now members_place 0) a.count a.bytes.now read-legs.result read-legs.ensures pre.1))
 
 apply-requires : tie.Need-apply-requires
 apply-requires c κs =
@@ -69,7 +69,7 @@ returns c =
     let read-legs = earlier.before.before.before.before.before.before.before.before.before.read-legs in
     let apply = c.before.before.before.before.before.before.before.apply in
     let t = lent a.head.now a.prices.now a.lots.now a.value.now a.book.now a.lines.now in
-    apply.ensures t ∙ ap (proposal_spec t) (legs-are (get_or a.head.now members_place 0) a.count a.bytes.now read-legs.result read-legs.ensures pre.1)
+    apply.ensures t ∙ ap (proposal_spec t) (legs_are (get_or a.head.now members_place 0) a.count a.bytes.now read-legs.result read-legs.ensures pre.1)
 
 pub apply-legs-spec : {M : Type 1} → statement M
 apply-legs-spec =

@@ -6,7 +6,7 @@ use Rattle.rules.specs.Header.{begins_with_header}
 use Rattle.rules.specs.Refusals.{make_spec}
 use Rattle.rules.specs.Ledger.{lent, with_book, with_lines, zero_tables}
 use Rattle.rules.proofs.SoundTables.{long_enough}
-use Rattle.header.proofs.Readings.{turned-back, read-well, holiday-room, limit-room, holiday-most, limit-most, as-listed}
+use Rattle.header.proofs.Readings.{turned_back, read_well, holiday-room, limit-room, holiday-most, limit-most, as-listed}
 use borrow.Author.Rules.{rules}
 use Rattle.engine.proofs.making.make.Statement.{statement}
 use Rattle.engine.proofs.making.make.Tie as tie
@@ -16,7 +16,7 @@ sound-at : (c : tie.Else2) → begins_with_header c.before.before.before.before.
 sound-at c =
     let args = c.before.before.before.before.before.before.before.before.before.before.before.before.before.before.args in
     let read-header = c.before.before.before.read-header in
-    read-well args.bytes.now read-header.result read-header.ensures c.if2.false
+    read_well args.bytes.now read-header.result read-header.ensures c.if2.false
 
 returns : tie.Need-returns
 unfolding make_spec
@@ -29,7 +29,7 @@ returns-2 c =
     let is-ledger-short = c.before.before.before.before.before.is-ledger-short in
     let if1 = c.before.before.before.before.if1 in
     let read-header = c.before.before.before.read-header in
-    λ n. rw (sym (is-ledger-short.ensures (with_lines n zero_tables)) ∙ if1.false, turned-back args.bytes.now read-header.result read-header.ensures c.if2.true)
+    λ n. rw (sym (is-ledger-short.ensures (with_lines n zero_tables)) ∙ if1.false, turned_back args.bytes.now read-header.result read-header.ensures c.if2.true)
 
 array-share-prefix-holidays : tie.Need-array-share-prefix-holidays
 array-share-prefix-holidays c =

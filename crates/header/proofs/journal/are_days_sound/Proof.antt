@@ -1,7 +1,7 @@
 use mathlib.Core.Path.{refl, sym}
 use native.Mathlib.Omega.{arith}
 use lib.Seq.{length-take-le}
-use Rattle.calendar.proofs.FirstYears.{first_year_holds, year-unsound, day_in_span}
+use Rattle.calendar.proofs.FirstYears.{first_year_holds, year_unsound, day_in_span}
 use Rattle.rules.specs.Days.{Calendar}
 use Rattle.header.specs.Journal.{firsts}
 use Rattle.header.proofs.Headers.{take_firsts}
@@ -14,7 +14,7 @@ returns : tie.Need-returns
 returns c =
     let a = c.before.before.args in
     let k : Calendar = record { first_year = a.first-year; holidays = firsts a.count a.t2 } in
-    rw (year-unsound k (asked_false c.before.is-first-year-sound.ensures c.if1.true)) refl
+    rw (year_unsound k (asked_false c.before.is-first-year-sound.ensures c.if1.true)) refl
 
 span-of-requires : tie.Need-span-of-requires
 span-of-requires c κs = first_year_holds _ (asked_true c.before.is-first-year-sound.ensures c.if1.false)

@@ -6,7 +6,7 @@ use mathlib.Core.Bool.{◌&&◌}
 use Prim.Native.Nat.{◌-◌, ◌≤◌}
 use lib.ListN.{get_or}
 use Rattle.arith.specs.Lists.{every, from}
-use Rattle.arith.proofs.Runs.{run_start, run-passed, run_end}
+use Rattle.arith.proofs.Runs.{run_start, run_passed, run_end}
 use Rattle.rules.specs.Header.{limit_sound}
 use Rattle.header.specs.Journal.{firsts}
 use Rattle.header.proofs.journal.are_limits_sound.Statement.{statement}
@@ -23,7 +23,7 @@ unfolding firsts
 loop-holds c = (omega arith, run_start limit_sound _ _)
 
 loop-again : tie.Need-loop-preserved invariant-loop decreases-loop
-loop-again c = let l = c.before.loop in (omega arith, run-passed limit_sound (λ j. get_or c.before.before.args.t1 j 0) _ l.i l.ok l.invariant.1 c.loop-test.true)
+loop-again c = let l = c.before.loop in (omega arith, run_passed limit_sound (λ j. get_or c.before.before.args.t1 j 0) _ l.i l.ok l.invariant.1 c.loop-test.true)
 
 returns : tie.Need-returns invariant-loop decreases-loop
 returns c = let l = c.before.loop in run_end limit_sound (λ j. get_or c.before.before.args.t1 j 0) _ l.i l.ok l.invariant.1 c.loop-test.false

@@ -2,8 +2,8 @@ use mathlib.Core.Path.{refl}
 use native.Mathlib.Omega.{arith}
 use borrow.Author.Rules.{rules}
 use Rattle.rules.specs.Header.{u16_bytes, header_bytes}
-use Rattle.header.proofs.Headers.{length_firsts, length-holidays}
-use Rattle.arith.proofs.Beside.{over-then}
+use Rattle.header.proofs.Headers.{length_firsts, length_holidays}
+use Rattle.arith.proofs.Beside.{over_then}
 use Rattle.header.proofs.writer.put_header.Statement.{statement}
 use Rattle.header.proofs.writer.put_header.Tie as tie
 
@@ -23,10 +23,10 @@ returns c =
     let start = at-26.before.before.before.before.before in
     let room = start.requires.2 in
     rw (length_firsts start.args.h.holiday_count)
-    (over-then _ _ _ _ _ _ (over-then _ _ _ _ _ _
-    (over-then _ _ _ _ _ _ (over-then _ _ _ _ _ _
-    (over-then _ _ _ _ _ _ (over-then _ _ _ _ _ _ put-letters.ensures put-u16.ensures refl (omega arith)) put-u162.ensures refl (omega arith)) put-u8.ensures refl
-    (omega arith)) put-u82.ensures refl (omega arith)) put-holidays.ensures refl (omega arith)) put-limits.ensures (omega (arith, length-holidays start.args.h))
+    (over_then _ _ _ _ _ _ (over_then _ _ _ _ _ _
+    (over_then _ _ _ _ _ _ (over_then _ _ _ _ _ _
+    (over_then _ _ _ _ _ _ (over_then _ _ _ _ _ _ put-letters.ensures put-u16.ensures refl (omega arith)) put-u162.ensures refl (omega arith)) put-u8.ensures refl
+    (omega arith)) put-u82.ensures refl (omega arith)) put-holidays.ensures refl (omega arith)) put-limits.ensures (omega (arith, length_holidays start.args.h))
     (omega arith))
 
 pub put-header-spec : {M : Type 1} → statement M

@@ -8,7 +8,7 @@ use Rattle.arith.specs.Lists.{from, over}
 use Rattle.rules.specs.Header.{u16_bytes}
 use Rattle.header.specs.Journal.{firsts}
 use Rattle.big_endian.proofs.Numbers.{u16_wide}
-use Rattle.arith.proofs.Widths.{blocks-none, blocks-next}
+use Rattle.arith.proofs.Widths.{blocks_none, blocks_next}
 use Rattle.header.proofs.writer.put_holidays.Statement.{statement}
 use Rattle.header.proofs.writer.put_holidays.Tie as tie
 
@@ -19,14 +19,14 @@ abbrev decreases-loop : tie.decreases-loop
 decreases-loop out₀ count list i₀ out i = count - i
 
 loop-holds : tie.Need-loop-init invariant-loop decreases-loop
-loop-holds c = (omega arith, refl, blocks-none u16_bytes 2 u16_wide (λ j. get_or c.before.args.t2 j 0) 11 _)
+loop-holds c = (omega arith, refl, blocks_none u16_bytes 2 u16_wide (λ j. get_or c.before.args.t2 j 0) 11 _)
 
 loop-again : tie.Need-loop-preserved invariant-loop decreases-loop
 loop-again c =
     let put-u16 = c.before.before.put-u16 in
     let loop = c.before.before.before.before.before.loop in
     let start = c.before.before.before.before.before.before.before in
-    (omega arith, omega arith, blocks-next u16_bytes 2 u16_wide (λ j. get_or start.args.t2 j 0) 11 loop.i _ _ _ _ refl loop.invariant.2 put-u16.ensures (omega arith))
+    (omega arith, omega arith, blocks_next u16_bytes 2 u16_wide (λ j. get_or start.args.t2 j 0) 11 loop.i _ _ _ _ refl loop.invariant.2 put-u16.ensures (omega arith))
 
 returns : tie.Need-returns invariant-loop decreases-loop
 unfolding firsts

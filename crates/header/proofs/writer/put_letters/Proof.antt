@@ -1,14 +1,14 @@
 use mathlib.Core.Path.{refl}
 use native.Mathlib.Omega.{arith}
 use borrow.Author.Rules.{rules}
-use Rattle.arith.proofs.Beside.{over-then}
+use Rattle.arith.proofs.Beside.{over_then}
 use Rattle.header.proofs.writer.put_letters.Statement.{statement}
 use Rattle.header.proofs.writer.put_letters.Tie as tie
 
 returns : tie.Need-returns
 returns c =
     let earlier = c.before.before.before.before.before.before.before.before.before.before in
-    over-then _ _ _ _ _ _ (over-then _ _ _ _ _ _ (over-then _ _ _ _ _ _ (over-then _ _ _ _ _ _
+    over_then _ _ _ _ _ _ (over_then _ _ _ _ _ _ (over_then _ _ _ _ _ _ (over_then _ _ _ _ _ _
     (rw earlier.before.before.before.before.before.before.before.before.before.before.before.before.before.wide.ensures.0
     at earlier.before.before.before.before.before.before.before.before.before.before.before.before.put-u8.ensures)
     (rw earlier.before.before.before.before.before.before.before.before.wide2.ensures.0

@@ -8,7 +8,7 @@ use Rattle.arith.specs.Lists.{from, over}
 use Rattle.rules.specs.Header.{u32_bytes}
 use Rattle.header.specs.Journal.{firsts}
 use Rattle.big_endian.proofs.Numbers.{u32_wide}
-use Rattle.arith.proofs.Widths.{blocks-none, blocks-next}
+use Rattle.arith.proofs.Widths.{blocks_none, blocks_next}
 use Rattle.header.proofs.writer.put_limits.Statement.{statement}
 use Rattle.header.proofs.writer.put_limits.Tie as tie
 
@@ -19,14 +19,14 @@ abbrev decreases-loop : tie.decreases-loop
 decreases-loop out₀ at count list i₀ out i = count - i
 
 loop-holds : tie.Need-loop-init invariant-loop decreases-loop
-loop-holds c = (omega arith, refl, blocks-none u32_bytes 4 u32_wide (λ j. get_or c.before.args.t3 j 0) c.before.args.at _)
+loop-holds c = (omega arith, refl, blocks_none u32_bytes 4 u32_wide (λ j. get_or c.before.args.t3 j 0) c.before.args.at _)
 
 loop-again : tie.Need-loop-preserved invariant-loop decreases-loop
 loop-again c =
     let put-u32 = c.before.before.put-u32 in
     let loop = c.before.before.before.before.before.loop in
     let start = c.before.before.before.before.before.before.before in
-    (omega arith, omega arith, blocks-next u32_bytes 4 u32_wide (λ j. get_or start.args.t3 j 0) start.args.at loop.i _ _ _ _ refl loop.invariant.2 put-u32.ensures (omega arith))
+    (omega arith, omega arith, blocks_next u32_bytes 4 u32_wide (λ j. get_or start.args.t3 j 0) start.args.at loop.i _ _ _ _ refl loop.invariant.2 put-u32.ensures (omega arith))
 
 returns : tie.Need-returns invariant-loop decreases-loop
 unfolding firsts

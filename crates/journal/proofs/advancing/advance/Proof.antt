@@ -1,7 +1,7 @@
 use mathlib.Core.Path.{ap}
 use native.Mathlib.Omega.{arith}
 use Rattle.journal.specs.Stages.{rank}
-use Rattle.journal.proofs.LastLine.{records_counts, read_counts, stopped_counts, waits, all_printed_lem, read-line, stopped-line}
+use Rattle.journal.proofs.LastLine.{records_counts, read_counts, stopped_counts, waits, all_printed_lem, read_line, stopped_line}
 use borrow.Author.Rules.{rules}
 use Rattle.journal.proofs.advancing.advance.Statement.{statement}
 use Rattle.journal.proofs.advancing.advance.Tie as tie
@@ -45,15 +45,15 @@ returns-4 : tie.Need-returns-4
 returns-4 c =
     let left = c.before.before.before.before.before.before.before.before.if1.false in
     let given = c.before.before.before.before.before.before.before.before.before.before.before.before.before.before.requires in
-    read-line _ _ _ _ _ _ _ _ (omega (arith, left, given.2))
+    read_line _ _ _ _ _ _ _ _ (omega (arith, left, given.2))
     c.before.before.before.before.before.before.stage2.given.1 c.before.before.end_read.ensures
 
 returns-5 : tie.Need-returns-5
 returns-5 c =
     let left = c.before.before.before.before.before.before.before.before.if1.false in
     let given = c.before.before.before.before.before.before.before.before.before.before.before.before.before.before.requires in
-    stopped-line _ _ _ _ _ _ _ _ (omega (arith, left, given.2))
-    c.before.before.before.before.before.before.stage3.given.1 c.before.before.end-stopped.ensures
+    stopped_line _ _ _ _ _ _ _ _ (omega (arith, left, given.2))
+    c.before.before.before.before.before.before.stage3.given.1 c.before.before.end_stopped.ensures
 
 returns-6 : tie.Need-returns-6
 returns-6 c =

@@ -1,5 +1,5 @@
 use native.Mathlib.Omega.{arith}
-use Rattle.journal.proofs.Starts.{start_cut, start-made, start-refused}
+use Rattle.journal.proofs.Starts.{start_cut, start_made, start_refused}
 use borrow.Author.Rules.{rules}
 use Rattle.journal.proofs.beginning.begin.Statement.{statement}
 use Rattle.journal.proofs.beginning.begin.Tie as tie
@@ -18,7 +18,7 @@ returns-2 c =
     let reply-of = c.before.before.before.before.before.before.before.reply-of in
     let if2 = c.before.before.before.before.before.if2 in
     let put-head = c.before.before.put-head in
-    start-made _ _ _ _ _ _ _ _ (make.ensures
+    start_made _ _ _ _ _ _ _ _ (make.ensures
     _) (rw
     length-of.ensures.0 at
     if1.false)
@@ -40,7 +40,7 @@ returns-3 c =
     let reply-of = c.before.before.before.before.before.before.reply-of in
     let if2 = c.before.before.before.before.if2 in
     let put-refusal = c.before.before.put-refusal in
-    start-refused _ _ _ _ _ _ _ _ (make.ensures _)
+    start_refused _ _ _ _ _ _ _ _ (make.ensures _)
     (rw
     length-of.ensures.0 at
     if1.false)

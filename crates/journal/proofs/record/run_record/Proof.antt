@@ -1,5 +1,5 @@
 use native.Mathlib.Omega.{arith}
-use Rattle.journal.proofs.OneRecord.{few_lines, printed-lines, printed-refusal}
+use Rattle.journal.proofs.OneRecord.{few_lines, printed_lines, printed_refusal}
 use borrow.Author.Rules.{rules}
 use Rattle.journal.proofs.record.run_record.Statement.{statement}
 use Rattle.journal.proofs.record.run_record.Tie as tie
@@ -32,7 +32,7 @@ returns c =
     c.before.before.before.before.before.before.before.before.before.before.before.before.before.before.before.before.before.apply.ensures
     c.before.before.before.before.before.before.before.reply-of.ensures.0
     c.before.before.before.before.before.before.before.reply-of.ensures.1 c.before.before.before.before.before.if1.true in
-    printed-lines _ _ _ _ _ _ _ _ _ _
+    printed_lines _ _ _ _ _ _ _ _ _ _
     c.before.before.before.before.before.before.before.before.before.before.before.before.before.before.before.before.before.apply.ensures
     c.before.before.before.before.before.before.before.reply-of.ensures.0
     c.before.before.before.before.before.before.before.reply-of.ensures.1 c.before.before.before.before.before.if1.true few
@@ -40,7 +40,7 @@ returns c =
 
 returns-2 : tie.Need-returns-2
 returns-2 c =
-    printed-refusal _ _ _ _ _ _ _ _ _ _
+    printed_refusal _ _ _ _ _ _ _ _ _ _
     c.before.before.before.before.before.before.before.before.before.before.before.before.before.before.before.before.before.apply.ensures
     c.before.before.before.before.before.before.before.reply-of.ensures.0
     c.before.before.before.before.before.before.before.reply-of.ensures.1 _ c.before.before.before.before.before.if1.false (search rules)

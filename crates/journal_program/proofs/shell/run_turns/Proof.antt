@@ -7,7 +7,7 @@ use Rattle.rules.specs.Ledger.{lent}
 use Rattle.streams.specs.Windows.{held}
 use Rattle.journal_program.specs.Runs.{too_many, Reached}
 use Rattle.journal_program.proofs.Turning.{going_stands}
-use Rattle.journal_program.proofs.Running.{reached_first, turned_on, turned-end}
+use Rattle.journal_program.proofs.Running.{reached_first, turned_on, turned_end}
 use borrow.Author.Rules.{rules}
 use Rattle.journal_program.proofs.shell.run_turns.Statement.{statement}
 use Rattle.journal_program.proofs.shell.run_turns.Tie as tie
@@ -124,7 +124,7 @@ loop-again c =
 returns : tie.Need-returns invariant-loop decreases-loop
 returns c =
     let t = c.before.before.before.before.before.before.before.before.before.before.before.before.before.before.before.before in
-    turned-end t.turn.ensures.1 (before-turn t).before.loop.invariant.11 (printed-fits t) c.before.ending.given.1
+    turned_end t.turn.ensures.1 (before-turn t).before.loop.invariant.11 (printed-fits t) c.before.ending.given.1
 
 returns-2 : tie.Need-returns-2 invariant-loop decreases-loop
 returns-2 c =

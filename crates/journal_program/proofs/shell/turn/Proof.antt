@@ -1,6 +1,6 @@
 use mathlib.Core.Path.{◌∙◌}
 use native.Mathlib.Omega.{arith}
-use Rattle.journal_program.proofs.Turning.{turn-counts, turn-bytes, turn-printed, turn-stands}
+use Rattle.journal_program.proofs.Turning.{turn_counts, turn_bytes, turn_printed, turn_stands}
 use Rattle.journal_program.proofs.Ending.{wants_bytes}
 use borrow.Author.Rules.{rules}
 use Rattle.journal_program.proofs.shell.turn.Statement.{statement}
@@ -12,7 +12,7 @@ advance-requires c κs =
     let place = start.args.place in
     let bytes = start.args.input.now in
     let pre = start.requires in
-    (turn-counts place bytes pre.0 pre.1, turn-bytes place bytes pre.0 pre.1, turn-printed place bytes pre.0 pre.1 pre.3, pre.4, pre.5)
+    (turn_counts place bytes pre.0 pre.1, turn_bytes place bytes pre.0 pre.1, turn_printed place bytes pre.0 pre.1 pre.3, pre.4, pre.5)
 
 follow-requires : tie.Need-follow-requires
 follow-requires c κs =
@@ -20,7 +20,7 @@ follow-requires c κs =
     let start = ran.before.before.before.before.before.before.before.before.before.before.before.before.before.before.before.before in
     let pre = start.requires in
     let a = ran.advance.ensures in
-    (turn-stands start.args.place start.args.input.now pre.0 pre.1 _ _ _ pre.3 a.inside a.within a.counts, pre.2, ran.advance.auto.1.1.1.0 ∙ pre.3, λ e. (wants_bytes a e).0)
+    (turn_stands start.args.place start.args.input.now pre.0 pre.1 _ _ _ pre.3 a.inside a.within a.counts, pre.2, ran.advance.auto.1.1.1.0 ∙ pre.3, λ e. (wants_bytes a e).0)
 
 add-t37 : tie.Need-overflow-add-t37
 add-t37 c = omega (arith, c.before.before.before.before.before.before.before.before.before.before.before.before.before.before.before.before.before.before.before.before.before.before.before.before.before.before.before.before.before.requires.1)

@@ -6,7 +6,7 @@ use lib.ListN.{length}
 use Rattle.listing_program.specs.Places.{input_length, output_length, most_turns, Stands}
 use Rattle.streams.specs.Windows.{held}
 use Rattle.listing_program.specs.Runs.{not_read}
-use Rattle.listing_program.proofs.Endings.{turn-ended}
+use Rattle.listing_program.proofs.Endings.{turn_ended}
 use Rattle.listing_program.proofs.shell.list_records.Statement.{statement}
 use Rattle.listing_program.proofs.shell.list_records.Tie as tie
 
@@ -33,7 +33,7 @@ returns c =
     let t = c.before.before.before.before.before.before.before in
     let l = t.before.before.before.before.loop in
     let w = l.place.window in
-    (w.is_last, held w l.input, turn-ended t.before.before.before.before.before.before.before.args.ledger l.place l.input _ _ _ t.turn.result t.turn.ensures.1 c.before.ending.given.1)
+    (w.is_last, held w l.input, turn_ended t.before.before.before.before.before.before.before.args.ledger l.place l.input _ _ _ t.turn.result t.turn.ensures.1 c.before.ending.given.1)
 
 returns-2 : tie.Need-returns-2 invariant-loop decreases-loop
 returns-2 c = let l = c.before.before.before.loop in (l.place.window.is_last, held l.place.window l.input, not_read)

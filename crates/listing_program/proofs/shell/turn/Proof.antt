@@ -1,7 +1,7 @@
 use native.Mathlib.Omega.{arith}
 use lib.ListN.{length-take}
 use mathlib.Core.Path.{sym, ◌∙◌}
-use Rattle.listing_program.proofs.Endings.{after_write, after_read, after_last, after-record}
+use Rattle.listing_program.proofs.Endings.{after_write, after_read, after_last, after_record_lem}
 use borrow.Author.Rules.{rules}
 use Rattle.listing_program.proofs.shell.turn.Statement.{statement}
 use Rattle.listing_program.proofs.shell.turn.Tie as tie
@@ -33,7 +33,7 @@ returns-2 c =
     let piece = c.before.before.before.before.before.before.before.before.next-piece.ensures in
     let is = c.before.before.before.before.before.before.size.given.1 in
     let r = c.before.before.list-record in
-    (r.ensures.0, after-record a.ledger a.place a.input.now _ a.output.now _ r.result (rw is at piece.1).1 (sym piece.0 ∙ is) r.ensures.1)
+    (r.ensures.0, after_record_lem a.ledger a.place a.input.now _ a.output.now _ r.result (rw is at piece.1).1 (sym piece.0 ∙ is) r.ensures.1)
 
 returns-3 : tie.Need-returns-3
 returns-3 c =

@@ -2,7 +2,7 @@ use mathlib.Core.Path.{refl}
 use native.Mathlib.Omega.{arith}
 use lib.ListN.{length-set}
 use borrow.Author.Tests.{eq-eqb, ne_eqb}
-use Rattle.matching.proofs.Lows.{lows-renewed}
+use Rattle.matching.proofs.Lows.{lows_renewed}
 use borrow.Author.Rules.{rules}
 use Rattle.matching.proofs.columns.use_lots.Statement.{statement}
 use Rattle.matching.proofs.columns.use_lots.Tie as tie
@@ -13,7 +13,7 @@ lowest-of-block-requires c κs = simp length-set (omega arith)
 returns : tie.Need-returns
 returns c =
     let start = c.before.before.before.before.before.before.before.before in
-    (refl, (rw (eq-eqb _ 0 c.before.before.if1.true) refl, lows-renewed _ _ start.requires.4 _ _ _ (omega arith) c.lowest-of-block.ensures))
+    (refl, (rw (eq-eqb _ 0 c.before.before.if1.true) refl, lows_renewed _ _ start.requires.4 _ _ _ (omega arith) c.lowest-of-block.ensures))
 
 returns-2 : tie.Need-returns-2
 returns-2 c =

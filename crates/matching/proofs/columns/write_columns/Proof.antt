@@ -4,9 +4,9 @@ use Prim.Native.Nat.{◌-◌, ◌≤◌, ◌<◌}
 use lib.ListN.{length, length-set, length-map, take, drop, get_or}
 use native.Mathlib.Omega.{arith}
 use borrow.Author.Rules.{rules}
-use Rattle.arith.proofs.Writes.{front-next, front-end}
+use Rattle.arith.proofs.Writes.{front_next, front_end}
 use Rattle.matching.specs.Ranks.{lots_of, first_rank, rank_in, placed_rank}
-use Rattle.matching.proofs.Best.{ranks-length}
+use Rattle.matching.proofs.Best.{ranks_length}
 use Rattle.tables.specs.Fit.{orders_in}
 use Rattle.order_book.proofs.Left.{orders_length}
 use Rattle.matching.proofs.Passes.{lots-here, rank-here}
@@ -27,7 +27,7 @@ loop-holds c = (refl, omega arith, refl, placed_start _ _ c.before.before.before
 rank-at-requires : tie.Need-rank-at-requires invariant-loop decreases-loop
 rank-at-requires c κs =
     let start = c.before.before.before.before.before.before in
-    let f = start.requires.1 c.before.before.loop.i (omega arith) in rw c.order-at.ensures (f.0, f.1, omega arith)
+    let f = start.requires.1 c.before.before.loop.i (omega arith) in rw c.order_at_lem.ensures (f.0, f.1, omega arith)
 
 slice-write-ranks : tie.Need-slice-write-ranks invariant-loop decreases-loop
 slice-write-ranks c = omega (arith, c.before.before.before.loop.invariant.3.long)
@@ -41,14 +41,14 @@ loop-again c =
     let n = length a.left.now in
     let os = orders_in n a.book.now in
     let h : l.i < n = omega arith in
-    let here = c.before.order-at.ensures in
-    let lots : c.before.order-at.result.lots.0 ≡ get_or (map lots_of os) l.i 0 = ap (λ r. r.lots.0) here ∙ sym (lots-here a.book.now a.o n l.i h) in
+    let here = c.before.order_at_lem.ensures in
+    let lots : c.before.order_at_lem.result.lots.0 ≡ get_or (map lots_of os) l.i 0 = ap (λ r. r.lots.0) here ∙ sym (lots-here a.book.now a.o n l.i h) in
     let rank : c.rank-at.result ≡ placed_rank l.i (get_or (first_rank a.o os) l.i 0)
     = c.rank-at.ensures ∙ ap (λ r. placed_rank l.i (rank_in a.o r.lots.0 r)) here ∙ ap (placed_rank l.i) (sym (rank-here a.book.now a.o n l.i h)) in (
       length-set l.left l.i _ ∙ l.invariant.0,
       omega arith,
-      rw (lots, l.invariant.2) (front-next l.i (map lots_of os) a.left.now 0 (omega (arith, length-map os lots_of, orders_length a.book.now n)) h),
-      placed_next _ _ _ _ (omega (arith, ranks-length a.o (map lots_of os) os (length-map os lots_of), orders_length a.book.now n)) (omega arith) l.invariant.3 rank,
+      rw (lots, l.invariant.2) (front_next l.i (map lots_of os) a.left.now 0 (omega (arith, length-map os lots_of, orders_length a.book.now n)) h),
+      placed_next _ _ _ _ (omega (arith, ranks_length a.o (map lots_of os) os (length-map os lots_of), orders_length a.book.now n)) (omega arith) l.invariant.3 rank,
     )
 
 same-length-2 : tie.Need-same-length-2 invariant-loop decreases-loop
@@ -64,8 +64,8 @@ returns c =
     let n = length a.left.now in
     let os = orders_in n a.book.now in
     let h : n ≤ l.i = omega arith in (
-      l.invariant.2 ∙ front-end l.i (map lots_of os) a.left.now (omega (arith, length-map os lots_of, orders_length a.book.now n)) h,
-      placed_all _ _ _ (omega (arith, ranks-length a.o (map lots_of os) os (length-map os lots_of), orders_length a.book.now n)) l.invariant.3,
+      l.invariant.2 ∙ front_end l.i (map lots_of os) a.left.now (omega (arith, length-map os lots_of, orders_length a.book.now n)) h,
+      placed_all _ _ _ (omega (arith, ranks_length a.o (map lots_of os) os (length-map os lots_of), orders_length a.book.now n)) l.invariant.3,
     )
 
 pub write-columns-spec : {M : Type 1} → statement M

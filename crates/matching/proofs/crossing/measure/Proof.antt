@@ -20,7 +20,7 @@ add-own c =
     let at-loop-test = c.before.before.before in
     let at-loop = at-loop-test.before in
     let start = at-loop.before.before in
-    let m = measuring_next _ _ _ _ _ at-loop.loop.invariant.1 _ c.before.before.order-at.ensures (start.requires.1 _ at-loop-test.loop-test.true) _ _ c.before.found_in.ensures in
+    let m = measuring_next _ _ _ _ _ at-loop.loop.invariant.1 _ c.before.before.order_at_lem.ensures (start.requires.1 _ at-loop-test.loop-test.true) _ _ c.before.found_in.ensures in
     omega (arith, m.own_few)
 
 add-lots : tie.Need-overflow-add-lots invariant-loop decreases-loop
@@ -29,7 +29,7 @@ add-lots c =
     let at-loop-test = at-order-at.before in
     let at-loop = at-loop-test.before in
     let start = at-loop.before.before in
-    let m = measuring_next _ _ _ _ _ at-loop.loop.invariant.1 _ at-order-at.order-at.ensures (start.requires.1 _ at-loop-test.loop-test.true) _ _ c.before.before.found_in.ensures in
+    let m = measuring_next _ _ _ _ _ at-loop.loop.invariant.1 _ at-order-at.order_at_lem.ensures (start.requires.1 _ at-loop-test.loop-test.true) _ _ c.before.before.found_in.ensures in
     omega (arith, m.crossing_few)
 
 loop-again : tie.Need-loop-preserved invariant-loop decreases-loop
@@ -38,7 +38,7 @@ loop-again c =
     let at-loop-test = at-order-at.before in
     let at-loop = at-loop-test.before in
     let start = at-loop.before.before in
-    (omega arith, measuring_next _ _ _ _ _ at-loop.loop.invariant.1 _ at-order-at.order-at.ensures (start.requires.1 _ at-loop-test.loop-test.true) _ _ c.before.before.found_in.ensures)
+    (omega arith, measuring_next _ _ _ _ _ at-loop.loop.invariant.1 _ at-order-at.order_at_lem.ensures (start.requires.1 _ at-loop-test.loop-test.true) _ _ c.before.before.found_in.ensures)
 
 returns : tie.Need-returns invariant-loop decreases-loop
 returns c =

@@ -21,8 +21,8 @@ returns c =
         ranks_after = rw (← at-smaller.smaller.ensures) at-use-lots.use-lots.ensures.1.0;
         deals_after =
             c.before.before.before.before.put-deal.ensures
-            ∙ ap (λ q. over (a.k * 3) (deal_places (counterparty at-order-at.order-at.result q)) a.deals.now) at-smaller.smaller.ensures
-            ∙ ap (λ r. over (a.k * 3) (deal_places (counterparty r lots)) a.deals.now) at-order-at.order-at.ensures;
+            ∙ ap (λ q. over (a.k * 3) (deal_places (counterparty at-order-at.order_at_lem.result q)) a.deals.now) at-smaller.smaller.ensures
+            ∙ ap (λ r. over (a.k * 3) (deal_places (counterparty r lots)) a.deals.now) at-order-at.order_at_lem.ensures;
       },
       at-use-lots.use-lots.ensures.1.1,
     )

@@ -10,7 +10,7 @@ returns : tie.Need-returns
 returns c = λ f. never (sym f)
 
 returns-2 : tie.Need-returns-2
-returns-2 c = λ t. (omega (arith, c.before.before.before.if1.false), ap (λ r. r.price.0) (sym c.before.before.order-at.ensures) ∙ eqb-true _ _ t)
+returns-2 c = λ t. (omega (arith, c.before.before.before.if1.false), ap (λ r. r.price.0) (sym c.before.before.order_at_lem.ensures) ∙ eqb-true _ _ t)
 
 pub is-at-spec : {M : Type 1} → statement M
 is-at-spec =

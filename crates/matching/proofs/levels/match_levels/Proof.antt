@@ -4,8 +4,8 @@ use native.Mathlib.Omega.{arith}
 use mathlib.Core.Path.{sym, ◌∙◌}
 use borrow.Author.Tests.{not-true, not-false}
 use Rattle.matching.specs.Ranks.{BestPlace}
-use Rattle.matching.proofs.Going.{Going, going_start, going-from, Next, none_left, best-apart, next-first, next_level, most-best, going-made, still-less, match-made}
-use Rattle.matching.proofs.Going.{left-long, ranks-long, deals-long}
+use Rattle.matching.proofs.Going.{Going, going_start, going_from, Next, none_left, best_apart, next_first, next_level, most_best, going-made, still-less, match-made}
+use Rattle.matching.proofs.Going.{left_long, ranks-long, deals-long}
 use Rattle.matching.proofs.levels.match_levels.Statement.{statement}
 use Rattle.matching.proofs.levels.match_levels.Tie as tie
 
@@ -40,8 +40,8 @@ orders-holds c =
     let at-levels = at-levels-test.before in
     let g = at-levels.levels.invariant.0 in
     let crosses = sym c.before.before.does-meet.ensures ∙ not-false _ c.before.if1.false in (
-      going-from _ _ _ _ _ _ _ _ _ _ g _ at-levels.levels.k (omega arith) (sym g.deals_length) (sym g.past),
-      next-first _ _ _ _ _ _ _ _ _ _ g _ at-levels.levels.invariant.1 at-levels-test.levels-test.true _ c.before.before.before.order-at.ensures crosses,
+      going_from _ _ _ _ _ _ _ _ _ _ g _ at-levels.levels.k (omega arith) (sym g.deals_length) (sym g.past),
+      next_first _ _ _ _ _ _ _ _ _ _ g _ at-levels.levels.invariant.1 at-levels-test.levels-test.true _ c.before.before.before.order_at_lem.ensures crosses,
       omega arith,
       omega arith,
     )
@@ -70,7 +70,7 @@ is-at-requires c κs =
     let i = at-orders.orders.invariant in
     let d = at-deal.deal.ensures in
     let made = going-made _ _ _ _ _ _ _ _ _ _ i.0 _ _ i.1 _ _ _ _ _ d.0 d.1 c.before.before.if2.false in
-    (most-best _ _ _ _ _ _ _ _ _ _ made _ c.best-place2.ensures, made.most_orders_holds, made.long)
+    (most_best _ _ _ _ _ _ _ _ _ _ made _ c.best-place2.ensures, made.most_orders_holds, made.long)
 
 levels-less : tie.Need-levels-smaller invariant-orders decreases-orders invariant-levels decreases-levels
 levels-less c =
@@ -89,7 +89,7 @@ levels-again c =
     let i = at-orders.orders.invariant in
     let d = at-deal.deal.ensures in
     let whole = at-levels.levels.invariant.0 in
-    let g = going-from _ _ _ _ _ _ _ _ _ _ i.0 _ at-levels.levels.k i.3 whole.deals_length whole.past in
+    let g = going_from _ _ _ _ _ _ _ _ _ _ i.0 _ at-levels.levels.k i.3 whole.deals_length whole.past in
     (going-made _ _ _ _ _ _ _ _ _ _ g _ _ i.1 _ _ _ _ _ d.0 d.1 at-if2.if2.false, c.before.before.best-place2.ensures)
 
 orders-less : tie.Need-orders-smaller invariant-orders decreases-orders invariant-levels decreases-levels
@@ -156,14 +156,14 @@ returns-2 c =
     let at-levels-test = c.before.before.before in
     let at-levels = at-levels-test.before in
     let apart = sym c.before.does-meet.ensures ∙ not-true _ c.if1.true in
-    best-apart _ _ _ _ _ _ _ _ _ _ at-levels.levels.invariant.0 _ at-levels.levels.invariant.1 at-levels-test.levels-test.true _ c.before.before.order-at.ensures apart
+    best_apart _ _ _ _ _ _ _ _ _ _ at-levels.levels.invariant.0 _ at-levels.levels.invariant.1 at-levels-test.levels-test.true _ c.before.before.order_at_lem.ensures apart
 
 same-length-9 : tie.Need-same-length-9 invariant-orders decreases-orders invariant-levels decreases-levels
 same-length-9 c =
     let at-deal = c.before.before.before.before.before.before.before.before.before in
     let at-orders = at-deal.before.before.before.before.before in
     let i = at-orders.orders.invariant in
-    let d = at-deal.deal.ensures in left-long _ _ _ _ _ _ _ _ _ _ i.0 _ _ i.1 _ _ _ _ _ d.0 d.1
+    let d = at-deal.deal.ensures in left_long _ _ _ _ _ _ _ _ _ _ i.0 _ _ i.1 _ _ _ _ _ d.0 d.1
 
 same-length-10 : tie.Need-same-length-10 invariant-orders decreases-orders invariant-levels decreases-levels
 same-length-10 c =
@@ -195,7 +195,7 @@ returns-3 c =
     let i = at-orders.orders.invariant in
     let d = at-deal.deal.ensures in
     let whole = at-levels.levels.invariant.0 in
-    let g = going-from _ _ _ _ _ _ _ _ _ _ i.0 _ at-levels.levels.k i.3 whole.deals_length whole.past in
+    let g = going_from _ _ _ _ _ _ _ _ _ _ i.0 _ at-levels.levels.k i.3 whole.deals_length whole.past in
     match-made _ _ _ _ _ _ _ _ _ _ g _ _ i.1 _ _ _ _ _ d.0 d.1 c.if2.true
 
 pub match-levels-spec : {M : Type 1} → statement M

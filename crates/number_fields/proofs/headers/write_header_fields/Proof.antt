@@ -1,10 +1,10 @@
-use Rattle.number_fields.proofs.HeaderOutcomes.{write-header-row-short, write-many-members, write-many-holidays, write-header-row}
+use Rattle.number_fields.proofs.HeaderOutcomes.{write_header_row_short, write-many-members, write-many-holidays, write-header-row}
 use borrow.Author.Rules.{rules}
 use Rattle.number_fields.proofs.headers.write_header_fields.Statement.{statement}
 use Rattle.number_fields.proofs.headers.write_header_fields.Tie as tie
 
 returns : tie.Need-returns
-returns c = let a = c.before.before.before.args in write-header-row-short a.row.now a.out.now c.if1.true
+returns c = let a = c.before.before.before.args in write_header_row_short a.row.now a.out.now c.if1.true
 
 returns-2 : tie.Need-returns-2
 returns-2 c = let a = c.before.before.before.before.before.args in write-many-members a.row.now a.out.now c.before.before.if1.false c.if2.true

@@ -4,7 +4,7 @@ use mathlib.Core.List.{flat_map, map}
 use mathlib.Core.Path.{◌≡◌, refl}
 use Prim.Native.Nat.{◌-◌, ◌≤◌}
 use lib.ListN.{length}
-use Rattle.arith.proofs.Widths.{blocks-none, blocks-next}
+use Rattle.arith.proofs.Widths.{blocks_none, blocks_next}
 use Rattle.arith.specs.Lists.{from, over}
 use Rattle.codec.specs.Columns.{leg_row, leg_rows}
 use Rattle.rules.specs.Records.{leg_numbers}
@@ -18,7 +18,7 @@ abbrev decreases-loop : tie.decreases-loop
 decreases-loop row₀ count legs i₀ row i = count - i
 
 loop-holds : tie.Need-loop-init invariant-loop decreases-loop
-loop-holds c = (omega arith, refl, blocks-none leg_numbers 3 (λ g. refl) (leg_row c.before.args.legs) 2 _)
+loop-holds c = (omega arith, refl, blocks_none leg_numbers 3 (λ g. refl) (leg_row c.before.args.legs) 2 _)
 
 loop-again : tie.Need-loop-preserved invariant-loop decreases-loop
 loop-again c =
@@ -27,7 +27,7 @@ loop-again c =
     let leg-of = c.before.before.before.leg-of in
     let put-leg = c.before.before.put-leg in
     let l = loop in
-    (omega arith, omega arith, blocks-next leg_numbers 3 (λ g. refl) (leg_row start.args.legs) 2 l.i _ _ _ _ leg-of.ensures l.invariant.2 put-leg.ensures (omega arith))
+    (omega arith, omega arith, blocks_next leg_numbers 3 (λ g. refl) (leg_row start.args.legs) 2 l.i _ _ _ _ leg-of.ensures l.invariant.2 put-leg.ensures (omega arith))
 
 returns : tie.Need-returns invariant-loop decreases-loop
 unfolding leg_rows

@@ -1,10 +1,10 @@
-use Rattle.number_fields.proofs.RecordOutcomes.{write-short, write-none, few-in, write-event}
+use Rattle.number_fields.proofs.RecordOutcomes.{write_short, write-none, few-in, write-event}
 use borrow.Author.Rules.{rules}
 use Rattle.number_fields.proofs.records.write_record_fields.Statement.{statement}
 use Rattle.number_fields.proofs.records.write_record_fields.Tie as tie
 
 returns : tie.Need-returns
-returns c = let a = c.before.before.before.args in write-short a.members a.row.now a.out.now c.if1.true
+returns c = let a = c.before.before.before.args in write_short a.members a.row.now a.out.now c.if1.true
 
 legs-in-requires : tie.Need-legs-in-requires
 legs-in-requires c κs =

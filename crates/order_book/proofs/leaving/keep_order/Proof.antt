@@ -19,7 +19,7 @@ returns-3 c =
     let at-with-lots = c.before.before.before in
     let at-order-at = at-with-lots.before.before in
     let at-if1 = at-order-at.before.before.before in
-    rw (ne_eqb _ _ at-if1.if1.false) (refl, rw (at-with-lots.with-lots.ensures, at-order-at.order-at.ensures) at c.before.before.put_order.ensures)
+    rw (ne_eqb _ _ at-if1.if1.false) (refl, rw (at-with-lots.with-lots.ensures, at-order-at.order_at_lem.ensures) at c.before.before.put_order.ensures)
 
 pub keep-order-spec : {M : Type 1} → statement M
 keep-order-spec =

@@ -1,8 +1,8 @@
-use Rattle.order_book.proofs.Left.{column-long, column-many}
+use Rattle.order_book.proofs.Left.{column_long, column_many}
 use lib.ListN.{replicate}
 use native.Mathlib.Omega.{arith}
 use Prim.Native.Nat.{◌≤◌}
-use Rattle.order_book.proofs.Left.{column-kept}
+use Rattle.order_book.proofs.Left.{column_kept}
 use Rattle.rules.specs.Ledger.{order_count_place}
 use Rattle.rules.specs.Ledger.{with_head, with_book, with_orders}
 use mathlib.Core.Path.{sym, ap, ◌∙◌}
@@ -29,7 +29,7 @@ array-share-prefix-left c =
     let at-write-left = c.before.before.before in
     let start = at-write-left.before.before.before.before.before.before in
     let a = start.args in
-    column-long (leaves a.w) (get_or a.head.now order_count_place 0) at-write-left.write-left.new.1.0 (replicate 256 0) a.book.now start.requires.1.most_orders_holds
+    column_long (leaves a.w) (get_or a.head.now order_count_place 0) at-write-left.write-left.new.1.0 (replicate 256 0) a.book.now start.requires.1.most_orders_holds
     at-write-left.write-left.ensures
 
 slice-aggregate-keep-orders : tie.Need-slice-aggregate-keep-orders
@@ -37,7 +37,7 @@ slice-aggregate-keep-orders c =
     let at-write-left = c.before.before.before.before in
     let start = at-write-left.before.before.before.before.before.before in
     let a = start.args in
-    column-many (leaves a.w) (get_or a.head.now order_count_place 0) at-write-left.write-left.new.1.0 (replicate 256 0) a.book.now start.requires.1.most_orders_holds
+    column_many (leaves a.w) (get_or a.head.now order_count_place 0) at-write-left.write-left.new.1.0 (replicate 256 0) a.book.now start.requires.1.most_orders_holds
     at-write-left.write-left.ensures
 
 keep-orders-requires : tie.Need-keep-orders-requires
@@ -47,7 +47,7 @@ keep-orders-requires c κs =
     let n = get_or a.head.now order_count_place 0 in
     let fit = start.requires.1 in
     let left = c.before.before.before.before.write-left in
-    let many = column-many (leaves a.w) n left.new.1.0 (replicate 256 0) a.book.now fit.most_orders_holds left.ensures in
+    let many = column_many (leaves a.w) n left.new.1.0 (replicate 256 0) a.book.now fit.most_orders_holds left.ensures in
     ((start.requires.0, fit.long, fit.most_orders_holds, rw (← many) (omega arith)), fit.most_side)
 
 returns : tie.Need-returns
@@ -58,7 +58,7 @@ returns c =
     let a = start.args in
     λ t. at-keep-orders.keep-orders.ensures t
     ∙ ap (λ os. with_orders os (with_head a.head.now (with_book a.book.now t)))
-    (column-kept (leaves a.w) (get_or a.head.now order_count_place 0) _ (replicate 256 0) a.book.now start.requires.1.most_orders_holds at-write-left.write-left.ensures
+    (column_kept (leaves a.w) (get_or a.head.now order_count_place 0) _ (replicate 256 0) a.book.now start.requires.1.most_orders_holds at-write-left.write-left.ensures
     (all_orders (λ o. 1 ≤ o.lots.0) a.book.now (get_or a.head.now order_count_place 0) (λ i h. start.requires.1.least_lots i h)))
 
 pub remove-orders-spec : {M : Type 1} → statement M

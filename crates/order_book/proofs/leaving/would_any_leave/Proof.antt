@@ -27,7 +27,7 @@ loop-again c =
     let s = c.before.before.before.loop in
     let loop-test = c.before.before.loop-test in (
       omega arith,
-      rw (c.does-leave.ensures ∙ ap (leaves a.w) c.before.order-at.ensures)
+      rw (c.does-leave.ensures ∙ ap (leaves a.w) c.before.order_at_lem.ensures)
           (some_next (order_at a.book.now) (leaves a.w) a.count s.i s.found (any (leaves a.w) (map (order_at a.book.now) (from 0 a.count))) s.invariant.1
           loop-test.true),
     )

@@ -9,8 +9,8 @@ use Prim.Native.Nat.{◌-◌, ◌≤◌}
 use lib.ListN.{length, take, drop, get_or}
 use Rattle.tables.specs.Fit.{orders_in}
 use Rattle.order_book.specs.Left.{staying}
-use Rattle.order_book.proofs.Left.{staying-length, staying-at}
-use Rattle.arith.proofs.Writes.{front-next, front-end}
+use Rattle.order_book.proofs.Left.{staying_length, staying_at}
+use Rattle.arith.proofs.Writes.{front_next, front_end}
 use Rattle.order_book.proofs.leaving.write_left.Statement.{statement}
 use Rattle.order_book.proofs.leaving.write_left.Tie as tie
 
@@ -30,11 +30,11 @@ loop-again c =
     let n = length a.left.now in
     let all = staying (leaves a.w) (orders_in n a.book.now) in
     let here : c.left-of.result.0 ≡ get_or all l.i 0
-    = c.left-of.ensures ∙ ap (λ o. cond (leaves a.w o) 0 o.lots.0) c.before.order-at.ensures ∙ sym (staying-at (leaves a.w) n a.book.now l.i (omega arith)) in (
+    = c.left-of.ensures ∙ ap (λ o. cond (leaves a.w o) 0 o.lots.0) c.before.order_at_lem.ensures ∙ sym (staying_at (leaves a.w) n a.book.now l.i (omega arith)) in (
       length-set l.left l.i c.left-of.result.0 ∙ l.invariant.0,
       omega arith,
       rw (here, l.invariant.2)
-          (front-next l.i all a.left.now 0 (omega (arith, staying-length (leaves a.w) n a.book.now)) (omega arith)),
+          (front_next l.i all a.left.now 0 (omega (arith, staying_length (leaves a.w) n a.book.now)) (omega arith)),
     )
 
 returns : tie.Need-returns invariant-loop decreases-loop
@@ -42,7 +42,7 @@ returns c =
     let a = c.before.before.before.before.args in
     let l = c.before.loop in
     let n = length a.left.now in
-    l.invariant.2 ∙ front-end l.i (staying (leaves a.w) (orders_in n a.book.now)) a.left.now (omega (arith, staying-length (leaves a.w) n a.book.now)) (omega arith)
+    l.invariant.2 ∙ front_end l.i (staying (leaves a.w) (orders_in n a.book.now)) a.left.now (omega (arith, staying_length (leaves a.w) n a.book.now)) (omega arith)
 
 pub write-left-spec : {M : Type 1} → statement M
 write-left-spec =

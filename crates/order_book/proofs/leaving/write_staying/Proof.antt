@@ -7,12 +7,12 @@ use Prim.Native.Nat.{◌-◌, ◌≤◌}
 use lib.ListN.{length}
 use Rattle.arith.specs.Lists.{over, from}
 use Rattle.rules.specs.Ledger.{order_places}
-use Rattle.order_book.proofs.Left.{leftTo, left-few, left_nothing, kept-count, kept-book, side_there, places_length}
+use Rattle.order_book.proofs.Left.{left_to, left_few, left_nothing, kept-count, kept-book, side_there, places_length}
 use Rattle.order_book.proofs.leaving.write_staying.Statement.{statement}
 use Rattle.order_book.proofs.leaving.write_staying.Tie as tie
 
 abbrev invariant-loop : tie.invariant-loop
-invariant-loop book₀ left count free₀ i₀ book free i = (i ≤ count) × (length book ≡ length book₀) × (free ≡ length (leftTo left book₀ i)) × (book ≡ over 0 (flat_map order_places (leftTo left book₀ i)) book₀)
+invariant-loop book₀ left count free₀ i₀ book free i = (i ≤ count) × (length book ≡ length book₀) × (free ≡ length (left_to left book₀ i)) × (book ≡ over 0 (flat_map order_places (left_to left book₀ i)) book₀)
 
 abbrev decreases-loop : tie.decreases-loop
 decreases-loop book₀ left count free₀ i₀ book free i = count - i
@@ -27,8 +27,8 @@ keep-order-requires c κs =
     let l = c.before.before.before.loop in
     let qs = start.args.left.now in
     let b = start.args.book.now in
-    let few = left-few qs b l.i in
-    let side = side_there (flat_map order_places (leftTo qs b l.i)) b l.i (omega (arith, places_length (leftTo qs b l.i), few)) (omega arith) (omega arith) in
+    let few = left_few qs b l.i in
+    let side = side_there (flat_map order_places (left_to qs b l.i)) b l.i (omega (arith, places_length (left_to qs b l.i), few)) (omega arith) (omega arith) in
     (omega (arith, few), omega arith, omega arith, rw (l.invariant.3, side) (start.requires.3 l.i (omega arith)))
 
 loop-again : tie.Need-loop-preserved invariant-loop decreases-loop

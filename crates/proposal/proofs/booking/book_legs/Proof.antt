@@ -42,7 +42,7 @@ book-line-requires c κs =
     let a = start.args in let l = at-loop.loop in
     leg-takes a.book.now a.places.now a.leg-lots.now a.leg-prices.now a.head.now a.lots.now a.value.now a.lines.now start.requires.0.2
     start.requires.0.0 start.requires.0.1 (omega (arith, start.requires.1.0.long)) l.i at-loop-test.loop-test.true l.head l.lots l.value l.lines
-    l.invariant.1 at-order-at.order-at.result at-order-at.order-at.ensures
+    l.invariant.1 at-order-at.order_at_lem.result at-order-at.order_at_lem.ensures
 
 add-i : tie.Need-overflow-add-i invariant-loop decreases-loop
 add-i c =
@@ -60,7 +60,7 @@ loop-again c =
     let a = start.args in let l = at-loop.loop in
     let next = legs-next a.book.now a.places.now a.leg-lots.now a.leg-prices.now a.head.now a.lots.now a.value.now a.lines.now start.requires.0.2
     start.requires.0.0 start.requires.0.1 (omega (arith, start.requires.1.0.long)) l.i at-loop-test.loop-test.true l.head l.lots l.value l.lines
-    l.invariant.1 at-order-at.order-at.result at-order-at.order-at.ensures in
+    l.invariant.1 at-order-at.order_at_lem.result at-order-at.order_at_lem.ensures in
     let kept = at-book-line.book-line.auto in (
       omega (arith, at-loop-test.loop-test.true),
       next _ _ _ _ at-book-line.book-line.ensures,

@@ -5,7 +5,7 @@ use lib.ListN.{get_or}
 use Rattle.tables.specs.Fit.{order_count_in, orders_in}
 use Rattle.rules.specs.Ledger.{order_count_place}
 use Rattle.rules.specs.Ledger.{with_head, with_prices, with_book, orders, calendar}
-use Rattle.proposal_check.proofs.Checks.{two-columns, balanced-columns, priority-columns, acceptable-not, acceptable-found, legs_found}
+use Rattle.proposal_check.proofs.Checks.{two_columns, balanced_columns, priority_columns, acceptable_not, acceptable-found, legs_found}
 use Rattle.proposal_check.proofs.LastRanks.{orders_ranked}
 use borrow.Author.Rules.{rules}
 use Rattle.proposal_check.proofs.acceptable.is_acceptable.Statement.{statement}
@@ -16,7 +16,7 @@ unfolding orders
 returns c =
     let start = c.before.before.before.before.before.before.before.before.before.before in
     let a = start.args in
-    λ t. sym (acceptable-not (with_head a.head.now (with_prices a.prices.now (with_book a.book.now t))) (get_or a.head.now order_count_place 0) a.book.now a.places.now
+    λ t. sym (acceptable_not (with_head a.head.now (with_prices a.prices.now (with_book a.book.now t))) (get_or a.head.now order_count_place 0) a.book.now a.places.now
     a.orders.now a.leg-lots.now a.leg-prices.now start.requires.1.0 refl start.requires.1.1 (sym c.before.are-found.ensures ∙ not-true _ c.if1.true))
 
 do-two-occur-requires : tie.Need-do-two-occur-requires
@@ -82,11 +82,11 @@ returns-2 c =
     let u = with_head a.head.now (with_prices a.prices.now (with_book book t)) in
     rw c.before.before.before.before.before.are-rising.ensures
     (acceptable-found u (order_count_in a.head.now) book places numbers lots prices legs refl start.requires.1.1 found _ _ _ _ _
-    (c.before.before.before.before.do-two-occur.ensures ∙ two-columns book places numbers lots prices legs f.as_many (λ o. o.member))
-    (c.before.before.before.do-two-occur2.ensures ∙ two-columns book places numbers lots prices legs f.as_many (λ o. o.contract))
+    (c.before.before.before.before.do-two-occur.ensures ∙ two_columns book places numbers lots prices legs f.as_many (λ o. o.member))
+    (c.before.before.before.do-two-occur2.ensures ∙ two_columns book places numbers lots prices legs f.as_many (λ o. o.contract))
     (c.before.before.are-within.ensures (with_head a.head.now (with_book book t)))
-    (c.before.are-both-balanced.ensures ∙ balanced-columns book places numbers lots prices legs f.as_many (calendar u))
-    (c.is-priority-kept.ensures ∙ priority-columns book places numbers lots prices legs f.as_many (orders_in (order_count_in a.head.now) book)))
+    (c.before.are-both-balanced.ensures ∙ balanced_columns book places numbers lots prices legs f.as_many (calendar u))
+    (c.is-priority-kept.ensures ∙ priority_columns book places numbers lots prices legs f.as_many (orders_in (order_count_in a.head.now) book)))
 
 pub is-acceptable-spec : {M : Type 1} → statement M
 is-acceptable-spec =

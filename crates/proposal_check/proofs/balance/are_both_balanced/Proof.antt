@@ -1,5 +1,5 @@
 use mathlib.Core.Path.{◌∙◌}
-use Rattle.proposal_check.proofs.Sums.{sums-fit, sums-balanced}
+use Rattle.proposal_check.proofs.Sums.{sums_fit, sums-balanced}
 use borrow.Author.Rules.{rules}
 use Rattle.proposal_check.proofs.balance.are_both_balanced.Statement.{statement}
 use Rattle.proposal_check.proofs.balance.are_both_balanced.Tie as tie
@@ -7,7 +7,7 @@ use Rattle.proposal_check.proofs.balance.are_both_balanced.Tie as tie
 are-months-balanced-requires : tie.Need-are-months-balanced-requires
 are-months-balanced-requires c κs =
     let start = c.before.before.before.before.before.before.before.before in
-    let a = start.args in sums-fit a.book.now a.places.now a.lots.now a.prices.now start.requires.2 _ c.before.before.write-sums.ensures
+    let a = start.args in sums_fit a.book.now a.places.now a.lots.now a.prices.now start.requires.2 _ c.before.before.write-sums.ensures
 
 returns : tie.Need-returns
 returns c =

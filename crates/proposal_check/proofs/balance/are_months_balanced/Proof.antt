@@ -5,7 +5,7 @@ use mathlib.Core.Bool.{◌&&◌}
 use Prim.Native.Nat.{◌-◌, ◌≤◌}
 use lib.Dec.{eqb}
 use Rattle.arith.specs.Lists.{every, from}
-use Rattle.arith.proofs.Scans.{each_next, each-end}
+use Rattle.arith.proofs.Scans.{each_next, each_end}
 use Rattle.rules.specs.declared.order.Side.TheVariants.{Buy, Sell}
 use Rattle.proposal_check.specs.Sums.{month_sum, balanced_sums}
 use Rattle.proposal_check.proofs.balance.are_months_balanced.Statement.{statement}
@@ -30,7 +30,7 @@ loop-again c = let a = c.before.before.before.before.args in let l = c.before.be
 
 returns : tie.Need-returns invariant-loop decreases-loop
 returns c = let a = c.before.before.before.args in let l = c.before.loop in
-    each-end (λ m. eqb (month_sum a.sums.now Buy m) (month_sum a.sums.now Sell m)) 72 l.month l.ok _ l.invariant.1 c.loop-test.false
+    each_end (λ m. eqb (month_sum a.sums.now Buy m) (month_sum a.sums.now Sell m)) 72 l.month l.ok _ l.invariant.1 c.loop-test.false
 
 pub are-months-balanced-spec : {M : Type 1} → statement M
 are-months-balanced-spec =

@@ -5,7 +5,7 @@ use Prim.Native.Nat.{◌-◌, ◌≤◌}
 use lib.ListN.{length, length-set}
 use Rattle.proposal_check.specs.SidePlaces.{side_place_of}
 use Rattle.proposal_check.specs.Sums.{SumsTo, amount_at}
-use Rattle.proposal_check.proofs.Sums.{sums-start, sums_next, most-sum, most-at}
+use Rattle.proposal_check.proofs.Sums.{sums_start, sums_next, most_sum, most_at}
 use Rattle.proposal_check.proofs.balance.write_sums.Statement.{statement}
 use Rattle.proposal_check.proofs.balance.write_sums.Tie as tie
 
@@ -18,7 +18,7 @@ decreases-loop book places lots prices sums₀ i₀ sums i = length places - i
 loop-holds : tie.Need-loop-init invariant-loop decreases-loop
 loop-holds c =
     let start = c.before.before.before.before.before in
-    (refl, omega arith, rw start.requires.3 (sums-start start.args.book.now start.args.places.now start.args.lots.now start.args.prices.now start.requires.2))
+    (refl, omega arith, rw start.requires.3 (sums_start start.args.book.now start.args.places.now start.args.lots.now start.args.prices.now start.requires.2))
 
 order-at-requires : tie.Need-order-at-requires invariant-loop decreases-loop
 order-at-requires c κs =
@@ -28,7 +28,7 @@ order-at-requires c κs =
 side-place-requires : tie.Need-side-place-requires invariant-loop decreases-loop
 side-place-requires c κs =
     let start = c.before.before.before.before.before.before.before.before.before in
-    rw c.order-at.ensures (start.requires.1.contract_below c.before.before.before.loop.i c.before.before.loop-test.true)
+    rw c.order_at_lem.ensures (start.requires.1.contract_below c.before.before.before.loop.i c.before.before.loop-test.true)
 
 slice-read-sum : tie.Need-slice-read-sum invariant-loop decreases-loop
 slice-read-sum c = omega (arith, c.before.side-place.ensures.1, c.before.before.before.before.before.loop.invariant.2.long)
@@ -62,8 +62,8 @@ add-sum c =
       start.requires.2.most_legs_holds,
       at-loop.loop.invariant.1,
       at-loop.loop.invariant.2.at at-side-place.side-place.result at-side-place.side-place.ensures.1,
-      most-at a.book.now a.places.now a.lots.now a.prices.now start.requires.2 at-loop.loop.i at-loop-test.loop-test.true,
-      most-sum a.book.now a.places.now a.lots.now a.prices.now start.requires.2 at-loop.loop.i at-side-place.side-place.result at-loop.loop.invariant.1,
+      most_at a.book.now a.places.now a.lots.now a.prices.now start.requires.2 at-loop.loop.i at-loop-test.loop-test.true,
+      most_sum a.book.now a.places.now a.lots.now a.prices.now start.requires.2 at-loop.loop.i at-side-place.side-place.result at-loop.loop.invariant.1,
     )
 
 slice-write-sums : tie.Need-slice-write-sums invariant-loop decreases-loop
@@ -79,7 +79,7 @@ loop-again c =
       length-set at-loop.loop.sums _ _ ∙ at-loop.loop.invariant.0,
       omega arith,
       rw c.leg_amount_lem.ensures (sums_next a.book.now a.places.now a.lots.now a.prices.now start.requires.2 at-loop.loop.i at-side-place.side-place.result at-loop.loop.sums at-loop.loop.invariant.2
-          (at-side-place.side-place.ensures.0 ∙ ap side_place_of c.before.before.before.before.before.order-at.ensures) at-side-place.side-place.ensures.1),
+          (at-side-place.side-place.ensures.0 ∙ ap side_place_of c.before.before.before.before.before.order_at_lem.ensures) at-side-place.side-place.ensures.1),
     )
 
 returns : tie.Need-returns invariant-loop decreases-loop

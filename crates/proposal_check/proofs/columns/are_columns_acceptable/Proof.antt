@@ -3,7 +3,7 @@ use mathlib.Core.Path.{sym}
 use lib.ListN.{replicate}
 use lib.Seq.{length-take-le}
 use Rattle.tables.specs.Fit.{order_count_in}
-use Rattle.proposal_check.proofs.Named.{places-long, places-as-many, places-front}
+use Rattle.proposal_check.proofs.Named.{places_long, places_as_many, places_front}
 use borrow.Author.Rules.{rules}
 use Rattle.proposal_check.proofs.columns.are_columns_acceptable.Statement.{statement}
 use Rattle.proposal_check.proofs.columns.are_columns_acceptable.Tie as tie
@@ -21,21 +21,21 @@ write-places-requires c κs =
 array-share-prefix-places : tie.Need-array-share-prefix-places
 array-share-prefix-places c =
     let start = c.before.before.before.before.before.before.before.before.before.before in
-    places-long _ start.args.book.now start.args.orders.now _ (replicate 12 0) c.before.write-places.ensures start.requires.1.most_legs_holds
+    places_long _ start.args.book.now start.args.orders.now _ (replicate 12 0) c.before.write-places.ensures start.requires.1.most_legs_holds
 
 slice-aggregate-is-acceptable : tie.Need-slice-aggregate-is-acceptable
 slice-aggregate-is-acceptable c =
     let start = c.before.before.before.before.before.before.before.before.before.before.before in
     let a = start.args in
     let written = c.before.before.write-places.ensures in
-    places-as-many _ a.book.now a.orders.now _ (replicate 12 0) written start.requires.1.most_legs_holds
+    places_as_many _ a.book.now a.orders.now _ (replicate 12 0) written start.requires.1.most_legs_holds
 
 is-acceptable-requires : tie.Need-is-acceptable-requires
 is-acceptable-requires c κs =
     let start = c.before.before.before.before.before.before.before.before.before.before.before in
     let a = start.args in
     let written = c.before.before.write-places.ensures in
-    let front = places-front (order_count_in a.head.now) a.book.now a.orders.now _ (replicate 12 0) written start.requires.1.most_legs_holds in
+    let front = places_front (order_count_in a.head.now) a.book.now a.orders.now _ (replicate 12 0) written start.requires.1.most_legs_holds in
     (start.requires.0, (start.requires.1, front))
 
 pub are-columns-acceptable-spec : {M : Type 1} → statement M

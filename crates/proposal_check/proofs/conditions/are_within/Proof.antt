@@ -10,7 +10,7 @@ use Rattle.arith.specs.Lists.{every, from}
 use Rattle.rules.specs.Ledger.{Tables, with_prices}
 use Rattle.rules.specs.Synthetic.{has_lots, price_allowed}
 use Rattle.proposal_check.specs.Columns.{named_at}
-use Rattle.proposal_check.proofs.Lists.{all-next, all_end}
+use Rattle.proposal_check.proofs.Lists.{all_next, all_end}
 use Rattle.proposal_check.proofs.Named.{within_same}
 use Rattle.proposal_check.proofs.conditions.are_within.Statement.{statement}
 use Rattle.proposal_check.proofs.conditions.are_within.Tie as tie
@@ -41,7 +41,7 @@ is-price-allowed-requires c κs =
     let at-loop-test = c.before.before.before.before.before in
     let at-loop = at-loop-test.before in
     let start = at-loop.before.before.before.before.before.before.before in
-    (start.requires.0.0, rw c.before.before.order-at.ensures (start.requires.0.2.contract_below at-loop.loop.i at-loop-test.loop-test.true))
+    (start.requires.0.0, rw c.before.before.order_at_lem.ensures (start.requires.0.2.contract_below at-loop.loop.i at-loop-test.loop-test.true))
 
 add-i : tie.Need-overflow-add-i invariant-loop decreases-loop
 add-i c =
@@ -59,9 +59,9 @@ loop-again c =
     let a = start.args in let l = at-loop.loop in
     let named = named_at a.book.now a.places.now a.orders.now a.leg-lots.now a.leg-prices.now in (
       omega (arith, at-loop-test.loop-test.true),
-      λ t. rw (within_same (with_prices a.prices.now t) at-leg-at.leg_at_lem.result _ at-order-at.order-at.result _ _ at-leg-at.leg_at_lem.ensures
-          at-order-at.order-at.ensures (c.is-price-allowed.ensures t))
-          (all-next named (λ n. has_lots n && price_allowed (with_prices a.prices.now t) n) (length a.orders.now) l.i l.ok _ (l.invariant.1 t)
+      λ t. rw (within_same (with_prices a.prices.now t) at-leg-at.leg_at_lem.result _ at-order-at.order_at_lem.result _ _ at-leg-at.leg_at_lem.ensures
+          at-order-at.order_at_lem.ensures (c.is-price-allowed.ensures t))
+          (all_next named (λ n. has_lots n && price_allowed (with_prices a.prices.now t) n) (length a.orders.now) l.i l.ok _ (l.invariant.1 t)
           (omega (arith, at-loop-test.loop-test.true, start.requires.1.1))),
     )
 

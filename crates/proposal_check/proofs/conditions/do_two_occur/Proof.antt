@@ -7,7 +7,7 @@ use lib.Dec.{eqb}
 use lib.ListN.{length, get_or, drop}
 use Rattle.rules.specs.Ledger.{order_width}
 use Rattle.arith.specs.Lists.{any}
-use Rattle.arith.proofs.Tests.{any_next, any-end}
+use Rattle.arith.proofs.Tests.{any_next, any_end}
 use Rattle.proposal_check.proofs.conditions.do_two_occur.Statement.{statement}
 use Rattle.proposal_check.proofs.conditions.do_two_occur.Tie as tie
 
@@ -53,7 +53,7 @@ loop-again c = let a = c.before.before.before.before.before.before.args in let l
     (omega arith, any_next _ a.places.now 0 l.i l.found l.invariant.1 c.before.before.loop-test.true)
 
 returns : tie.Need-returns invariant-loop decreases-loop
-returns c = let a = c.before.before.before.before.args in let l = c.before.loop in any-end _ a.places.now 0 l.i l.found l.invariant.1 c.loop-test.false
+returns c = let a = c.before.before.before.before.args in let l = c.before.loop in any_end _ a.places.now 0 l.i l.found l.invariant.1 c.loop-test.false
 
 pub do-two-occur-spec : {M : Type 1} → statement M
 do-two-occur-spec =

@@ -9,7 +9,7 @@ use Rattle.arith.specs.Lists.{from}
 use Rattle.rules.specs.Ledger.{order_width}
 use Rattle.rules.specs.Ledger.{order_at}
 use Rattle.proposal_check.specs.Columns.{place_of}
-use Rattle.proposal_check.proofs.Named.{place_here, place-next, place_end}
+use Rattle.proposal_check.proofs.Named.{place_here, place_next, place_end}
 use Rattle.proposal_check.proofs.places.place_of.Statement.{statement}
 use Rattle.proposal_check.proofs.places.place_of.Tie as tie
 
@@ -29,7 +29,7 @@ returns c = let a = c.before.before.before.before.args in let l = c.before.befor
 loop-again : tie.Need-loop-preserved invariant-loop decreases-loop
 loop-again c = let a = c.before.before.before.before.args in let l = c.before.before.before.loop in (
   omega arith,
-  place-next a.number a.book.now a.count l.i _ l.invariant.1 c.before.before.loop-test.true
+  place_next a.number a.book.now a.count l.i _ l.invariant.1 c.before.before.loop-test.true
       (λ e. c.if1.false (ap (λ j. get_or a.book.now j 0) (add-zero (l.i * order_width)) ∙ e)),
 )
 

@@ -5,7 +5,7 @@ use mathlib.Core.List.{map, ◌++◌}
 use Prim.Native.Nat.{◌-◌, ◌≤◌}
 use lib.ListN.{length, take, drop, length-set, length-map}
 use Rattle.arith.proofs.Appends.{map_at}
-use Rattle.arith.proofs.Writes.{front-next, front-end}
+use Rattle.arith.proofs.Writes.{front_next, front_end}
 use Rattle.tables.specs.Fit.{orders_in}
 use Rattle.proposal_check.specs.Columns.{place_of}
 use Rattle.proposal_check.proofs.places.write_places.Statement.{statement}
@@ -27,13 +27,13 @@ loop-again c = let a = c.before.before.before.before.before.before.before.args i
       length-set l.places l.i c.place_of.result ∙ l.invariant.0,
       omega arith,
       rw (here, l.invariant.2)
-          (front-next l.i all a.places.now 0 (omega (arith, length-map a.orders.now (λ n. place_of n (orders_in a.count a.book.now)))) (omega arith)),
+          (front_next l.i all a.places.now 0 (omega (arith, length-map a.orders.now (λ n. place_of n (orders_in a.count a.book.now)))) (omega arith)),
     )
 
 returns : tie.Need-returns invariant-loop decreases-loop
 returns c = let a = c.before.before.before.before.before.args in let l = c.before.loop in
     let all = map (λ n. place_of n (orders_in a.count a.book.now)) a.orders.now in
-    l.invariant.2 ∙ front-end l.i all a.places.now (omega (arith, length-map a.orders.now (λ n. place_of n (orders_in a.count a.book.now)))) (omega arith)
+    l.invariant.2 ∙ front_end l.i all a.places.now (omega (arith, length-map a.orders.now (λ n. place_of n (orders_in a.count a.book.now)))) (omega arith)
 
 pub write-places-spec : {M : Type 1} → statement M
 write-places-spec =

@@ -8,7 +8,7 @@ use Prim.Native.Nat.{◌-◌, ◌≤◌}
 use Rattle.arith.specs.Lists.{every, from}
 use Rattle.rules.specs.Ledger.{order_at}
 use Rattle.proposal_check.specs.LastRanks.{kept_by}
-use Rattle.proposal_check.proofs.Lists.{all-next, all_end}
+use Rattle.proposal_check.proofs.Lists.{all_next, all_end}
 use Rattle.proposal_check.proofs.priority.are_kept.Statement.{statement}
 use Rattle.proposal_check.proofs.priority.are_kept.Tie as tie
 
@@ -31,8 +31,8 @@ is-kept-requires c κs =
     let fit = start.requires.0 in (
       start.requires.1,
       start.requires.2,
-      rw c.order-at.ensures (fit.contract_below c.before.before.loop.i c.before.loop-test.true),
-      rw c.order-at.ensures (fit.ranked c.before.before.loop.i c.before.loop-test.true),
+      rw c.order_at_lem.ensures (fit.contract_below c.before.before.loop.i c.before.loop-test.true),
+      rw c.order_at_lem.ensures (fit.ranked c.before.before.loop.i c.before.loop-test.true),
     )
 
 loop-again : tie.Need-loop-preserved invariant-loop decreases-loop
@@ -42,8 +42,8 @@ loop-again c =
     let a = start.args in
     let kept = kept_by a.lasts.now a.orders.now a.lots.now in (
       omega arith,
-      rw (c.is-kept.ensures ∙ ap kept c.before.order-at.ensures)
-          (all-next (order_at a.book.now) kept a.count at-loop.loop.i at-loop.loop.ok _ at-loop.loop.invariant.1 c.before.before.loop-test.true),
+      rw (c.is-kept.ensures ∙ ap kept c.before.order_at_lem.ensures)
+          (all_next (order_at a.book.now) kept a.count at-loop.loop.i at-loop.loop.ok _ at-loop.loop.invariant.1 c.before.before.loop-test.true),
     )
 
 returns : tie.Need-returns invariant-loop decreases-loop

@@ -7,7 +7,7 @@ use lib.Dec.{eqb}
 use lib.ListN.{length, get_or}
 use Rattle.arith.specs.Lists.{any, from}
 use Rattle.proposal_check.specs.Columns.{is_full_leg}
-use Rattle.proposal_check.proofs.Lists.{one-start, one-next, one_end}
+use Rattle.proposal_check.proofs.Lists.{one_start, one-next, one_end}
 use Rattle.proposal_check.proofs.priority.is_full_leg.Statement.{statement}
 use Rattle.proposal_check.proofs.priority.is_full_leg.Tie as tie
 
@@ -20,7 +20,7 @@ decreases-loop orders lots o found₀ i₀ found i = length orders - i
 
 loop-holds : tie.Need-loop-init invariant-loop decreases-loop
 unfolding is_full_leg
-loop-holds c = let a = c.args in (omega arith, one-start _ (length a.orders.now))
+loop-holds c = let a = c.args in (omega arith, one_start _ (length a.orders.now))
 
 loop-again : tie.Need-loop-preserved invariant-loop decreases-loop
 loop-again c =

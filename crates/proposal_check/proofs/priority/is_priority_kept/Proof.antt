@@ -1,5 +1,5 @@
 use mathlib.Core.Path.{refl, ◌∙◌}
-use Rattle.proposal_check.proofs.LastRanks.{legs-ranked, kept-last}
+use Rattle.proposal_check.proofs.LastRanks.{legs_ranked, kept-last}
 use borrow.Author.Rules.{rules}
 use Rattle.proposal_check.proofs.priority.is_priority_kept.Statement.{statement}
 use Rattle.proposal_check.proofs.priority.is_priority_kept.Tie as tie
@@ -7,7 +7,7 @@ use Rattle.proposal_check.proofs.priority.is_priority_kept.Tie as tie
 write-last-ranks-requires : tie.Need-write-last-ranks-requires
 write-last-ranks-requires c κs =
     let start = c.before.before.before.before.before in
-    let a = start.args in (legs-ranked a.count a.book.now a.places.now start.requires.0 start.requires.1, refl)
+    let a = start.args in (legs_ranked a.count a.book.now a.places.now start.requires.0 start.requires.1, refl)
 
 are-kept-requires : tie.Need-are-kept-requires
 are-kept-requires c κs =

@@ -11,7 +11,7 @@ use Rattle.rules.specs.Ledger.{members, with_head, with_prices, with_book}
 use Rattle.rules.specs.Ranges.{most_legs}
 use Rattle.rules.specs.Records.{event_sound}
 use Rattle.codec.specs.Columns.{leg_rows}
-use Rattle.proposal_legs.proofs.LegColumns.{unsound, few, legs_fit, legs-are, judged}
+use Rattle.proposal_legs.proofs.LegColumns.{unsound, few, legs_fit, legs_are, judged}
 use borrow.Author.Rules.{rules}
 use Rattle.proposal_legs.proofs.acceptable.is_proposal_acceptable.Statement.{statement}
 use Rattle.proposal_legs.proofs.acceptable.is_proposal_acceptable.Tie as tie
@@ -84,7 +84,7 @@ returns-2 c t =
     let u = with_head a.head.now (with_prices a.prices.now (with_book a.book.now t)) in
     let known = sizes start in
     let sound = sound-at c.before.before.before.before.before.before.before (members u) in
-    let same = legs-are (members u) a.count a.columns sound known.0 known.1 known.2 in
+    let same = legs_are (members u) a.count a.columns sound known.0 known.1 known.2 in
     judged u a.count (leg_rows a.count a.columns) _ sound same (c.are-columns-acceptable.ensures t)
 
 pub is-proposal-acceptable-spec : {M : Type 1} → statement M

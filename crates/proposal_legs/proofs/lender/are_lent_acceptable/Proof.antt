@@ -60,7 +60,7 @@ use Rattle.rules.specs.contracts.event.Leg as T
 use Rattle.rules.proofs.event.Leg.TheLaws as T'
 use Rattle.tables.specs.Fit.{HeadFit, BookFit}
 use Rattle.proposal_legs.specs.Proposals.{legs_acceptable}
-use Rattle.proposal_legs.proofs.Lent.{array_row, row-parts, row-joined, row_room}
+use Rattle.proposal_legs.proofs.Lent.{array_row, row_parts, row_joined, row_room}
 use Rattle.proposal_legs.specs.contracts.legs.are_legs_acceptable as thin
 use Rattle.proposal_legs.proofs.legs.are_legs_acceptable.Symbol as thin-def
 use Rattle.proposal_legs.proofs.legs.are_legs_acceptable.Symbol.{name as #are-legs-acceptable}
@@ -206,7 +206,7 @@ module _ {M : Type 1} {𝓤 : Ura M} (𝓛 : Logic 𝓤) (mem' : Memory → SPro
         -- the local is a row of legs, and the first n of them are lent
         move ! (19 ∷ []) $ fsplit ! $ move ! (1 ∷ []) $ fsplit ! $ drop ! $ move ! (6 ∷ 1 ∷ []) $
         use2 𝓛 (‵ ((arr_parts (shares T.the_row) 12).part full_share xs l₆ 0)) (array_row 𝓛 T.the_row tt 12 xs u l₆ 0) $ fsplit ! $ feq_l ! (λ twelve.
-        use1 𝓛 (‵ (row T.the_row full_share (take n xs) l₆ 0) ⊛ ‵ (row T.the_row full_share (rest n xs) l₆ (place (mem T.the_row).size 0 n))) (row-parts 𝓛 T.the_row full_share n xs l₆ 0) $
+        use1 𝓛 (‵ (row T.the_row full_share (take n xs) l₆ 0) ⊛ ‵ (row T.the_row full_share (rest n xs) l₆ (place (mem T.the_row).size 0 n))) (row_parts 𝓛 T.the_row full_share n xs l₆ 0) $
         split ! $
         lft_new ! tt (λ α. move ! (1 ∷ []) $ feq_i ! ℕ (length (take n xs)) (length (take n xs)) refl $ fjoin ! $
         use1 𝓛 (later (some (λ (γ : GName). ‵ (Own (α ∷ []) l₆ γ) ⊛ ‵ (flent (α ∷ []) ((arr_parts (shares T.the_row) (length (take n xs))).part full_share (take n xs) l₆ 0)))))
@@ -225,7 +225,7 @@ module _ {M : Type 1} {𝓤 : Ura M} (𝓛 : Logic 𝓤) (mem' : Memory → SPro
         land ! (from ! (stop !)) (init ! 19 refl ((bool_Lawful 𝓛).typed r _ is).0) $
         -- the lifetime is ended, and the local is whole again
         split3 ! $ lft_end ! tt $ move ! (0 ∷ 4 ∷ []) $ lent_back ! tt $ fsplit ! $ drop ! $ move ! (0 ∷ 4 ∷ []) $
-        use2 𝓛 (‵ (row T.the_row full_share xs l₆ 0)) (row-joined 𝓛 T.the_row full_share n xs l₆ 0) $
+        use2 𝓛 (‵ (row T.the_row full_share xs l₆ 0)) (row_joined 𝓛 T.the_row full_share n xs l₆ 0) $
         feq_i ! ℕ (length xs) 12 twelve $ fjoin ! $ use1 𝓛 (‵ (froom array l₆ 0)) (row_room 𝓛 T.the_row vals (LL.tells T.the_type T'.the_laws) 12 xs l₆ 0) $
         -- [room for _6; the tables' token; true; true; _8, 4; _7, 6; that _6 dies, 8; _5, 9; _4, 11; _3, 13; _2, 15; _1, 17; _0, 19]
         returns ! (look ! 19 refl) $ forget ! 4 refl $ forget ! 6 refl $ forget ! 9 refl $ forget ! 11 refl $ forget ! 13 refl $ forget ! 15 refl $ forget ! 17 refl $ forget ! 19 refl $

@@ -1,7 +1,7 @@
 use mathlib.Core.Path.{refl, ◌∙◌}
 use Rattle.rules.specs.declared.field.Field.TheVariants.{Member, Legs}
 use Rattle.rules.specs.Fields.{kind_fields}
-use Rattle.record_kinds.proofs.ByKind.{only, time-at}
+use Rattle.record_kinds.proofs.ByKind.{only, time_at}
 use Rattle.record_kinds.proofs.fields.field_of.Statement.{statement}
 use Rattle.record_kinds.proofs.fields.field_of.Tie as tie
 
@@ -48,7 +48,7 @@ returns-6 c = c.close-out-field.ensures ∙ rw c.before.match.keys6 refl
 returns-7 : tie.Need-returns-7
 returns-7 c =
     let r = c.match.rest in
-    time-at _ r.0.0.0.0.0.1 r.0.0.0.0.1 r.0.0.0.1 r.0.0.1 r.0.1 r.1 _ c.before.requires
+    time_at _ r.0.0.0.0.0.1 r.0.0.0.0.1 r.0.0.0.1 r.0.0.1 r.0.1 r.1 _ c.before.requires
 
 pub field-of-spec : {M : Type 1} → statement M
 field-of-spec =

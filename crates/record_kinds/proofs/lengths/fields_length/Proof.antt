@@ -5,7 +5,7 @@ use mathlib.Core.Path.{◌≡◌}
 use Prim.Native.Nat.{◌+◌, ◌*◌, ◌-◌, ◌≤◌}
 use lib.ListN.{drop}
 use Rattle.rules.specs.Fields.{widths, kind_fields}
-use Rattle.record_kinds.proofs.ByKind.{widths-next, widths-end}
+use Rattle.record_kinds.proofs.ByKind.{widths_next, widths_end}
 use Rattle.record_kinds.proofs.lengths.fields_length.Statement.{statement}
 use Rattle.record_kinds.proofs.lengths.fields_length.Tie as tie
 
@@ -30,13 +30,13 @@ loop-again c =
     let fields = kind_fields c.before.before.before.before.before.args.kind in
     let count = c.before.before.before.before.field-count.ensures in
     let width = c.width_of_lem.ensures in
-    (omega arith, omega (arith, width), widths-next fields l.i l.length (omega (arith, count)) c.before.field_of.ensures width.0 l.invariant.2)
+    (omega arith, omega (arith, width), widths_next fields l.i l.length (omega (arith, count)) c.before.field_of.ensures width.0 l.invariant.2)
 
 returns : tie.Need-returns invariant-loop decreases-loop
 returns c =
     let l = c.before.loop in
     let count = c.before.before.field-count.ensures in
-    (widths-end (kind_fields _) l.i l.length (omega (arith, count)) l.invariant.2, omega (arith, count))
+    (widths_end (kind_fields _) l.i l.length (omega (arith, count)) l.invariant.2, omega (arith, count))
 
 pub fields-length-spec : {M : Type 1} → statement M
 fields-length-spec =

@@ -1,15 +1,15 @@
 use mathlib.Core.Path.{refl}
 use borrow.Author.Tests.{le-leb}
-use Rattle.record_kinds.proofs.ByKind.{no-side, no-order-kind}
+use Rattle.record_kinds.proofs.ByKind.{no_side, no_order_kind}
 use borrow.Author.Rules.{rules}
 use Rattle.record_kinds.proofs.numbers.submit_of.Statement.{statement}
 use Rattle.record_kinds.proofs.numbers.submit_of.Tie as tie
 
 returns : tie.Need-returns
-returns c = no-side c.before.before.before.before.args.numbers.now c.if1.true
+returns c = no_side c.before.before.before.before.args.numbers.now c.if1.true
 
 returns-2 : tie.Need-returns-2
-returns-2 c = no-order-kind c.before.before.before.before.before.args.numbers.now c.if2.true
+returns-2 c = no_order_kind c.before.before.before.before.before.args.numbers.now c.if2.true
 
 returns-3 : tie.Need-returns-3
 returns-3 c =

@@ -6,7 +6,7 @@ use Prim.Native.Nat.{ℕ, suc, ◌+◌, ◌*◌, ◌-◌, ◌≤◌}
 use native.Mathlib.Omega.{arith}
 use native.Mathlib.Numerals.{add-one}
 use lib.ListN.{length, length-set}
-use Rattle.arith.specs.Lists.{over, inEachBlock}
+use Rattle.arith.specs.Lists.{over, in_each_block}
 use Rattle.arith.proofs.Writes.{stored}
 use Rattle.rules.specs.Ledger.{price_width}
 use Rattle.rules.specs.Ranges.{contract_count}
@@ -16,13 +16,13 @@ use Rattle.reference_price.proofs.prices.clear_deals.Statement.{statement}
 use Rattle.reference_price.proofs.prices.clear_deals.Tie as tie
 
 abbrev invariant-loop : tie.invariant-loop
-invariant-loop prices₀ contract₀ prices contract = (contract ≤ contract_count) × (length prices ≡ length prices₀) × (prices ≡ inEachBlock 5 (over 3 (0 ∷ 0 ∷ [])) contract prices₀)
+invariant-loop prices₀ contract₀ prices contract = (contract ≤ contract_count) × (length prices ≡ length prices₀) × (prices ≡ in_each_block 5 (over 3 (0 ∷ 0 ∷ [])) contract prices₀)
 
 abbrev decreases-loop : tie.decreases-loop
 decreases-loop prices₀ contract₀ prices contract = contract_count - contract
 
 loop-holds : tie.Need-loop-init invariant-loop decreases-loop
-unfolding inEachBlock
+unfolding in_each_block
 loop-holds c = (omega arith, refl, refl)
 
 slice-write-prices-2 : tie.Need-slice-write-prices-2 invariant-loop decreases-loop

@@ -11,7 +11,7 @@ use Rattle.arith.proofs.Scans.{from_next, from_end}
 use Rattle.rules.specs.Ranges.{contract_count}
 use Rattle.rules.specs.Ledger.{order_at}
 use Rattle.reference_price.specs.Columns.{best_price}
-use Rattle.reference_price.proofs.BestPrices.{quotes-next, quotes-none, all_from_place}
+use Rattle.reference_price.proofs.BestPrices.{quotes_next, quotes_none, all_from_place}
 use Rattle.reference_price.proofs.quotes.write_quotes.Statement.{statement}
 use Rattle.reference_price.proofs.quotes.write_quotes.Tie as tie
 
@@ -29,7 +29,7 @@ loop-holds c =
     let n = a.count in (
       omega arith,
       rw pre.1 (length-replicate {A = ℕ} contract_count 0),
-      λ x h. rw (pre.1, get_or-replicate {A = ℕ} contract_count x 0 0 h, from_end n n (omega arith)) (sym (quotes-none a.day.0 a.time a.side x)),
+      λ x h. rw (pre.1, get_or-replicate {A = ℕ} contract_count x 0 0 h, from_end n n (omega arith)) (sym (quotes_none a.day.0 a.time a.side x)),
     )
 
 order-at-requires : tie.Need-order-at-requires invariant-loop decreases-loop
@@ -39,14 +39,14 @@ note-quote-requires : tie.Need-note-quote-requires invariant-loop decreases-loop
 note-quote-requires c κs =
     let l = c.before.before.before.loop in
     let fit = c.before.before.before.before.before.before.requires.0 in
-    rw c.before.order-at.ensures (fit.most_time (l.i - 1) (omega arith), omega (arith, fit.contract_below (l.i - 1) (omega arith)))
+    rw c.before.order_at_lem.ensures (fit.most_time (l.i - 1) (omega arith), omega (arith, fit.contract_below (l.i - 1) (omega arith)))
 
 loop-again : tie.Need-loop-preserved invariant-loop decreases-loop
 loop-again c =
     let pre = c.before.before.before.before.before.before.before.before.before.requires in
     let a = c.before.before.before.before.before.before.before.before.before.args in
     let l = c.before.before.before.before.before.before.loop in
-    let order-at = c.before.before.before.before.order-at in
+    let order_at_lem = c.before.before.before.before.order_at_lem in
     let note-quote = c.before.before.note-quote in
     let fit = pre.0 in
     let b = a.book.now in
@@ -56,8 +56,8 @@ loop-again c =
     let more : map (order_at b) (from i (a.count - i)) ≡ order_at b i ∷ rest = ap (map (order_at b)) (from_next i a.count (omega arith)) ∙ rw up in (
       omega arith,
       omega (arith, note-quote.auto.0),
-      λ x h. rw (note-quote.ensures, order-at.ensures, more)
-          (quotes-next a.day.0 a.time a.side l.quotes (order_at b i) rest
+      λ x h. rw (note-quote.ensures, order_at_lem.ensures, more)
+          (quotes_next a.day.0 a.time a.side l.quotes (order_at b i) rest
           (all_from_place (λ o. 1 ≤ o.price.0) (order_at b) l.i (a.count - l.i) (λ j u v. fit.least_price j (omega arith)))
           (omega (arith, fit.contract_below i (omega arith))) l.invariant.2 x h),
     )

@@ -4,7 +4,7 @@ use Rattle.rules.specs.Ledger.{Tables, with_head, with_rows, with_lines, zero_ta
 use Rattle.matching.specs.Deals.{line_out}
 use Rattle.deal_lines.specs.Lines.{LineFit}
 use Rattle.deal_lines.proofs.Takes.{Takes, less_room}
-use Rattle.submit.proofs.Lines.{resting-fit, first-takes}
+use Rattle.submit.proofs.Lines.{resting_fit, first_takes}
 use borrow.Author.Rules.{rules}
 use Rattle.submit.proofs.deals.book_deal.Statement.{statement}
 use Rattle.submit.proofs.deals.book_deal.Tie as tie
@@ -24,8 +24,8 @@ book-line-requires-2 c κs =
     let b = c.before.before.before.before.before.before.before.before.before in
     let after = b.book-line.ensures u in
     let other = b.before.before.before.before.before.before.before.other-side.ensures in
-    let takes = first-takes a.o a.d a.k small u q.0 q.1 a.d.lots.0 (less_room _ _ (omega arith) s.requires.0.0) in
-    let fits = resting-fit a.o a.d a.k small u q.0 q.1 in (
+    let takes = first_takes a.o a.d a.k small u q.0 q.1 a.d.lots.0 (less_room _ _ (omega arith) s.requires.0.0) in
+    let fits = resting_fit a.o a.d a.k small u q.0 q.1 in (
       subst (λ (x : Tables). Takes a.d.lots.0 x) (sym after) takes,
       (rw other (subst (λ (x : Tables). LineFit x.head (line_out a.o a.d)) (sym after) fits), omega (arith, small)),
     )

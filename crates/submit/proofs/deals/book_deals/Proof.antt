@@ -6,7 +6,7 @@ use lib.ListN.{length}
 use Rattle.rules.specs.Ranges.{most_price}
 use Rattle.matching.specs.Deals.{line_in, line_out}
 use Rattle.deal_lines.specs.Lines.{LineFit}
-use Rattle.submit.proofs.Lines.{Booking, booking-start, deal-takes, booking-next}
+use Rattle.submit.proofs.Lines.{Booking, booking_start, deal-takes, booking-next}
 use Rattle.submit.proofs.deals.book_deals.Statement.{statement}
 use Rattle.submit.proofs.deals.book_deals.Tie as tie
 
@@ -18,7 +18,7 @@ abbrev decreases-loop : tie.decreases-loop
 decreases-loop head₀ lots₀ value₀ lines₀ o deals count k₀ head lots value lines k = count - k
 
 loop-holds : tie.Need-loop-init invariant-loop decreases-loop
-loop-holds c = (omega arith, booking-start _ _ _ _ _ _ _ c.before.before.requires.0.0, refl, refl, refl, refl)
+loop-holds c = (omega arith, booking_start _ _ _ _ _ _ _ c.before.before.requires.0.0, refl, refl, refl, refl)
 
 deal-at-requires : tie.Need-deal-at-requires invariant-loop decreases-loop
 deal-at-requires c κs = let f = c.before.before.before.before.requires.0.1 in (omega (arith, f.most), f.room)
@@ -32,7 +32,7 @@ fits c =
     let k = c.before.loop-test.true in
     let d = c.deal-at.ensures in
     let q = s.requires.1 in
-    let m = l.invariant.1.members-same in
+    let m = l.invariant.1.members_same in
     let priced : c.deal-at.result.price.0 ≤ most_price = rw d (s.requires.0.1.most_price_holds l.k k) in (
       record { member_below = omega (arith, m, q.0); contract_below = q.1; most_price_holds = priced },
       record { member_below = rw d (omega (arith, m, q.2 l.k k)); contract_below = q.1; most_price_holds = priced },

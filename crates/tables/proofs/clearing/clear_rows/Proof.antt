@@ -1,7 +1,7 @@
 use mathlib.Core.Path.{◌≡◌, refl, ◌∙◌}
 use Prim.Native.Nat.{◌-◌, ◌≤◌}
 use lib.ListN.{length, take, drop, replicate, length-set}
-use Rattle.arith.proofs.Writes.{fill-next, fill_end}
+use Rattle.arith.proofs.Writes.{fill_next, fill_end}
 use borrow.Author.Rules.{rules}
 use native.Mathlib.Omega.{arith}
 use mathlib.Core.List.{◌++◌}
@@ -19,7 +19,7 @@ loop-holds : tie.Need-loop-init invariant-loop decreases-loop
 loop-holds c = (omega arith, refl, refl)
 
 loop-again : tie.Need-loop-preserved invariant-loop decreases-loop
-loop-again c = let l = c.before.loop in (omega arith, simp length-set (omega arith), rw l.invariant.2 (fill-next l.i c.before.before.args.rows.now (pos 0) (omega arith)))
+loop-again c = let l = c.before.loop in (omega arith, simp length-set (omega arith), rw l.invariant.2 (fill_next l.i c.before.before.args.rows.now (pos 0) (omega arith)))
 
 returns : tie.Need-returns invariant-loop decreases-loop
 returns c = let l = c.before.loop in l.invariant.2 ∙ fill_end l.i c.before.before.args.rows.now (pos 0) (omega arith)

@@ -1,0 +1,19 @@
+use Prim.Native.Nat.{◌+◌, ◌-◌, ◌≤◌, ◌<◌}
+use mathlib.Core.Path.{◌≡◌, refl, ◌∙◌}
+use mathlib.Core.List.{◌++◌, map}
+use native.Mathlib.Omega.{arith}
+use native.Mathlib.Nat.{sub-zero}
+use lib.ListN.{length, take, length-set}
+use borrow.Author.Rules.{rules}
+use Rattle.arith.specs.Lists.{from}
+use Rattle.arith.proofs.Columns.{mapped_next, mapped_end, written_next, written_end}
+use Rattle.rules.specs.Days.{month_start, month_length, month_days, leap_year}
+use Rattle.months.proofs.Table.{at}
+use Rattle.months.proofs.months.read_months.Given as goal
+
+abbrev pub invariant-loop-i : goal.invariant-loop-i
+invariant-loop-i l = (l.i ≤ length l.initial.out) × (length l.out ≡ length l.initial.out)
+    × (take l.i l.out ++ map (λ j. month_start (l.first + j)) (from l.i (length l.initial.out - l.i)) ≡ map (λ j. month_start (l.first + j)) (from 0 (length l.initial.out)))
+
+abbrev pub decreases-loop-i : goal.decreases-loop-i
+decreases-loop-i l = length l.initial.out - l.i
