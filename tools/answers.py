@@ -38,6 +38,7 @@ def contracts(crates_folder):
                 req = re.findall(r"(?m)^\s*requires\*? (?:(\w+) )?\{", head)
                 ens = re.findall(r"(?m)^\s*ensures\*? (?:(\w+) )?\{", head)
                 found.setdefault((crate, m.group(1)), (req, ens))
+                found.setdefault(("&mut", crate, m.group(1)), re.findall(r"(\w+): &(?:'\w+ )?mut \[", head.split("->")[0]))
     return found
 
 
@@ -48,6 +49,22 @@ class Function:
         self.step = {p[0]: (flat(p[2][0]), p[2][1]) for p in lts["places"]}
         self.callee = {p[0]: p[3] for p in lts["places"]}
         self.at = {new: place[0] for (_, new), place in zip(lts["needs"], lts["asked_at"])}
+        # of each place the fields that an arm has now: arm, field, and the old step and path
+        self.arms = {p[0]: arm for p, arm in zip(lts["places"], lts["arms"])}
+
+    def arm_field(self, place, step, fields):
+        best = None
+        while place is not None:
+            arm = self.arms.get(place)
+            for field, old, path in arm[2] if arm else []:
+                if flat(old) == flat(step) and fields[: len(path)] == path and (best is None or len(path) > best[0]):
+                    best = (len(path), arm[0], field)
+            place = self.parent.get(place)
+        return best
+
+    def slices(self, callee):
+        parts = callee.split("::") if callee else [""]
+        return self.known.get(("&mut", parts[0], parts[-1]), [])
 
     def clauses(self, callee, kind):
         """The names of a callee's clauses, where it has several."""
@@ -127,15 +144,25 @@ class Turner:
                     got = fields
                 return ".".join(["c", first] + got), None
             return ".".join(["c", first] + fields), ("clauses", names) if names else None
-        at = place
-        while at is not None and self.f.step[at][0] != flat(first):
-            at = self.f.parent[at]
+        for name in (first, re.sub(r"_(lem|holds)$", "", first)):
+            arm = self.f.arm_field(self.place, name, fields)
+            if arm:
+                return ".".join(["c", arm[1], arm[2]] + fields[arm[0] :]), None
+            at = place
+            while at is not None and self.f.step[at][0] != flat(name):
+                at = self.f.parent[at]
+            if at is not None:
+                break
         if at is None:
             self.complain(f"no step {first}: {text}")
             return text, None
         out = ["c", self.f.step[at][1]]
         if self.f.step[at][1].startswith("loop-") and fields and fields[0] != "invariant":
             fields[0] = fields[0].replace("-", "_")
+        if len(fields) > 1 and fields[0] == "auto" and fields[1].isdigit():
+            slices = self.f.slices(self.f.callee[at])
+            if int(fields[1]) < len(slices):
+                fields[1] = slices[int(fields[1])]
         if fields and fields[0] == "ensures":
             names = self.f.clauses(self.f.callee[at], "ensures")
             if names:
@@ -193,7 +220,7 @@ def split_blocks(text):
         if starts and now:
             head = now[0]
             name = re.match(r"(?:abbrev |pub |unfoldable )*([^\s:]+)", head)
-            same = name and (re.match(re.escape(name.group(1)) + r"(?=[\s=])", line) or line.startswith("unfolding "))
+            same = line[0] in ")}]" or name and (re.match(re.escape(name.group(1)) + r"(?=[\s=])", line) or line.startswith("unfolding "))
             if head.startswith("--") and not line.startswith("use "):
                 same = True
                 if not line.startswith("--"):

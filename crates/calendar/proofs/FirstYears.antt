@@ -11,7 +11,7 @@ use Rattle.rules.specs.Header.{first_year_sound, calendar_sound, day_sound}
 use Rattle.months.specs.Bounds.{FirstYear}
 use Rattle.months.specs.declared.months.Span.{Span}
 use Rattle.months.specs.Spans.{IsSpan, lies_in}
-use Rattle.months.proofs.Starts.{lies_in}
+use Rattle.months.proofs.Starts.{lies_in_lem}
 
 pub first_year_holds : (y : ℕ) → first_year_sound y ≡ true → FirstYear y
 first_year_holds y e =
@@ -24,4 +24,4 @@ module _ (k : Calendar) where
 
   pub day_in_span : (s : Span) (d : ℕ) (r : Bool) → IsSpan s k → r ≡ lies_in s d && business_day k d → r ≡ day_sound k d
   unfolding day_sound
-  day_in_span s d r i e = e ∙ rw (lies_in k s d i)
+  day_in_span s d r i e = e ∙ rw (lies_in_lem k s d i)

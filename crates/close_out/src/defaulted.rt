@@ -9,7 +9,7 @@ use dealing::sum_of;
 use numbers::smaller;
 
 // Lots netted among the defaulted, and L, the lots that remain on one side.
-#[derive(Drop)]
+#[derive(Clone, Copy)]
 pub struct Netting {
     pub netted: u64,
     pub remaining: u64,

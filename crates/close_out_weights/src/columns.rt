@@ -8,7 +8,7 @@ ghost use Rattle.close_out_weights.specs.Columns.{lots_in, column_of};
 use numbers::size;
 use rules::layout::{DEFAULT_MARK, MARKS, ROW_WIDTH};
 
-#[derive(Drop)]
+#[derive(Clone, Copy)]
 pub enum Part {
     DefaultedLongs,
     DefaultedShorts,

@@ -13,7 +13,7 @@ use rules::ranges::MOST_LEGS;
 use rules::{Kurus, Leg, Lots};
 
 // Leg i is the order orders[i], with lots[i] at prices[i]. Places past a proposal's legs are surplus.
-#[derive(Drop)]
+#[derive(Clone, Copy)]
 pub struct Legs {
     pub orders: [u64; LEG_PLACES],
     pub lots: [u64; LEG_PLACES],

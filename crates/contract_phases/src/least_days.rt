@@ -10,7 +10,7 @@ use calendar::is_business_day;
 use rules::{ContractKind, DayNo};
 
 // For each kind, the day on which or after which a contract must first deliver to be still to close.
-#[derive(Drop)]
+#[derive(Clone, Copy)]
 pub struct LeastDays {
     pub year: DayNo,
     pub quarter: DayNo,

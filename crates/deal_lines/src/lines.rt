@@ -14,7 +14,7 @@ use rules::layout::{
 use rules::{Kurus, Lots, Side, SignedLots, Value};
 
 // The side says whether the member buys or sells.
-#[derive(Drop)]
+#[derive(Clone, Copy)]
 pub struct DealLine {
     pub member: u64,
     pub contract: u64,

@@ -37,7 +37,7 @@ pub fn header_length(members: u64, holidays: u64) -> u64
 }
 
 // The first of the holidays and of the limits count, as many as there are holidays and members; the places past them are surplus.
-#[derive(Drop)]
+#[derive(Clone, Copy)]
 pub struct JournalHeader {
     pub first_year: u64,
     pub start_day: DayNo,

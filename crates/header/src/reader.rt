@@ -18,7 +18,7 @@ use rules::ranges::{MOST_HOLIDAYS, MOST_MEMBERS};
 use rules::{Answer, DayNo};
 
 // Accepted with the header's length in bytes, or HeaderUnsound with a header of zeros.
-#[derive(Drop)]
+#[derive(Clone, Copy)]
 pub struct HeaderReading {
     pub answer: Answer,
     pub header: JournalHeader,

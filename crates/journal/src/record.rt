@@ -15,7 +15,7 @@ const ACCEPTED: u64 = 0;
 
 const UNSOUND: u64 = 3;
 
-#[derive(Drop)]
+#[derive(Clone, Copy)]
 pub struct Printed {
     pub end: usize,
     // 1 if the record was accepted, else 0.

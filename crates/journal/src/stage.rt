@@ -8,7 +8,7 @@ use rules::layout::{LINE_WIDTH, LINES_LENGTH};
 pub const ROOM: usize = (LINES_LENGTH / LINE_WIDTH + 1) * LINE_ROOM;
 
 // How far a journal has been run, with the records counted so far and those of them that were accepted.
-#[derive(Drop)]
+#[derive(Clone, Copy)]
 pub enum Stage {
     // The header is to be read.
     Header,
@@ -26,7 +26,7 @@ pub enum Stage {
     HeaderUnsound,
 }
 
-#[derive(Drop)]
+#[derive(Clone, Copy)]
 pub enum Wants {
     // The next stage can begin.
     Nothing,
@@ -36,7 +36,7 @@ pub enum Wants {
     Room,
 }
 
-#[derive(Drop)]
+#[derive(Clone, Copy)]
 pub struct Progress {
     // The bytes that were run, and the end of what is printed.
     pub used: usize,

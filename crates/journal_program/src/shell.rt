@@ -26,14 +26,14 @@ const ROWS: usize = ROWS_LENGTH + 2;
 // Nothing says that standard input ends, so turns are counted: this many take years.
 const MOST_TURNS: u64 = 70368744177664;
 
-#[derive(Drop)]
+#[derive(Clone, Copy)]
 struct Place {
     turns: u64,
     window: Window,
     stage: Stage,
 }
 
-#[derive(Drop)]
+#[derive(Clone, Copy)]
 enum Next {
     Going(Place),
     Ended(Ending),

@@ -177,7 +177,7 @@ fn put_fault(
     put_fault_text(out, place, byte, field, range, size, number, verdict)
 }
 
-#[derive(Drop)]
+#[derive(Clone, Copy)]
 pub struct Listed {
     // The place after what was written.
     pub end: usize,

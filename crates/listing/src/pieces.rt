@@ -5,7 +5,7 @@ ghost use Rattle.listing.specs.Pieces.{piece_of, piece_fits};
 use codec::front_record;
 use rules::Front;
 
-#[derive(Drop)]
+#[derive(Clone, Copy)]
 pub enum Piece {
     // So many bytes are to be listed as one record.
     Record(usize),

@@ -24,7 +24,7 @@ const OUTPUT: usize = 131072;
 const MOST_TURNS: u64 = 70368744177664;
 
 // What the header says of the records.
-#[derive(Drop)]
+#[derive(Clone, Copy)]
 struct Ledger {
     members: u64,
     first_year: u64,
@@ -33,7 +33,7 @@ struct Ledger {
 }
 
 // So many records and bytes came before what the window holds.
-#[derive(Drop)]
+#[derive(Clone, Copy)]
 struct Place {
     turns: u64,
     window: Window,
@@ -41,7 +41,7 @@ struct Place {
     base: u64,
 }
 
-#[derive(Drop)]
+#[derive(Clone, Copy)]
 enum Next {
     Going(Place),
     Ended(Ending),

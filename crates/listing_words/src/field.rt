@@ -1,5 +1,5 @@
 // What a field's number stands for.
-#[derive(Drop)]
+#[derive(Clone, Copy)]
 pub enum Quantity {
     Letter,
     Number,
@@ -14,21 +14,21 @@ pub enum Quantity {
 }
 
 // Which fields the bytes have, one after the other.
-#[derive(Drop)]
+#[derive(Clone, Copy)]
 pub enum Shape {
     Header { holidays: u64, members: u64 },
     // Only a proposal has legs.
     Record { kind: u64, legs: u64 },
 }
 
-#[derive(Drop)]
+#[derive(Clone, Copy)]
 pub struct Range {
     pub least: u64,
     pub most: u64,
 }
 
 // What is found of one field.
-#[derive(Drop)]
+#[derive(Clone, Copy)]
 pub enum Verdict {
     Passes,
     // The bytes end in it or before it.

@@ -9,7 +9,7 @@ use rules::kinds::{CANCEL, CLOSE_OUT, DAY_LIMITS, DEFAULT, PROPOSAL, SUBMIT};
 use text::put_bytes;
 
 // At most 24 letters; the places past them are blank.
-#[derive(Drop)]
+#[derive(Clone, Copy)]
 pub struct Word {
     pub letters: [u8; 24],
     pub length: usize,

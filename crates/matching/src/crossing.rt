@@ -11,7 +11,7 @@ use rules::{Lots, Order};
 use sides::is_same_side;
 
 // The member's own resting lots of the order's contract and side, and the lots that cross.
-#[derive(Drop)]
+#[derive(Clone, Copy)]
 pub struct Crossing {
     pub own: Lots,
     pub lots: Lots,

@@ -15,7 +15,7 @@ const DEAL_PRICE: usize = 1;
 const DEAL_LOTS: usize = 2;
 
 // The other party of a deal, with the resting price and the deal's lots.
-#[derive(Drop)]
+#[derive(Clone, Copy)]
 pub struct Counterparty {
     pub member: u64,
     pub price: Kurus,

@@ -16,7 +16,7 @@ use rules::layout::ORDERS;
 use rules::{Kurus, Lots, Order};
 
 // The number of deals, and what is left of the incoming order.
-#[derive(Drop)]
+#[derive(Clone, Copy)]
 pub struct Matched {
     pub deals: usize,
     pub left: Lots,

@@ -38,9 +38,9 @@ module _ (k : Calendar) where
   unfolding day_after_span
   span_most h = omega (arith, month_le (first_month k + months_in_span) 960 (omega arith), last_month_lem)
 
-  pub lies_in : (s : Span) (d : ℕ) → IsSpan s k → lies_in s d ≡ in_span k d
+  pub lies_in_lem : (s : Span) (d : ℕ) → IsSpan s k → lies_in s d ≡ in_span k d
   unfolding in_span
-  lies_in s d i = rw (i.starts, i.ends)
+  lies_in_lem s d i = rw (i.starts, i.ends)
 
   -- A day of the span lies in the table.
   pub day_most : (d : ℕ) → k.first_year ≤ most_first_year → in_span k d ≡ true → d ≤ last_month_start

@@ -88,7 +88,7 @@ fn wide(x: u16) -> u64
 }
 
 // The first day of a run of months, and the first day after it.
-#[derive(Drop)]
+#[derive(Clone, Copy)]
 pub struct Span {
     pub start: DayNo,
     pub end: DayNo,

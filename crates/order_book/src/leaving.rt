@@ -13,7 +13,7 @@ use rules::layout::{ORDER_COUNT, ORDER_LOTS, ORDER_WIDTH, ORDERS};
 use rules::{Lots, Order};
 
 // Which orders leave the book: the one of a number if it is the member's, or all of a member.
-#[derive(Drop)]
+#[derive(Clone, Copy)]
 pub enum Leaving {
     Numbered { number: u64, member: u64 },
     OfMember(u64),

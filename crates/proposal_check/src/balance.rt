@@ -43,7 +43,7 @@ fn write_sums(book: &[u64], places: &[usize], lots: &[u64], prices: &[u64], sums
 }
 
 // The three contracts that hold a month.
-#[derive(Drop)]
+#[derive(Clone, Copy)]
 struct MonthContracts {
     year: u64,
     quarter: u64,

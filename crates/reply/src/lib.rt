@@ -5,7 +5,7 @@ ghost use Rattle.rules.specs.Answers.{reply_of};
 use rules::Answer;
 
 // An answer as a host gets it and as it is printed: the paper's number, and what goes with it.
-#[derive(Drop)]
+#[derive(Clone, Copy)]
 pub struct Reply {
     pub number: u64,
     // What an accepted call counts, with 5 the member, with 6 the contract, else 0.

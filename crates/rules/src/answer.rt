@@ -1,5 +1,5 @@
 // The answer to a record or to a header: a case for each cause of document 01, in its order.
-#[derive(Drop)]
+#[derive(Clone, Copy)]
 pub enum Answer {
     // With the number of deal lines or, from a writer, of bytes written.
     Accepted(u64),

@@ -3,7 +3,7 @@ ghost use Rattle.rules.specs.ContractTerms.{threshold_of, open_count, closing_di
 
 use crate::units::Lots;
 
-#[derive(Drop)]
+#[derive(Clone, Copy)]
 pub enum ContractKind {
     Year,
     Quarter,
@@ -11,7 +11,7 @@ pub enum ContractKind {
 }
 
 // A contract as its kind and its place by delivery among the ledger's contracts of that kind, from 0.
-#[derive(Drop)]
+#[derive(Clone, Copy)]
 pub struct Term {
     pub kind: ContractKind,
     pub index: u64,

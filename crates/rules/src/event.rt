@@ -1,7 +1,7 @@
 use crate::order::Side;
 use crate::units::{Kurus, Lots};
 
-#[derive(Drop)]
+#[derive(Clone, Copy)]
 pub enum OrderKind {
     // Matches what is there and rests with what is left.
     Resting,
@@ -11,7 +11,7 @@ pub enum OrderKind {
     Teye,
 }
 
-#[derive(Drop)]
+#[derive(Clone, Copy)]
 pub struct Submission {
     pub time: u64,
     pub member: u64,
@@ -22,7 +22,7 @@ pub struct Submission {
     pub lots: Lots,
 }
 
-#[derive(Drop)]
+#[derive(Clone, Copy)]
 pub struct Cancellation {
     pub time: u64,
     pub member: u64,
@@ -30,14 +30,14 @@ pub struct Cancellation {
     pub order: u64,
 }
 
-#[derive(Drop)]
+#[derive(Clone, Copy)]
 pub struct NewDayLimits {
     pub contract: u64,
     pub low: Kurus,
     pub high: Kurus,
 }
 
-#[derive(Drop)]
+#[derive(Clone, Copy)]
 pub struct CloseOutTerms {
     pub contract: u64,
     // Per mille.
@@ -45,7 +45,7 @@ pub struct CloseOutTerms {
 }
 
 // A leg of a synthetic proposal. An enum holds no list, so a proposal's legs stand beside its event.
-#[derive(Drop)]
+#[derive(Clone, Copy)]
 pub struct Leg {
     // The order's number.
     pub order: u64,
@@ -54,7 +54,7 @@ pub struct Leg {
 }
 
 // A record's kinds, in the order of their numbers, 1 to 7.
-#[derive(Drop)]
+#[derive(Clone, Copy)]
 pub enum Event {
     Submit(Submission),
     Cancel(Cancellation),
@@ -69,14 +69,14 @@ pub enum Event {
 }
 
 // What the bytes of a record say.
-#[derive(Drop)]
+#[derive(Clone, Copy)]
 pub enum Reading {
     Sound(Event),
     Unsound,
 }
 
 // What stands at the front of a stream of records.
-#[derive(Drop)]
+#[derive(Clone, Copy)]
 pub enum Front {
     // A whole record, with its length in bytes.
     Whole(u64),

@@ -1,5 +1,5 @@
 // The fields of a header and of a record.
-#[derive(Drop)]
+#[derive(Clone, Copy)]
 pub enum Field {
     // Of a header.
     LetterV,

@@ -1,13 +1,13 @@
 use crate::units::{DayNo, Kurus, Lots};
 
-#[derive(Drop)]
+#[derive(Clone, Copy)]
 pub enum Side {
     Buy,
     Sell,
 }
 
 // A resting order.
-#[derive(Drop)]
+#[derive(Clone, Copy)]
 pub struct Order {
     // Accepted submits before it, from 0.
     pub number: u64,

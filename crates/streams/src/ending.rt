@@ -2,7 +2,7 @@
 ghost use Rattle.std.specs.Prelude.{◌≡◌};
 ghost use Rattle.streams.specs.Windows.{status_of};
 
-#[derive(Drop)]
+#[derive(Clone, Copy)]
 pub enum Ending {
     ReadToEnd,
     HeaderUnsound,

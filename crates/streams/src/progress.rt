@@ -14,7 +14,7 @@ const WAIT: u64 = 1;
 // In percent.
 const ALL: u64 = 100;
 
-#[derive(Drop)]
+#[derive(Clone, Copy)]
 pub struct Progress {
     pub is_said: bool,
     // How many bytes there are to read, or 0 where that is not known.

@@ -8,7 +8,7 @@ use libc::{STDIN_FILENO, STDOUT_FILENO};
 use text::shift;
 
 // The input's bytes from a place to end are still to be run, the output's below filled still to be written.
-#[derive(Drop)]
+#[derive(Clone, Copy)]
 pub struct Window {
     pub from: usize,
     pub end: usize,
@@ -18,14 +18,14 @@ pub struct Window {
     pub progress: Progress,
 }
 
-#[derive(Drop)]
+#[derive(Clone, Copy)]
 pub enum Moved {
     On(Window),
     Ended(Ending),
 }
 
 // What a read of standard input brought.
-#[derive(Drop)]
+#[derive(Clone, Copy)]
 enum Filled {
     // Bytes came, and the buffer holds bytes up to here.
     Until(usize),

@@ -18,7 +18,7 @@ use rules::layout::{
 use rules::ranges::{MOST_ACCEPTED_SUBMITS, MOST_LOTS_RUN, MOST_ORDERS, MOST_SUBMITS_IN_SECOND};
 use rules::{Answer, Kurus, Lots, OrderKind, Submission};
 
-#[derive(Drop)]
+#[derive(Clone, Copy)]
 pub enum Verdict {
     Refused(Answer),
     Sound,

@@ -8,7 +8,7 @@ use Rattle.arith.specs.Lists.{every}
 use Rattle.arith.proofs.Scans.{every_next, every_end}
 use Rattle.rules.specs.Days.{Calendar, in_span}
 use Rattle.months.specs.Spans.{IsSpan}
-use Rattle.months.proofs.Starts.{lies_in}
+use Rattle.months.proofs.Starts.{lies_in_lem}
 use Rattle.calendar.proofs.sound.are_in.Statement.{statement}
 use Rattle.calendar.proofs.sound.are_in.Tie as tie
 
@@ -27,7 +27,7 @@ loop-again c =
     let loop = c.before.before.before.loop in
     let start = c.before.before.before.before.before in
     let l = loop in
-    (omega arith, λ k s. rw (c.is-in.ensures, lies_in k start.args.span _ s) (every_next (in_span k) start.args.days.now 0 l.i l.ok (l.invariant.1 k s) test.true))
+    (omega arith, λ k s. rw (c.is-in.ensures, lies_in_lem k start.args.span _ s) (every_next (in_span k) start.args.days.now 0 l.i l.ok (l.invariant.1 k s) test.true))
 
 returns : tie.Need-returns invariant-loop decreases-loop
 returns c = let l = c.before.loop in λ k s. every_end (in_span k) c.before.before.before.args.days.now 0 l.i l.ok (l.invariant.1 k s) c.loop-test.false
