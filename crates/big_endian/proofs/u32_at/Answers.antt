@@ -1,0 +1,8 @@
+use native.Mathlib.Omega.{arith}
+use borrow.Author.Rules.{rules}
+use Rattle.rules.specs.Header.{u32_at}
+use Rattle.big_endian.proofs.u32_at.Goals as goal
+
+pub returns : goal.returns
+unfolding u32_at
+returns c = omega arith

@@ -1,0 +1,16 @@
+use Prim.Native.Nat.{◌+◌, ◌-◌, ◌≤◌}
+use mathlib.Core.Path.{◌≡◌, refl}
+use mathlib.Core.List.{◌++◌}
+use native.Mathlib.Omega.{arith}
+use lib.ListN.{length, take, drop, length-set}
+use borrow.Author.Rules.{rules}
+use Rattle.arith.proofs.Columns.{written_next, written_end}
+use Rattle.rules.specs.Default.{given_up}
+use Rattle.rules.proofs.Netting.{given_next, given_end}
+use Rattle.dealing.proofs.columns.give_up.Given as goal
+
+abbrev pub invariant-loop-i : goal.invariant-loop-i
+invariant-loop-i l = (l.i ≤ length l.held) × (length l.given ≡ length l.held) × (take l.i l.given ++ given_up l.remaining (drop l.i l.held) ≡ given_up l.lots l.held)
+
+abbrev pub decreases-loop-i : goal.decreases-loop-i
+decreases-loop-i l = length l.held - l.i

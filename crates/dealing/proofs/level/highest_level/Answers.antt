@@ -1,0 +1,45 @@
+use Prim.Native.Nat.{◌+◌, ◌-◌, ◌/◌, ◌≤◌, ◌<◌}
+use mathlib.Core.Path.{◌≡◌}
+use native.Mathlib.Omega.{arith}
+use borrow.Author.Rules.{rules}
+use Rattle.rules.specs.Default.{sum_of}
+use Rattle.dealing.specs.Levels.{at_level}
+use Rattle.dealing.proofs.Levels.{level_top}
+use Rattle.dealing.proofs.level.highest_level.Goals as goal
+
+pub lots_at_level-requires : goal.lots_at_level-requires
+lots_at_level-requires c = (omega (arith, c.smaller-top.ensures), omega arith)
+
+pub returns-then-lots_at_level-lots : goal.returns-then-lots_at_level-lots
+returns-then-lots_at_level-lots c =
+    let a = c.args in
+    let top = c.smaller-top.ensures in
+    let same = level_top a.lots c.largest.result a.minima.now c.largest.ensures in
+    record { within = omega arith; enough = rw (← same, ← top, ← c.lots_at_level.ensures) c.if-lots_at_level-lots.true; short = λ h. absurd (omega arith) }
+
+pub level_below-low-requires : goal.level_below-low-requires
+level_below-low-requires c = (omega (arith, c.smaller-top.ensures), omega arith, rw (← c.lots_at_level.ensures) c.if-lots_at_level-lots.false)
+
+pub loop-low-init : goal.loop-low-init
+loop-low-init c =
+    let top = c.smaller-top.result in
+    let next : top - 1 + 1 ≡ top = omega (arith, c.level_below-low.ensures.0) in (
+      omega (arith, c.level_below-low.ensures.0),
+      omega (arith, c.smaller-top.ensures),
+      c.level_below-low.ensures.1,
+      λ h. rw (next, ← c.lots_at_level.ensures) c.if-lots_at_level-lots.false,
+    )
+
+pub loop-low-preserved-then-lots_at_level-lots-2 : goal.loop-low-preserved-then-lots_at_level-lots-2
+loop-low-preserved-then-lots_at_level-lots-2 c = (omega arith, omega arith, rw (← c.lots_at_level-in-loop-low.ensures) c.if-lots_at_level-lots-2.true, c.loop-low.invariant.3)
+
+pub loop-low-preserved : goal.loop-low-preserved
+loop-low-preserved c = let l = c.loop-low in
+    let middle = l.high - (l.high - l.low) / 2 in
+    let e : middle - 1 + 1 ≡ middle = omega arith in
+    (omega arith, omega arith, l.invariant.2, λ h. rw (e, ← c.lots_at_level-in-loop-low.ensures) c.if-lots_at_level-lots-2.false)
+
+pub returns : goal.returns
+returns c = let l = c.loop-low in
+    let e : l.low ≡ l.high = omega arith in
+    record { within = omega arith; enough = l.invariant.2; short = λ h. rw e (l.invariant.3 (omega arith)) }

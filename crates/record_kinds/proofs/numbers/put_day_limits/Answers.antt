@@ -1,0 +1,20 @@
+use native.Mathlib.Omega.{arith}
+use mathlib.Core.List.{◌∷◌}
+use lib.ListN.{length-set}
+use Rattle.arith.proofs.Writes.{stored}
+use Rattle.rules.specs.declared.event.Event.TheVariants.{DayLimits}
+use Rattle.rules.specs.Records.{kind_number, event_numbers}
+use borrow.Author.Rules.{rules}
+use Rattle.record_kinds.proofs.numbers.put_day_limits.Goals as goal
+
+pub bounds-numbers-1 : goal.bounds-numbers-1
+bounds-numbers-1 c = simp length-set (omega arith)
+
+pub bounds-numbers-2 : goal.bounds-numbers-2
+bounds-numbers-2 c = simp length-set (omega arith)
+
+pub bounds-numbers-3 : goal.bounds-numbers-3
+bounds-numbers-3 c = simp length-set (omega arith)
+
+pub returns : goal.returns
+returns c = let a = c.args in stored (kind_number (DayLimits a.e) ∷ event_numbers (DayLimits a.e)) a.numbers.now 0 (omega arith)

@@ -1,0 +1,14 @@
+use native.Mathlib.Omega.{arith}
+use mathlib.Core.List.{◌∷◌}
+use lib.ListN.{length-set}
+use Rattle.arith.proofs.Writes.{stored}
+use Rattle.rules.specs.declared.event.Event.TheVariants.{Proposal}
+use Rattle.rules.specs.Records.{kind_number, event_numbers}
+use borrow.Author.Rules.{rules}
+use Rattle.record_kinds.proofs.numbers.put_proposal.Goals as goal
+
+pub bounds-numbers-1 : goal.bounds-numbers-1
+bounds-numbers-1 c = simp length-set (omega arith)
+
+pub returns : goal.returns
+returns c = let a = c.args in stored (kind_number (Proposal a.count) ∷ event_numbers (Proposal a.count)) a.numbers.now 0 (omega arith)

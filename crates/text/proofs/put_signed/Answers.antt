@@ -1,0 +1,38 @@
+use native.Mathlib.Omega.{arith}
+use Rattle.text.proofs.Decimals.{room-below, wrote-below, room-other, wrote-other}
+use borrow.Author.Rules.{rules}
+use Rattle.text.proofs.put_signed.Goals as goal
+
+pub put_byte-digits-requires : goal.put_byte-digits-requires
+put_byte-digits-requires c =
+    omega
+    (arith, room-below _ c.ranges.x _ c.size-n.ensures _ c.if-x-lt0.true c.requires)
+
+pub put_decimal-requires : goal.put_decimal-requires
+put_decimal-requires c =
+    omega (
+      arith,
+      c.put_byte-digits.ensures.after,
+      c.put_byte-digits.auto.out,
+      room-below _
+          c.ranges.x _ c.size-n.ensures _
+          c.if-x-lt0.true c.requires,
+    )
+
+pub returns-then-x-lt0 : goal.returns-then-x-lt0
+returns-then-x-lt0 c =
+    wrote-below _ c.ranges.x _
+    c.size-n.ensures _
+    c.if-x-lt0.true
+    c.requires
+    c.put_byte-digits.ensures c.put_decimal.ensures
+
+pub put_decimal-requires-2 : goal.put_decimal-requires-2
+put_decimal-requires-2 c =
+    room-other _ c.ranges.x _ c.size-n.ensures _ c.if-x-lt0.false
+    c.requires
+
+pub returns : goal.returns
+returns c =
+    wrote-other _ c.ranges.x _ c.size-n.ensures _
+    c.if-x-lt0.false c.put_decimal-2.ensures
