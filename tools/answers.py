@@ -18,7 +18,7 @@ TOKEN = re.compile(rf'"(?:[^"\\]|\\.)*"|{CHAIN}|\s+|.', re.S)
 
 
 def flat(name):
-    return name.replace("_", "-")
+    return name.replace("_", "-").lower()
 
 
 # ---- contracts, from the sources
@@ -120,6 +120,8 @@ class Turner:
                 self.complain(f"part of clauses: {text}")
                 return text, None
             return ".".join([parts[0]] + got), None
+        if kind[0] == "snake":
+            return ".".join([parts[0]] + [g.replace("-", "_") for g in fields]), None
         place = kind[1]
         if not fields and parts[0] != "c":
             return "c", kind
@@ -134,7 +136,7 @@ class Turner:
             return "c", ("place", place)
         first = fields.pop(0)
         if first in ("args", "ranges", "well_formed", "type_inv", "lifetimes", "blocks", "element_fits"):
-            return ".".join(["c", first] + [g.replace("-", "_") for g in fields]), None
+            return ".".join(["c", first] + [g.replace("-", "_") for g in fields]), ("snake",) if first == "args" else None
         if first == "requires":
             names = self.f.own("requires")
             if names and fields:
@@ -159,6 +161,8 @@ class Turner:
         out = ["c", self.f.step[at][1]]
         if self.f.step[at][1].startswith("loop-") and fields and fields[0] != "invariant":
             fields[0] = fields[0].replace("-", "_")
+        if self.f.step[at][1].startswith("loop-") and not fields:
+            return ".".join(out), ("snake",)
         if len(fields) > 1 and fields[0] == "auto" and fields[1].isdigit():
             slices = self.f.slices(self.f.callee[at])
             if int(fields[1]) < len(slices):
@@ -366,11 +370,16 @@ def turn_file(path, crate, lts_of, known):
                 said.append(f"{name} has {len(variables)} variables for {fields}")
             stands = {v: x for v, x in zip(variables, fields) if v != "_"}
             tokens = TOKEN.findall(m.group(2))
+            is_let = False
             out = []
-            for t in tokens:
-                if re.match(r"[^\W\d]", t):
+            for i, t in enumerate(tokens):
+                # a field's name in a record stays
+                is_field = re.match(r"\s*=[^=]?", "".join(tokens[i + 1 : i + 4])) and not is_let
+                if re.match(r"[^\W\d]", t) and not is_field:
                     head, dot, tail = t.partition(".")
                     t = stands.get(head, head) + dot + tail
+                if t.strip():
+                    is_let = t == "let"
                 out.append(t)
             invariants.append(f"{comment}abbrev pub {word}-{new_loop} : goal.{word}-{new_loop}\n{word}-{new_loop} l = {''.join(out)}")
             continue

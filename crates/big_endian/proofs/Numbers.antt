@@ -1,7 +1,7 @@
 -- Big-endian numbers written and read back, and read and written again. Assumes nothing.
 use Prim.Native.Nat.{ℕ, zero, suc, ◌+◌, ◌*◌, ◌/◌, ◌%◌, ◌≤◌, ◌<◌}
 use mathlib.Core.List.{List, [], ◌∷◌, ◌++◌, map, flat_map, append_assoc}
-use mathlib.Core.Path.{◌≡◌, refl, sym, ap, ◌∙◌}
+use mathlib.Core.Path.{◌≡◌, refl, sym, ap, ◌∙◌, subst}
 use native.Mathlib.Nat.{add-zero, mul-suc, mul-zero}
 use native.Mathlib.Numerals.{add-one}
 use native.Mathlib.Omega.{arith}
@@ -50,14 +50,15 @@ module _ {B : Type 0} (bytes : B → List ℕ) (w : ℕ) (wide : (b : B) → len
   all_back [] p q i e g = refl
   all_back (b ∷ bs) p q i e g =
       let rest = flat_map bytes bs ++ q in
-      let shape : bytes b ++ flat_map bytes bs ++ q ≡ bytes b ++ rest = append_assoc (bytes b) (flat_map bytes bs) q in
+      let shape : flat_map bytes (b ∷ bs) ++ q ≡ bytes b ++ rest = append_assoc (bytes b) (flat_map bytes bs) q in
       let first : read (p ++ (bytes b ++ rest)) (i + w * 0) ≡ b = rw (mul-zero, add-zero) (here p rest i e b g.0) in
       let step : (j : ℕ) → i + w * suc j ≡ i + w + w * j = λ j. rw mul-suc (omega arith) in
       let later : map (λ j. read (p ++ (bytes b ++ rest)) (i + w * suc j)) (from 0 (length bs)) ≡ bs =
       map_same (λ j. read (p ++ (bytes b ++ rest)) (i + w * suc j)) (λ j. read ((p ++ bytes b) ++ rest) (i + w + w * j)) (from 0 (length bs))
       (λ j. rw (step j, append_assoc p (bytes b) rest) refl)
       ∙ all_back bs (p ++ bytes b) q (i + w) (rw (length-append, wide b, e) refl) g.1 in
-      rw (shape, first) (ap (λ r. b ∷ r) (map_from_suc (λ j. read (p ++ (bytes b ++ rest)) (i + w * j)) 0 (length bs) ∙ later))
+      subst (λ s. map (λ j. read (p ++ s) (i + w * j)) (from 0 (length (b ∷ bs))) ≡ b ∷ bs) (sym shape)
+      (rw first (ap (λ r. b ∷ r) (map_from_suc (λ j. read (p ++ (bytes b ++ rest)) (i + w * j)) 0 (length bs) ∙ later)))
 
 -- ---- read, then written
 pub bytes_small : (s : List ℕ) → T (every (λ b. ltb b 256) s) → (i : ℕ) → get_or s i 0 < 256

@@ -1,0 +1,14 @@
+use borrow.Author.Rules.{rules}
+use Prim.Native.Nat.{ℕ, ◌≤◌}
+use mathlib.Core.Path.{◌≡◌, refl, sym, ◌∙◌}
+use native.Mathlib.Omega.{arith}
+use Rattle.rules.specs.Days.{business_day_before}
+use Rattle.calendar.proofs.Steps.{back_last, back_more, back_idle, back_end}
+use Rattle.calendar.proofs.days.business_day_before.Given as goal
+
+abbrev pub invariant-loop-x : goal.invariant-loop-x
+invariant-loop-x l = (l.x ≤ l.initial.x) × (l.to_count ≤ l.n)
+    × ((y : ℕ) → business_day_before (record { first_year = y; holidays = l.holidays }) l.to_count l.x ≡ business_day_before (record { first_year = y; holidays = l.holidays }) l.n l.initial.x)
+
+abbrev pub decreases-loop-x : goal.decreases-loop-x
+decreases-loop-x l = l.x
