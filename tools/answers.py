@@ -120,6 +120,9 @@ class Turner:
                 self.complain(f"part of clauses: {text}")
                 return text, None
             return ".".join([parts[0]] + got), None
+        if kind[0] == "step":
+            rest, stands = self.of_step(kind[1], fields, text)
+            return ".".join([parts[0]] + rest), stands
         if kind[0] == "snake":
             return ".".join([parts[0]] + [g.replace("-", "_") for g in fields]), None
         place = kind[1]
@@ -158,26 +161,33 @@ class Turner:
         if at is None:
             self.complain(f"no step {first}: {text}")
             return text, None
-        out = ["c", self.f.step[at][1]]
-        if self.f.step[at][1].startswith("loop-") and fields and fields[0] != "invariant":
-            fields[0] = fields[0].replace("-", "_")
-        if self.f.step[at][1].startswith("loop-") and not fields:
-            return ".".join(out), ("snake",)
-        if len(fields) > 1 and fields[0] == "auto" and fields[1].isdigit():
-            slices = self.f.slices(self.f.callee[at])
-            if int(fields[1]) < len(slices):
-                fields[1] = slices[int(fields[1])]
-        if fields and fields[0] == "ensures":
+        rest, stands = self.of_step(at, fields, text)
+        return ".".join(["c", self.f.step[at][1]] + rest), stands
+
+    def of_step(self, at, fields, text):
+        """The fields of a step, turned, and what they stand for."""
+        is_loop = self.f.step[at][1].startswith("loop-")
+        if not fields:
+            return fields, ("snake",) if is_loop else ("step", at)
+        if is_loop and fields[0] != "invariant":
+            return [fields[0].replace("-", "_")] + fields[1:], None
+        if len(fields) > 1 and fields[0] in ("auto", "new") and fields[1].isdigit():
+            # the pairs are over the parameters
+            names = self.f.lts["params"].get(self.f.callee[at], [])
+            at = 0
+            while fields[1 + at] == "1":
+                at += 1
+            return [fields[0]] + ([names[at]] + fields[2 + at :] if at < len(names) else fields[1:]), None
+        if fields[0] == "ensures":
             names = self.f.clauses(self.f.callee[at], "ensures")
+            if names and len(fields) == 1:
+                return fields, ("clauses", names)
             if names:
-                if len(fields) == 1:
-                    return ".".join(out + fields), ("clauses", names)
                 got = pick(fields[1:], names)
                 if got is None:
                     self.complain(f"part of clauses: {text}")
-                    got = fields[1:]
-                return ".".join(out + ["ensures"] + got), None
-        return ".".join(out + fields), None
+                return ["ensures"] + (got or fields[1:]), None
+        return fields, None
 
     def turn(self, body):
         tokens = TOKEN.findall(body)
@@ -277,7 +287,7 @@ def pairs(text, names):
         else:
             now += ch
     parts.append(now)
-    parts = [p.strip() for p in parts]
+    parts = [p.strip() for p in parts if p.strip()]
     if len(parts) != 2:
         return None
     if len(names) == 2:

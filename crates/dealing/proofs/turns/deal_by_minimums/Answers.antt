@@ -39,9 +39,9 @@ slice_bounds-order-end-2 c =
 pub slice_bounds-take_turns-end : goal.slice_bounds-take_turns-end
 slice_bounds-take_turns-end c =
     let put-in-order = c.put_in_order in
-    let long : length put-in-order.new.1.1.0 ≡ length c.args.weights.now = ap length put-in-order.ensures ∙ order_length _ _ ∙ from_length 0
+    let long : length put-in-order.new.order ≡ length c.args.weights.now = ap length put-in-order.ensures ∙ order_length _ _ ∙ from_length 0
     (length c.args.weights.now) in
-    sym (ap length (take_at put-in-order.new.1.1.0 _ _ long) ∙ long)
+    sym (ap length (take_at put-in-order.new.order _ _ long) ∙ long)
 
 pub take_turns-requires : goal.take_turns-requires
 take_turns-requires c =
@@ -49,13 +49,13 @@ take_turns-requires c =
     let fill-to-level = c.fill_to_level in
     let a = c.args in
     let n = length a.weights.now in
-    let long : length put-in-order.new.1.1.0 ≡ n = ap length put-in-order.ensures ∙ order_length _ _ ∙ from_length 0 n in
+    let long : length put-in-order.new.order ≡ n = ap length put-in-order.ensures ∙ order_length _ _ ∙ from_length 0 n in
     let wide : length a.minima.now ≡ n = ap length c.requires.member_column.1 ∙ minimums_length _ _ in
-    let back = take_at put-in-order.new.1.1.0 _ n long in (
-      (ap length back ∙ long ∙ sym wide, fill-to-level.auto.1.1.0 ∙ c.requires.lots_le_most_lots_run.2 ∙ sym wide),
-      λ i. rw (back, put-in-order.ensures, wide)
-          (order_below _ n 0 n (some_members _ c.requires.lots_le_most_lots_run.1) (omega arith) i),
-    )
+    let back = take_at put-in-order.new.order _ n long in record {
+      order_len = (ap length back ∙ long ∙ sym wide, fill-to-level.auto.received ∙ c.requires.lots_le_most_lots_run.2 ∙ sym wide);
+      by_index = λ i. rw (back, put-in-order.ensures, wide)
+          (order_below _ n 0 n (some_members _ c.requires.lots_le_most_lots_run.1) (omega arith) i);
+    }
 
 pub returns : goal.returns
 returns c =
@@ -65,7 +65,7 @@ returns c =
     let fill-to-level = c.fill_to_level in
     let a = c.args in
     let n = length a.weights.now in
-    let long : length put-in-order.new.1.1.0 ≡ n = ap length put-in-order.ensures ∙ order_length _ _ ∙ from_length 0 n in
+    let long : length put-in-order.new.order ≡ n = ap length put-in-order.ensures ∙ order_length _ _ ∙ from_length 0 n in
     dealt_by_round a.lots a.weights.now c.requires.lots_le_most_lots_run.1 a.minima.now _ _ highest-level.result _ _ c.requires.member_column.1
     (take_at _ _ n long ∙ put-in-order.ensures) highest-level.ensures fill-to-level.ensures (ap (λ s. a.lots - s) lots-at-level.ensures)
     c.take_turns.ensures

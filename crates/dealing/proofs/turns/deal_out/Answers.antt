@@ -17,12 +17,12 @@ slice_bounds-minima-end-2 c = simp length-append (omega (arith, ap length c.find
 
 pub slice_bounds-deal_by_minimums-end : goal.slice_bounds-deal_by_minimums-end
 slice_bounds-deal_by_minimums-end c =
-    let long : length c.find_minimums.new.1.1.0 ≡ length c.args.weights.now = ap length c.find_minimums.ensures
+    let long : length c.find_minimums.new.minima ≡ length c.args.weights.now = ap length c.find_minimums.ensures
     ∙ minimums_length _ _ in
-    sym (ap length (take_at c.find_minimums.new.1.1.0 _ _ long) ∙ long)
+    sym (ap length (take_at c.find_minimums.new.minima _ _ long) ∙ long)
 
 pub deal_by_minimums-requires : goal.deal_by_minimums-requires
 deal_by_minimums-requires c =
     let find-minimums = c.find_minimums in
-    let long : length find-minimums.new.1.1.0 ≡ length c.args.weights.now = ap length find-minimums.ensures ∙ minimums_length _ _ in
-    record { lots_le_most_lots_run = c.requires.lots_le_most_lots_run; member_column = (c.requires.member_column, take_at find-minimums.new.1.1.0 _ _ long ∙ find-minimums.ensures) }
+    let long : length find-minimums.new.minima ≡ length c.args.weights.now = ap length find-minimums.ensures ∙ minimums_length _ _ in
+    record { lots_le_most_lots_run = c.requires.lots_le_most_lots_run; member_column = (c.requires.member_column, take_at find-minimums.new.minima _ _ long ∙ find-minimums.ensures) }

@@ -1,6 +1,5 @@
 use Prim.Native.Nat.{◌-◌, ◌≤◌, ◌<◌}
 use mathlib.Core.Path.{◌≡◌, refl, sym, ◌∙◌}
-use mathlib.Core.Logic.{⊎_elim}
 use native.Mathlib.Omega.{arith}
 use lib.Dec.{ltb}
 use lib.ListN.{length, get_or, drop, length-set}
@@ -10,6 +9,7 @@ use Rattle.arith.proofs.Tests.{and_left, and_right}
 use Rattle.rules.specs.Default.{round}
 use Rattle.rules.proofs.Turns.{round_deals, round_passes, round_end}
 use Rattle.dealing.proofs.turns.take_turns.Goals as goal
+use Rattle.dealing.proofs.turns.take_turns.Goals.{then-undealt-has, else-undealt-has}
 
 pub loop-i-init : goal.loop-i-init
 loop-i-init c = (omega arith, omega arith, refl)
@@ -44,9 +44,10 @@ overflow_sub-undealt c = let some : 0 < c.loop-i.undealt = ltb-true _ _ (and_lef
 
 pub loop-i-preserved : goal.loop-i-preserved
 loop-i-preserved c = let l = c.loop-i in
-    ⊎_elim
-    (λ w. rw (w.1, w.2) (omega arith, simp length-set l.invariant.1, round_deals _ _ l.received l.undealt l.i c.loop-i-test.true w.0.taken ∙ l.invariant.2))
-    (λ w. rw (w.1, w.2) (omega arith, l.invariant.1, round_passes _ _ l.received l.undealt l.i c.loop-i-test.true w.0.left ∙ l.invariant.2)) c.if-undealt-has.branch
+    elim c.if-undealt-has.branch [
+      | then-undealt-has w ↦ rw (w.received-is, w.undealt-is) (omega arith, simp length-set l.invariant.1, round_deals _ _ l.received l.undealt l.i c.loop-i-test.true w.if-undealt-has.true ∙ l.invariant.2)
+      | else-undealt-has w ↦ rw (w.received-is, w.undealt-is) (omega arith, l.invariant.1, round_passes _ _ l.received l.undealt l.i c.loop-i-test.true w.if-undealt-has.false ∙ l.invariant.2)
+    ]
 
 pub returns : goal.returns
 returns c = sym (round_end _ _ _ c.loop-i.i c.loop-i-test.false) ∙ c.loop-i.invariant.2

@@ -1,0 +1,26 @@
+use mathlib.Core.Path.{sym, ap, ◌∙◌}
+use mathlib.Core.Bool.{not}
+use native.Mathlib.Omega.{arith}
+use borrow.Author.Tests.{not-true, not-false}
+use Rattle.rules.proofs.CalendarLaws.{open_closed, open_first, open_rank}
+use Rattle.contracts.proofs.InLedger.{earlier}
+use borrow.Author.Rules.{rules}
+use Rattle.contracts.proofs.opening.is_open_term.Goals as goal
+
+pub returns-then-not-still_to_close : goal.returns-then-not-still_to_close
+returns-then-not-still_to_close c = sym (open_closed _ _ _ (sym c.still_to_close.ensures ∙ not-true _ c.if-not-still_to_close.true))
+
+pub returns-then-i-n : goal.returns-then-i-n
+returns-then-i-n c = sym (open_first _ _ _ (sym c.still_to_close.ensures ∙ not-false _ c.if-not-still_to_close.false) (rw c.open_count-n.ensures at c.if-i-n.true))
+
+pub still_to_close-requires-2 : goal.still_to_close-requires-2
+still_to_close-requires-2 c =
+    (c.requires.0, earlier c.args.t _ (omega arith) c.requires.1)
+
+pub returns : goal.returns
+returns c =
+    let open-count = c.open_count-n in
+    let test1 = c.if-not-still_to_close in
+    let still-to-close = c.still_to_close in
+    let o = open_rank _ _ _ (sym still-to-close.ensures ∙ not-false _ test1.false) (rw open-count.ensures at c.if-i-n.false) in
+    ap not (rw open-count.ensures at c.still_to_close-2.ensures) ∙ sym o

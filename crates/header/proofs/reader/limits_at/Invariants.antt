@@ -1,0 +1,16 @@
+use Prim.Native.Nat.{◌+◌, ◌*◌, ◌-◌, ◌≤◌}
+use mathlib.Core.List.{map}
+use mathlib.Core.Path.{◌≡◌, refl}
+use native.Mathlib.Omega.{arith}
+use borrow.Author.Rules.{rules}
+use Rattle.arith.specs.Lists.{from}
+use Rattle.rules.specs.Header.{u32_at, u32s_at}
+use Rattle.arith.specs.Columns.{padded}
+use Rattle.arith.proofs.Padded.{column_filled}
+use Rattle.header.proofs.reader.limits_at.Given as goal
+
+abbrev pub invariant-loop-i : goal.invariant-loop-i
+invariant-loop-i l = (l.i ≤ l.count) × (l.column ≡ padded 32 (map (λ j. u32_at l.bytes (l.at + 4 * j)) (from 0 l.i)))
+
+abbrev pub decreases-loop-i : goal.decreases-loop-i
+decreases-loop-i l = l.count - l.i

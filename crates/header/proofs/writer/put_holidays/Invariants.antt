@@ -1,0 +1,18 @@
+use Prim.Native.Nat.{◌-◌, ◌≤◌}
+use mathlib.Core.List.{flat_map, map}
+use mathlib.Core.Path.{◌≡◌, refl}
+use native.Mathlib.Omega.{arith}
+use borrow.Author.Rules.{rules}
+use lib.ListN.{length, get_or}
+use Rattle.arith.specs.Lists.{from, over}
+use Rattle.rules.specs.Header.{u16_bytes}
+use Rattle.header.specs.Journal.{firsts}
+use Rattle.big_endian.proofs.Numbers.{u16_wide}
+use Rattle.arith.proofs.Widths.{blocks_none, blocks_next}
+use Rattle.header.proofs.writer.put_holidays.Given as goal
+
+abbrev pub invariant-loop-i : goal.invariant-loop-i
+invariant-loop-i l = (l.i ≤ l.count) × (length l.out ≡ length l.initial.out) × (l.out ≡ over 11 (flat_map u16_bytes (map (λ j. get_or l.list j 0) (from 0 l.i))) l.initial.out)
+
+abbrev pub decreases-loop-i : goal.decreases-loop-i
+decreases-loop-i l = l.count - l.i
