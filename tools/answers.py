@@ -82,6 +82,11 @@ class Function:
         return self.clauses(self.crate + "::" + self.key.split(".")[-1], kind)
 
 
+def of_args(fields):
+    """The fields of an argument; the parameter `list` had no name of its own."""
+    return ["list" if re.fullmatch(r"t[1-9]", g) and i == 0 else g.replace("-", "_") for i, g in enumerate(fields)]
+
+
 def pick(fields, names):
     """A path into nested pairs of clauses, as the clause's name and the rest."""
     at = 0
@@ -124,7 +129,7 @@ class Turner:
             rest, stands = self.of_step(kind[1], fields, text)
             return ".".join([parts[0]] + rest), stands
         if kind[0] == "snake":
-            return ".".join([parts[0]] + [g.replace("-", "_") for g in fields]), None
+            return ".".join([parts[0]] + of_args(fields)), None
         place = kind[1]
         if not fields and parts[0] != "c":
             return "c", kind
@@ -138,8 +143,8 @@ class Turner:
         if not fields:
             return "c", ("place", place)
         first = fields.pop(0)
-        if first in ("args", "ranges", "well_formed", "type_inv", "lifetimes", "blocks", "element_fits"):
-            return ".".join(["c", first] + [g.replace("-", "_") for g in fields]), ("snake",) if first == "args" else None
+        if first in ("args", "ranges", "well_formed", "well-formed", "type_inv", "lifetimes", "blocks", "element_fits"):
+            return ".".join(["c", first] + of_args(fields)), ("snake",) if first == "args" else None
         if first == "requires":
             names = self.f.own("requires")
             if names and fields:
@@ -410,6 +415,8 @@ def turn_file(path, crate, lts_of, known):
             complain = lambda s, name=name: said.append(f"{name}: {s}")
             place = f.at.get(goal, lts["places"][0][0])
             body = Turner(f, place, complain).turn(m.group(2))
+            # the test of a `!` says it of what stands behind it
+            body = re.sub(r"\bnot-(?:true|false) [\w'.-]+ (\(?)([\w'.-]+\.(?:true|false))(\)?)", lambda m: m.group(2) if m.group(1) and m.group(3) else m.group(1) + m.group(2) + m.group(3), body)
             names = None
             if goal == "returns" or goal.startswith("returns-"):
                 names = f.own("ensures")

@@ -122,8 +122,8 @@ module _ {A : Type 0} (p : A → Bool) (l : List A) (z : A) (i : ℕ) (found : B
 pub ruleset tests = (lt-ltb, le-ltb, le-leb, lt-leb, eq-eqb, ne_eqb)
 
 -- a call's answer b to a test, where the code asks for its negation
-pub asked_true : {b test : Bool} → b ≡ test → not b ≡ false → test ≡ true
-asked_true {b} e n = sym e ∙ not-false b n
+pub asked_true : {b test : Bool} → b ≡ test → b ≡ true → test ≡ true
+asked_true e n = sym e ∙ n
 
-pub asked_false : {b test : Bool} → b ≡ test → not b ≡ true → test ≡ false
-asked_false {b} e n = sym e ∙ not-true b n
+pub asked_false : {b test : Bool} → b ≡ test → b ≡ false → test ≡ false
+asked_false e n = sym e ∙ n

@@ -16,7 +16,7 @@ unfolding firsts
 loop-i-init c = (omega arith, run_start limit_sound _ _)
 
 pub loop-i-preserved : goal.loop-i-preserved
-loop-i-preserved c = let l = c.loop-i in (omega arith, run_passed limit_sound (λ j. get_or c.args.t1 j 0) _ l.i l.ok l.invariant.1 c.loop-i-test.true)
+loop-i-preserved c = let l = c.loop-i in (omega arith, run_passed limit_sound (λ j. get_or c.args.list j 0) _ l.i l.ok l.invariant.1 c.loop-i-test.true)
 
 pub returns : goal.returns
-returns c = let l = c.loop-i in run_end limit_sound (λ j. get_or c.args.t1 j 0) _ l.i l.ok l.invariant.1 c.loop-i-test.false
+returns c = let l = c.loop-i in run_end limit_sound (λ j. get_or c.args.list j 0) _ l.i l.ok l.invariant.1 c.loop-i-test.false

@@ -37,7 +37,7 @@ returns-then-not-is_header_sound c =
     let is-header-sound = c.is_header_sound in
     c.unsound-then-not-is_header_sound.ensures ∙ reading_unsound _
     (begins_by args.bytes.now (omega arith) (asked_true begins-with-letters.ensures if2.false) (omega (arith, c.u8_at-holiday_count.ensures, c.u8_at-members.ensures))
-    fields_at.ensures is-header-sound.ensures (not-true is-header-sound.result c.if-not-is_header_sound.true))
+    fields_at.ensures is-header-sound.ensures c.if-not-is_header_sound.true)
 
 pub returns : goal.returns
 unfolding header_length
@@ -49,5 +49,5 @@ returns c =
     rw fields_at.ensures
     (reading_sound args.bytes.now _
     (begins_by args.bytes.now (omega arith) (asked_true begins-with-letters.ensures if2.false) (omega arith) fields_at.ensures c.is_header_sound.ensures
-    (not-false c.is_header_sound.result c.if-not-is_header_sound.false))
+    c.if-not-is_header_sound.false)
     (omega arith))
