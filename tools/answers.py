@@ -107,91 +107,84 @@ def pick(fields, names):
 class Turner:
     def __init__(self, function, place, complain):
         self.f, self.place, self.complain = function, place, complain
-        # a name to ("place", P) or ("clauses", names)
-        self.alias = {"c": ("place", place)}
+        # a name to ("place",), ("step", old name), ("args",) or ("clauses", names)
+        self.alias = {"c": ("place",)}
 
     def chain(self, text):
-        """The turned chain, and what it stands for where that is a place or a pair of clauses."""
+        """The turned chain, and what it stands for where that is a place, a step, the arguments or a pair of clauses."""
         parts = text.split(".")
-        kind = self.alias.get(parts[0])
+        kind, fields = self.alias.get(parts[0]), parts[1:]
         if kind is None:
             return text, None
-        fields = parts[1:]
         if kind[0] == "clauses":
             if not fields:
                 return text, kind
-            got = pick(fields, kind[1])
-            if got is None:
-                self.complain(f"part of clauses: {text}")
-                return text, None
-            return ".".join([parts[0]] + got), None
-        if kind[0] == "step":
-            rest, stands = self.of_step(kind[1], fields, text)
-            return ".".join([parts[0]] + rest), stands
-        if kind[0] == "snake":
+            return ".".join([parts[0]] + self.picked(fields, kind[1], text)), None
+        if kind[0] == "args":
             return ".".join([parts[0]] + of_args(fields)), None
-        place = kind[1]
+        if kind[0] == "step":
+            return self.step(kind[1], fields, text) if fields else (text, kind)
         if not fields and parts[0] != "c":
             return "c", kind
+        # each place has the steps before it
         while fields and fields[0] == "before":
             fields.pop(0)
-            up = self.f.parent.get(place)
-            if up is None:
-                self.complain(f"past the start: {text}")
-                return text, None
-            place = up
         if not fields:
-            return "c", ("place", place)
+            return "c", kind
         first = fields.pop(0)
-        if first in ("args", "ranges", "well_formed", "well-formed", "type_inv", "lifetimes", "blocks", "element_fits"):
-            return ".".join(["c", first] + of_args(fields)), ("snake",) if first == "args" else None
         if first == "requires":
             names = self.f.own("requires")
             if names and fields:
-                got = pick(fields, names)
-                if got is None:
-                    self.complain(f"part of clauses: {text}")
-                    got = fields
-                return ".".join(["c", first] + got), None
+                return ".".join(["c", first] + self.picked(fields, names, text)), None
             return ".".join(["c", first] + fields), ("clauses", names) if names else None
-        for name in (first, re.sub(r"_(lem|holds)$", "", first)):
-            arm = self.f.arm_field(self.place, name, fields)
+        if first == "args":
+            return ".".join(["c", first] + of_args(fields)), None if fields else ("args",)
+        if first in ("ranges", "well_formed", "well-formed", "type_inv", "lifetimes", "blocks", "element_fits"):
+            return ".".join(["c", first.replace("-", "_")] + of_args(fields)), None
+        return self.step(first, fields, text)
+
+    def picked(self, fields, names, text):
+        got = pick(fields, names)
+        if got is None:
+            self.complain(f"part of clauses: {text}")
+        return got or fields
+
+    def step(self, name, fields, text):
+        """A step by its old name, with its fields."""
+        for old in (name, re.sub(r"_(lem|holds)$", "", name)):
+            arm = self.f.arm_field(self.place, old, fields)
             if arm:
                 return ".".join(["c", arm[1], arm[2]] + fields[arm[0] :]), None
-            at = place
-            while at is not None and self.f.step[at][0] != flat(name):
+            at = self.place
+            while at is not None and self.f.step[at][0] != flat(old):
                 at = self.f.parent[at]
             if at is not None:
                 break
         if at is None:
-            self.complain(f"no step {first}: {text}")
+            self.complain(f"no step {name}: {text}")
             return text, None
         rest, stands = self.of_step(at, fields, text)
-        return ".".join(["c", self.f.step[at][1]] + rest), stands
+        return ".".join(["c", self.f.step[at][1]] + rest), ("step", name) if not fields else stands
 
     def of_step(self, at, fields, text):
         """The fields of a step, turned, and what they stand for."""
-        is_loop = self.f.step[at][1].startswith("loop-")
         if not fields:
-            return fields, ("snake",) if is_loop else ("step", at)
-        if is_loop and fields[0] != "invariant":
-            return [fields[0].replace("-", "_")] + fields[1:], None
+            return fields, None
+        if not self.f.callee[at]:
+            return [fields[0] if fields[0] == "invariant" else fields[0].replace("-", "_")] + fields[1:], None
         if len(fields) > 1 and fields[0] in ("auto", "new") and fields[1].isdigit():
             # the pairs are over the parameters
             names = self.f.lts["params"].get(self.f.callee[at], [])
-            at = 0
-            while fields[1 + at] == "1":
-                at += 1
-            return [fields[0]] + ([names[at]] + fields[2 + at :] if at < len(names) else fields[1:]), None
+            k = 0
+            while fields[1 + k] == "1":
+                k += 1
+            return [fields[0]] + ([names[k]] + fields[2 + k :] if k < len(names) else fields[1:]), None
         if fields[0] == "ensures":
             names = self.f.clauses(self.f.callee[at], "ensures")
             if names and len(fields) == 1:
                 return fields, ("clauses", names)
             if names:
-                got = pick(fields[1:], names)
-                if got is None:
-                    self.complain(f"part of clauses: {text}")
-                return ["ensures"] + (got or fields[1:]), None
+                return ["ensures"] + self.picked(fields[1:], names, text), None
         return fields, None
 
     def turn(self, body):
@@ -210,7 +203,7 @@ class Turner:
                     while used < len(m.group(0)):
                         used += len(tokens[j])
                         j += 1
-                    if kind and kind[0] == "place":
+                    if kind and kind[0] in ("place", "step"):
                         self.alias[name] = kind
                         # the line that is left empty goes too
                         i = j
@@ -236,14 +229,10 @@ def split_blocks(text):
     blocks, now = [], []
     for line in text.split("\n"):
         starts = line and not line[0].isspace()
-        if starts and now:
-            head = now[0]
-            name = re.match(r"(?:abbrev |pub |unfoldable )*([^\s:]+)", head)
-            same = line[0] in ")}]" or name and (re.match(re.escape(name.group(1)) + r"(?=[\s=])", line) or line.startswith("unfolding "))
-            if head.startswith("--") and not line.startswith("use "):
-                same = True
-                if not line.startswith("--"):
-                    now = [line] if False else now
+        head = next((l for l in now if l.strip() and not l.startswith("--")), None)
+        if starts and head is not None and line[0] not in ")}]":
+            name = re.match(r"(?:abbrev |pub |unfoldable )*([^\s:]+)", head).group(1)
+            same = re.match(re.escape(name) + r"(?=[\s=])", line) or line.startswith("unfolding ")
             if not same or head.startswith("use "):
                 blocks.append("\n".join(now).rstrip())
                 now = []
@@ -303,11 +292,16 @@ def pairs(text, names):
 
 def recorded(body, names, complain):
     """The body with its last term, a nested pair, as a record of clauses."""
-    for m in re.finditer(r"(?:^|\bin\b|=)\s*(?=\()", body):
-        tail = body[m.end() :]
-        got = pairs(tail, names)
+    end = body.rstrip()
+    if end.endswith(")"):
+        depth = 0
+        for at in range(len(end) - 1, -1, -1):
+            depth += {")": 1, "(": -1}.get(end[at], 0)
+            if depth == 0:
+                break
+        got = pairs(end[at:], names)
         if got:
-            return body[: m.end()] + "record { " + "; ".join(f"{n} = {p}" for n, p in zip(names, got)) + " }"
+            return end[:at] + "record { " + "; ".join(f"{n} = {p}" for n, p in zip(names, got)) + " }"
     complain("clauses: " + ", ".join(names))
     return body
 

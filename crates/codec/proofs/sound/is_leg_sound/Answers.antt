@@ -1,0 +1,6 @@
+use mathlib.Core.Path.{refl}
+use borrow.Author.Rules.{rules}
+use Rattle.codec.proofs.sound.is_leg_sound.Goals as goal
+
+pub returns : goal.returns
+returns c = rw (c.are_lots_sound-lots.ensures, c.is_price_sound-price.ensures) refl

@@ -1,0 +1,20 @@
+use Rattle.arith.proofs.Tests.{tests}
+use Rattle.rules.specs.Records.{front_of}
+use borrow.Author.Rules.{rules}
+use Rattle.codec.proofs.stream.front_record.Goals as goal
+
+pub returns-then-bytes-eq0 : goal.returns-then-bytes-eq0
+unfolding front_of
+returns-then-bytes-eq0 c = search tests
+
+pub returns-then-n-eq0 : goal.returns-then-n-eq0
+unfolding front_of
+returns-then-n-eq0 c = rw (← c.u8_or_zero.ensures.0, ← c.u8_or_zero-2.ensures.0, ← c.record_length-n.ensures) (search tests)
+
+pub returns-then-n-bytes : goal.returns-then-n-bytes
+unfolding front_of
+returns-then-n-bytes c = rw (← c.u8_or_zero.ensures.0, ← c.u8_or_zero-2.ensures.0, ← c.record_length-n.ensures) (search tests)
+
+pub returns : goal.returns
+unfolding front_of
+returns c = rw (← c.u8_or_zero.ensures.0, ← c.u8_or_zero-2.ensures.0, ← c.record_length-n.ensures) (search tests)

@@ -1,0 +1,10 @@
+use native.Mathlib.Nat.{add-zero}
+use Prim.Native.Nat.{◌*◌}
+use borrow.Author.Rules.{rules}
+use Rattle.rules.specs.Ledger.{order_width}
+use Rattle.order_book.proofs.orders.order_at.Goals as goal
+
+pub returns : goal.returns
+returns c =
+    let args = c.args in
+    rw (← c.side_of-side.ensures, add-zero (args.i * order_width))

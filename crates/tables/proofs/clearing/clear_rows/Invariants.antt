@@ -1,0 +1,15 @@
+use mathlib.Core.Path.{◌≡◌, refl, ◌∙◌}
+use Prim.Native.Nat.{◌-◌, ◌≤◌}
+use lib.ListN.{length, take, drop, replicate, length-set}
+use Rattle.arith.proofs.Writes.{fill_next, fill_end}
+use borrow.Author.Rules.{rules}
+use native.Mathlib.Omega.{arith}
+use mathlib.Core.List.{◌++◌}
+use lib.IntN.{pos}
+use Rattle.tables.proofs.clearing.clear_rows.Given as goal
+
+abbrev pub invariant-loop-i : goal.invariant-loop-i
+invariant-loop-i l = (l.i ≤ length l.initial.rows) × (length l.rows ≡ length l.initial.rows) × (l.rows ≡ take l.i (replicate (length l.initial.rows) (pos 0)) ++ drop l.i l.initial.rows)
+
+abbrev pub decreases-loop-i : goal.decreases-loop-i
+decreases-loop-i l = length l.initial.rows - l.i
