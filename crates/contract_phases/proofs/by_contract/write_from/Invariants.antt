@@ -1,0 +1,26 @@
+use Prim.Native.Nat.{ℕ, ◌+◌, ◌-◌, ◌≤◌}
+use mathlib.Core.Path.{◌≡◌, refl}
+use mathlib.Core.List.{◌++◌, map}
+use native.Mathlib.Omega.{arith}
+use lib.ListN.{length, take, length-set}
+use borrow.Author.Rules.{rules}
+use Rattle.arith.specs.Lists.{from}
+use Rattle.arith.proofs.Columns.{mapped_next, mapped_end, written_next, written_end}
+use Rattle.rules.specs.declared.contract.ContractKind.{ContractKind}
+use Rattle.rules.specs.Ranges.{term_count}
+use Rattle.rules.specs.Days.{Calendar}
+use Rattle.rules.specs.ContractTerms.{closing_distance, term_of}
+use Rattle.months.specs.Spans.{starts_of}
+use Rattle.contracts.proofs.InLedger.{numbered}
+use Rattle.contract_phases.specs.Least.{IsLeast, least_of}
+use Rattle.contract_phases.specs.Phases.{term_phase, phases}
+use Rattle.contract_phases.proofs.by_contract.write_from.Given as goal
+
+abbrev pub invariant-loop-contract : goal.invariant-loop-contract
+invariant-loop-contract l = (l.contract ≤ term_count) × (length l.column ≡ term_count)
+    × ((k : Calendar) (d : ℕ) → l.starts ≡ starts_of k → ((s : ContractKind) → IsLeast k d (closing_distance s) (least_of l.least s))
+    → ((s : ContractKind) → IsLeast k (d + 1) (closing_distance s) (least_of l.later s))
+    → take l.contract l.column ++ map (λ c. term_phase k d (term_of c)) (from l.contract (term_count - l.contract)) ≡ phases k d)
+
+abbrev pub decreases-loop-contract : goal.decreases-loop-contract
+decreases-loop-contract l = term_count - l.contract

@@ -1,0 +1,18 @@
+use Rattle.std.proofs.Common.{◌≡◌, ◌-◌, ◌^◌, ◌≤◌, ◌&&◌, ltb, map, sym, ◌∙◌, arith, rules, le-ltb, lt-ltb}
+use native.Mathlib.Nat.{sub-zero}
+use Rattle.arith.specs.Lists.{every, from}
+use Rattle.arith.proofs.Tests.{asked_true, asked_false}
+use Rattle.arith.proofs.Bits.{or_below, falls}
+use Rattle.arith.proofs.Scans.{each_next, each_stop, each_end}
+use Rattle.rules.specs.Ledger.{side_at}
+use Rattle.damage.specs.Orders.{number_at, place_sound, places_sound}
+use Rattle.damage.proofs.Numbers.{rises_from, rises_next, rises_end, rises_distinct}
+use Rattle.damage.proofs.book.are_orders_sound.Given as goal
+
+abbrev pub invariant-loop-i : goal.invariant-loop-i
+invariant-loop-i l = (l.i ≤ l.count) × (l.least ≤ l.accepted)
+    × (ltb l.sides 2 && every (place_sound l.accepted l.members l.span.start.0 l.span.end.0 l.book) (from l.i (l.count - l.i)) ≡ places_sound l.accepted l.members l.span.start.0
+    l.span.end.0 l.book l.count) × (ltb l.falls (2 ^ 63) && rises_from l.least (map (number_at l.book) (from l.i (l.count - l.i))) ≡ rises_from 0 (map (number_at l.book) (from 0 l.count)))
+
+abbrev pub decreases-loop-i : goal.decreases-loop-i
+decreases-loop-i l = l.count - l.i

@@ -1,0 +1,13 @@
+use Rattle.std.proofs.Common.{◌≡◌, ◌-◌, ◌≤◌, ◌&&◌, map, arith, rules}
+use native.Mathlib.Nat.{sub-zero}
+use Rattle.arith.specs.Lists.{from}
+use Rattle.rules.specs.Refusals.{distinct}
+use Rattle.damage.specs.Orders.{number_at}
+use Rattle.damage.proofs.Numbers.{distinct_next, distinct_end}
+use Rattle.damage.proofs.book.is_none_repeated.Given as goal
+
+abbrev pub invariant-loop-i : goal.invariant-loop-i
+invariant-loop-i l = (l.i ≤ l.count) × (l.ok && distinct (map (number_at l.book) (from l.i (l.count - l.i))) ≡ distinct (map (number_at l.book) (from 0 l.count)))
+
+abbrev pub decreases-loop-i : goal.decreases-loop-i
+decreases-loop-i l = l.count - l.i

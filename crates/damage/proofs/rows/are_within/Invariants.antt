@@ -1,0 +1,11 @@
+use Rattle.std.proofs.Common.{◌≡◌, ◌-◌, ◌≤◌, ◌&&◌, leb, length, get_or, drop, pos, nat_abs, refl, arith, rules}
+use Rattle.arith.specs.Lists.{every}
+use Rattle.arith.proofs.Signed.{back_mag}
+use Rattle.arith.proofs.Scans.{every_next, every_end}
+use Rattle.damage.proofs.rows.are_within.Given as goal
+
+abbrev pub invariant-loop-i : goal.invariant-loop-i
+invariant-loop-i l = (l.i ≤ length l.rows) × (l.ok && every (λ z. leb (nat_abs z) l.bound) (drop l.i l.rows) ≡ every (λ z. leb (nat_abs z) l.bound) l.rows)
+
+abbrev pub decreases-loop-i : goal.decreases-loop-i
+decreases-loop-i l = length l.rows - l.i

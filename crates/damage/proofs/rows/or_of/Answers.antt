@@ -1,0 +1,26 @@
+use Rattle.std.proofs.Common.{◌≡◌, ℕ, ◌-◌, ◌^◌, ◌≤◌, ◌&&◌, ltb, length, get_or, drop, pos, arith, rules}
+use Rattle.arith.specs.Bits.{in_window}
+use Rattle.arith.specs.Lists.{every}
+use Rattle.arith.proofs.Bits.{or_window, none_below}
+use Rattle.arith.proofs.Signed.{back_mag}
+use Rattle.arith.proofs.Scans.{every_next, every_end}
+use Rattle.damage.specs.Windows.{IsHalf}
+use Rattle.damage.proofs.rows.or_of.Goals as goal
+
+pub loop-i-init : goal.loop-i-init
+loop-i-init c = (omega arith, λ k h. rw (none_below k))
+
+pub loop-i-preserved : goal.loop-i-preserved
+loop-i-preserved c =
+    let a = c.args in
+    let x = get_or a.rows.now c.loop-i.i (pos 0) in
+    let fits = c.x-1.given in (
+      omega arith,
+      λ k h. rw (or_window k c.loop-i.seen c.raised-seen.result a.half x h fits (rw (back_mag x fits) at c.raised-seen.ensures))
+          (every_next (in_window (2 ^ k)) a.rows.now (pos 0) c.loop-i.i (ltb c.loop-i.seen (2 ^ k)) (c.loop-i.invariant.1 k h) c.loop-i-test.true),
+    )
+
+pub returns : goal.returns
+returns c =
+    let a = c.args in
+    λ k h. every_end (in_window (2 ^ k)) a.rows.now (pos 0) c.loop-i.i (ltb c.loop-i.seen (2 ^ k)) (c.loop-i.invariant.1 k h) c.loop-i-test.false

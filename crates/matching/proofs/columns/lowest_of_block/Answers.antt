@@ -1,0 +1,11 @@
+use native.Mathlib.Omega.{arith}
+use Rattle.matching.proofs.Lows.{lowest_both}
+use borrow.Author.Rules.{rules}
+use Rattle.matching.proofs.columns.lowest_of_block.Goals as goal
+
+pub returns : goal.returns
+returns c =
+    lowest_both _ _ 8 _ 8 _ _ _
+    (lowest_both _ _ 4 _ 4 _ _ _ c.lowest_of_four-first.ensures c.lowest_of_four-second.ensures (omega arith) c.smaller.ensures)
+    (lowest_both _ _ 4 _ 4 _ _ _ c.lowest_of_four-third.ensures c.lowest_of_four-fourth.ensures (omega arith) c.smaller-2.ensures)
+    (omega arith) c.smaller-3.ensures

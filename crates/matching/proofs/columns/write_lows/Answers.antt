@@ -1,0 +1,20 @@
+use Prim.Native.Nat.{ℕ, ◌-◌, ◌*◌, ◌≤◌, ◌<◌}
+use mathlib.Core.Path.{◌≡◌, refl, ◌∙◌}
+use lib.ListN.{length, get_or, length-set}
+use native.Mathlib.Omega.{arith}
+use borrow.Author.Rules.{rules}
+use Rattle.matching.specs.Ranks.{LowestAmong, block_size}
+use Rattle.matching.proofs.Lows.{lows_next}
+use Rattle.matching.proofs.columns.write_lows.Goals as goal
+
+pub loop-b-init : goal.loop-b-init
+loop-b-init c = (refl, omega arith, λ c h. absurd (omega arith))
+
+pub loop-b-preserved : goal.loop-b-preserved
+loop-b-preserved c =
+    let ranks = c.args.ranks.now in
+    (length-set c.loop-b.lows c.loop-b.b _ ∙ c.loop-b.invariant.0, omega arith, lows_next ranks c.loop-b.lows c.loop-b.b _ (omega arith) c.loop-b.invariant.2 c.lowest_of_block.ensures)
+
+pub returns : goal.returns
+returns c =
+    record { long = c.loop-b.invariant.0 ∙ c.requires.1; low = λ b h. c.loop-b.invariant.2 b (omega arith) }

@@ -1,0 +1,23 @@
+use Prim.Native.Nat.{◌≤◌}
+use borrow.Author.Rules.{rules}
+use native.Mathlib.Omega.{arith}
+use mathlib.Core.Path.{sym, ◌∙◌}
+use borrow.Author.Tests.{not-true, not-false}
+use Rattle.matching.specs.Ranks.{BestPlace}
+use Rattle.matching.proofs.Going.{Going, going_start, going_from, Next, none_left, best_apart, next_first, next_level, most_best, going-made, still-less, match-made}
+use Rattle.matching.proofs.Going.{left_long, ranks-long, deals-long}
+use Rattle.matching.proofs.levels.match_levels.Given as goal
+
+abbrev pub invariant-orders : goal.invariant-orders
+invariant-orders l = Going l.o l.book l.count l.initial.deals l.left l.ranks l.lows l.deals l.wanted l.k ×
+    Next l.o l.book l.count l.left l.best l.level.0 × (l.wanted ≤ l.initial.wanted) × (l.initial.k ≤ l.k)
+
+abbrev pub decreases-orders : goal.decreases-orders
+decreases-orders l = l.wanted
+
+abbrev pub invariant-levels : goal.invariant-levels
+invariant-levels l = Going l.o l.book l.count l.initial.deals l.left l.ranks l.lows l.deals l.wanted l.k ×
+    BestPlace l.lows l.count l.best
+
+abbrev pub decreases-levels : goal.decreases-levels
+decreases-levels l = l.wanted

@@ -1,0 +1,18 @@
+use borrow.Author.Rules.{rules}
+use Prim.Native.Nat.{◌+◌, ◌-◌, ◌≤◌}
+use mathlib.Core.List.{map}
+use mathlib.Core.Path.{◌≡◌, refl}
+use native.Mathlib.Omega.{arith}
+use lib.ListN.{get_or}
+use Rattle.arith.specs.Columns.{padded}
+use Rattle.arith.specs.Lists.{from}
+use Rattle.arith.proofs.Padded.{column_filled}
+use Rattle.rules.specs.Ranges.{most_members}
+use Rattle.number_fields.specs.HeaderFields.{limits_field, numbers_at}
+use Rattle.number_fields.proofs.headers.limits_in.Given as goal
+
+abbrev pub invariant-loop-i : goal.invariant-loop-i
+invariant-loop-i l = (l.i ≤ l.count) × (l.column ≡ padded most_members (map (λ j. get_or l.row (limits_field + j) 0) (from 0 l.i)))
+
+abbrev pub decreases-loop-i : goal.decreases-loop-i
+decreases-loop-i l = l.count - l.i

@@ -1,0 +1,17 @@
+use borrow.Author.Rules.{rules}
+use native.Mathlib.Omega.{arith}
+use mathlib.Core.List.{flat_map, map}
+use mathlib.Core.Path.{◌≡◌, refl}
+use Prim.Native.Nat.{◌-◌, ◌≤◌}
+use lib.ListN.{length}
+use Rattle.arith.proofs.Widths.{blocks_none, blocks_next}
+use Rattle.arith.specs.Lists.{from, over}
+use Rattle.codec.specs.Columns.{leg_row, leg_rows}
+use Rattle.rules.specs.Records.{leg_numbers}
+use Rattle.number_fields.proofs.numbers.put_legs.Given as goal
+
+abbrev pub invariant-loop-i : goal.invariant-loop-i
+invariant-loop-i l = (l.i ≤ l.count) × (length l.row ≡ length l.initial.row) × (l.row ≡ over 2 (flat_map leg_numbers (map (leg_row l.legs) (from 0 l.i))) l.initial.row)
+
+abbrev pub decreases-loop-i : goal.decreases-loop-i
+decreases-loop-i l = l.count - l.i

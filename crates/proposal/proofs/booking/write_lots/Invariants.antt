@@ -1,0 +1,16 @@
+use borrow.Author.Rules.{rules}
+use native.Mathlib.Omega.{arith}
+use mathlib.Core.Path.{◌≡◌, refl, sym, ap, ◌∙◌}
+use mathlib.Core.List.{◌++◌}
+use Prim.Native.Nat.{◌-◌, ◌≤◌}
+use lib.ListN.{length, take, drop, length-set}
+use Rattle.arith.proofs.Writes.{front_next, front_end}
+use Rattle.proposal.specs.Booking.{order_lots}
+use Rattle.proposal.proofs.Taken.{lots_length, lots_at_lem}
+use Rattle.proposal.proofs.booking.write_lots.Given as goal
+
+abbrev pub invariant-loop-i : goal.invariant-loop-i
+invariant-loop-i l = (length l.left ≡ length l.initial.left) × (l.i ≤ length l.initial.left) × (l.left ≡ take l.i (order_lots (length l.initial.left) l.book) ++ drop l.i l.initial.left)
+
+abbrev pub decreases-loop-i : goal.decreases-loop-i
+decreases-loop-i l = length l.initial.left - l.i

@@ -1,0 +1,10 @@
+use native.Mathlib.Omega.{arith}
+use native.Mathlib.Nat.{mul-le-mul}
+use borrow.Author.Rules.{rules}
+use Rattle.proposal_check.proofs.balance.leg_amount.Goals as goal
+
+pub times-requires : goal.times-requires
+times-requires c = let pre = c.requires in omega (arith, mul-le-mul pre.0 pre.1)
+
+pub overflow_add-result : goal.overflow_add-result
+overflow_add-result c = let pre = c.requires in omega (arith, c.times.ensures, mul-le-mul pre.0 pre.1)

@@ -1,0 +1,17 @@
+use borrow.Author.Rules.{rules}
+use native.Mathlib.Omega.{arith}
+use mathlib.Core.Path.{◌≡◌, refl, sym, ◌∙◌}
+use mathlib.Core.List.{map, ◌++◌}
+use Prim.Native.Nat.{◌-◌, ◌≤◌}
+use lib.ListN.{length, take, drop, length-set, length-map}
+use Rattle.arith.proofs.Appends.{map_at}
+use Rattle.arith.proofs.Writes.{front_next, front_end}
+use Rattle.tables.specs.Fit.{orders_in}
+use Rattle.proposal_check.specs.Columns.{place_of}
+use Rattle.proposal_check.proofs.places.write_places.Given as goal
+
+abbrev pub invariant-loop-i : goal.invariant-loop-i
+invariant-loop-i l = (length l.places ≡ length l.initial.places) × (l.i ≤ length l.orders) × (l.places ≡ take l.i (map (λ n. place_of n (orders_in l.count l.book)) l.orders) ++ drop l.i l.initial.places)
+
+abbrev pub decreases-loop-i : goal.decreases-loop-i
+decreases-loop-i l = length l.orders - l.i

@@ -1,0 +1,18 @@
+use mathlib.Core.Path.{refl, ◌∙◌}
+use Rattle.proposal_check.proofs.LastRanks.{legs_ranked, kept-last}
+use borrow.Author.Rules.{rules}
+use Rattle.proposal_check.proofs.priority.is_priority_kept.Goals as goal
+
+pub write_last_ranks-requires : goal.write_last_ranks-requires
+write_last_ranks-requires c =
+    let a = c.args in (legs_ranked a.count a.book.now a.places.now c.requires.0 c.requires.1, refl)
+
+pub are_kept-requires : goal.are_kept-requires
+are_kept-requires c =
+    (c.requires.0, c.write_last_ranks.ensures.long, c.requires.2)
+
+pub returns : goal.returns
+returns c =
+    let a = c.args in
+    c.are_kept.ensures ∙ kept-last a.count a.book.now a.places.now c.requires.0 c.requires.1 _ c.write_last_ranks.ensures
+    a.orders.now a.lots.now

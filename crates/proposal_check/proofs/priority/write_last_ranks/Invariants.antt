@@ -1,0 +1,15 @@
+use borrow.Author.Rules.{rules}
+use native.Mathlib.Omega.{arith}
+use mathlib.Core.Path.{◌≡◌, refl, ap, ◌∙◌}
+use Prim.Native.Nat.{◌-◌, ◌≤◌}
+use lib.ListN.{length, length-set}
+use Rattle.order_priority.specs.Priority.{rank_of}
+use Rattle.proposal_check.specs.SidePlaces.{side_place_of}
+use Rattle.proposal_check.proofs.LastRanks.{LastRanksTo, lasts_start, lasts_next, lasts_end}
+use Rattle.proposal_check.proofs.priority.write_last_ranks.Given as goal
+
+abbrev pub invariant-loop-i : goal.invariant-loop-i
+invariant-loop-i l = (length l.lasts ≡ length l.initial.lasts) × (l.i ≤ length l.places) × LastRanksTo l.book l.places l.i l.lasts
+
+abbrev pub decreases-loop-i : goal.decreases-loop-i
+decreases-loop-i l = length l.places - l.i
