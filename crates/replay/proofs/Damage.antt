@@ -18,7 +18,7 @@ use Rattle.rules.specs.Ranges.{contract_count, most_holidays, most_price}
 use Rattle.rules.specs.Ledger.{Tables, members, holiday_count, lots_run, order_count, price_width, row_width, rows_length, side_at, orders, ledger_short, lines_short}
 use Rattle.rules.specs.Records.{side_sound}
 use Rattle.rules.specs.Refusals.{every_row, rows_sound, contract_prices_sound, prices_sound, member_sound, head_sound, order_sound, sides_sound, book_sound, damaged, ledger_unsound, unsound}
-use Rattle.rules.specs.Accounts.{Column, lots, value, row}
+use Rattle.rules.specs.Accounts.{Column, lots, value}
 use Rattle.rules.proofs.SoundTables.{Long, long_enough, not_short, undamaged}
 use Rattle.replay.specs.Surplus.{InUse, SameButSurplus}
 use Rattle.replay.proofs.Same.{same_members, same_count, same_day, same_time, same_accepted, same_run, same_order_count, same-limit, same-mark, same-submits, same_side_lem, same_orders, same-calendar}

@@ -22,7 +22,7 @@ use Rattle.rules.specs.Ranges.{contract_count, term_count, most_members}
 use Rattle.rules.specs.declared.units.Day.TheVariants.{On, NoDay}
 use Rattle.rules.specs.Days.{next_business_day}
 use Rattle.rules.specs.ContractTerms.{days_of, open_contracts}
-use Rattle.rules.specs.Ledger.{Tables, Line, members, holiday_count, order_count, is_open, day, calendar, defaulted, lots_at, orders, resting, low, high, booked, first_lines}
+use Rattle.rules.specs.Ledger.{Tables, Line, members, holiday_count, order_count, is_open, day, calendar, defaulted, lots_at, orders, booked, first_lines}
 use Rattle.rules.specs.Matching.{matched, deal_lines, incoming, submit_matched, submit_lines, is_resting, would_rest, with_lots, submits_at, resting_lots, above_limit, submit_orders, submit_booked}
 use Rattle.rules.specs.Synthetic.{Named, named_legs, price_within, price_allowed, acceptable, proposal_lines, used_by_legs, proposal_booked}
 use Rattle.rules.specs.CloseOfDay.{has_next_day, next_day, closing_contracts, priced, close_booked}

@@ -13,7 +13,7 @@ use Rattle.rules.specs.Ranges.{contract_count, most_holidays}
 use Rattle.rules.specs.Ledger.{Tables, head_length, first_year_place, members_place, holiday_count_place, day_place, time_place, accepted_submits_place, lots_run_place, order_count_place, holidays_from, limits_from, marks_from, submits_from}
 use Rattle.rules.specs.Ledger.{first_year, members, holiday_count, day, time, accepted_submits, lots_run, order_count, holidays, limit, mark, submits_this_second, calendar, defaulted, is_open, default_mark}
 use Rattle.rules.specs.Ledger.{price_width, ggf, low, high, day_lots, day_value, lots_at, order_width, order_at, side_at, orders}
-use Rattle.rules.specs.Accounts.{lots, row}
+use Rattle.rules.specs.Accounts.{lots}
 use Rattle.replay.specs.Surplus.{of_ledger, of_holiday, of_limit, of_mark, of_submits, SameButSurplus}
 
 -- what a map over numbers that follow each other takes of its function
