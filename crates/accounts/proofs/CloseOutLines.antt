@@ -74,11 +74,11 @@ module _ (c p : ℕ) where
     abbrev steps : List Line
     steps = change_lines c p 0 xs ++ (change_lines c p 0 ys ++ change_lines c p 0 zs)
 
-    steps-net : net_lots steps ≡ net_of xs +ℤ (net_of ys +ℤ net_of zs)
-    steps-net = simp (net_append, changes_net)
+    steps_net : net_lots steps ≡ net_of xs +ℤ (net_of ys +ℤ net_of zs)
+    steps_net = simp (net_append, changes_net)
 
-    steps-few : length steps ≤ length xs + (length ys + length zs)
-    steps-few = simp length-append (omega (arith, changes_few 0 xs, changes_few 0 ys, changes_few 0 zs))
+    steps_few : length steps ≤ length xs + (length ys + length zs)
+    steps_few = simp length-append (omega (arith, changes_few 0 xs, changes_few 0 ys, changes_few 0 zs))
 
     steps_all : (P : Line → Type 0) (n : ℕ) → length xs ≡ n → length ys ≡ n → length zs ≡ n → ((m : ℕ) (z : ℤ) → m < n → 1 ≤ nat_abs z → P (change m z)) → All P steps
     steps_all P n x y z f =
@@ -229,14 +229,14 @@ module _ (t : Tables) (e : CloseOutTerms) where
   unfolding close_out_lines
   close_out_few =
       let c = e.contract in
-      omega (arith, steps-few c (ggf t c) (netting_changes t c) (defaulted_changes t c) (taker_changes t e), netting_length t c, remaining_length t c, taken_length)
+      omega (arith, steps_few c (ggf t c) (netting_changes t c) (defaulted_changes t c) (taker_changes t e), netting_length t c, remaining_length t c, taken_length)
 
   -- their lots sum to nothing, if the takers have any weight or nothing remains for them
   pub close_out_net : (ltb 0 (lots_remaining t e.contract) && eqb (sum_of (weights t e)) 0) ≡ false → net_lots (close_out_lines t e) ≡ pos 0
   unfolding close_out_lines lots_remaining
   close_out_net h =
       let c = e.contract in
-      steps-net c (ggf t c) (netting_changes t c) (defaulted_changes t c) (taker_changes t e)
+      steps_net c (ggf t c) (netting_changes t c) (defaulted_changes t c) (taker_changes t e)
       ∙ ap₂ (λ x y. x +ℤ y) (netting_net t c) (ap₂ (λ x y. x +ℤ y) (remaining_net t c) (takers_net h) ∙ remainder_net (sum_of (longs_remaining t c)) (sum_of (shorts_remaining t c)) (one_side t c))
 
   -- a close-out's lots and value add up to nothing in every hour

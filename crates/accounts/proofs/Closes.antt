@@ -2,7 +2,7 @@
 use mathlib.Core.Path.{◌≡◌, refl, sym, ap, ◌∙◌}
 use mathlib.Core.Bool.{Bool, true, false, not, cond, ◌&&◌, ◌||◌, or-true}
 use mathlib.Core.List.{List, [], ◌∷◌, ◌++◌, append-nil}
-use Prim.Native.Nat.{ℕ, zero, suc, ◌+◌, ◌*◌, ◌/◌, ◌%◌, ◌≤◌, ◌<◌}
+use Prim.Native.Nat.{ℕ, suc, ◌+◌, ◌*◌, ◌/◌, ◌%◌, ◌≤◌, ◌<◌}
 use native.Mathlib.Omega.{arith}
 use lib.Dec.{T, eqb, leb}
 use lib.ListN.{length, get_or, set, replicate, length-replicate}
@@ -205,11 +205,11 @@ unfolding with_closed
 orders_closed P cs u b a =
     let stays : Order → Bool = λ o. not (is_of_any cs o) in
     rw (orders_same (with_orders (kept stays (orders u)) u) (with_closed cs u) refl refl ∙ orders_written (kept stays (orders u)) u b)
-    (all_map (λ o. P o × (stays o ≡ true)) (λ o. P o × (is_of_any cs o ≡ false)) (kept stays (orders u)) (λ o p. (p.0, not-true (is_of_any cs o) p.1)) (all_kept P stays (orders u) a))
+    (all_map (λ o. P o × (stays o ≡ true)) (λ o. P o × (is_of_any cs o ≡ false)) (kept stays (orders u)) (λ o p. (p.0, not_true (is_of_any cs o) p.1)) (all_kept P stays (orders u) a))
   where
-    not-true : (b : Bool) → not b ≡ true → b ≡ false
-    not-true true e = never (sym e)
-    not-true false e = refl
+    not_true : (b : Bool) → not b ≡ true → b ≡ false
+    not_true true e = never (sym e)
+    not_true false e = refl
 
 -- ---- the list of contracts that close
 abbrev all_contracts : List ℕ
@@ -304,9 +304,9 @@ module _ (h : Header) (d : ℕ) (t : Tables) (r : Runs h d t) (s : Sound t) (n :
     next_here = rw (ap (λ k. next_business_day k (day t)) (runs_calendar r) ∙ ap (next_business_day (calendar_of h)) r.today ∙ next, next_day)
 
     -- what has cascaded by the next day had cascaded before, or closes this evening
-    cascaded-next : (e : ℕ) → e < contract_count → has_cascaded (calendar_of h) x.0 e ≡ true → closed_by (closing_contracts t) (has_cascaded (calendar_of h) d) e ≡ true
+    cascaded_next : (e : ℕ) → e < contract_count → has_cascaded (calendar_of h) x.0 e ≡ true → closed_by (closing_contracts t) (has_cascaded (calendar_of h) d) e ≡ true
     unfolding has_cascaded closes
-    cascaded-next e b q =
+    cascaded_next e b q =
         let z = term_closing_day (calendar_of h) (term_of e) in
         let parent = cascaded_parent (calendar_of h) x.0 e q in
         let past = sym (closed_by_next (calendar_of h) d x (term_of e) next) ∙ cascaded_closed (calendar_of h) x.0 e q in
@@ -324,14 +324,14 @@ module _ (h : Header) (d : ℕ) (t : Tables) (r : Runs h d t) (s : Sound t) (n :
         let ahead : is_before z x.0 ≡ false = closed_by_next (calendar_of h) d x (term_of c) next ∙ rw (still, later) in
         open_stays (calendar_of h) d x.0 c (omega (arith, (next_business (calendar_of h) d x next).0)) p (not-false _ (sym (before_or_not x.0 z) ∙ ahead))
 
-    day-rows : (y : ℕ) (v : Tables) (q : Column) (c m : ℕ) → row q (on_day y v) c m ≡ row q v c m
+    day_rows : (y : ℕ) (v : Tables) (q : Column) (c m : ℕ) → row q (on_day y v) c m ≡ row q v c m
     unfolding on_day
-    day-rows y v lots c m = refl
-    day-rows y v value c m = refl
+    day_rows y v lots c m = refl
+    day_rows y v value c m = refl
 
-    pub close-does : Does h d x.0 t (close_booked t n)
+    pub close_does : Does h d x.0 t (close_booked t n)
     unfolding close_booked priced closes first_lines from
-    close-does =
+    close_does =
         let cs = closing_contracts t in
         let u = priced n t in
         let v = with_closed cs u in
@@ -343,9 +343,9 @@ module _ (h : Header) (d : ℕ) (t : Tables) (r : Runs h d t) (s : Sound t) (n :
               (all_map (λ o. InOpen h d o × (is_of_any cs o ≡ false)) (InOpen h x.0) (orders v) (λ o q. open_next o q.0 q.1)
               (orders_closed (InOpen h d) cs u (omega (arith, s.head_long)) (rw (orders_same t u refl refl) r.resting))));
           holds = λ log p. rw (append-nil log)
-              (holds_fewer h (rows_of (on_day (next_day t) v)) log (closed_by cs (has_cascaded (calendar_of h) d)) (has_cascaded (calendar_of h) x.0) cascaded-next
+              (holds_fewer h (rows_of (on_day (next_day t) v)) log (closed_by cs (has_cascaded (calendar_of h) d)) (has_cascaded (calendar_of h) x.0) cascaded_next
               (holds_same h (rows_of (all_rows_cascaded cs u)) (rows_of (on_day (next_day t) v)) log (closed_by cs (has_cascaded (calendar_of h) d))
-              (λ q c m _ _. day-rows (next_day t) v q c m ∙ closed_rows cs u q c m)
+              (λ q c m _ _. day_rows (next_day t) v q c m ∙ closed_rows cs u q c m)
               (evening_all h d t r s log cs u (has_cascaded (calendar_of h) d) closing_all (evening log p)).holds));
         }
 
@@ -358,5 +358,5 @@ pub close_shows : (t : Tables) → Sound t → (n : ℕ) → has_next_day t ≡ 
 close_shows t s n q h d r = go (next_business_day (calendar_of h) d) refl
   where
     go : (z : Day) → next_business_day (calendar_of h) d ≡ z → Does h d (day_reached d (next_business_day (calendar_of h) d)) t (close_booked t n)
-    go (On x) e = rw e (close-does h d t r s n x e)
+    go (On x) e = rw e (close_does h d t r s n x e)
     go NoDay e = never (sym q ∙ no_next h d t r e)

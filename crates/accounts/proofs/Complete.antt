@@ -67,6 +67,7 @@ matched_none (suc n) o os e = go (best (opposes o) os) refl
 -- ---- an order used up leaves the book shorter
 used_up : (q : ℕ) (r : Order) (os : List Order) → r.lots.0 ≤ q → Memᴰ r os → length (used r.number q os) < length os
 unfolding used
+used_up q r [] h m = elim m [ ]
 used_up q r (o ∷ os) h (Memᴰ.head e) = rw (← e, eq-eqb r.number r.number refl, le-leb r.lots.0 q h) (omega (arith, used_length r.number q os))
 used_up q r (o ∷ os) h (Memᴰ.tail m) =
     let rest = used r.number q os in

@@ -116,16 +116,16 @@ module _ (mins : List ℕ) where
       (λ o. round_deals x is s p q (let k = rw (ne_eqb x i o) at h in omega arith)))
 
   module _ (l : ℕ) (is : List ℕ) (enough : l ≤ sum_of mins) (all_in : (i : ℕ) → i < length mins → 0 < how_many (eqb i) is) where
-    round-fewer : (s : Dealing) → Dealt l s → (round mins is s).undealt ≤ s.undealt - 1
-    round-fewer s d =
+    round_fewer : (s : Dealing) → Dealt l s → (round mins is s).undealt ≤ s.undealt - 1
+    round_fewer s d =
         le_or_lt s.undealt 0 (λ z. omega (arith, round_undealt is s))
         (λ z. one_less s.received mins d.long (omega (arith, d.whole)) (λ i p q. omega (arith, round_deals i is s z q (all_in i p))))
 
     -- n rounds deal n lots, or all
-    rounds-deal : (n : ℕ) (s : Dealing) → Dealt l s → (rounds n mins is s).undealt ≤ s.undealt - n
+    rounds_deal : (n : ℕ) (s : Dealing) → Dealt l s → (rounds n mins is s).undealt ≤ s.undealt - n
     unfolding rounds
-    rounds-deal zero s d = omega arith
-    rounds-deal (suc n) s d = omega (arith, round-fewer s d, rounds-deal n (round mins is s) (round_dealt l is s d))
+    rounds_deal zero s d = omega arith
+    rounds_deal (suc n) s d = omega (arith, round_fewer s d, rounds_deal n (round mins is s) (round_dealt l is s d))
 
   -- before the first turn
   start : (l : ℕ) → Dealt l (record { received = replicate (length mins) 0; undealt = l })
@@ -183,4 +183,4 @@ module _ (l : ℕ) (ws : List ℕ) where
       (λ z.
       let some : 0 < sum_of ws = le_or_lt 1 (sum_of ws) (λ k. k) (λ k. never (sym (rw (lt-ltb 0 l z, eq-eqb (sum_of ws) 0 (omega arith)) refl) ∙ e)) in
       let begin = rw length_minimums at (start mins l) in
-      omega (arith, d.whole, rounds-deal mins l in_turn (minimums_suffice l ws some) (rw length_minimums all_in_turn) l _ begin)))
+      omega (arith, d.whole, rounds_deal mins l in_turn (minimums_suffice l ws some) (rw length_minimums all_in_turn) l _ begin)))

@@ -106,13 +106,13 @@ module _ (h : Header) (f : SoundHeader h) (l : List ℕ) (long : head_length ≤
   holidays_of : take (length h.holidays) (drop holidays_from (fresh_head h l)) ≡ h.holidays
   unfolding h₁
   holidays_of =
-      ext_get_or 0 (take (length h.holidays) (drop holidays_from (fresh_head h l))) h.holidays length-of
-      (λ i b. let q : i < length h.holidays = omega (arith, length-of) in
+      ext_get_or 0 (take (length h.holidays) (drop holidays_from (fresh_head h l))) h.holidays length_of
+      (λ i b. let q : i < length h.holidays = omega (arith, length_of) in
       get_or-take (length h.holidays) (drop holidays_from (fresh_head h l)) i 0 q ∙ get_or-drop holidays_from (fresh_head h l) i 0 ∙ front_of (holidays_from + i) (omega (arith, f.holidays≤))
       ∙ over_inside holidays_from h.holidays h₀ (omega (arith, f.holidays≤, length₀)) i 0 q)
     where
-      length-of : length (take (length h.holidays) (drop holidays_from (fresh_head h l))) ≡ length h.holidays
-      length-of = simp (length-take, length-drop) (omega (arith, f.holidays≤, head_length_lem))
+      length_of : length (take (length h.holidays) (drop holidays_from (fresh_head h l))) ≡ length h.holidays
+      length_of = simp (length-take, length-drop) (omega (arith, f.holidays≤, head_length_lem))
 
   -- time and counts are 0
   pub counts_of : (get_or (fresh_head h l) time_place 0 ≡ 0) × (get_or (fresh_head h l) accepted_submits_place 0 ≡ 0) × (get_or (fresh_head h l) lots_run_place 0 ≡ 0) × (get_or (fresh_head h l) order_count_place 0 ≡ 0)
@@ -125,9 +125,9 @@ module _ (h : Header) (f : SoundHeader h) (l : List ℕ) (long : head_length ≤
 
   -- a member has the header's limit, no mark and no submits
   module _ (m : ℕ) (m< : m < h.members) where
-    pub limit-of : get_or (fresh_head h l) (limits_from + m) 0 ≡ get_or h.limits m 0
+    pub limit_of : get_or (fresh_head h l) (limits_from + m) 0 ≡ get_or h.limits m 0
     unfolding fresh_head h₃ h₂ h₁ h₀ zeros fields
-    limit-of =
+    limit_of =
         over_outside submits_from zeros h₃ (omega (arith, f.members_range.to, zeros_length, length₃)) (limits_from + m) 0 (λ q. absurd (omega (arith, f.members_range.to)))
         ∙ over_outside marks_from zeros h₂ (omega (arith, f.members_range.to, zeros_length, length₂)) (limits_from + m) 0 (λ q. absurd (omega (arith, f.members_range.to)))
         ∙ over_inside limits_from h.limits h₁ (omega (arith, f.members_range.to, f.one_limit, length₁)) m 0 (omega (arith, f.one_limit))
@@ -138,9 +138,9 @@ module _ (h : Header) (f : SoundHeader h) (l : List ℕ) (long : head_length ≤
         over_outside submits_from zeros h₃ (omega (arith, f.members_range.to, zeros_length, length₃)) (marks_from + m) 0 (λ q. absurd (omega (arith, f.members_range.to)))
         ∙ over_inside marks_from zeros h₂ (omega (arith, f.members_range.to, zeros_length, length₂)) m 0 (omega (arith, zeros_length)) ∙ get_or-replicate h.members m 0 0 m<
 
-    pub submits-of : get_or (fresh_head h l) (submits_from + m) 0 ≡ 0
+    pub submits_of : get_or (fresh_head h l) (submits_from + m) 0 ≡ 0
     unfolding fresh_head h₃ h₂ h₁ h₀ zeros fields
-    submits-of = over_inside submits_from zeros h₃ (omega (arith, f.members_range.to, zeros_length, length₃)) m 0 (omega (arith, zeros_length)) ∙ get_or-replicate h.members m 0 0 m<
+    submits_of = over_inside submits_from zeros h₃ (omega (arith, f.members_range.to, zeros_length, length₃)) m 0 (omega (arith, zeros_length)) ∙ get_or-replicate h.members m 0 0 m<
 
 -- the fresh ledger, on its start day
 pub fresh_runs : (h : Header) (t : Tables) → SoundHeader h → head_length ≤ length t.head → Runs h h.start_day (fresh h t)

@@ -35,7 +35,7 @@ use Rattle.rules.specs.Default.{default_booked, close_out_booked}
 use Rattle.rules.specs.Refusals.{prices_sound, day_limits_booked}
 use Rattle.rules.proofs.SoundTables.{Undamaged}
 use Rattle.accounts.proofs.Matches.{best_all}
-use Rattle.accounts.proofs.PricesStay.{prices_of, Priced, orders_priced, timed_prices, closed-prices}
+use Rattle.accounts.proofs.PricesStay.{prices_of, Priced, orders_priced, timed_prices, closed_prices}
 
 -- ---- the price that a close of day finds
 -- a quotient of 1 at least, rounded
@@ -107,7 +107,7 @@ module _ (t : Tables) (u : Undamaged t) where
       let cs = open_contracts (calendar t) (day t) in
       let l = with_ggfs t s cs t.prices in
       let long : prices_length ≤ length l = omega (arith, written_length s cs t.prices, u.long.prices) in
-      let left = closed-prices t u.head_sound_holds u.long.head u.prices_sound_holds u.long.prices (orders_priced t u.book_sound_holds) (closing_contracts t) (priced s t) in
+      let left = closed_prices t u.head_sound_holds u.long.head u.prices_sound_holds u.long.prices (orders_priced t u.book_sound_holds) (closing_contracts t) (priced s t) in
       rw (left, without_deals_found c l h long) (written_least s c cs t.prices (omega (arith, u.long.prices)) (found_least s c h g) g)
 
 -- ---- each kind

@@ -37,7 +37,7 @@ use Rattle.accounts.proofs.Runs.{runs_calendar}
 use Rattle.accounts.proofs.Remains.{Remain, remain_length, kept_remain, legs_remain, matching_remain}
 use Rattle.accounts.proofs.Books.{orders_count}
 use Rattle.accounts.proofs.Closes.{day_is}
-use Rattle.accounts.proofs.Fresh.{counts_of, holiday_count_of, limit-of, mark_of, submits-of, fresh_runs}
+use Rattle.accounts.proofs.Fresh.{counts_of, holiday_count_of, limit_of, mark_of, submits_of, fresh_runs}
 
 -- ---- the places that records change, and the most that may stand at each
 pub data Place (n i : ℕ) : Type 0 where
@@ -178,20 +178,20 @@ module _ (t : Tables) (sound : head_sound t ≡ true) where
     same_members : members t' ≡ members t
     same_members = header.places members_place (field (omega arith))
 
-    same-calendar : calendar t' ≡ calendar t
+    same_calendar : calendar t' ≡ calendar t
     unfolding head_sound
-    same-calendar =
+    same_calendar =
         let years = header.places first_year_place (field (omega arith)) in
         let days = ap (λ n. take n (drop holidays_from t'.head)) (header.places holiday_count_place (field (omega arith)))
         ∙ same_holidays f t.head t'.head (holiday_count t) header long (leb-true (holiday_count t) most_holidays (all_hold _ sound).0) in
         λ s. record { first_year = years s; holidays = days s }
 
-    head-again : InRange (members t) t'.head → day_sound (calendar t) (day t') ≡ true → head_sound t' ≡ true
+    head_again : InRange (members t) t'.head → day_sound (calendar t) (day t') ≡ true → head_sound t' ≡ true
     unfolding head_sound
-    head-again b d =
+    head_again b d =
         let a = all_hold _ sound in
-        head_shows t' (ap (λ n. leb n most_holidays) (header.places holiday_count_place (field (omega arith))) ∙ a.0) (ap calendar_sound same-calendar ∙ a.1.0) (ap members_sound same_members ∙ a.1.1.0)
-        (ap (λ k. day_sound k (day t')) same-calendar ∙ d) (rw same_members b)
+        head_shows t' (ap (λ n. leb n most_holidays) (header.places holiday_count_place (field (omega arith))) ∙ a.0) (ap calendar_sound same_calendar ∙ a.1.0) (ap members_sound same_members ∙ a.1.1.0)
+        (ap (λ k. day_sound k (day t')) same_calendar ∙ d) (rw same_members b)
 
 -- ---- orders that remain are no more than the orders
 remain_few : (t : Tables) (os : List Order) → Remain (orders t) os → length os ≤ order_count t
@@ -223,7 +223,7 @@ module _ (t : Tables) (sound : head_sound t ≡ true) (long : head_length ≤ le
   head_booked ls t' w b =
       let after = (booked ls t').after in
       let header = then_same w.header (set_other time_place t'.head lots_run_place (lots_run t' + line_run ls) (omega arith) (changing (omega arith) (omega arith))) in
-      head-again t sound time_place after (omega arith) long header (set_in_range (members t) t'.head lots_run_place (lots_run t' + line_run ls) (λ _. omega (arith, w.run)) w.ranges)
+      head_again t sound time_place after (omega arith) long header (set_in_range (members t) t'.head lots_run_place (lots_run t' + line_run ls) (λ _. omega (arith, w.run)) w.ranges)
       (ap (day_sound (calendar t)) (header.places day_place (field (omega arith))) ∙ (all_hold _ sound).1.1.1.0)
 
   pub run_booked : (ls : List Line) (t' : Tables) → Stays time_place (members t) t.head t'.head → lots_run (booked ls t').after ≡ lots_run t + line_run ls
@@ -273,9 +273,9 @@ module _ (t : Tables) (sound : head_sound t ≡ true) (long : head_length ≤ le
         by_bool (λ b. b && leb most_orders (length m.resting) ≡ false → length (cond b (m.resting ++ (with_lots m.left (incoming t e) ∷ [])) m.resting) ≤ most_orders) (would_rest t e)
         (λ _ q. simp length-append (omega (arith, leb-false most_orders (length m.resting) q))) (λ _ _. omega (arith, rest, bounds order_count_place (of_orders refl))) f.1.1.1.1.1.1.1.0
 
-    pub submit-stays : Stays time_place (members t) t.head (submit_unbooked t e).head
+    pub submit_stays : Stays time_place (members t) t.head (submit_unbooked t e).head
     unfolding submit_unbooked with_orders with_deals counted most
-    submit-stays =
+    submit_stays =
         let m = e.member in
         let u = timed e.time t in
         stays_orders time_place (length (submit_orders t e)) (omega arith) submit_few
@@ -284,9 +284,9 @@ module _ (t : Tables) (sound : head_sound t ≡ true) (long : head_length ≤ le
         (λ _. rw (most_submits m (omega (arith, few_members t sound))) (omega (arith, timed_submits e.time m member<, leb-false most_submits_in_second (submits_at t e.time m) f.1.1.1.1.0)))
         (stays_timed e.time time≤)))
 
-    pub submit-head : head_sound (submit_booked t e).after ≡ true
+    pub submit_head : head_sound (submit_booked t e).after ≡ true
     unfolding submit_booked submit_unbooked
-    submit-head = head_booked (submit_lines t e) (submit_unbooked t e) submit-stays totals.0
+    submit_head = head_booked (submit_lines t e) (submit_unbooked t e) submit_stays totals.0
 
   pub cancel_stays : (n : ℕ) (p : Order → Bool) → n ≤ last_second → Stays time_place (members t) t.head (with_orders (kept p (orders t)) (timed n t)).head
   unfolding with_orders most
@@ -361,7 +361,7 @@ module _ (t : Tables) (sound : head_sound t ≡ true) (long : head_length ≤ le
   unfolding close_booked priced
   close_head n f =
       let v = with_closed (closing_contracts t) (priced n t) in
-      head-again t sound day_place (on_day (next_day t) v) (omega arith) long (close_stays n).header (close_stays n).ranges
+      head_again t sound day_place (on_day (next_day t) v) (omega arith) long (close_stays n).header (close_stays n).ranges
       (ap (day_sound (calendar t)) (day_is (next_day t) v (omega (arith, (stays_closed (closing_contracts t) (priced n t) (unchanged day_place)).header.longer))) ∙ next_sound (not-false _ f.1.0))
 
 -- ---- the fresh ledger
@@ -372,9 +372,9 @@ fresh_in_range h l f long i (of_accepted e) = rw (e, (counts_of h f l long).1) (
 fresh_in_range h l f long i (of_run e) = rw (e, (counts_of h f l long).2) (omega arith)
 fresh_in_range h l f long i (of_orders e) = rw (e, (counts_of h f l long).3) (omega arith)
 fresh_in_range h l f long i (of_limit m b e) =
-    rw (e, most_limit_holds m (omega (arith, f.members_range.to)), limit-of h f l long m b) (all_place (λ x. x ≤ most_limit) 0 h.limits f.limits≤ m (omega (arith, f.one_limit)))
+    rw (e, most_limit_holds m (omega (arith, f.members_range.to)), limit_of h f l long m b) (all_place (λ x. x ≤ most_limit) 0 h.limits f.limits≤ m (omega (arith, f.one_limit)))
 fresh_in_range h l f long i (of_mark m b e) = rw (e, mark_of h f l long m b) (omega arith)
-fresh_in_range h l f long i (of_submits m b e) = rw (e, submits-of h f l long m b) (omega arith)
+fresh_in_range h l f long i (of_submits m b e) = rw (e, submits_of h f l long m b) (omega arith)
 
 pub fresh_head_lem : (h : Header) (t : Tables) → SoundHeader h → head_length ≤ length t.head → head_sound (fresh h t) ≡ true
 unfolding fresh

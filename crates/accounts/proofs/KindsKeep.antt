@@ -34,8 +34,8 @@ use Rattle.accounts.proofs.Places.{close_place}
 use Rattle.accounts.proofs.OrdersAfter.{cancel_remain, limits_remain, proposal_remain, default_remain, close_out_remain, close_remain}
 use Rattle.accounts.proofs.Bounds.{WithinRun}
 use Rattle.accounts.proofs.SameLengths.{Fits, submit_lengths, cancel_lengths, limits_lengths, proposal_lengths, default_lengths, close_out_lengths, close_lengths}
-use Rattle.accounts.proofs.HeadStays.{submit-head, cancel_head, limits_head, proposal_head, default_head, close_out_head, close_head}
-use Rattle.accounts.proofs.PricesStay.{orders_priced, submit-prices, cancel_prices, limits-prices, proposal_prices, default_prices, close_out_prices, close-prices}
+use Rattle.accounts.proofs.HeadStays.{submit_head, cancel_head, limits_head, proposal_head, default_head, close_out_head, close_head}
+use Rattle.accounts.proofs.PricesStay.{orders_priced, submit_prices, cancel_prices, limits_prices, proposal_prices, default_prices, close_out_prices, close_prices}
 use Rattle.accounts.proofs.Books.{BookKept, submit_book, cancel_book, limits_book, proposal_book, default_book, close_out_book, close_book}
 use Rattle.accounts.proofs.RowsStay.{Posts, within_posted, submit_posts, cancel_posts, limits_posts, proposal_posts, default_posts, close_out_posts, close_rows}
 use Rattle.accounts.proofs.GgfStays.{Found, submit_found, cancel_found, limits_found, proposal_found, default_found, close_out_found, close_found}
@@ -43,7 +43,7 @@ use Rattle.accounts.proofs.Marks.{submit_marks, cancel_marks, limits_marks, prop
 use Rattle.accounts.proofs.Crossed.{remain_uncrossed, submit_uncrossed}
 use Rattle.accounts.proofs.Remains.{remain_rising}
 use Rattle.accounts.proofs.Rising.{submit_rising}
-use Rattle.accounts.proofs.Submits.{submit-does}
+use Rattle.accounts.proofs.Submits.{submit_does}
 use Rattle.accounts.proofs.Proposals.{proposal_does}
 use Rattle.accounts.proofs.OtherKinds.{cancel_does, default_does, limits_does, close_out_does}
 use Rattle.accounts.proofs.Closes.{close_shows}
@@ -113,15 +113,15 @@ kind_keeps e t legs u q n = go e q n
         let f = submission (members t) e legs q in
         record {
           fits = submit_lengths t u e f n;
-          head = submit-head t head long e f.time≤ f.member< n;
-          prices = submit-prices t head long prices wide (orders_priced t u.book_sound_holds) e f.time≤ f.member< f.contract< n;
+          head = submit_head t head long e f.time≤ f.member< n;
+          prices = submit_prices t head long prices wide (orders_priced t u.book_sound_holds) e f.time≤ f.member< f.contract< n;
           book = submit_book t s book e f (today t u) n.1.1.1.1.1.1.1.0;
           rows = submit_posts t s e f.contract< f.member< u.book_sound_holds;
           found = submit_found t u e;
           marks = λ a. submit_marks t u a e f.member< n.1.0;
           uncrossed = submit_uncrossed t u e;
           rising = submit_rising t u e;
-          does = λ h d r. submit-does h d t r s e (not-false _ n.1.1.0) f.contract< f.member<;
+          does = λ h d r. submit_does h d t r s e (not-false _ n.1.1.0) f.contract< f.member<;
         }
     go (Cancel e) q n =
         let time≤ = cancel_time (members t) e legs q in
@@ -143,7 +143,7 @@ kind_keeps e t legs u q n = go e q n
         record {
           fits = limits_lengths t u _ (simp length-set);
           head = limits_head t head long _;
-          prices = limits-prices t head long prices wide e f.contract< f.low≥ f.ordered f.high≤;
+          prices = limits_prices t head long prices wide e f.contract< f.low≥ f.ordered f.high≤;
           book = limits_book t s book _;
           rows = limits_posts t s _;
           found = limits_found t u e;
@@ -197,7 +197,7 @@ kind_keeps e t legs u q n = go e q n
     go (CloseOfDay i) q n = record {
       fits = close_lengths t u i;
       head = close_head t head long i n;
-      prices = close-prices t head long prices wide (orders_priced t u.book_sound_holds) i;
+      prices = close_prices t head long prices wide (orders_priced t u.book_sound_holds) i;
       book = close_book t s book i;
       rows = close_cascades t u i;
       found = close_found t u i;

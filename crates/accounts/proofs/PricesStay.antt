@@ -37,7 +37,7 @@ use Rattle.rules.specs.Refusals.{contract_prices_sound, prices_sound, head_sound
 use Rattle.rules.proofs.SoundTables.{SoundOrder, book_gives}
 use Rattle.accounts.proofs.Matches.{best_all}
 use Rattle.accounts.proofs.Submits.{dealt_all}
-use Rattle.accounts.proofs.HeadStays.{Stays, unchanged, run_booked, submit_unbooked, submit-stays, cancel_stays, proposal_stays, default_unbooked, default_stays}
+use Rattle.accounts.proofs.HeadStays.{Stays, unchanged, run_booked, submit_unbooked, submit_stays, cancel_stays, proposal_stays, default_unbooked, default_stays}
 use Rattle.rules.proofs.Sides.{abs_signed}
 
 -- ---- a contract's five numbers: GGF, low, high, M and V
@@ -275,23 +275,23 @@ module _ (t : Tables) (head : head_sound t ≡ true) (long : head_length ≤ len
   close_out_prices e = prices_left (close_out_lines t e) t (unchanged t head long time_place) refl
 
   module _ (wide : prices_length ≤ length t.prices) where
-    pub limits-prices : (e : NewDayLimits) → e.contract < contract_count → 1 ≤ e.low.0 → e.low.0 ≤ e.high.0 → e.high.0 ≤ most_price
+    pub limits_prices : (e : NewDayLimits) → e.contract < contract_count → 1 ≤ e.low.0 → e.low.0 ≤ e.high.0 → e.high.0 ≤ most_price
         → prices_sound (booked [] (with_prices (set (set t.prices (e.contract * price_width + 1) e.low.0) (e.contract * price_width + 2) e.high.0) t)).after ≡ true
-    limits-prices e c< a b h =
+    limits_prices e c< a b h =
         let l = set (set t.prices (e.contract * price_width + 1) e.low.0) (e.contract * price_width + 2) e.high.0 in
         prices_booked [] (with_prices l t) (unchanged t head long time_place)
         (λ c q. more_run (omega arith) (new_limits (lots_run t) t.prices e.contract e.low.0 e.high.0 wide c< a b h now c q))
 
     module _ (prices : All Priced (orders t)) where
       -- M grows by the deals' lots, V by what they are worth, the lots run by twice the lots
-      pub submit-prices : (e : Submission) → e.time ≤ last_second → e.member < members t → e.contract < contract_count → All (λ c. c.0 ≡ false) (submit_causes t e)
+      pub submit_prices : (e : Submission) → e.time ≤ last_second → e.member < members t → e.contract < contract_count → All (λ c. c.0 ≡ false) (submit_causes t e)
           → prices_sound (submit_booked t e).after ≡ true
       unfolding submit_booked submit_unbooked submit_lines submit_matched matched with_orders with_deals counted
-      submit-prices e time≤ member< c< f =
+      submit_prices e time≤ member< c< f =
           let o = incoming t e in
           let ds = (submit_matched t e).deals in
           let worth = deals_worth ds (dealt_all Priced (λ b q p. p) (length (orders t)) o (orders t) prices) in
-          prices_booked (submit_lines t e) (submit_unbooked t e) (submit-stays t head long e time≤ member< f)
+          prices_booked (submit_lines t e) (submit_unbooked t e) (submit_stays t head long e time≤ member< f)
           (rw (timed_prices e.time) (new_deals (lots_run t) (lots_run t + line_run (submit_lines t e)) t.prices e.contract (dealt_lots ds) (dealt_value ds) wide c<
           (omega (arith, deals_run o ds)) worth.0 worth.1 now))
 
@@ -308,28 +308,28 @@ module _ (t : Tables) (head : head_sound t ≡ true) (long : head_length ≤ len
           (λ _. rounded_most (day_value t c) (day_lots t c) f.most)
           (λ _. quoted_most (day_lots t c) (day_value t c) (ggf t c) b q f.most (rw (add-zero (c * price_width)) at f.price≤) (quote Buy) (quote Sell))
 
-      new-ggfs : (s : ℕ) (cs l : List ℕ) → prices_length ≤ length l → Prices (lots_run t) l → (prices_length ≤ length (with_ggfs t s cs l)) × Prices (lots_run t) (with_ggfs t s cs l)
+      new_ggfs : (s : ℕ) (cs l : List ℕ) → prices_length ≤ length l → Prices (lots_run t) l → (prices_length ≤ length (with_ggfs t s cs l)) × Prices (lots_run t) (with_ggfs t s cs l)
       unfolding with_ggfs
-      new-ggfs s [] l w p = (w, p)
-      new-ggfs s (c ∷ cs) l w p = new-ggfs s cs (set l (c * price_width) (ggf_at_close t s c)) (rw (length-set l (c * price_width) (ggf_at_close t s c)) w)
+      new_ggfs s [] l w p = (w, p)
+      new_ggfs s (c ∷ cs) l w p = new_ggfs s cs (set l (c * price_width) (ggf_at_close t s c)) (rw (length-set l (c * price_width) (ggf_at_close t s c)) w)
           (new_ggf (lots_run t) l c (ggf_at_close t s c) w (ggf_most s c) p)
 
-      pub closed-prices : (cs : List ℕ) (u : Tables) → (with_closed cs u).prices ≡ u.prices
+      pub closed_prices : (cs : List ℕ) (u : Tables) → (with_closed cs u).prices ≡ u.prices
       unfolding with_closed with_orders
-      closed-prices cs u = refl
+      closed_prices cs u = refl
 
       -- without deals they are sound beside any lots run
-      closed-sound : (n run : ℕ) → every_block 5 (contract_prices_sound run) contract_count (with_closed (closing_contracts t) (priced n t)).prices ≡ true
+      closed_sound : (n run : ℕ) → every_block 5 (contract_prices_sound run) contract_count (with_closed (closing_contracts t) (priced n t)).prices ≡ true
       unfolding priced without_deals
-      closed-sound n run =
+      closed_sound n run =
           let l = with_ggfs t n (open_contracts (calendar t) (day t)) t.prices in
-          let g = new-ggfs n (open_contracts (calendar t) (day t)) t.prices wide now in
-          rw (closed-prices (closing_contracts t) (priced n t))
+          let g = new_ggfs n (open_contracts (calendar t) (day t)) t.prices wide now in
+          rw (closed_prices (closing_contracts t) (priced n t))
           (blocks_done 5 (contract_prices_sound run) (contract_prices_sound (lots_run t)) (over 3 (0 ∷ 0 ∷ [])) (without_deals_lem (lots_run t) run) contract_count l g.0 (prices_sound_holds (lots_run t) l g.1))
 
-      pub close-prices : (n : ℕ) → prices_sound (close_booked t n).after ≡ true
+      pub close_prices : (n : ℕ) → prices_sound (close_booked t n).after ≡ true
       unfolding prices_sound close_booked on_day
-      close-prices n = closed-sound n (lots_run (close_booked t n).after)
+      close_prices n = closed_sound n (lots_run (close_booked t n).after)
 
 -- ---- the fresh ledger
 pub fresh_prices_lem : (h : Header) (t : Tables) → prices_length ≤ length t.prices → prices_sound (fresh h t) ≡ true

@@ -1,9 +1,8 @@
 -- A submit leaves the numbers of the book rising: its own order comes last, with a number above all that rest. Assumes nothing.
-use Prim.Native.Nat.{ℕ, ◌<◌}
+use Prim.Native.Nat.{◌<◌}
 use mathlib.Core.Bool.{cond}
-use mathlib.Core.List.{List, [], ◌∷◌, ◌++◌}
+use mathlib.Core.List.{[], ◌∷◌, ◌++◌}
 use lib.ListN.{length}
-use Rattle.arith.specs.Lists.{All}
 use Rattle.arith.proofs.Alls.{all_map}
 use Rattle.arith.proofs.Tests.{by_bool}
 use Rattle.rules.specs.declared.event.Submission.{Submission}

@@ -109,9 +109,9 @@ module _ (h : Header) (d : ℕ) (t : Tables) (r : Runs h d t) (s : Sound t) wher
     here : open_on (calendar_of h) d e.contract ≡ true
     here = sym (open_here h d t e.contract r) ∙ opened
 
-    pub submit-fair : Fair h (has_cascaded (calendar_of h) d) (submit_lines t e)
+    pub submit_fair : Fair h (has_cascaded (calendar_of h) d) (submit_lines t e)
     unfolding submit_lines submit_matched matched
-    submit-fair =
+    submit_fair =
         let o = incoming t e in
         let ds = (matching (length (orders t)) o (orders t)).deals in
         record {
@@ -120,23 +120,23 @@ module _ (h : Header) (d : ℕ) (t : Tables) (r : Runs h d t) (s : Sound t) wher
           clear = let c = open_not_cascaded (calendar_of h) d e.contract here in deals_each (λ l. has_cascaded (calendar_of h) d l.contract ≡ false) o ds (all_always _ ds (λ x. (c, (c, tt))));
         }
 
-    submit-rests : All (InOpen h d) (submit_orders t e)
+    submit_rests : All (InOpen h d) (submit_orders t e)
     unfolding submit_orders submit_matched matched
-    submit-rests =
+    submit_rests =
         let o = incoming t e in
         let m = matching (length (orders t)) o (orders t) in
         let rest = resting_all (InOpen h d) (λ b q p. p) (length (orders t)) o (orders t) r.resting in
         by_bool (λ b. All (InOpen h d) (cond b (m.resting ++ (with_lots m.left o ∷ [])) m.resting)) (would_rest t e)
         (λ _. all_append (InOpen h d) m.resting (with_lots m.left o ∷ []) rest (here, tt)) (λ _. rest)
 
-    pub submit-does : Does h d d t (submit_booked t e)
+    pub submit_does : Does h d d t (submit_booked t e)
     unfolding submit_booked with_orders with_deals counted
-    submit-does =
+    submit_does =
         let u = timed e.time t in
         let v = with_deals e.contract (submit_matched t e).deals (counted e.member u) in
         let a = then_same (timed_header e.time) (then_same (set_other time_place u.head (submits_from + e.member) (submits_this_second u e.member + 1) (omega arith) (of_member (omega arith)))
         (set_other time_place (set u.head (submits_from + e.member) (submits_this_second u e.member + 1)) accepted_submits_place (accepted_submits u + 1) (omega arith) (changing (omega arith) (omega arith)))) in
         booked_does h d (submit_lines t e) t (with_orders (submit_orders t e) v) r s
         (then_same a (set_other time_place v.head order_count_place (length (submit_orders t e)) (omega arith) (changing (omega arith) (omega arith))))
-        (rw (orders_written (submit_orders t e) v (omega (arith, a.longer, s.head_long))) submit-rests)
-        (timed_rows e.time t).0 (timed_rows e.time t).1 submit-fair
+        (rw (orders_written (submit_orders t e) v (omega (arith, a.longer, s.head_long))) submit_rests)
+        (timed_rows e.time t).0 (timed_rows e.time t).1 submit_fair

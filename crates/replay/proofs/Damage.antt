@@ -18,10 +18,10 @@ use Rattle.rules.specs.Ranges.{contract_count, most_holidays, most_price}
 use Rattle.rules.specs.Ledger.{Tables, members, holiday_count, lots_run, order_count, price_width, row_width, rows_length, side_at, orders, ledger_short, lines_short}
 use Rattle.rules.specs.Records.{side_sound}
 use Rattle.rules.specs.Refusals.{every_row, rows_sound, contract_prices_sound, prices_sound, member_sound, head_sound, order_sound, sides_sound, book_sound, damaged, ledger_unsound, unsound}
-use Rattle.rules.specs.Accounts.{Column, lots, value, row}
+use Rattle.rules.specs.Accounts.{Column, lots, value}
 use Rattle.rules.proofs.SoundTables.{Long, long_enough, not_short, undamaged}
 use Rattle.replay.specs.Surplus.{InUse, SameButSurplus}
-use Rattle.replay.proofs.Same.{same_members, same_count, same_day, same_time, same_accepted, same_run, same_order_count, same-limit, same-mark, same-submits, same_side_lem, same_orders, same-calendar}
+use Rattle.replay.proofs.Same.{same_members, same_count, same_day, same_time, same_accepted, same_run, same_order_count, same_limit, same_mark, same_submits, same_side_lem, same_orders, same_calendar}
 
 -- the other way round
 pub same_back : {t u : Tables} → SameButSurplus t u → SameButSurplus u t
@@ -53,9 +53,9 @@ module _ (t u : Tables) (s : SameButSurplus t u) (long : Long t) (long' : Long u
   unfolding head_sound member_sound
   same_head few =
       let members_same : every (member_sound t) (from 0 (members t)) ≡ every (member_sound u) (from 0 (members u)) =
-      every_from_same (member_sound t) (member_sound u) 0 (members t) (λ m _ h. rw (same-limit t u s m (omega arith), same-mark t u s m (omega arith), same-submits t u s m (omega arith)))
+      every_from_same (member_sound t) (member_sound u) 0 (members t) (λ m _ h. rw (same_limit t u s m (omega arith), same_mark t u s m (omega arith), same_submits t u s m (omega arith)))
       ∙ ap (λ n. every (member_sound u) (from 0 n)) (same_members t u s) in
-      rw (members_same, same-calendar t u s few long.head long'.head, same_count t u s, same_members t u s, same_day t u s, same_time t u s, same_accepted t u s, same_run t u s, same_order_count t u s)
+      rw (members_same, same_calendar t u s few long.head long'.head, same_count t u s, same_members t u s, same_day t u s, same_time t u s, same_accepted t u s, same_run t u s, same_order_count t u s)
 
   same_prices : prices_sound t ≡ true → prices_sound u ≡ true
   unfolding prices_sound
@@ -88,7 +88,7 @@ module _ (t u : Tables) (s : SameButSurplus t u) (long : Long t) (long' : Long u
 
   order_same : holiday_count t ≤ most_holidays → (o : Order) → order_sound t o ≡ order_sound u o
   unfolding order_sound
-  order_same few o = rw (same-calendar t u s few long.head long'.head, same_accepted t u s, same_members t u s)
+  order_same few o = rw (same_calendar t u s few long.head long'.head, same_accepted t u s, same_members t u s)
 
   same_book : holiday_count t ≤ most_holidays → book_sound t ≡ book_sound u
   unfolding book_sound sides_sound

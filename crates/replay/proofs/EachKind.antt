@@ -22,7 +22,7 @@ use Rattle.rules.specs.Ranges.{contract_count, term_count, most_members}
 use Rattle.rules.specs.declared.units.Day.TheVariants.{On, NoDay}
 use Rattle.rules.specs.Days.{next_business_day}
 use Rattle.rules.specs.ContractTerms.{days_of, open_contracts}
-use Rattle.rules.specs.Ledger.{Tables, Line, members, holiday_count, order_count, is_open, day, calendar, defaulted, lots_at, orders, resting, low, high, booked, first_lines}
+use Rattle.rules.specs.Ledger.{Tables, Line, members, holiday_count, order_count, is_open, day, calendar, defaulted, lots_at, orders, booked, first_lines}
 use Rattle.rules.specs.Matching.{matched, deal_lines, incoming, submit_matched, submit_lines, is_resting, would_rest, with_lots, submits_at, resting_lots, above_limit, submit_orders, submit_booked}
 use Rattle.rules.specs.Synthetic.{Named, named_legs, price_within, price_allowed, acceptable, proposal_lines, used_by_legs, proposal_booked}
 use Rattle.rules.specs.CloseOfDay.{has_next_day, next_day, closing_contracts, priced, close_booked}
@@ -40,7 +40,7 @@ use Rattle.accounts.proofs.Runs.{orders_same, sound_of}
 use Rattle.accounts.proofs.Submits.{submit_fits}
 use Rattle.accounts.proofs.Written.{lines_printed}
 use Rattle.replay.specs.Surplus.{SameButSurplus}
-use Rattle.replay.proofs.Same.{map_from_same, same_members, same_day, same_time, same_accepted, same_run, same-limit, same-defaulted, same-submits, same-lots, same_ggf, same_low, same-high, same_orders, same-calendar, same-open}
+use Rattle.replay.proofs.Same.{map_from_same, same_members, same_day, same_time, same_accepted, same_run, same_limit, same_defaulted, same_submits, same_lots, same_ggf, same_low, same_high, same_orders, same_calendar, same_open}
 use Rattle.replay.proofs.Alike.{Alike, alike_of, with_orders_lem, with_booked, with_time_lem, with_counted, with_mark_lem, with_day_lem, with_deals_lem, with_limits}
 use Rattle.replay.proofs.Closing.{open_below, with_ggfs_lem, with_closed_lem}
 
@@ -82,18 +82,18 @@ module _ (t u : Tables) (s : SameButSurplus t u) (a : Undamaged t) (l : Long u) 
   start = alike_of t u s a.long l
 
   calendars : calendar t ≡ calendar u
-  calendars = same-calendar t u s a.head.holidays≤ a.long.head l.head
+  calendars = same_calendar t u s a.head.holidays≤ a.long.head l.head
 
   opens : (c : ℕ) → is_open t c ≡ is_open u c
-  opens c = same-open t u s a.head.holidays≤ a.long.head l.head c
+  opens c = same_open t u s a.head.holidays≤ a.long.head l.head c
 
   os : orders t ≡ orders u
   os = same_orders t u s
 
   -- ---- submit
   module _ (e : Submission) (f : SoundSubmission (members t) e) where
-    same-incoming : incoming t e ≡ incoming u e
-    same-incoming = λ r. record {
+    same_incoming : incoming t e ≡ incoming u e
+    same_incoming = λ r. record {
       number = same_accepted t u s r;
       member = e.member;
       contract = e.contract;
@@ -104,37 +104,37 @@ module _ (t u : Tables) (s : SameButSurplus t u) (a : Undamaged t) (l : Long u) 
       time = e.time;
     }
 
-    same-matched : submit_matched t e ≡ submit_matched u e
+    same_matched : submit_matched t e ≡ submit_matched u e
     unfolding submit_matched
-    same-matched = λ r. matched (same-incoming r) (os r)
+    same_matched = λ r. matched (same_incoming r) (os r)
 
     same_lines : submit_lines t e ≡ submit_lines u e
     unfolding submit_lines
-    same_lines = λ r. flat_map (deal_lines (same-incoming r)) (same-matched r).deals
+    same_lines = λ r. flat_map (deal_lines (same_incoming r)) (same_matched r).deals
 
     same_rest : would_rest t e ≡ would_rest u e
     unfolding would_rest
-    same_rest = λ r. is_resting e.kind && ltb 0 (same-matched r).left
+    same_rest = λ r. is_resting e.kind && ltb 0 (same_matched r).left
 
     same_at : submits_at t e.time e.member ≡ submits_at u e.time e.member
     unfolding submits_at
-    same_at = rw (same_time t u s, same-submits t u s e.member f.member<)
+    same_at = rw (same_time t u s, same_submits t u s e.member f.member<)
 
     same_above : above_limit t e ≡ above_limit u e
     unfolding above_limit resting_lots
-    same_above = rw (os, same-limit t u s e.member f.member<, same-lots t u s e.member f.member< e.contract f.contract<)
+    same_above = rw (os, same_limit t u s e.member f.member<, same_lots t u s e.member f.member< e.contract f.contract<)
 
-    pub submit-causes : submit_causes t e ≡ submit_causes u e
-    submit-causes =
+    pub submit_causes_lem : submit_causes t e ≡ submit_causes u e
+    submit_causes_lem =
         rw (
           same_time t u s,
-          same-defaulted t u s e.member f.member<,
+          same_defaulted t u s e.member f.member<,
           opens e.contract,
           same_low t u s e.contract f.contract<,
-          same-high t u s e.contract f.contract<,
+          same_high t u s e.contract f.contract<,
           same_at,
           same_above,
-          same-matched,
+          same_matched,
           same_rest,
           same_lines,
           same_run t u s,
@@ -143,12 +143,12 @@ module _ (t u : Tables) (s : SameButSurplus t u) (a : Undamaged t) (l : Long u) 
 
     same_after : submit_orders t e ≡ submit_orders u e
     unfolding submit_orders
-    same_after = λ r. let m = same-matched r in cond (same_rest r) (m.resting ++ (with_lots m.left (same-incoming r) ∷ [])) m.resting
+    same_after = λ r. let m = same_matched r in cond (same_rest r) (m.resting ++ (with_lots m.left (same_incoming r) ∷ [])) m.resting
 
-    pub submit-alike : OutcomesAlike (members t) (holiday_count t) (submit_booked t e) (submit_booked u e)
+    pub submit_alike : OutcomesAlike (members t) (holiday_count t) (submit_booked t e) (submit_booked u e)
     unfolding submit_booked
-    submit-alike =
-        rw (← same_after, ← same-matched)
+    submit_alike =
+        rw (← same_after, ← same_matched)
         (booked_alike (with_orders_lem (with_deals_lem (with_counted (with_time_lem start few e.time) few e.member f.member<) e.contract f.contract< (submit_matched t e).deals) (submit_orders t e)) few
         (submit_lines t e) (submit_lines u e) same_lines (submit_fits t (sound_of a) e f.contract< f.member<))
 
@@ -166,7 +166,7 @@ module _ (t u : Tables) (s : SameButSurplus t u) (a : Undamaged t) (l : Long u) 
   limits_alike e h = booked_alike (with_limits start e.contract e.low.0 e.high.0 h) few [] [] refl tt
 
   pub default_causes_lem : (m : ℕ) → m < members t → default_causes t m ≡ default_causes u m
-  default_causes_lem m h = rw (same-defaulted t u s m h)
+  default_causes_lem m h = rw (same_defaulted t u s m h)
 
   pub default_alike : (m : ℕ) → m < members t → OutcomesAlike (members t) (holiday_count t) (default_booked t m) (default_booked u m)
   unfolding default_booked
@@ -174,32 +174,32 @@ module _ (t u : Tables) (s : SameButSurplus t u) (a : Undamaged t) (l : Long u) 
 
   -- ---- proposal
   module _ (legs : List Leg) where
-    same-price : (side : Side) (n : Named) → n.order.contract < contract_count → price_within t side n ≡ price_within u side n
-    same-price Sell n h = rw (same-high t u s n.order.contract h)
-    same-price Buy n h = rw (same_low t u s n.order.contract h)
+    same_price : (side : Side) (n : Named) → n.order.contract < contract_count → price_within t side n ≡ price_within u side n
+    same_price Sell n h = rw (same_high t u s n.order.contract h)
+    same_price Buy n h = rw (same_low t u s n.order.contract h)
 
     same_prices : every (price_allowed t) (named_legs (orders t) legs) ≡ every (price_allowed u) (named_legs (orders t) legs)
     unfolding price_allowed
     same_prices =
         every_alike (price_allowed t) (price_allowed u) (named_legs (orders t) legs)
-        (all_map (λ n. n.order.contract < contract_count) _ (named_legs (orders t) legs) (λ n h. same-price n.order.side n h)
+        (all_map (λ n. n.order.contract < contract_count) _ (named_legs (orders t) legs) (λ n h. same_price n.order.side n h)
         (named_all (λ o. o.contract < contract_count) (orders t) legs (all_map _ (λ o. o.contract < contract_count) (orders t) (λ o q. q.contract<) a.book.each)))
 
-    same-acceptable : acceptable t legs ≡ acceptable u legs
+    same_acceptable : acceptable t legs ≡ acceptable u legs
     unfolding acceptable
-    same-acceptable = rw (same_prices, os, calendars)
+    same_acceptable = rw (same_prices, os, calendars)
 
-    same-proposal : proposal_lines t legs ≡ proposal_lines u legs
+    same_proposal : proposal_lines t legs ≡ proposal_lines u legs
     unfolding proposal_lines
-    same-proposal = rw os
+    same_proposal = rw os
 
-    pub proposal-causes : proposal_causes t legs ≡ proposal_causes u legs
-    proposal-causes = rw (same-acceptable, same-proposal, same_run t u s)
+    pub proposal_causes_lem : proposal_causes t legs ≡ proposal_causes u legs
+    proposal_causes_lem = rw (same_acceptable, same_proposal, same_run t u s)
 
-    pub proposal-alike : OutcomesAlike (members t) (holiday_count t) (proposal_booked t legs) (proposal_booked u legs)
+    pub proposal_alike : OutcomesAlike (members t) (holiday_count t) (proposal_booked t legs) (proposal_booked u legs)
     unfolding proposal_booked
-    proposal-alike =
-        rw (← os) (booked_alike (with_orders_lem start (used_by_legs legs (orders t))) few (proposal_lines t legs) (proposal_lines u legs) same-proposal (proposal_fits t (sound_of a) legs))
+    proposal_alike =
+        rw (← os) (booked_alike (with_orders_lem start (used_by_legs legs (orders t))) few (proposal_lines t legs) (proposal_lines u legs) same_proposal (proposal_fits t (sound_of a) legs))
 
   -- ---- close of day
   same_next : has_next_day t ≡ has_next_day u
@@ -228,50 +228,50 @@ module _ (t u : Tables) (s : SameButSurplus t u) (a : Undamaged t) (l : Long u) 
 
   -- ---- close-out
   module _ (e : CloseOutTerms) (h : e.contract < contract_count) where
-    by-member : {A : Type 0} (f g : ℕ → A) → ((m : ℕ) → m < members t → f m ≡ g m) → by_member t f ≡ by_member u g
-    by-member f g q = map_from_same f g 0 (members t) (λ m _ k. q m (omega arith)) ∙ ap (λ n. map g (from 0 n)) (same_members t u s)
+    by_member_lem : {A : Type 0} (f g : ℕ → A) → ((m : ℕ) → m < members t → f m ≡ g m) → by_member t f ≡ by_member u g
+    by_member_lem f g q = map_from_same f g 0 (members t) (λ m _ k. q m (omega arith)) ∙ ap (λ n. map g (from 0 n)) (same_members t u s)
 
     longs : defaulted_longs t e.contract ≡ defaulted_longs u e.contract
     unfolding defaulted_longs
-    longs = by-member _ _ (λ m k. rw (same-defaulted t u s m k, same-lots t u s m k e.contract h))
+    longs = by_member_lem _ _ (λ m k. rw (same_defaulted t u s m k, same_lots t u s m k e.contract h))
 
     shorts : defaulted_shorts t e.contract ≡ defaulted_shorts u e.contract
     unfolding defaulted_shorts
-    shorts = by-member _ _ (λ m k. rw (same-defaulted t u s m k, same-lots t u s m k e.contract h))
+    shorts = by_member_lem _ _ (λ m k. rw (same_defaulted t u s m k, same_lots t u s m k e.contract h))
 
     others : others_lots t e.contract ≡ others_lots u e.contract
     unfolding others_lots
-    others = by-member _ _ (λ m k. rw (same-defaulted t u s m k, same-lots t u s m k e.contract h))
+    others = by_member_lem _ _ (λ m k. rw (same_defaulted t u s m k, same_lots t u s m k e.contract h))
 
     weight : (m : ℕ) → m < members t → open_weight t m ≡ open_weight u m
     unfolding open_weight
     weight m k =
         total_alike (λ c. days_of (calendar t) c * nat_abs (lots_at t c m)) (λ c. days_of (calendar t) c * nat_abs (lots_at u c m)) (open_contracts (calendar t) (day t))
-        (all_map (λ c. c < contract_count) _ (open_contracts (calendar t) (day t)) (λ c b. rw (same-lots t u s m k c b)) (open_below (calendar t) (day t)))
+        (all_map (λ c. c < contract_count) _ (open_contracts (calendar t) (day t)) (λ c b. rw (same_lots t u s m k c b)) (open_below (calendar t) (day t)))
         ∙ rw (calendars, same_day t u s)
 
-    all-weights : by_member t (λ m. cond (defaulted t m) 0 (open_weight t m)) ≡ by_member u (λ m. cond (defaulted u m) 0 (open_weight u m))
-    all-weights = by-member _ _ (λ m k. rw (same-defaulted t u s m k, weight m k))
+    all_weights : by_member t (λ m. cond (defaulted t m) 0 (open_weight t m)) ≡ by_member u (λ m. cond (defaulted u m) 0 (open_weight u m))
+    all_weights = by_member_lem _ _ (λ m k. rw (same_defaulted t u s m k, weight m k))
 
     left : lots_remaining t e.contract ≡ lots_remaining u e.contract
     unfolding lots_remaining longs_remaining shorts_remaining netted_longs netted_shorts smaller_total
     left = rw (longs, shorts)
 
-    same-weights : weights t e ≡ weights u e
+    same_weights : weights t e ≡ weights u e
     unfolding weights
-    same-weights = rw (all-weights, others, left)
+    same_weights = rw (all_weights, others, left)
 
     same_taken : taken t e ≡ taken u e
     unfolding taken
-    same_taken = rw (left, same-weights)
+    same_taken = rw (left, same_weights)
 
-    same-close-out : close_out_lines t e ≡ close_out_lines u e
+    same_close_out : close_out_lines t e ≡ close_out_lines u e
     unfolding close_out_lines netting_changes defaulted_changes taker_changes longs_remaining shorts_remaining netted_longs netted_shorts smaller_total
-    same-close-out = rw (same_taken, same_ggf t u s e.contract h, longs, shorts)
+    same_close_out = rw (same_taken, same_ggf t u s e.contract h, longs, shorts)
 
-    pub close-out-causes : close_out_causes t e ≡ close_out_causes u e
-    close-out-causes = rw (opens e.contract, same_ggf t u s e.contract h, longs, shorts, left, same-weights, same-close-out, same_run t u s)
+    pub close_out_causes_lem : close_out_causes t e ≡ close_out_causes u e
+    close_out_causes_lem = rw (opens e.contract, same_ggf t u s e.contract h, longs, shorts, left, same_weights, same_close_out, same_run t u s)
 
-    pub close-out-alike : OutcomesAlike (members t) (holiday_count t) (close_out_booked t e) (close_out_booked u e)
+    pub close_out_alike : OutcomesAlike (members t) (holiday_count t) (close_out_booked t e) (close_out_booked u e)
     unfolding close_out_booked
-    close-out-alike = booked_alike start few (close_out_lines t e) (close_out_lines u e) same-close-out (close_out_fits t e h)
+    close_out_alike = booked_alike start few (close_out_lines t e) (close_out_lines u e) same_close_out (close_out_fits t e h)

@@ -27,8 +27,8 @@ use Rattle.accounts.proofs.Proposals.{proposal_fits}
 use Rattle.accounts.proofs.Runs.{sound_of}
 use Rattle.accounts.proofs.Submits.{submit_fits}
 use Rattle.replay.specs.Surplus.{SameButSurplus}
-use Rattle.replay.proofs.EachKind.{OutcomesAlike, submit-causes, submit-alike, cancel_causes_lem, cancel_alike, limits_causes, limits_alike, proposal-causes, proposal-alike}
-use Rattle.replay.proofs.EachKind.{default_causes_lem, default_alike, close-out-causes, close-out-alike, close_causes_lem, close_alike}
+use Rattle.replay.proofs.EachKind.{OutcomesAlike, submit_causes_lem, submit_alike, cancel_causes_lem, cancel_alike, limits_causes, limits_alike, proposal_causes_lem, proposal_alike}
+use Rattle.replay.proofs.EachKind.{default_causes_lem, default_alike, close_out_causes_lem, close_out_alike, close_causes_lem, close_alike}
 use Rattle.replay.proofs.Leaves.{Leaves, Unwritten, timed_unwritten, booked_leaves, ordered_leaves, close_leaves}
 use Rattle.replay.proofs.SurplusTables.{TablesSurplus, untouched, with_time_lem, with_counted, with_deals_lem, with_limits, with_mark_lem}
 
@@ -58,8 +58,8 @@ kind_replays event t legs u q = go event q
         let w = timed_unwritten e.time t in
         let a = with_deals_lem few (with_counted few (with_time_lem few start e.time) e.member f.member<) e.contract f.contract< (submit_matched t e).deals in
         record {
-          causes = λ v s l. submit-causes t v s u l e f;
-          alike = λ v s l. submit-alike t v s u l e f;
+          causes = λ v s l. submit_causes_lem t v s u l e f;
+          alike = λ v s l. submit_alike t v s u l e f;
           leaves = λ n.
               let k = kind_keeps (Submit e) t legs u q n in
               ordered_leaves t u _ (submit_orders t e) (submit_lines t e) (unfold with_deals counted in record { lines = w.lines; book = w.book }) a (submit_orders_lem t u e)
@@ -84,8 +84,8 @@ kind_replays event t legs u q = go event q
               booked_leaves t u _ [] (record { lines = refl; book = refl }) a tt (kind_keeps (DayLimits e) t legs u q n).fits;
         }
     go (Proposal i) q = record {
-      causes = λ v s l. proposal-causes t v s u l legs;
-      alike = λ v s l. proposal-alike t v s u l legs;
+      causes = λ v s l. proposal_causes_lem t v s u l legs;
+      alike = λ v s l. proposal_alike t v s u l legs;
       leaves = λ n.
           let k = kind_keeps (Proposal i) t legs u q n in
           ordered_leaves t u t (used_by_legs legs (orders t)) (proposal_lines t legs) unwritten start (proposal_orders t u legs) (proposal_fits t (sound_of u) legs) k.fits k.book;
@@ -103,8 +103,8 @@ kind_replays event t legs u q = go event q
     go (CloseOut e) q =
         let contract< = close_out_contract (members t) e legs q in
         record {
-          causes = λ v s l. close-out-causes t v s u l e contract<;
-          alike = λ v s l. close-out-alike t v s u l e contract<;
+          causes = λ v s l. close_out_causes_lem t v s u l e contract<;
+          alike = λ v s l. close_out_alike t v s u l e contract<;
           leaves = λ n. booked_leaves t u t (close_out_lines t e) unwritten start (close_out_fits t e contract<) (kind_keeps (CloseOut e) t legs u q n).fits;
         }
     go (CloseOfDay i) q = record {

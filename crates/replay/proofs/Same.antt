@@ -13,7 +13,7 @@ use Rattle.rules.specs.Ranges.{contract_count, most_holidays}
 use Rattle.rules.specs.Ledger.{Tables, head_length, first_year_place, members_place, holiday_count_place, day_place, time_place, accepted_submits_place, lots_run_place, order_count_place, holidays_from, limits_from, marks_from, submits_from}
 use Rattle.rules.specs.Ledger.{first_year, members, holiday_count, day, time, accepted_submits, lots_run, order_count, holidays, limit, mark, submits_this_second, calendar, defaulted, is_open, default_mark}
 use Rattle.rules.specs.Ledger.{price_width, ggf, low, high, day_lots, day_value, lots_at, order_width, order_at, side_at, orders}
-use Rattle.rules.specs.Accounts.{lots, row}
+use Rattle.rules.specs.Accounts.{lots}
 use Rattle.replay.specs.Surplus.{of_ledger, of_holiday, of_limit, of_mark, of_submits, SameButSurplus}
 
 -- what a map over numbers that follow each other takes of its function
@@ -52,20 +52,20 @@ module _ (t u : Tables) (s : SameButSurplus t u) where
 
   -- a member's own
   module _ (m : ℕ) (h : m < members t) where
-    pub same-limit : limit t m ≡ limit u m
-    same-limit = s.head (limits_from + m) (of_limit m h refl)
+    pub same_limit : limit t m ≡ limit u m
+    same_limit = s.head (limits_from + m) (of_limit m h refl)
 
-    pub same-mark : mark t m ≡ mark u m
-    same-mark = s.head (marks_from + m) (of_mark m h refl)
+    pub same_mark : mark t m ≡ mark u m
+    same_mark = s.head (marks_from + m) (of_mark m h refl)
 
-    pub same-defaulted : defaulted t m ≡ defaulted u m
-    same-defaulted = ap (λ x. eqb x default_mark) same-mark
+    pub same_defaulted : defaulted t m ≡ defaulted u m
+    same_defaulted = ap (λ x. eqb x default_mark) same_mark
 
-    pub same-submits : submits_this_second t m ≡ submits_this_second u m
-    same-submits = s.head (submits_from + m) (of_submits m h refl)
+    pub same_submits : submits_this_second t m ≡ submits_this_second u m
+    same_submits = s.head (submits_from + m) (of_submits m h refl)
 
-    pub same-lots : (c : ℕ) → c < contract_count → lots_at t c m ≡ lots_at u c m
-    same-lots c k = s.rows lots c m k h
+    pub same_lots : (c : ℕ) → c < contract_count → lots_at t c m ≡ lots_at u c m
+    same_lots c k = s.rows lots c m k h
 
   -- a contract's own
   module _ (c : ℕ) (h : c < contract_count) where
@@ -75,14 +75,14 @@ module _ (t u : Tables) (s : SameButSurplus t u) where
     pub same_low : low t c ≡ low u c
     same_low = s.prices c 1 h (omega arith)
 
-    pub same-high : high t c ≡ high u c
-    same-high = s.prices c 2 h (omega arith)
+    pub same_high : high t c ≡ high u c
+    same_high = s.prices c 2 h (omega arith)
 
-    pub same-day-lots : day_lots t c ≡ day_lots u c
-    same-day-lots = s.prices c 3 h (omega arith)
+    pub same_day_lots : day_lots t c ≡ day_lots u c
+    same_day_lots = s.prices c 3 h (omega arith)
 
-    pub same-day-value : day_value t c ≡ day_value u c
-    same-day-value = s.prices c 4 h (omega arith)
+    pub same_day_value : day_value t c ≡ day_value u c
+    same_day_value = s.prices c 4 h (omega arith)
 
   -- the orders
   same_order : (i : ℕ) → i < order_count t → order_at t.book i ≡ order_at u.book i
@@ -116,9 +116,9 @@ module _ (t u : Tables) (s : SameButSurplus t u) where
         get_or-take n (drop holidays_from l) i 0 m ∙ get_or-drop holidays_from l i 0 ∙ s.head (holidays_from + i) (of_holiday i m refl) ∙ sym (get_or-drop holidays_from l' i 0) ∙ sym (get_or-take n (drop holidays_from l') i 0 m))
         ∙ ap (λ k. take k (drop holidays_from l')) same_count
 
-    pub same-calendar : calendar t ≡ calendar u
-    same-calendar = λ r. record { first_year = same_year r; holidays = same_holidays r }
+    pub same_calendar : calendar t ≡ calendar u
+    same_calendar = λ r. record { first_year = same_year r; holidays = same_holidays r }
 
-    pub same-open : (c : ℕ) → is_open t c ≡ is_open u c
+    pub same_open : (c : ℕ) → is_open t c ≡ is_open u c
     unfolding is_open
-    same-open c = rw (same-calendar, same_day)
+    same_open c = rw (same_calendar, same_day)
