@@ -116,7 +116,7 @@ prints_as t ReadFailed s printed = FirstText t s printed
 prints_as t WriteFailed s printed = FirstText t s printed
 
 -- A journal was run on these tables: some bytes came, the last or not, and this was printed, whatever comes behind them. No contract
--- of C's read says which bytes came, so any of the five endings has such bytes: `Turned` and `RanTurns` tie the ending to them.
+-- of a read says which bytes came, so any of the five endings has such bytes: `Turned` and `RanTurns` tie the ending to them.
 pub record JournalRan (t : Tables) (ending : Ending) : Type 0 where
   pub came : List ℕ
   pub last : Bool

@@ -12,8 +12,9 @@ ghost use Rattle.journal_program.specs.Places.{buffer_length, rows_room, most_tu
 ghost use Rattle.journal_program.specs.Runs.{Follows, Turned, RanTurns, JournalRan};
 
 use journal::{Stage, Wants, advance};
-use libc::STDERR_FILENO;
 use rules::layout::{BOOK_LENGTH, HEAD_LENGTH, LINES_LENGTH, PRICES_LENGTH, ROWS_LENGTH};
+use std::io::{Eprint, Print, Read};
+use std::time::Clock;
 use streams::{
     Ending, Moved, Progress, Window, finish, first_window, read_more, start, status, write_out,
 };
@@ -72,12 +73,18 @@ fn counted_by(stage: Stage) -> u64
 }
 
 // What is printed goes out, then more bytes come.
-fn read_on(place: Place, input: &mut [u8], output: &[u8]) -> Next
+fn read_on(
+    rt: &(impl Clock + Print + Eprint),
+    reader: &mut impl Read,
+    place: Place,
+    input: &mut [u8],
+    output: &[u8],
+) -> Next
     requires { Stands place × (length input.old ≡ buffer_length) × (length output.now ≡ buffer_length) × (place.window.is_last ≡ false) }
     ensures { next_stands place.turns result × Follows Bytes place input.old input.new result }
 {
     let stage = place.stage;
-    match read_more(place.window, counted_by(stage), input, output) {
+    match read_more(rt, reader, place.window, counted_by(stage), input, output) {
         Moved::On(window) => Next::Going(Place {
             turns: place.turns,
             window: window,
@@ -88,12 +95,12 @@ fn read_on(place: Place, input: &mut [u8], output: &[u8]) -> Next
 }
 
 // What is printed so far goes out.
-fn write_on(place: Place, output: &[u8]) -> Next
+fn write_on(rt: &(impl Print + Eprint), place: Place, output: &[u8]) -> Next
     requires { Stands place × (length output.now ≡ buffer_length) }
     ensures { next_stands place.turns result × ((input : List ℕ) → Follows Room place input input result) }
 {
     let stage = place.stage;
-    match write_out(place.window, output) {
+    match write_out(rt, place.window, output) {
         Moved::On(window) => Next::Going(Place {
             turns: place.turns,
             window: window,
@@ -104,7 +111,7 @@ fn write_on(place: Place, output: &[u8]) -> Next
 }
 
 // The next stage, or the end, when what is printed goes out.
-fn go_on(place: Place, output: &[u8]) -> Next
+fn go_on(rt: &(impl Print + Eprint), place: Place, output: &[u8]) -> Next
     requires { Stands place × (length output.now ≡ buffer_length) }
     ensures { next_stands place.turns result × ((input : List ℕ) → Follows Nothing place input input result) }
 {
@@ -112,26 +119,35 @@ fn go_on(place: Place, output: &[u8]) -> Next
     let filled = window.filled;
     let stage = place.stage;
     match stage {
-        Stage::ReadToEnd => Next::Ended(finish(output, filled, Ending::ReadToEnd)),
-        Stage::RecordUnsound => Next::Ended(finish(output, filled, Ending::RecordUnsound)),
-        Stage::HeaderUnsound => Next::Ended(finish(output, filled, Ending::HeaderUnsound)),
+        Stage::ReadToEnd => Next::Ended(finish(rt, output, filled, Ending::ReadToEnd)),
+        Stage::RecordUnsound => Next::Ended(finish(rt, output, filled, Ending::RecordUnsound)),
+        Stage::HeaderUnsound => Next::Ended(finish(rt, output, filled, Ending::HeaderUnsound)),
         _ => Next::Going(place),
     }
 }
 
 // What an advance wants is done.
-fn follow(wants: Wants, place: Place, input: &mut [u8], output: &[u8]) -> Next
+fn follow(
+    rt: &(impl Clock + Print + Eprint),
+    reader: &mut impl Read,
+    wants: Wants,
+    place: Place,
+    input: &mut [u8],
+    output: &[u8],
+) -> Next
     requires { Stands place × (length input.old ≡ buffer_length) × (length output.now ≡ buffer_length) × (wants ≡ Bytes → place.window.is_last ≡ false) }
     ensures { next_stands place.turns result × Follows wants place input.old input.new result }
 {
     match wants {
-        Wants::Nothing => go_on(place, output),
-        Wants::Bytes => read_on(place, input, output),
-        Wants::Room => write_on(place, output),
+        Wants::Nothing => go_on(rt, place, output),
+        Wants::Bytes => read_on(rt, reader, place, input, output),
+        Wants::Room => write_on(rt, place, output),
     }
 }
 
 fn turn(
+    rt: &(impl Clock + Print + Eprint),
+    reader: &mut impl Read,
     place: Place,
     input: &mut [u8],
     output: &mut [u8],
@@ -181,10 +197,12 @@ fn turn(
         stage: stage,
     };
     let wants = done.wants;
-    follow(wants, next, input, &*output)
+    follow(rt, reader, wants, next, input, &*output)
 }
 
 fn run_turns(
+    rt: &(impl Clock + Print + Eprint),
+    reader: &mut impl Read,
     progress: Progress,
     input: &mut [u8],
     output: &mut [u8],
@@ -205,6 +223,8 @@ fn run_turns(
     let mut turns: u64 = 0;
     while turns < MOST_TURNS {
         match turn(
+            rt,
+            &mut *reader,
             place,
             &mut *input,
             &mut *output,
@@ -222,13 +242,15 @@ fn run_turns(
         }
         turns += 1;
     }
-    io::write_all(STDERR_FILENO, b"durskafn: standard input: too long\n");
+    let _ = eprintln!(rt; "durskafn: standard input: too long");
     Ending::ReadFailed
 }
 
 // The compiler places arrays 8 bytes past a multiple of 16, where the test of all rows takes a tenth longer. The rows are
 // lent from the second place on.
 fn run_on_rows(
+    rt: &(impl Clock + Print + Eprint),
+    reader: &mut impl Read,
     progress: Progress,
     input: &mut [u8],
     output: &mut [u8],
@@ -248,6 +270,8 @@ fn run_on_rows(
     let first: usize = 1;
     let end = first + ROWS_LENGTH;
     run_turns(
+        rt,
+        reader,
         progress,
         input,
         output,
@@ -260,7 +284,9 @@ fn run_on_rows(
     )
 }
 
-fn run(progress: Progress) -> Ending
+// Buffers and tables lie on the stack. They are not to lie on that of a caller, who looks first whether the stack is enough.
+#[inline(never)]
+fn run(rt: &(impl Clock + Print + Eprint), reader: &mut impl Read, progress: Progress) -> Ending
     ensures { JournalRan zero_tables result }
 {
     let mut input = [0u8; BUFFER];
@@ -272,6 +298,8 @@ fn run(progress: Progress) -> Ending
     let mut book = [0u64; BOOK_LENGTH];
     let mut lines = [0i64; LINES_LENGTH];
     run_on_rows(
+        rt,
+        reader,
         progress,
         &mut input,
         &mut output,
@@ -285,12 +313,16 @@ fn run(progress: Progress) -> Ending
 }
 
 // The exit status: 0 if the journal was read to its end, 2 after a header and 3 after a record that is unsound, and, with a
-// message on standard error, 4 if it could not be read, 5 if not written. The promise is one of these five: no contract of C's
+// message on standard error, 4 if it could not be read, 5 if not written. The promise is one of these five: no contract of a
 // read says which bytes came, so `turn` and `run_turns` say which one it is of the bytes that the input holds.
 // If is_said, progress goes to standard error; size is how many bytes there are to read, 0 if not known.
-#[unsafe(no_mangle)]
-pub extern "C" fn journal_run(is_said: bool, size: u64) -> i32
+pub fn journal_run(
+    rt: &(impl Clock + Print + Eprint),
+    reader: &mut impl Read,
+    is_said: bool,
+    size: u64,
+) -> i32
     ensures { (ending : Ending) × (result ≡ status_of ending) × JournalRan zero_tables ending }
 {
-    status(run(start(is_said, size)))
+    status(run(rt, reader, start(rt, is_said, size)))
 }

@@ -9,8 +9,9 @@ ghost use Rattle.listing_program.specs.Runs.{RecordsEnd, line_listed, written_on
 
 use big_endian::u8_or_zero;
 use header::{FIRST_YEAR_BYTE, HOLIDAY_COUNT_BYTE, MEMBERS_BYTE, header_length};
-use libc::STDERR_FILENO;
 use listing::{Piece, ROOM, next_piece, put_header_line, put_record_line};
+use std::io::{Eprint, Print, Read};
+use std::time::Clock;
 use streams::{
     Ending, Moved, Progress, Window, finish, first_window, read_more, start, status, write_out,
 };
@@ -48,11 +49,17 @@ enum Next {
 }
 
 // What is printed goes out, then more bytes come.
-fn read_on(place: Place, input: &mut [u8], output: &[u8]) -> Next
+fn read_on(
+    rt: &(impl Clock + Print + Eprint),
+    reader: &mut impl Read,
+    place: Place,
+    input: &mut [u8],
+    output: &[u8],
+) -> Next
     requires { Stands place × (length input.old ≡ input_length) × (length output.now ≡ output_length) }
     ensures { next_stands place.turns result × read_on place.window place.records place.base input.old input.new result }
 {
-    match read_more(place.window, place.records, input, output) {
+    match read_more(rt, reader, place.window, place.records, input, output) {
         Moved::On(window) => Next::Going(Place {
             turns: place.turns,
             window: window,
@@ -64,11 +71,11 @@ fn read_on(place: Place, input: &mut [u8], output: &[u8]) -> Next
 }
 
 // What is printed so far goes out.
-fn write_on(place: Place, output: &[u8]) -> Next
+fn write_on(rt: &(impl Print + Eprint), place: Place, output: &[u8]) -> Next
     requires { Stands place × (length output.now ≡ output_length) }
     ensures { next_stands place.turns result × written_on place.window place.records place.base result }
 {
-    match write_out(place.window, output) {
+    match write_out(rt, place.window, output) {
         Moved::On(window) => Next::Going(Place {
             turns: place.turns,
             window: window,
@@ -80,7 +87,14 @@ fn write_on(place: Place, output: &[u8]) -> Next
 }
 
 // The record of the first bytes; the program ends after one that is unsound, since no later record's place is known.
-fn list_record(ledger: Ledger, place: Place, size: usize, input: &[u8], output: &mut [u8]) -> Next
+fn list_record(
+    rt: &(impl Print + Eprint),
+    ledger: Ledger,
+    place: Place,
+    size: usize,
+    input: &[u8],
+    output: &mut [u8],
+) -> Next
     requires stands { Stands place × (place.turns < most_turns) × (place.window.from + size ≤ place.window.end) × (place.window.filled + line_room ≤ output_length) }
     requires first_year_bound { (ledger.first_year ≤ most_in_two_bytes) × (length input.now ≡ input_length) × (length output.old ≡ output_length) }
     ensures { next_stands (place.turns + 1) result
@@ -100,7 +114,7 @@ fn list_record(ledger: Ledger, place: Place, size: usize, input: &[u8], output: 
         window.filled,
     );
     if !listed.is_sound {
-        return Next::Ended(finish(&*output, listed.end, Ending::RecordUnsound));
+        return Next::Ended(finish(rt, &*output, listed.end, Ending::RecordUnsound));
     }
     let progress = window.progress;
     Next::Going(Place {
@@ -117,7 +131,14 @@ fn list_record(ledger: Ledger, place: Place, size: usize, input: &[u8], output: 
     })
 }
 
-fn turn(ledger: Ledger, place: Place, input: &mut [u8], output: &mut [u8]) -> Next
+fn turn(
+    rt: &(impl Clock + Print + Eprint),
+    reader: &mut impl Read,
+    ledger: Ledger,
+    place: Place,
+    input: &mut [u8],
+    output: &mut [u8],
+) -> Next
     requires { Stands place × (place.turns < most_turns) × (ledger.first_year ≤ most_in_two_bytes) × (length input.old ≡ input_length) × (length output.old ≡ output_length) }
     ensures { next_stands (place.turns + 1) result × turned ledger place input.old input.new output.old output.new result }
 {
@@ -131,23 +152,30 @@ fn turn(ledger: Ledger, place: Place, input: &mut [u8], output: &mut [u8]) -> Ne
         base: place.base,
     };
     if OUTPUT - window.filled < ROOM {
-        return write_on(next, &*output);
+        return write_on(rt, next, &*output);
     }
     match next_piece(&input[from..end], window.is_last) {
-        Piece::Record(size) => list_record(ledger, place, size, &*input, output),
-        Piece::More => read_on(next, input, &*output),
-        Piece::End => Next::Ended(finish(&*output, window.filled, Ending::ReadToEnd)),
+        Piece::Record(size) => list_record(rt, ledger, place, size, &*input, output),
+        Piece::More => read_on(rt, reader, next, input, &*output),
+        Piece::End => Next::Ended(finish(rt, &*output, window.filled, Ending::ReadToEnd)),
     }
 }
 
-fn list_records(ledger: Ledger, first: Place, input: &mut [u8], output: &mut [u8]) -> Ending
+fn list_records(
+    rt: &(impl Clock + Print + Eprint),
+    reader: &mut impl Read,
+    ledger: Ledger,
+    first: Place,
+    input: &mut [u8],
+    output: &mut [u8],
+) -> Ending
     requires { Stands first × (first.turns ≡ 0) × (ledger.first_year ≤ most_in_two_bytes) × (length input.old ≡ input_length) × (length output.old ≡ output_length) }
     ensures { (last : Bool) × (left : List ℕ) × RecordsEnd ledger.members last left result }
 {
     let mut place = first;
     let mut turns: u64 = 0;
     while turns < MOST_TURNS {
-        match turn(ledger, place, &mut *input, &mut *output) {
+        match turn(rt, &mut *reader, ledger, place, &mut *input, &mut *output) {
             Next::Going(next) => {
                 place = next;
             }
@@ -155,7 +183,7 @@ fn list_records(ledger: Ledger, first: Place, input: &mut [u8], output: &mut [u8
         }
         turns += 1;
     }
-    io::write_all(STDERR_FILENO, b"durskafn: standard input: too long\n");
+    let _ = eprintln!(rt; "durskafn: standard input: too long");
     Ending::ReadFailed
 }
 
@@ -173,7 +201,13 @@ fn ledger_of(bytes: &[u8]) -> Ledger
 }
 
 // The bytes of the header, or all that there are.
-fn read_header(first: Window, input: &mut [u8], output: &[u8]) -> Moved
+fn read_header(
+    rt: &(impl Clock + Print + Eprint),
+    reader: &mut impl Read,
+    first: Window,
+    input: &mut [u8],
+    output: &[u8],
+) -> Moved
     requires { Within input_length output_length first × (length input.old ≡ input_length) × (length output.now ≡ output_length) }
     ensures { moved_within result × header_ends result }
 {
@@ -186,7 +220,7 @@ fn read_header(first: Window, input: &mut [u8], output: &[u8]) -> Moved
         if window.is_last | (ledger.header_size <= (end - from) as u64) {
             return Moved::On(window);
         }
-        match read_more(window, 0, &mut *input, output) {
+        match read_more(rt, &mut *reader, window, 0, &mut *input, output) {
             Moved::On(next) => {
                 window = next;
             }
@@ -198,7 +232,13 @@ fn read_header(first: Window, input: &mut [u8], output: &[u8]) -> Moved
 }
 
 // The header's line, then those of the records behind it.
-fn list_from(window: Window, input: &mut [u8], output: &mut [u8]) -> Ending
+fn list_from(
+    rt: &(impl Clock + Print + Eprint),
+    reader: &mut impl Read,
+    window: Window,
+    input: &mut [u8],
+    output: &mut [u8],
+) -> Ending
     requires { Within input_length output_length window × (length input.old ≡ input_length) × (length output.old ≡ output_length) }
     ensures { ListingEnds (held window input.old) result }
 {
@@ -206,7 +246,7 @@ fn list_from(window: Window, input: &mut [u8], output: &mut [u8]) -> Ending
     let end = window.end;
     let listed = put_header_line(&input[from..end], &mut *output, 0);
     if !listed.is_sound {
-        return finish(&*output, listed.end, Ending::HeaderUnsound);
+        return finish(rt, &*output, listed.end, Ending::HeaderUnsound);
     }
     let ledger = ledger_of(&input[from..end]);
     let size = ledger.header_size;
@@ -223,16 +263,24 @@ fn list_from(window: Window, input: &mut [u8], output: &mut [u8]) -> Ending
         records: 0,
         base: size,
     };
-    list_records(ledger, first, input, output)
+    list_records(rt, reader, ledger, first, input, output)
 }
 
-fn run(progress: Progress) -> Ending
+// The buffers lie on the stack. They are not to lie on that of a caller, who looks first whether the stack is enough.
+#[inline(never)]
+fn run(rt: &(impl Clock + Print + Eprint), reader: &mut impl Read, progress: Progress) -> Ending
     ensures { (s : List ℕ) × ListingEnds s result }
 {
     let mut input = [0u8; INPUT];
     let mut output = [0u8; OUTPUT];
-    match read_header(first_window(progress), &mut input, &output) {
-        Moved::On(window) => list_from(window, &mut input, &mut output),
+    match read_header(
+        rt,
+        &mut *reader,
+        first_window(progress),
+        &mut input,
+        &output,
+    ) {
+        Moved::On(window) => list_from(rt, reader, window, &mut input, &mut output),
         Moved::Ended(ending) => ending,
     }
 }
@@ -240,9 +288,13 @@ fn run(progress: Progress) -> Ending
 // The exit status: 0 if the journal was listed to its end, 2 after a header and 3 after a record that is unsound, and, with a
 // message on standard error, 4 if it could not be read, 5 if not written. It is promised of the bytes that came, whichever these
 // are. If is_said, progress goes to standard error; size is how many bytes there are to read, 0 if not known.
-#[unsafe(no_mangle)]
-pub extern "C" fn listing_run(is_said: bool, size: u64) -> i32
+pub fn listing_run(
+    rt: &(impl Clock + Print + Eprint),
+    reader: &mut impl Read,
+    is_said: bool,
+    size: u64,
+) -> i32
     ensures { (ending : Ending) × (s : List ℕ) × (result ≡ status_of ending) × ListingEnds s ending }
 {
-    status(run(start(is_said, size)))
+    status(run(rt, reader, start(rt, is_said, size)))
 }

@@ -1,36 +1,27 @@
 // Proposals given to the check over leg structs, then applied as records to the same ledger. What it prints must be the file
 // stdout. It has a line for each case: what the check says, and the number that the record gets, with its lines where it is
 // accepted.
+#![tactic(auto)]
+
 ghost use Rattle.std.specs.Prelude.{◌≡◌, ◌+◌, ◌≤◌, length};
 
-use libc::STDOUT_FILENO;
 use rules::kinds::PROPOSAL;
 use rules::layout::{BOOK_LENGTH, HEAD_LENGTH, LINES_LENGTH, PRICES_LENGTH, ROWS_LENGTH};
 use rules::{Answer, Event, Kurus, Leg, Lots, OrderKind, Side, Submission};
+use std::io;
+use std::io::Print;
 
 const MEMBERS: u64 = 2;
 
-fn text(s: &[u8]) {
-    io::write_all(STDOUT_FILENO, s);
-}
-
-fn number(n: u64) {
-    text(b" ");
-    io::print_decimal(STDOUT_FILENO, n);
-}
-
 // The paper's number for a proposal.
-fn show_answer(answer: Answer) {
+fn show_answer(rt: &impl Print, answer: Answer) -> io::Result<()> {
     match answer {
-        Answer::Accepted(lines) => {
-            text(b" 0, lines");
-            number(lines);
-        }
-        Answer::TableUnsound => number(1),
-        Answer::RecordUnsound => number(3),
-        Answer::NotAcceptable => number(13),
-        Answer::TotalPassed => number(17),
-        _ => text(b" other"),
+        Answer::Accepted(lines) => print!(rt; " 0, lines {lines}"),
+        Answer::TableUnsound => rt.print(" 1"),
+        Answer::RecordUnsound => rt.print(" 3"),
+        Answer::NotAcceptable => rt.print(" 13"),
+        Answer::TotalPassed => rt.print(" 17"),
+        _ => rt.print(" other"),
     }
 }
 
@@ -171,6 +162,7 @@ fn make_ledger(
 
 // The check asks for tables that are long enough and not damaged, so they are tested first.
 fn show_check<'t>(
+    rt: &impl Print,
     head: &'t [u64],
     prices: &'t [u64],
     lots: &'t [i64],
@@ -179,20 +171,20 @@ fn show_check<'t>(
     lines: &'t [i64],
     legs: [Leg; 12],
     count: usize,
-) {
+) -> io::Result<()> {
     if damage::is_unsound(head, prices, lots, value, book, lines) {
-        text(b": damaged");
-        return;
+        return rt.print(": damaged");
     }
     if proposal_legs::are_first_acceptable(legs, count, head, prices, book) {
-        text(b": acceptable; record");
+        rt.print(": acceptable; record")
     } else {
-        text(b": not acceptable; record");
+        rt.print(": not acceptable; record")
     }
 }
 
 // The number of a proposal's record.
 fn show_record(
+    rt: &impl Print,
     head: &mut [u64],
     prices: &mut [u64],
     lots: &mut [i64],
@@ -201,18 +193,27 @@ fn show_record(
     lines: &mut [i64],
     legs: [Leg; 12],
     count: usize,
-)
+) -> io::Result<()>
     requires { count ≤ 13 }
 {
     let mut out = [0u8; 132];
     put_legs(&mut out, legs, count as u64);
     let end = 2 + 10 * count;
-    show_answer(engine::apply(head, prices, lots, value, book, lines, &out[..end]));
-    text(b"\n");
+    show_answer(
+        rt,
+        engine::apply(head, prices, lots, value, book, lines, &out[..end]),
+    )?;
+    rt.println("")
 }
 
 // The first legs are given to the check, then applied as a record, in a ledger where the first orders rest.
-fn case(orders: [Submission; 12], order_count: usize, legs: [Leg; 12], count: usize)
+fn case(
+    rt: &impl Print,
+    orders: [Submission; 12],
+    order_count: usize,
+    legs: [Leg; 12],
+    count: usize,
+) -> io::Result<()>
     requires { (order_count ≤ 12) × (count ≤ 13) }
 {
     let mut head = [0u64; HEAD_LENGTH];
@@ -231,8 +232,11 @@ fn case(orders: [Submission; 12], order_count: usize, legs: [Leg; 12], count: us
         orders,
         order_count,
     );
-    show_check(&head, &prices, &lots, &value, &book, &lines, legs, count);
+    show_check(
+        rt, &head, &prices, &lots, &value, &book, &lines, legs, count,
+    )?;
     show_record(
+        rt,
         &mut head,
         &mut prices,
         &mut lots,
@@ -241,88 +245,88 @@ fn case(orders: [Submission; 12], order_count: usize, legs: [Leg; 12], count: us
         &mut lines,
         legs,
         count,
-    );
+    )
 }
 
 // Document 01: accepted with every leg at 31000, refused with any leg at 30900.
-fn starred() {
+fn starred(rt: &impl Print) -> io::Result<()> {
     let orders = quarter(1, 1);
     let mut legs = each(1, 31000);
-    text(b"every leg at 31000");
-    case(orders, 4, legs, 4);
+    rt.print("every leg at 31000")?;
+    case(rt, orders, 4, legs, 4)?;
     legs[0] = leg(0, 1, 30900);
-    text(b"the bought quarter at 30900");
-    case(orders, 4, legs, 4);
+    rt.print("the bought quarter at 30900")?;
+    case(rt, orders, 4, legs, 4)?;
     legs[0] = leg(0, 1, 31000);
     legs[1] = leg(1, 1, 30900);
-    text(b"the first month at 30900");
-    case(orders, 4, legs, 4);
+    rt.print("the first month at 30900")?;
+    case(rt, orders, 4, legs, 4)?;
     legs[1] = leg(1, 1, 31000);
     legs[2] = leg(2, 1, 30900);
-    text(b"the second month at 30900");
-    case(orders, 4, legs, 4);
+    rt.print("the second month at 30900")?;
+    case(rt, orders, 4, legs, 4)?;
     legs[2] = leg(2, 1, 31000);
     legs[3] = leg(3, 1, 30900);
-    text(b"the third month at 30900");
-    case(orders, 4, legs, 4);
+    rt.print("the third month at 30900")?;
+    case(rt, orders, 4, legs, 4)
 }
 
 // No two contracts have the same hours, so one leg and two never balance.
-fn counts() {
+fn counts(rt: &impl Print) -> io::Result<()> {
     let legs = each(1, 31000);
     let orders = quarter(1, 1);
-    text(b"1 leg");
-    case(orders, 4, legs, 1);
-    text(b"2 legs");
-    case(orders, 4, legs, 2);
+    rt.print("1 leg")?;
+    case(rt, orders, 4, legs, 1)?;
+    rt.print("2 legs")?;
+    case(rt, orders, 4, legs, 2)?;
     let orders = three_quarters();
-    text(b"12 legs");
-    case(orders, 12, legs, 12);
-    text(b"13 legs");
-    case(orders, 12, legs, 13);
+    rt.print("12 legs")?;
+    case(rt, orders, 12, legs, 12)?;
+    rt.print("13 legs")?;
+    case(rt, orders, 12, legs, 13)
 }
 
 // Order 3 is before order 4: of the same contract, at the same price.
-fn priority() {
+fn priority(rt: &impl Print) -> io::Result<()> {
     let orders = quarter(3, 2);
     let mut legs = each(2, 31000);
     legs[3] = leg(3, 1, 31000);
     legs[4] = leg(4, 1, 31000);
-    text(b"one lot short of better priority");
-    case(orders, 5, legs, 5);
+    rt.print("one lot short of better priority")?;
+    case(rt, orders, 5, legs, 5)?;
     legs = each(3, 31000);
     legs[3] = leg(3, 2, 31000);
     legs[4] = leg(4, 1, 31000);
-    text(b"better priority in full");
-    case(orders, 5, legs, 5);
+    rt.print("better priority in full")?;
+    case(rt, orders, 5, legs, 5)
 }
 
 // Two lots in all of every order, so that only the numbers do not rise.
-fn twice() {
+fn twice(rt: &impl Print) -> io::Result<()> {
     let mut legs = each(2, 31000);
     legs[0] = leg(0, 1, 31000);
     legs[1] = leg(0, 1, 31000);
     legs[2] = leg(1, 2, 31000);
     legs[3] = leg(2, 2, 31000);
     legs[4] = leg(3, 2, 31000);
-    text(b"the same order twice");
-    case(quarter(3, 2), 5, legs, 5);
+    rt.print("the same order twice")?;
+    case(rt, quarter(3, 2), 5, legs, 5)
 }
 
-fn ranges() {
+fn ranges(rt: &impl Print) -> io::Result<()> {
     let orders = quarter(100, 100);
     let mut legs = each(100, 31000);
-    text(b"legs of 100 lots");
-    case(orders, 5, legs, 4);
+    rt.print("legs of 100 lots")?;
+    case(rt, orders, 5, legs, 4)?;
     legs[3] = leg(3, 101, 31000);
-    text(b"a leg of 101 lots");
-    case(orders, 5, legs, 4);
+    rt.print("a leg of 101 lots")?;
+    case(rt, orders, 5, legs, 4)
 }
 
-fn main() {
-    starred();
-    counts();
-    priority();
-    twice();
-    ranges();
+fn main(rt: HostRuntime) -> io::Result<()> {
+    starred(&rt)?;
+    counts(&rt)?;
+    priority(&rt)?;
+    twice(&rt)?;
+    ranges(&rt)
 }

@@ -12,6 +12,7 @@ pub enum Ending {
 }
 
 // The exit status.
+#[tactic(auto, unfolding(crate::specs::Windows::status_of))]
 pub fn status(ending: Ending) -> i32
     ensures { result ≡ status_of ending }
 {

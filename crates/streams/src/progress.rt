@@ -2,9 +2,8 @@
 ghost use Rattle.std.specs.Prelude.{◌≡◌, ◌+◌, ◌%◌, ◌^◌};
 ghost use Rattle.streams.specs.Windows.{SameRun};
 
-use libc::STDERR_FILENO;
-use numbers::size;
-use std::num::wrapping_add_u64;
+use std::io::Eprint;
+use std::time::Clock;
 
 // It is said first after more than a second, then once a second.
 const FIRST_WAIT: u64 = 2;
@@ -25,21 +24,23 @@ pub struct Progress {
     pub due: u64,
 }
 
-// Seconds since 1970.
-fn seconds() -> u64 {
-    let mut stored: i64 = 0;
-    size(libc::time(&mut stored))
+// Seconds since 1970, or 0 where the clock cannot be read.
+fn seconds(rt: &impl Clock) -> u64 {
+    match rt.since_1970() {
+        Ok(time) => time.as_secs(),
+        Err(_) => 0,
+    }
 }
 
 // Before the first byte.
-pub fn start(is_said: bool, size: u64) -> Progress
+pub fn start(rt: &impl Clock, is_said: bool, size: u64) -> Progress
     ensures { (result.is_said ≡ is_said) × (result.size ≡ size) × (result.bytes ≡ 0) }
 {
     Progress {
         is_said: is_said,
         size: size,
         bytes: 0,
-        due: wrapping_add_u64(seconds(), FIRST_WAIT),
+        due: seconds(rt).wrapping_add(FIRST_WAIT),
     }
 }
 
@@ -50,14 +51,9 @@ pub fn read_on(progress: Progress, more: u64) -> Progress
     Progress {
         is_said: progress.is_said,
         size: progress.size,
-        bytes: wrapping_add_u64(progress.bytes, more),
+        bytes: progress.bytes.wrapping_add(more),
         due: progress.due,
     }
-}
-
-fn put_number(n: u64, what: &[u8]) {
-    io::print_decimal(STDERR_FILENO, n);
-    io::write_all(STDERR_FILENO, what);
 }
 
 // A file may have grown.
@@ -68,34 +64,33 @@ fn percent(bytes: u64, size: u64) -> u64 {
     ALL
 }
 
-// A line: bytes, records, and percent where the size is known.
-fn put_line(progress: Progress, records: u64) {
-    io::write_all(STDERR_FILENO, b"durskafn: ");
-    put_number(progress.bytes, b" bytes, ");
-    put_number(records, b" records");
-    if 0 < progress.size {
-        io::write_all(STDERR_FILENO, b", ");
-        put_number(percent(progress.bytes, progress.size), b"%");
-    }
-    io::write_all(STDERR_FILENO, b"\n");
+// A line: bytes, records, and percent where the size is known. One that cannot be written is left out.
+fn put_line(rt: &impl Eprint, progress: Progress, records: u64) {
+    let bytes = progress.bytes;
+    let _ = if 0 < progress.size {
+        let part = percent(bytes, progress.size);
+        eprintln!(rt; "durskafn: {bytes} bytes, {records} records, {part}%")
+    } else {
+        eprintln!(rt; "durskafn: {bytes} bytes, {records} records")
+    };
 }
 
 // The line, where it is due.
-pub fn say(progress: Progress, records: u64) -> Progress
+pub fn say(rt: &(impl Clock + Eprint), progress: Progress, records: u64) -> Progress
     ensures { SameRun progress result × (result.bytes ≡ progress.bytes) }
 {
     if !progress.is_said {
         return progress;
     }
-    let now = seconds();
+    let now = seconds(rt);
     if now < progress.due {
         return progress;
     }
-    put_line(progress, records);
+    put_line(rt, progress, records);
     Progress {
         is_said: progress.is_said,
         size: progress.size,
         bytes: progress.bytes,
-        due: wrapping_add_u64(now, WAIT),
+        due: now.wrapping_add(WAIT),
     }
 }

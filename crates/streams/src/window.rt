@@ -3,8 +3,10 @@ ghost use Rattle.std.specs.Prelude.{◌≡◌, ◌≤◌, false, length, take};
 ghost use Rattle.streams.specs.Windows.{Within, filled_to, read_more, wrote_out, finished};
 
 use crate::ending::Ending;
+use crate::failure::fail;
 use crate::progress::{Progress, read_on, say};
-use libc::{STDIN_FILENO, STDOUT_FILENO};
+use std::io::{Eprint, ErrorKind, Print, Read};
+use std::time::Clock;
 use text::shift;
 
 // The input's bytes from a place to end are still to be run, the output's below filled still to be written.
@@ -24,7 +26,7 @@ pub enum Moved {
     Ended(Ending),
 }
 
-// What a read of standard input brought.
+// What a read of the input brought.
 #[derive(Clone, Copy)]
 enum Filled {
     // Bytes came, and the buffer holds bytes up to here.
@@ -35,33 +37,34 @@ enum Filled {
 }
 
 // One read, to the bytes from end on. A read that a signal broke off brings nothing.
-fn fill(input: &mut [u8], end: usize) -> Filled
+fn fill(rt: &impl Eprint, reader: &mut impl Read, input: &mut [u8], end: usize) -> Filled
     requires { end ≤ length input.old }
     ensures { filled_to end (length input.old) result × (take end input.new ≡ take end input.old) }
 {
-    let got = libc::read(STDIN_FILENO, &mut input[end..]);
-    if got < 0 {
-        if os::errno() == libc::EINTR {
-            return Filled::Until(end);
+    match reader.read(&mut input[end..]) {
+        Ok(0) => Filled::End,
+        Ok(got) => Filled::Until(end + got),
+        Err(error) => {
+            if error.kind() == ErrorKind::Interrupted {
+                return Filled::Until(end);
+            }
+            fail(rt, "standard input", error);
+            Filled::Failed
         }
-        os::fail(b"durskafn: standard input");
-        return Filled::Failed;
     }
-    if got == 0 {
-        return Filled::End;
-    }
-    Filled::Until(end + io::count(got, &input[end..]))
 }
 
 // Whether all of the buffer's first bytes were written.
-fn flush(output: &[u8], filled: usize) -> bool
+fn flush(rt: &(impl Print + Eprint), output: &[u8], filled: usize) -> bool
     requires { filled ≤ length output.now }
 {
-    if io::write_all(STDOUT_FILENO, &output[..filled]) {
-        return true;
+    match rt.write_all(&output[..filled]) {
+        Ok(()) => true,
+        Err(error) => {
+            fail(rt, "standard output", error);
+            false
+        }
     }
-    os::fail(b"durskafn: standard output");
-    false
 }
 
 // Before the first read.
@@ -78,18 +81,25 @@ pub fn first_window(progress: Progress) -> Window
 }
 
 // What is printed goes out, since a read may wait. Then the rest goes to the front, and more comes behind it.
-pub fn read_more(window: Window, records: u64, input: &mut [u8], output: &[u8]) -> Moved
+pub fn read_more(
+    rt: &(impl Clock + Print + Eprint),
+    reader: &mut impl Read,
+    window: Window,
+    records: u64,
+    input: &mut [u8],
+    output: &[u8],
+) -> Moved
     requires { Within (length input.old) (length output.now) window }
     ensures { read_more input.old input.new window result }
 {
-    if !flush(output, window.filled) {
+    if !flush(rt, output, window.filled) {
         return Moved::Ended(Ending::WriteFailed);
     }
     let before = window.progress;
-    let progress = say(before, records);
+    let progress = say(rt, before, records);
     let rest = window.end - window.from;
     shift(&mut *input, window.from, window.end);
-    match fill(input, rest) {
+    match fill(rt, reader, input, rest) {
         Filled::Until(end) => Moved::On(Window {
             from: 0,
             end: end,
@@ -109,12 +119,12 @@ pub fn read_more(window: Window, records: u64, input: &mut [u8], output: &[u8]) 
 }
 
 // What is printed goes out.
-pub fn write_out(window: Window, output: &[u8]) -> Moved
+pub fn write_out(rt: &(impl Print + Eprint), window: Window, output: &[u8]) -> Moved
     requires { window.filled ≤ length output.now }
     ensures { wrote_out window result }
 {
     let progress = window.progress;
-    if flush(output, window.filled) {
+    if flush(rt, output, window.filled) {
         return Moved::On(Window {
             from: window.from,
             end: window.end,
@@ -127,11 +137,11 @@ pub fn write_out(window: Window, output: &[u8]) -> Moved
 }
 
 // The same, and the program ends.
-pub fn finish(output: &[u8], filled: usize, ending: Ending) -> Ending
+pub fn finish(rt: &(impl Print + Eprint), output: &[u8], filled: usize, ending: Ending) -> Ending
     requires { filled ≤ length output.now }
     ensures { finished ending result }
 {
-    if flush(output, filled) {
+    if flush(rt, output, filled) {
         return ending;
     }
     Ending::WriteFailed

@@ -1,4 +1,6 @@
 // Text written over a lent slice of bytes, from a place on. Each writer answers the place after what it wrote.
+#![tactic(auto)]
+
 ghost use Rattle.std.specs.Prelude.{[], ◌∷◌, ◌++◌, ◌≡◌, ◌+◌, ◌-◌, ◌<◌, ◌≤◌, length, take, drop};
 ghost use Rattle.rules.specs.Text.{decimal, signed_decimal, space};
 ghost use Rattle.text.specs.Wrote.{Wrote};

@@ -1,7 +1,6 @@
 use native.Mathlib.Omega.{arith}
 use Rattle.text.proofs.Writing.{then}
 use Rattle.text.proofs.Decimals.{decimal_20}
-use borrow.Author.Rules.{rules}
 use Rattle.text.proofs.put_field.Goals as goal
 
 pub put_decimal-requires : goal.put_decimal-requires

@@ -1,6 +1,5 @@
 use native.Mathlib.Omega.{arith}
 use Rattle.text.proofs.Decimals.{room-below, wrote-below, room-other, wrote-other}
-use borrow.Author.Rules.{rules}
 use Rattle.text.proofs.put_signed.Goals as goal
 
 pub put_byte-digits-requires : goal.put_byte-digits-requires

@@ -2,7 +2,6 @@ use mir.Facts.{to_z-of_z}
 use Rattle.text.proofs.Writing.{then}
 use Rattle.text.proofs.Decimals.{signed_20, as_read}
 use native.Mathlib.Omega.{arith}
-use borrow.Author.Rules.{rules}
 use Rattle.text.proofs.put_signed_field.Goals as goal
 
 pub put_signed-requires : goal.put_signed-requires

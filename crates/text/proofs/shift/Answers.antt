@@ -1,9 +1,8 @@
 use borrow.Author.Rules.{rules}
-use Prim.Native.Nat.{◌-◌, ◌≤◌}
+use Prim.Native.Nat.{◌-◌}
 use mathlib.Core.Path.{◌≡◌}
 use native.Mathlib.Omega.{arith}
-use lib.ListN.{length}
-use Rattle.text.proofs.Moving.{Moved, moved_none, moved_next, moved_all}
+use Rattle.text.proofs.Moving.{moved_none, moved_next, moved_all}
 use Rattle.text.proofs.shift.Goals as goal
 
 pub loop-i-init : goal.loop-i-init

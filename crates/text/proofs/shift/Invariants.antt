@@ -1,9 +1,7 @@
-use borrow.Author.Rules.{rules}
 use Prim.Native.Nat.{◌-◌, ◌≤◌}
 use mathlib.Core.Path.{◌≡◌}
-use native.Mathlib.Omega.{arith}
 use lib.ListN.{length}
-use Rattle.text.proofs.Moving.{Moved, moved_none, moved_next, moved_all}
+use Rattle.text.proofs.Moving.{Moved}
 use Rattle.text.proofs.shift.Given as goal
 
 abbrev pub invariant-loop-i : goal.invariant-loop-i
