@@ -1,8 +1,8 @@
 #!/usr/bin/env python3
-"""check.py [--forms]: reads what the prover said of each must-fail edit, once `rt ci` or `rt must-fail` has tried them.
+"""check.py [--forms] [CRATE ...]: asks the prover what it says of each must-fail edit, of all crates where none is named.
 
 An edit may hold several slips, so that its crate is proved once for all of them. `rt` asks only that the crate is refused.
-Here every slip must be refused by itself. Each name on its line `refused:` is one of these:
+Here every slip must be refused by itself. Each name on its line `# refused:` is one of these:
 - a function of which a fact does not hold (not only a function that calls one which is refused);
 - a law or an example that does not hold.
 No other function may be refused by itself, and none because its proof names a step that the edited code lacks: then the
@@ -11,24 +11,37 @@ nothing else. A slip of another shape has a control, a change of the same shape 
 controls.py asks whether it is proved. Every function that another crate or a host calls is named by a slip of its crate.
 With --forms, which the gate does not ask, no proof may be refused for its form at all: for a path to a step that is not
 there, or for a step that takes another number of things.
+What the prover said of an edit is kept in target/must-fail/CRATE/EDIT.log, and read again where nothing changed since.
 """
 import pathlib
 import re
 import sys
 
-SLIP_LINES = ("slip: ", "refused: ", "file: ", "old: ", "new:")
+import prover
+
+# rt reads no line that begins with a number sign.
+OWN_LINES = ("# slip: ", "# refused: ", "# control: ")
+EDIT_LINES = ("file: ", "old: ", "new:")
+ROOT = prover.ROOT
 CONTROLS = pathlib.Path(__file__).resolve().parent / "controls"
 # What stands for a value: a literal, or a name with its path and its fields. A number may have a sign.
 VALUE = re.compile(r"""b?'[^']*'|\*?b?"[^"]*"|(?<![\w)\]] )-\d+|\w+(?:(?:::|\.)\w+)*""")
 COMPARISON = re.compile(r"<=|>=|==|!=|<|>")
-ERROR = re.compile(r"/((?:specs|proofs)/\S+)\.antt:\d+:\d+: error: (.*)")
-# A function without a proof of its own, of which Rattle's search closes too little.
-NOT_FOUND = re.compile(r"^fn \w+::(\S+): no proof: ", re.M)
+# A refusal of a text in antt: the file, and the words.
+ERROR = re.compile(r"^(?:\./)?((?:specs|proofs)/\S+)\.antt:\d+:\d+: error: (.*)", re.M)
+# The files of a function's own proof, in a folder of its name.
+OF_A_FUNCTION = ("Answers", "Invariants", "Proof")
+# The prover's verdict on a function. It may be that a callee is not proved, and then the search is not tried at its own goals.
+VERDICT = re.compile(r"^fn \w+?::(\S+): (.*)$")
+WAITS_FOR_CALLEE = re.compile(r"\bit calls .*not proved$")
+# A goal of the function whose verdict follows, with values that make it false.
+IS_FALSE = re.compile(r"^note: .* it is not proved that .*allow values at which this goal is false$")
 # What is said of whatever rests on something that was refused.
-RESTS_ON_REFUSED = "was not admitted ("
-LOST_STEP = "has no `Need-"
+RESTS_ON_REFUSED = re.compile(r"which was (?:rejected|not admitted), w(?:as|ere) not checked|was not admitted \(")
+# What is said where a text names what is not there.
+LOST = re.compile(r"is not in scope|has no field|is no name|has no `|operand is missing|expected the end|cannot continue")
 # What is said of a proof, with the lines that it goes on over, and what is said of its form.
-OF_A_PROOF = re.compile(r"/proofs/(\S+)/Proof\.antt:\d+:\d+: error: (.*(?:\n  .*)*)")
+OF_A_PROOF = re.compile(r"^(?:\./)?proofs/(\S+)/(?:Answers|Invariants|Proof)\.antt:\d+:\d+: error: (.*(?:\n  .*)*)", re.M)
 OF_FORM = re.compile(r"has no field `|this pattern needs a function|this λ has \d+ binders")
 
 
@@ -40,20 +53,20 @@ class Slip:
         self.changes = []
 
 
-def slips_of(edit, complain, word="slip: "):
+def slips_of(edit, complain, word="# slip: "):
     slips = []
     file = old = ""
     for number, line in enumerate(edit.read_text(encoding="utf-8").splitlines(), 1):
         if line.startswith(word):
             slips.append(Slip(line[len(word) :]))
-        elif not line or line.startswith("#"):
+        elif not line or line.startswith("#") and not line.startswith(OWN_LINES):
             continue
-        elif not line.startswith(SLIP_LINES):
+        elif not line.startswith(EDIT_LINES) and not line.startswith("# refused: "):
             complain(f"line {number} is no line of an edit: {line}")
         elif not slips:
             complain(f"line {number} stands before the first '{word.strip()}'")
-        elif line.startswith("refused: "):
-            slips[-1].refused += line[len("refused: ") :].split()
+        elif line.startswith("# refused: "):
+            slips[-1].refused += line[len("# refused: ") :].split()
         elif line.startswith("file: "):
             file = line[len("file: ") :]
         elif line.startswith("old: "):
@@ -76,7 +89,7 @@ def shapes(slip):
 
 def controls_of(crate, complain):
     path = CONTROLS / f"{crate}.control"
-    return slips_of(path, complain, "control: ") if path.exists() else []
+    return slips_of(path, complain, "# control: ") if path.exists() else []
 
 
 def check_shapes(crate, slips, complain):
@@ -92,23 +105,65 @@ def check_shapes(crate, slips, complain):
         complain(f"a control of {name}, which is no slip")
 
 
-def refusals_of(said, complain):
-    """The functions and the laws that are refused by themselves."""
-    functions = set(NOT_FOUND.findall(said))
-    laws = set()
-    for path, error in ERROR.findall(said):
-        if RESTS_ON_REFUSED in error:
-            continue
-        folder, _, name = path.rpartition("/")
-        if name != "Proof":
-            laws.add(error.split("`")[1] if "`" in error else error)
-            continue
-        # The folder of a function that calls itself begins with a plus.
-        function = folder.removeprefix("proofs/").removeprefix("+").replace("/", "::")
-        functions.add(function)
-        if LOST_STEP in error:
+class Refusals:
+    """What is refused by itself, and which functions wait for a callee's proof."""
+
+    def __init__(self, said, complain):
+        self.functions, self.laws, self.waiting = set(), set(), set()
+        lost = self.read_errors(said, complain)
+        has_false_goal = self.read_verdicts(said)
+        # A goal may be named by a value of the code, and its answer then stands for no goal. So the new goal has to be false.
+        for function in sorted(lost - has_false_goal):
             complain(f"the proof of {function} names a step that the edited code lacks")
-    return functions, laws
+
+    def read_errors(self, said, complain):
+        """The functions whose proof names a step that is not there."""
+        lost = set()
+        for path, error in ERROR.findall(said):
+            if RESTS_ON_REFUSED.search(error):
+                continue
+            folder, _, name = path.rpartition("/")
+            named = re.match(r"`([^`]*)`: ", error)
+            is_lost = LOST.search(error[named.end() :] if named else error)
+            if name in OF_A_FUNCTION and folder != "specs":
+                function = function_of(folder)
+                self.functions.add(function)
+                if is_lost:
+                    lost.add(function)
+            else:
+                self.laws.add(named[1] if named else error)
+                if is_lost or not named:
+                    complain(f"{path}.antt cannot be read with this edit: {error}")
+        return lost
+
+    def read_verdicts(self, said):
+        """The functions of which a goal is false."""
+        has_false_goal, is_false = set(), False
+        for line in said.splitlines():
+            verdict = VERDICT.match(line)
+            if not verdict:
+                is_false = is_false or bool(IS_FALSE.match(line))
+                continue
+            function, words = verdict.groups()
+            if WAITS_FOR_CALLEE.search(words):
+                self.waiting.add(function)
+            elif words.startswith("no proof: "):
+                self.functions.add(function)
+            if is_false:
+                has_false_goal.add(function)
+            is_false = False
+        return has_false_goal
+
+    def has(self, name):
+        return name in self.laws or any(is_called(function, name) for function in self.functions)
+
+    def waits(self, name):
+        return any(is_called(function, name) for function in self.waiting)
+
+
+def function_of(folder):
+    # The folder of functions that call one another begins with a plus.
+    return folder.removeprefix("proofs/").removeprefix("+").replace("/", "::")
 
 
 def form_refusals(said):
@@ -120,71 +175,136 @@ def is_called(function, name):
     return function == name or function.endswith("::" + name)
 
 
-def check_edit(edit, said, complain):
-    slips = slips_of(edit, complain)
-    functions, laws = refusals_of(said, complain)
+def slips_that_wait(edit, said):
+    """The slips of functions that call a refused one, so that the prover has not tried them to their end."""
+    refusals = Refusals(said, lambda _: None)
+    return [slip for slip in slips_of(edit, lambda _: None) if any(refusals.waits(name) and not refusals.has(name) for name in slip.refused)]
+
+
+def check_claims(slips, refusals, complain):
+    """Each name of these slips is refused by itself, and no other function."""
     claimed = {}
     for slip in slips:
         if not slip.refused or not slip.changes:
-            complain(f"{slip.name} has no 'refused:' or no 'old:' and 'new:'")
+            complain(f"{slip.name} has no '# refused:' or no 'old:' and 'new:'")
         for name in slip.refused:
             if name in claimed:
                 complain(f"{claimed[name]} and {slip.name} both name {name}: one refusal cannot show both")
             claimed[name] = slip.name
-            if name not in laws and not any(is_called(function, name) for function in functions):
-                complain(f"{slip.name}: {name} is not refused by itself")
-    for function in sorted(functions):
+    for function in sorted(refusals.functions):
         if not any(is_called(function, name) for name in claimed):
             complain(f"{function} is refused too, and no slip names it")
+    return claimed
+
+
+def check_edit(edit, complain):
+    slips = slips_of(edit, complain)
+    refusals = Refusals(said_of(edit), complain)
+    alone = slips_that_wait(edit, said_of(edit))
+    claimed = check_claims(slips, refusals, complain)
+    for slip in alone:
+        by_itself = Refusals(said_of(edit, slip), complain)
+        check_claims([slip], by_itself, complain)
+        for name in slip.refused:
+            if by_itself.has(name):
+                del claimed[name]
+    for name, slip in claimed.items():
+        if not refusals.has(name):
+            complain(f"{slip}: {name} is not refused by itself")
     if not slips:
         complain("no slip")
     return slips
 
 
-def called_from_outside(root):
+def is_named_in(crate, function, source):
+    """Whether a source names the function of a crate, by its path or in an import of several names."""
+    several = " ".join(re.findall(rf"\b{crate}::(?:\w+::)*\{{([^{{}}]*)\}}", source))
+    return bool(re.search(rf"\b{crate}::(?:\w+::)*{function}\b", source) or re.search(rf"\b{function}\b", several))
+
+
+def called_from_outside():
     """The functions of each crate that another crate calls, or a host."""
     sources = {}
-    for file in sorted(root.glob("crates/*/src/**/*.rt")):
-        crate = file.relative_to(root).parts[1]
+    for file in sorted(ROOT.glob("crates/*/src/**/*.rt")):
+        crate = file.relative_to(ROOT).parts[1]
         sources[crate] = sources.get(crate, "") + re.sub(r"//.*", "", file.read_text(encoding="utf-8"))
     for crate, source in sources.items():
         others = "".join(text for other, text in sources.items() if other != crate)
         entries = set(re.findall(r'pub extern "C" fn (\w+)', source))
         for function in sorted(set(re.findall(r"\bpub fn (\w+)", source)) | entries):
-            if function in entries or re.search(rf"\b{crate}::(?:\w+::)*{function}\b", others):
+            if function in entries or is_named_in(crate, function, others):
                 yield crate, function
 
 
-def is_slipped(root, crate, function):
-    edits = (edit.read_text(encoding="utf-8") for edit in root.glob(f"crates/{crate}/must-fail/*.edit"))
-    return any(f"`{function}`" in text or re.search(rf"^refused: .*\b{function}\b", text, re.M) for text in edits)
+def is_slipped(crate, function):
+    edits = (edit.read_text(encoding="utf-8") for edit in ROOT.glob(f"crates/{crate}/must-fail/*.edit"))
+    return any(f"`{function}`" in text or re.search(rf"^# refused: .*\b{function}\b", text, re.M) for text in edits)
+
+
+def log_of(edit, slip=None):
+    name = f"{edit.stem}.{slip.name}" if slip else edit.stem
+    return ROOT / "target" / "must-fail" / edit.parent.parent.name / f"{name}.log"
+
+
+def said_of(edit, slip=None):
+    return log_of(edit, slip).read_text(encoding="utf-8")
+
+
+def try_edits(edits):
+    """Has the prover try each edit that was not tried yet as it stands; what it said goes into the edit's log, below a sum of what it read.
+    A slip that waits for a callee is tried by itself too."""
+    crates, kit = prover.dependencies(), prover.version()
+    of_crate = {}
+    for edit in edits:
+        of_crate.setdefault(edit.parent.parent.name, []).append((edit, prover.sum_of(edit.parent.parent.name, crates, edit, kit)))
+
+    def is_tried(edit, told, slip=None):
+        log = log_of(edit, slip)
+        return log.exists() and said_of(edit, slip).partition("\n")[0] == told
+
+    def try_one(copy, edit, told, slips, slip=None):
+        if is_tried(edit, told, slip):
+            return
+        said, status = copy.check(edit.parent.parent.name, [change for it in slips for change in it.changes])
+        log_of(edit, slip).parent.mkdir(parents=True, exist_ok=True)
+        log_of(edit, slip).write_text(f"{told if status in (0, 1) else 'no verdict'}\n{said}", encoding="utf-8")
+
+    def try_crate(copy, crate):
+        for edit, told in of_crate[crate]:
+            try_one(copy, edit, told, slips_of(edit, lambda _: None))
+            for slip in slips_that_wait(edit, said_of(edit)):
+                try_one(copy, edit, told, [slip], slip)
+
+    def is_whole(crate):
+        return all(is_tried(edit, told) and all(is_tried(edit, told, slip) for slip in slips_that_wait(edit, said_of(edit))) for edit, told in of_crate[crate])
+
+    # Those with the most edits first, so that no lane ends long after the others.
+    prover.in_copies(try_crate, sorted((crate for crate in of_crate if not is_whole(crate)), key=lambda crate: -len(of_crate[crate])))
 
 
 def main():
     asks_forms = "--forms" in sys.argv[1:]
-    root = pathlib.Path(next((word for word in sys.argv[1:] if word != "--forms"), "."))
+    names = [word for word in sys.argv[1:] if word != "--forms"]
     complaints = []
-    edits = sorted(root.glob("crates/*/must-fail/*.edit"))
-    slips = {path.stem: [] for path in CONTROLS.glob("*.control")}
+    edits = [edit for edit in sorted(ROOT.glob("crates/*/must-fail/*.edit")) if not names or edit.parent.parent.name in names]
+    slips = {path.stem: [] for path in CONTROLS.glob("*.control") if not names or path.stem in names}
+    try_edits(edits)
     for edit in edits:
         crate = edit.parent.parent.name
         complain = lambda text, at=f"{crate}/{edit.stem}": complaints.append(f"{at}: {text}")
-        log = root / "target" / "must-fail" / crate / edit.stem / ".log"
-        if log.exists():
-            said = log.read_text(encoding="utf-8")
-            slips.setdefault(crate, []).extend(check_edit(edit, said, complain))
-            for function in form_refusals(said) if asks_forms else ():
-                complain(f"the proof of {function} is refused for its form")
-        else:
-            complain("the prover was not asked")
+        slips.setdefault(crate, []).extend(check_edit(edit, complain))
+        if not re.search(rf"^{prover.NOT_PROVED}", said_of(edit), re.M):
+            complain(f"it is not refused, or the prover gave no verdict: {' '.join(said_of(edit).splitlines()[-3:])[:200]}")
+        for function in form_refusals(said_of(edit)) if asks_forms else ():
+            complain(f"the proof of {function} is refused for its form")
     for crate in sorted(slips):
         complain = lambda text, at=crate: complaints.append(f"{at}: {text}")
-        names = [slip.name for slip in slips[crate]]
+        called = [slip.name for slip in slips[crate]]
         check_shapes(crate, slips[crate], complain)
-        for name in sorted({name for name in names if names.count(name) > 1}):
+        for name in sorted({name for name in called if called.count(name) > 1}):
             complain(f"two slips are called {name}")
-    for crate, function in called_from_outside(root):
-        if not is_slipped(root, crate, function):
+    for crate, function in called_from_outside():
+        if (not names or crate in names) and not is_slipped(crate, function):
             complaints.append(f"{crate}: no slip of {function}, which is called from outside")
     print("".join(complaint + "\n" for complaint in complaints), end="")
     print(f"{sum(map(len, slips.values()))} slips in {len(edits)} must-fail edits, {len(complaints)} complaints")
