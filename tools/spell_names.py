@@ -15,9 +15,8 @@ import sys
 # This module's name would differ from a generated one only in case.
 RENAMED_MODULE = ("Contracts", "ContractTerms")
 NAME_PART = r"[\w'-]"
-DECLARED = re.compile(r"^(?:(?:unfoldable|abbrev|opaque|pub)\s+)*([a-z][\w'-]*)(?:\s+[({].*?[)}])*\s+:\s")
-IN_MODULE = re.compile(r"^  (?:(?:unfoldable|abbrev|opaque|pub)\s+)*([a-z][\w'-]*)(?:\s+[({].*?[)}])*\s+:\s")
-MEMBER = re.compile(r"^\s+(?:pub\s+)?([a-z][\w'-]*)\s+:\s")
+DECLARED = re.compile(r"^ *(?:(?:unfoldable|abbrev|opaque|pub)\s+)*([a-z][\w'-]*)(?:\s+[({].*?[)}])*\s+:\s")
+MEMBER = re.compile(r"^ +(?:pub\s+)?([a-z][\w'-]*)\s+:\s")
 
 
 def sources(endings):
@@ -55,12 +54,11 @@ def declared_names(crates):
                 of_libraries.update(names)
         if not is_lemma_or_definition(path):
             continue
-        in_members = in_module = False
+        in_members = False
         for line in text.splitlines():
             if line[:1].strip() and not line.startswith("--"):
                 in_members = bool(re.match(r"^(pub )?(record|data)\b", line))
-                in_module = line.startswith("module")
-            match = DECLARED.match(line) or (MEMBER.match(line) if in_members else IN_MODULE.match(line) if in_module else None)
+            match = (MEMBER if in_members else DECLARED).match(line)
             if match:
                 found.setdefault(match.group(1), set()).add("member" if in_members else "definition")
     return {n: kinds for n, kinds in found.items() if n not in of_libraries}, of_libraries

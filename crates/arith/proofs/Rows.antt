@@ -46,14 +46,14 @@ module _ {A : Type 0} (p : A → Bool) where
     take_more zero (x ∷ xs) = and_true (p x)
     take_more (suc n) (x ∷ xs) = rw (take_more n xs) (sym (and_assoc (p x) (every p (take n xs)) (p (get_or xs n z))))
 
-    pub next-column : (n w m : ℕ) (l : List A)
+    pub next_column : (n w m : ℕ) (l : List A)
         → every_block w (λ row. every p (take (suc n) row)) m l ≡ every_block w (λ row. every p (take n row)) m l && every_block w (λ row. p (get_or row n z)) m l
     unfolding every_block
-    next-column n w zero l = refl
-    next-column n w (suc m) l =
+    next_column n w zero l = refl
+    next_column n w (suc m) l =
         let row = take w l in
         let rest = drop w l in
-        rw (take_more n row, next-column n w m rest)
+        rw (take_more n row, next_column n w m rest)
         (and_swap (every p (take n row)) (p (get_or row n z)) (every_block w (λ row. every p (take n row)) m rest) (every_block w (λ row. p (get_or row n z)) m rest))
 
 -- Two tests of each block.

@@ -27,7 +27,7 @@ use Rattle.rules.specs.OtherForms.{contract_of, contracts_in, first_month_of}
 use Rattle.rules.proofs.CalendarLaws.{contracts_of_lem}
 use Rattle.rules.proofs.HourLaws.{Cascading, year, quarter, cascading}
 use Rattle.rules.specs.CloseOfDay.{contract_rows, added_to, cascaded, all_cascaded}
-use Rattle.rules.proofs.Cascade.{row_of, rows_length_lem, rows_at, put-length, put-row, sums, sums-length, cascaded_month, cascaded_length, cascaded_row}
+use Rattle.rules.proofs.Cascade.{row_of, rows_length_lem, rows_at, put_length, put_row, sums, sums_length, cascaded_month, cascaded_length, cascaded_row}
 use Rattle.tables.specs.Fit.{RowsFit}
 use Rattle.contract_phases.specs.Phases.{closes, closing}
 use Rattle.contract_phases.proofs.Phases.{number_below}
@@ -61,11 +61,11 @@ front_rest n s d z h =
 parent_stays : (n p c : ℕ) (xs l : List ℤ) → rows_length ≤ length l → p < c → c < contract_count → n ≤ 32 → length xs ≡ n → contract_rows n p (over (c * 32) xs l) ≡ contract_rows n p l
 parent_stays n p c xs l s h b q e =
     let put = over (c * 32) xs l in
-    let long : rows_length ≤ length put = omega (arith, put-length n c l s b q xs e) in
+    let long : rows_length ≤ length put = omega (arith, put_length n c l s b q xs e) in
     let many = rows_length_lem n p put long (omega arith) q in
     ext_get_or (pos 0) (contract_rows n p put) (contract_rows n p l) (many ∙ sym (rows_length_lem n p l s (omega arith) q))
     (λ m k. let k' : m < n = omega (arith, many) in
-    rows_at n p put long (omega arith) q m k' ∙ put-row n c l s b q xs e p m k' ∙ rw (ne_eqb c p (omega arith)) (sym (rows_at n p l s (omega arith) q m k')))
+    rows_at n p put long (omega arith) q m k' ∙ put_row n c l s b q xs e p m k' ∙ rw (ne_eqb c p (omega arith)) (sym (rows_at n p l s (omega arith) q m k')))
 
 pub record Adding (n p end size : ℕ) (all parent : List ℤ) (child : ℕ) (rows : List ℤ) : Type 0 where
   pub after : p < child
@@ -86,15 +86,15 @@ module _ (n p end size : ℕ) (all parent : List ℤ) (few : n ≤ 32) (last : e
       let b : child < contract_count = omega arith in
       let mine = contract_rows n child rows in
       let xs = sums n p hp few child rows s b a.after in
-      let many = sums-length n p hp few child rows s b a.after in
+      let many = sums_length n p hp few child rows s b a.after in
       let is : zip_with ◌+ℤ◌ mine parent ≡ xs = sym (zip_take ◌+ℤ◌ n mine parent (omega (arith, rows_length_lem n child rows s b few))) ∙ ap (zip_with ◌+ℤ◌ mine) a.lent in
       rw is (record {
         after = omega (arith, a.after);
         most = omega arith;
-        same = put-length n child rows s b few xs many ∙ a.same;
+        same = put_length n child rows s b few xs many ∙ a.same;
         lent = a.lent ∙ sym (parent_stays n p child xs rows s a.after b few many);
         parent_fit = a.parent_fit;
-        rest_fit = λ c m l u k. rw (put-row n child rows s b few xs many c m k, ne_eqb child c (omega arith)) (a.rest_fit c m (omega arith) u k);
+        rest_fit = λ c m l u k. rw (put_row n child rows s b few xs many c m k, ne_eqb child c (omega arith)) (a.rest_fit c m (omega arith) u k);
         known = rw (from_next child end h) at a.known;
       })
 

@@ -57,11 +57,11 @@ module _ (c p m : ℕ) where
     pub same_none : gain ≡ loss → change_lines c p m ((pos gain -ℤ pos loss) ∷ []) ≡ []
     same_none e = change_none (pos gain -ℤ pos loss) (rw (minus_same gain loss e))
 
-    pub more-bought : loss < gain → change_lines c p m ((pos gain -ℤ pos loss) ∷ []) ≡ line (signed Buy (gain - loss)) ∷ []
-    more-bought h = rw (minus_more gain loss h) (change_one (pos (gain - loss)) (λ e. omega arith))
+    pub more_bought : loss < gain → change_lines c p m ((pos gain -ℤ pos loss) ∷ []) ≡ line (signed Buy (gain - loss)) ∷ []
+    more_bought h = rw (minus_more gain loss h) (change_one (pos (gain - loss)) (λ e. omega arith))
 
-    pub more-sold : gain < loss → change_lines c p m ((pos gain -ℤ pos loss) ∷ []) ≡ line (signed Sell (loss - gain)) ∷ []
-    more-sold h = rw (minus_less gain loss h) (change_one (neg_ℤ (pos (loss - gain))) (λ e. omega (arith, abs_neg (pos (loss - gain)))))
+    pub more_sold : gain < loss → change_lines c p m ((pos gain -ℤ pos loss) ∷ []) ≡ line (signed Sell (loss - gain)) ∷ []
+    more_sold h = rw (minus_less gain loss h) (change_one (neg_ℤ (pos (loss - gain))) (λ e. omega (arith, abs_neg (pos (loss - gain)))))
 
   pub change_cons : (z : ℤ) (zs : List ℤ) → change_lines c p m (z ∷ zs) ≡ change_lines c p m (z ∷ []) ++ change_lines c p (suc m) zs
   unfolding change_lines

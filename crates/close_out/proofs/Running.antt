@@ -42,8 +42,8 @@ module _ (c p i : ℕ) (gains losses : List ℕ) (start : Tables → Tables) whe
     abbrev one : List Line
     one = change_lines c p m (change ∷ [])
 
-    one-rest : rest m ≡ one ++ rest (m + 1)
-    one-rest = lines_next gains losses m more (omega arith) c p
+    one_rest : rest m ≡ one ++ rest (m + 1)
+    one_rest = lines_next gains losses m more (omega arith) c p
 
     module _ (head' : List ℕ) (lots' value' lines' : List ℤ) (at' : ℕ) (after : (t : Tables) → put head' lots' value' lines' t ≡ with_each at one (put head lots value lines t))
         (counted : at' ≡ at + length one) where
@@ -56,13 +56,13 @@ module _ (c p i : ℕ) (gains losses : List ℕ) (start : Tables → Tables) whe
           subst (λ (s : Tables). Takes rest s) (sym (after blank))
           (takes_change rest at c p m change t (omega (arith, now.few)) (record { contract_below = c<; member_below = omega (arith, now.members); most_price_holds = p≤ }) fits)
 
-      pub running-next : Running head' lots' value' lines' at' (m + 1)
-      running-next =
+      pub running_next : Running head' lots' value' lines' at' (m + 1)
+      running_next =
           record {
             within = omega arith;
             few = omega (arith, now.few, change_most c p m change);
             members = now.members ∙ sym (ap (λ (s : Tables). members_in s.head) (after blank) ∙ each_members at one (put head lots value lines blank));
             takes = still;
-            count = omega (arith, now.count, ap length one-rest, length-append one (rest (m + 1)));
-            same = λ t. rw (counted, after t, ← each_append at one (rest (m + 1)) (put head lots value lines t), ← one-rest) (now.same t);
+            count = omega (arith, now.count, ap length one_rest, length-append one (rest (m + 1)));
+            same = λ t. rw (counted, after t, ← each_append at one (rest (m + 1)) (put head lots value lines t), ← one_rest) (now.same t);
           }

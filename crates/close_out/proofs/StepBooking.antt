@@ -98,18 +98,18 @@ module _ (c p q l : ℕ) (longs shorts ws : List ℕ) (hc : c < contract_count) 
     sums1 : sum_of shorts1 + sum_of longs1 ≡ l
     sums1 = omega (arith, ap sum_of el, ap sum_of es, d.remaining)
 
-    shorts-wide : length shorts1 ≡ members_in head1
-    shorts-wide = ap length es ∙ remaining_length q shorts ∙ d.shorts_length ∙ sym members1
+    shorts_wide : length shorts1 ≡ members_in head1
+    shorts_wide = ap length es ∙ remaining_length q shorts ∙ d.shorts_length ∙ sym members1
 
-    longs-wide : length longs1 ≡ length shorts1
-    longs-wide = ap length el ∙ remaining_length q longs ∙ d.longs_length ∙ sym members1 ∙ sym shorts-wide
+    longs_wide : length longs1 ≡ length shorts1
+    longs_wide = ap length el ∙ remaining_length q longs ∙ d.longs_length ∙ sym members1 ∙ sym shorts_wide
 
-    first-few : first + length shorts1 ≤ least_lines
-    first-few = omega (arith, count1, netting_few, few, shorts-wide, members1)
+    first_few : first + length shorts1 ≤ least_lines
+    first_few = omega (arith, count1, netting_few, few, shorts_wide, members1)
 
-    pub second-requires : Bookable (sum_of shorts1 + sum_of longs1) head1 lots1 value1 lines1
+    pub second_requires : Bookable (sum_of shorts1 + sum_of longs1) head1 lots1 value1 lines1
         × (((first + length shorts1 ≤ least_lines) × (c < contract_count) × (p ≤ most_price)) × ((length shorts1 ≡ members_in head1) × (length longs1 ≡ length shorts1)))
-    second-requires = (less_room _ _ (omega (arith, sums1)) ready1, ((first-few, hc, hp), (shorts-wide, longs-wide)))
+    second_requires = (less_room _ _ (omega (arith, sums1)) ready1, ((first_few, hc, hp), (shorts_wide, longs_wide)))
 
     -- after the defaulted of step 2
     module _ (head2 : List ℕ) (lots2 value2 lines2 : List ℤ) (second : ℕ) (count2 : second ≡ first + length (change_lines c p 0 (changes shorts1 longs1)))
@@ -120,45 +120,45 @@ module _ (c p q l : ℕ) (longs shorts ws : List ℕ) (hc : c < contract_count) 
       abbrev defaulted : List Line
       defaulted = defaulted_lines c p q longs shorts
 
-      defaulted-is : change_lines c p 0 (changes shorts1 longs1) ≡ defaulted
+      defaulted_is : change_lines c p 0 (changes shorts1 longs1) ≡ defaulted
       unfolding defaulted_lines
-      defaulted-is = rw (es, el)
+      defaulted_is = rw (es, el)
 
       ready2 : Bookable l head2 lots2 value2 lines2
       ready2 =
           carried head1 head2 lots1 lots2 value1 value2 lines1 lines2 first (change_lines c p 0 (changes shorts1 longs1)) same2 l
-          (takes_columns c p hc hp shorts1 longs1 l first (put head1 lots1 value1 lines1 blank) shorts-wide longs-wide first-few (less_room _ _ (omega (arith, sums1)) ready1))
+          (takes_columns c p hc hp shorts1 longs1 l first (put head1 lots1 value1 lines1 blank) shorts_wide longs_wide first_few (less_room _ _ (omega (arith, sums1)) ready1))
 
       members2 : members_in head2 ≡ members_in head
       members2 = members_same head1 head2 lots1 lots2 value1 value2 lines1 lines2 first (change_lines c p 0 (changes shorts1 longs1)) same2 ∙ members1
 
-      second-few : second ≤ members_in head + members_in head
-      second-few = omega (arith, count1, count2, netting_few, change_length c p 0 (changes shorts1 longs1), changes_length shorts1 longs1 (sym longs-wide), shorts-wide, members1)
+      second_few : second ≤ members_in head + members_in head
+      second_few = omega (arith, count1, count2, netting_few, change_length c p 0 (changes shorts1 longs1), changes_length shorts1 longs1 (sym longs_wide), shorts_wide, members1)
 
-      pub takers-requires : 0 < l → (Bookable l head2 lots2 value2 lines2 × MemberColumn most_weight ws × (0 < sum_of ws))
+      pub takers_requires : 0 < l → (Bookable l head2 lots2 value2 lines2 × MemberColumn most_weight ws × (0 < sum_of ws))
           × ((c < contract_count) × (p ≤ most_price) × (second + length ws ≤ least_lines) × (length ws ≡ members_in head2))
-      takers-requires h = ((ready2, d.weights_column, d.takers h), (hc, hp, omega (arith, second-few, d.weights_length, few), d.weights_length ∙ sym members2))
+      takers_requires h = ((ready2, d.weights_column, d.takers h), (hc, hp, omega (arith, second_few, d.weights_length, few), d.weights_length ∙ sym members2))
 
       -- both steps as lines of one list
       both : (t : Tables) → put head2 lots2 value2 lines2 t ≡ with_each (0 + length netting) defaulted (with_each 0 netting (put head lots value lines t))
-      both t = same2 t ∙ rw (defaulted-is, same1 t, count1, zero-add (length netting))
+      both t = same2 t ∙ rw (defaulted_is, same1 t, count1, zero-add (length netting))
 
       counted : second ≡ length (netting ++ defaulted)
-      counted = omega (arith, count1, count2, ap length defaulted-is, length-append netting defaulted)
+      counted = omega (arith, count1, count2, ap length defaulted_is, length-append netting defaulted)
 
       together : (t : Tables) → put head2 lots2 value2 lines2 t ≡ with_each 0 (netting ++ defaulted) (put head lots value lines t)
       together t = both t ∙ sym (each_append 0 netting defaulted (put head lots value lines t))
 
-      steps-are : (long : ℕ) → long ≡ sum_of longs1 → (netting ++ defaulted) ++ taker_lines c p long l ws ≡ step_lines c p q l longs shorts ws
+      steps_are : (long : ℕ) → long ≡ sum_of longs1 → (netting ++ defaulted) ++ taker_lines c p long l ws ≡ step_lines c p q l longs shorts ws
       unfolding step_lines
-      steps-are long e = append_assoc netting defaulted (taker_lines c p long l ws) ∙ rw (e, el)
+      steps_are long e = append_assoc netting defaulted (taker_lines c p long l ws) ∙ rw (e, el)
 
       pub finish : (long : ℕ) → long ≡ sum_of longs1 → (head3 : List ℕ) (lots3 value3 lines3 : List ℤ) (r : ℕ) → r ≡ second + length (taker_lines c p long l ws)
           → ((t : Tables) → put head3 lots3 value3 lines3 t ≡ with_each second (taker_lines c p long l ws) (put head2 lots2 value2 lines2 t))
           → (r ≡ length (step_lines c p q l longs shorts ws)) × ((t : Tables) → put head3 lots3 value3 lines3 t ≡ with_each 0 (step_lines c p q l longs shorts ws) (put head lots value lines t))
       finish long e head3 lots3 value3 lines3 r er same3 =
           let takers = taker_lines c p long l ws in
-          let all = steps-are long e in (
+          let all = steps_are long e in (
             er ∙ ap (λ n. n + length takers) counted ∙ sym (length-append (netting ++ defaulted) takers) ∙ ap length all,
             λ t. same3 t ∙ rw (together t, counted)
                 (sym (rw (zero-add (length (netting ++ defaulted))) at (each_append 0 (netting ++ defaulted) takers (put head lots value lines t)))
@@ -169,5 +169,5 @@ module _ (c p q l : ℕ) (longs shorts ws : List ℕ) (hc : c < contract_count) 
           × ((t : Tables) → put head2 lots2 value2 lines2 t ≡ with_each 0 (step_lines c p q l longs shorts ws) (put head lots value lines t))
       done z =
           let none : taker_lines c p (sum_of longs1) l ws ≡ [] = rw z (no_takers c p (sum_of longs1) ws) in
-          let all : netting ++ defaulted ≡ step_lines c p q l longs shorts ws = sym (append-nil (netting ++ defaulted)) ∙ (rw none at (steps-are (sum_of longs1) refl)) in
+          let all : netting ++ defaulted ≡ step_lines c p q l longs shorts ws = sym (append-nil (netting ++ defaulted)) ∙ (rw none at (steps_are (sum_of longs1) refl)) in
           (counted ∙ ap length all, λ t. together t ∙ ap (λ ls. with_each 0 ls (put head lots value lines t)) all)

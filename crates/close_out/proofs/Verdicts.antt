@@ -192,37 +192,37 @@ module _ (head : List ℕ) (lots value lines : List ℤ) (f : Bookable 0 head lo
     abbrev lent : Tables
     lent = put head lots value lines t
 
-    longs-here : defaulted_longs lent c ≡ longs
-    longs-here = d.longs_are (with_lines lines t) value
+    longs_here : defaulted_longs lent c ≡ longs
+    longs_here = d.longs_are (with_lines lines t) value
 
-    shorts-here : defaulted_shorts lent c ≡ shorts
-    shorts-here = d.shorts_are (with_lines lines t) value
+    shorts_here : defaulted_shorts lent c ≡ shorts
+    shorts_here = d.shorts_are (with_lines lines t) value
 
-    remaining-here : lots_remaining lent c ≡ l
-    remaining-here = d.remaining (with_lines lines t) value
+    remaining_here : lots_remaining lent c ≡ l
+    remaining_here = d.remaining (with_lines lines t) value
 
-    no-price : eqb (ggf lent c) 0 ≡ false
-    no-price = rw priced (ne_eqb price 0 (λ z. omega arith))
+    no_price : eqb (ggf lent c) 0 ≡ false
+    no_price = rw priced (ne_eqb price 0 (λ z. omega arith))
 
-    pub no-lots : q + l ≡ 0 → record { answer = NoDefaultedLots; after = lent } ≡ close_out_spec lent e
+    pub no_lots : q + l ≡ 0 → record { answer = NoDefaultedLots; after = lent } ≡ close_out_spec lent e
     unfolding close_out_spec
-    no-lots h = rw (opened, no-price, longs-here, shorts-here, eq-eqb (sum_of longs + sum_of shorts) 0 (omega (arith, all_lots)))
+    no_lots h = rw (opened, no_price, longs_here, shorts_here, eq-eqb (sum_of longs + sum_of shorts) 0 (omega (arith, all_lots)))
 
     -- there are lots of the defaulted, and ws are the weights
     module _ (there : q + l ≡ 0 → ⊥) (ws : List ℕ) (sum : ℕ) (summed : sum ≡ sum_of ws)
         (weighed : (s : Tables) (v : List ℤ) → lots_remaining (with_head head (with_rows lots v s)) e.contract ≡ l → ws ≡ weights (with_head head (with_rows lots v s)) e) where
       weights_here : weights lent e ≡ ws
-      weights_here = sym (weighed (with_lines lines t) value remaining-here)
+      weights_here = sym (weighed (with_lines lines t) value remaining_here)
 
-      some-lots : eqb (sum_of longs + sum_of shorts) 0 ≡ false
-      some-lots = ne_eqb (sum_of longs + sum_of shorts) 0 (λ z. there (omega (arith, all_lots)))
+      some_lots : eqb (sum_of longs + sum_of shorts) 0 ≡ false
+      some_lots = ne_eqb (sum_of longs + sum_of shorts) 0 (λ z. there (omega (arith, all_lots)))
 
       lines_are : close_out_lines lent e ≡ step_lines c price q l longs shorts ws
-      lines_are = spec_lines lent e ∙ rw (priced, d.netted (with_lines lines t) value, remaining-here, longs-here, shorts-here, weights_here)
+      lines_are = spec_lines lent e ∙ rw (priced, d.netted (with_lines lines t) value, remaining_here, longs_here, shorts_here, weights_here)
 
       pub no_taker : ltb 0 l && eqb sum 0 ≡ true → record { answer = NoTaker; after = lent } ≡ close_out_spec lent e
       unfolding close_out_spec
-      no_taker h = rw (opened, no-price, longs-here, shorts-here, some-lots, remaining-here, weights_here, ← summed, h)
+      no_taker h = rw (opened, no_price, longs_here, shorts_here, some_lots, remaining_here, weights_here, ← summed, h)
 
       module _ (taker : ltb 0 l && eqb sum 0 ≡ false) where
         run_is : line_run (close_out_lines lent e) ≡ (q + q) + (l + l)
@@ -237,14 +237,14 @@ module _ (head : List ℕ) (lots value lines : List ℤ) (f : Bookable 0 head lo
 
         pub passed : most_lots_run < lots_run lent + ((q + q) + (l + l)) → record { answer = TotalPassed; after = lent } ≡ close_out_spec lent e
         unfolding close_out_spec
-        passed k = rw (opened, no-price, longs-here, shorts-here, some-lots, remaining-here, weights_here, ← summed, taker, run_is, lt-ltb most_lots_run (lots_run lent + ((q + q) + (l + l))) k)
+        passed k = rw (opened, no_price, longs_here, shorts_here, some_lots, remaining_here, weights_here, ← summed, taker, run_is, lt-ltb most_lots_run (lots_run lent + ((q + q) + (l + l))) k)
 
-        pub booked-so : lots_run lent + ((q + q) + (l + l)) ≤ most_lots_run → (n : ℕ) (t' : Tables) → n ≡ length (step_lines c price q l longs shorts ws)
+        pub booked_so : lots_run lent + ((q + q) + (l + l)) ≤ most_lots_run → (n : ℕ) (t' : Tables) → n ≡ length (step_lines c price q l longs shorts ws)
             → t' ≡ with_each 0 (step_lines c price q l longs shorts ws) lent → record { answer = Accepted n; after = t' } ≡ close_out_spec lent e
         unfolding close_out_spec close_out_booked booked
-        booked-so k n t' en et =
+        booked_so k n t' en et =
             rw (en, et, each_booked (step_lines c price q l longs shorts ws) lent (omega (arith, f.long)), ← lines_are)
-            (rw (opened, no-price, longs-here, shorts-here, some-lots, remaining-here, weights_here, ← summed, taker, run_is, le-ltb most_lots_run (lots_run lent + ((q + q) + (l + l))) k))
+            (rw (opened, no_price, longs_here, shorts_here, some_lots, remaining_here, weights_here, ← summed, taker, run_is, le-ltb most_lots_run (lots_run lent + ((q + q) + (l + l))) k))
 
 -- ---- the causes that need no lots
 pub not_open : (t : Tables) (e : CloseOutTerms) → is_open t e.contract ≡ false → record { answer = ContractNotOpen e.contract; after = t } ≡ close_out_spec t e

@@ -125,11 +125,11 @@ module _ (n : ℕ) (s : List ℕ) where
     unfolding read_of
     read_by = rw (m, ← f) refl
 
-    pub read-unsound : r ≡ Unsound → Unsound ≡ read_of n s
-    read-unsound u = sym (read_by ∙ rw u refl)
+    pub read_unsound : r ≡ Unsound → Unsound ≡ read_of n s
+    read_unsound u = sym (read_by ∙ rw u refl)
 
-    pub read-judged : {e : Event} {b v : Bool} → r ≡ Sound e → b ≡ event_sound n e (legs_of s) → b ≡ v → cond v (Sound e) Unsound ≡ read_of n s
-    read-judged {e} {b} {v} g j t = sym (read_by ∙ rw (g, ← j, t) refl)
+    pub read_judged : {e : Event} {b v : Bool} → r ≡ Sound e → b ≡ event_sound n e (legs_of s) → b ≡ v → cond v (Sound e) Unsound ≡ read_of n s
+    read_judged {e} {b} {v} g j t = sym (read_by ∙ rw (g, ← j, t) refl)
 
   pub said : {e : Event} → read_of n s ≡ Sound e → (members_sound n ≡ true) × (fields_of s ≡ Sound e) × (event_sound n e (legs_of s) ≡ true)
   unfolding read_of

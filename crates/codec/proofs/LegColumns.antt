@@ -82,8 +82,8 @@ module _ (s : List ℕ) where
     pub held_whole : Held s (get_or s 1 0)
     held_whole = record { legs = held_all ∙ legs_to_lem s k; most = m; inside = omega arith }
 
-    rows-held : leg_rows (get_or s 1 0) (leg_columns (held_legs s)) ≡ legs_of s
-    rows-held =
+    rows_held : leg_rows (get_or s 1 0) (leg_columns (held_legs s)) ≡ legs_of s
+    rows_held =
         let counted : length (legs_of s) ≡ get_or s 1 0 = ap length (legs_to_lem s k) ∙ length_run (λ j. leg_at s (leg_place j)) (get_or s 1 0) in
         rw (held_all, ← counted) (rows_of_columns (legs_of s))
 
@@ -157,7 +157,7 @@ module _ (n : ℕ) (s : List ℕ) where
   proposed : (k : get_or s 0 0 ≡ 4) → length s ≡ leg_place (get_or s 1 0) → Rows (Proposal (get_or s 1 0))
   proposed k l =
       let count = get_or s 1 0 in
-      le_or_lt count most_legs (λ m. let e = rows-held s k m l in (ap (event_sound n (Proposal count)) e, λ _. e))
+      le_or_lt count most_legs (λ m. let e = rows_held s k m l in (ap (event_sound n (Proposal count)) e, λ _. e))
       (λ m. let b = many_legs n count (legs_of s) m in (many_legs n count (leg_rows count columns) m ∙ sym b, λ t. never (sym t ∙ b)))
 
   rows : (e : Event) → Says s e → Rows e

@@ -31,7 +31,7 @@ use Rattle.codec.specs.Trips.{WrittenIsRead, ReadIsWritten, SoundStandsWhole}
 use Rattle.codec.proofs.FieldBytes.{numbers_back, numbers_again}
 use Rattle.codec.proofs.Fields.{Says, says, said, length_legless, fields_of_kind_lem, by_numbers}
 use Rattle.codec.proofs.LegColumns.{is_proposal, none_beside, says_proposal, legs_to_lem, rows_said}
-use Rattle.codec.proofs.Written.{leg_wide, first_leg, record_sized, length_record, some_bytes, two_bytes, bound, sound_event, write-whole}
+use Rattle.codec.proofs.Written.{leg_wide, first_leg, record_sized, length_record, some_bytes, two_bytes, bound, sound_event, write_whole}
 
 -- ---- written, then read
 first_byte : (e : Event) (legs : List Leg) → kind_number e ≡ get_or (bytes_of e legs) 0 0
@@ -156,7 +156,7 @@ read_is_written n s e out b r h =
     let known = said n s r in
     let again = written_again n s e b r in
     rw (rows_said n s e known.1 known.2)
-    (sym (write-whole n e (legs_of s) out known.0 known.2 (length s) (over 0 s out) (ap length (sym again)) (rw again h) (rw again refl)))
+    (sym (write_whole n e (legs_of s) out known.0 known.2 (length s) (over 0 s out) (ap length (sym again)) (rw again h) (rw again refl)))
 
 -- ---- a record at the front of a stream
 front_length_lem : (s rest : List ℕ) (e : Event) → Says s e → (0 < length s) × (front_length (s ++ rest) ≡ length s)

@@ -219,16 +219,16 @@ module _ (n : ℕ) (e : Event) (legs : List Leg) (out : List ℕ) where
   write_few m = rw m refl
 
   module _ (m : members_sound n ≡ true) where
-    pub write-unsound : event_sound n e legs ≡ false → record { answer = RecordUnsound; after = out } ≡ write_spec n e legs out
+    pub write_unsound : event_sound n e legs ≡ false → record { answer = RecordUnsound; after = out } ≡ write_spec n e legs out
     unfolding write_spec
-    write-unsound t = rw (m, t) refl
+    write_unsound t = rw (m, t) refl
 
     module _ (t : event_sound n e legs ≡ true) where
       pub write_short : length out < length (bytes_of e legs) → record { answer = TableUnsound; after = out } ≡ write_spec n e legs out
       unfolding write_spec
       write_short h = rw (m, t, lt-ltb (length out) (length (bytes_of e legs)) h) refl
 
-      pub write-whole : (k : ℕ) (after : List ℕ) → k ≡ length (bytes_of e legs) → length (bytes_of e legs) ≤ length out → after ≡ over 0 (bytes_of e legs) out
+      pub write_whole : (k : ℕ) (after : List ℕ) → k ≡ length (bytes_of e legs) → length (bytes_of e legs) ≤ length out → after ≡ over 0 (bytes_of e legs) out
           → record { answer = Accepted k; after = after } ≡ write_spec n e legs out
       unfolding write_spec
-      write-whole k after a h w = rw (m, t, le-ltb (length out) (length (bytes_of e legs)) h, a, w) refl
+      write_whole k after a h w = rw (m, t, le-ltb (length out) (length (bytes_of e legs)) h, a, w) refl

@@ -49,17 +49,17 @@ module _ (k : Calendar) (none : ℕ) where
   none_to_count m n x e = rw e
 
   module _ (end n x : ℕ) (h : x < end) where
-    pub idle-day : business_day k x ≡ false → day_after_nth k none (end - x) n x ≡ day_after_nth k none (end - (x + 1)) n (x + 1)
+    pub idle_day : business_day k x ≡ false → day_after_nth k none (end - x) n x ≡ day_after_nth k none (end - (x + 1)) n (x + 1)
     unfolding day_after_nth
-    idle-day b = let e : end - x ≡ suc (end - (x + 1)) = omega arith in rw (e, b)
+    idle_day b = let e : end - x ≡ suc (end - (x + 1)) = omega arith in rw (e, b)
 
-    pub counted-day : business_day k x ≡ true → 1 < n → day_after_nth k none (end - x) n x ≡ day_after_nth k none (end - (x + 1)) (n - 1) (x + 1)
+    pub counted_day : business_day k x ≡ true → 1 < n → day_after_nth k none (end - x) n x ≡ day_after_nth k none (end - (x + 1)) (n - 1) (x + 1)
     unfolding day_after_nth
-    counted-day b l = let e : end - x ≡ suc (end - (x + 1)) = omega arith in rw (e, b, lt-leb n 1 l)
+    counted_day b l = let e : end - x ≡ suc (end - (x + 1)) = omega arith in rw (e, b, lt-leb n 1 l)
 
-    pub nth-day : business_day k x ≡ true → n ≤ 1 → day_after_nth k none (end - x) n x ≡ x + 1
+    pub nth_day : business_day k x ≡ true → n ≤ 1 → day_after_nth k none (end - x) n x ≡ x + 1
     unfolding day_after_nth
-    nth-day b l = let e : end - x ≡ suc (end - (x + 1)) = omega arith in rw (e, b, le-leb n 1 l)
+    nth_day b l = let e : end - x ≡ suc (end - (x + 1)) = omega arith in rw (e, b, le-leb n 1 l)
 
 module _ (k : Calendar) (d all end f : ℕ) (h : f ≤ end) where
   -- Of `all` business days from day d on n are still to count from day x on.

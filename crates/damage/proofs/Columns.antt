@@ -6,7 +6,7 @@ use Rattle.arith.specs.Lists.{every}
 use Rattle.arith.proofs.Tests.{le_or_lt}
 use Rattle.arith.specs.Bits.{in_window}
 use Rattle.arith.proofs.Bits.{window_within}
-use Rattle.arith.proofs.Rows.{rows_weaker, whole_rows, no_column, next-column}
+use Rattle.arith.proofs.Rows.{rows_weaker, whole_rows, no_column, next_column}
 use Rattle.rules.specs.Ranges.{contract_count}
 use Rattle.rules.specs.Ledger.{rows_length}
 use Rattle.rules.specs.Refusals.{every_row}
@@ -22,7 +22,7 @@ zero_in w h = lt-ltb (0 + w / 2) w (omega arith)
 
 pub row_more : (k n : ℕ) (l : List ℤ) → every_row (in_window (2 ^ k)) (n + 1) l ≡ every_row (in_window (2 ^ k)) n l && every_column (in_window (2 ^ k)) n l
 unfolding every_row every_column
-row_more k n l = rw (add-one n) (next-column (in_window (2 ^ k)) (pos 0) (zero_in (2 ^ k) (pow_pos k)) n 32 contract_count l)
+row_more k n l = rw (add-one n) (next_column (in_window (2 ^ k)) (pos 0) (zero_in (2 ^ k) (pow_pos k)) n 32 contract_count l)
 
 pub row_two_more : (k n : ℕ) (l : List ℤ) → every_row (in_window (2 ^ k)) (n + 2) l ≡ every_row (in_window (2 ^ k)) n l && (every_column (in_window (2 ^ k)) n l && every_column (in_window (2 ^ k)) (n + 1) l)
 row_two_more k n l =

@@ -56,20 +56,20 @@ module _ (s : List ℕ) (r : HeaderReading) (e : r ≡ header_reading s) where
   read_well z = true_or (begins_with_header s) (λ b. b) (λ b. absurd (z (rw (e, b))))
 
   module _ (b : begins_with_header s ≡ true) where
-    pub holiday-room : r.header.holiday_count ≤ length r.header.holidays
-    holiday-room = let m = counts (header_of s) (begun s b).2 in rw (as_read b) (room 120 (header_of s).holidays m.2)
+    pub holiday_room : r.header.holiday_count ≤ length r.header.holidays
+    holiday_room = let m = counts (header_of s) (begun s b).2 in rw (as_read b) (room 120 (header_of s).holidays m.2)
 
-    pub limit-room : r.header.members ≤ length r.header.limits
-    limit-room =
+    pub limit_room : r.header.members ≤ length r.header.limits
+    limit_room =
         let m = counts (header_of s) (begun s b).2 in
         let h = room 32 (header_of s).limits (rw (limits_length s) m.1) in
         rw (as_read b) (omega (arith, limits_length s))
 
-    pub holiday-most : length (take r.header.holiday_count r.header.holidays) ≤ 120
-    holiday-most = let m = counts (header_of s) (begun s b).2 in rw (as_read b, column 120 (header_of s).holidays) m.2
+    pub holiday_most : length (take r.header.holiday_count r.header.holidays) ≤ 120
+    holiday_most = let m = counts (header_of s) (begun s b).2 in rw (as_read b, column 120 (header_of s).holidays) m.2
 
-    pub limit-most : length (take r.header.members r.header.limits) ≤ 32
-    limit-most = let m = counts (header_of s) (begun s b).2 in rw (as_read b) (rw (← limits_length s, column 32 (header_of s).limits, limits_length s) m.1)
+    pub limit_most : length (take r.header.members r.header.limits) ≤ 32
+    limit_most = let m = counts (header_of s) (begun s b).2 in rw (as_read b) (rw (← limits_length s, column 32 (header_of s).limits, limits_length s) m.1)
 
     -- The header by its parts; each member has a limit.
     pub as-listed :

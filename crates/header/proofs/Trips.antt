@@ -149,22 +149,22 @@ module _ (s : List ℕ) (small : (i : ℕ) → get_or s i 0 < 256) (begins : sam
   letters_again = ap (λ l. l ++ drop 5 s) (sym (same_true (take 5 s) letters_and_version begins)) ∙ take-append-drop 5 s
 
   module _ (n m : ℕ) (fit : 11 + 2 * n + 4 * m ≤ length s) where
-    lists-again : flat_map u16_bytes (u16s_at s 11 n) ++ flat_map u32_bytes (u32s_at s (11 + 2 * n) m) ++ drop (11 + 2 * n + 4 * m) s ≡ drop 11 s
+    lists_again : flat_map u16_bytes (u16s_at s 11 n) ++ flat_map u32_bytes (u32s_at s (11 + 2 * n) m) ++ drop (11 + 2 * n + 4 * m) s ≡ drop 11 s
     unfolding u16s_at u32s_at
-    lists-again =
+    lists_again =
         rw (append_assoc, all_again u32_bytes 4 u32_at s (u32_again s small) m (11 + 2 * n) fit) (all_again u16_bytes 2 u16_at s (u16_again s small) n 11 (omega arith))
 
-    rest-again : u16_bytes (u16_at s 5) ++
+    rest_again : u16_bytes (u16_at s 5) ++
         (u16_bytes (u16_at s 7) ++ (get_or s 9 0 ∷ get_or s 10 0 ∷ flat_map u16_bytes (u16s_at s 11 n) ++ flat_map u32_bytes (u32s_at s (11 + 2 * n) m))) ++ drop
         (11 + 2 * n + 4 * m) s ≡ drop 5 s
-    rest-again =
-        rw (append_assoc, append_assoc, lists-again, u8_again s small 10 (omega arith), u8_again s small 9 (omega arith), u16_again s small 7 (omega arith), u16_again s small 5 (omega arith)) refl
+    rest_again =
+        rw (append_assoc, append_assoc, lists_again, u8_again s small 10 (omega arith), u8_again s small 9 (omega arith), u16_again s small 7 (omega arith), u16_again s small 5 (omega arith)) refl
 
   header_bytes_again : header_bytes (header_of s) ++ drop (header_length s) s ≡ s
   unfolding header_bytes header_of header_length
   header_bytes_again =
       rw (length_u16s s 11 (get_or s 10 0))
-      (ap (λ l. letters_and_version ++ l) (rest-again (get_or s 10 0) (get_or s 9 0) long) ∙ letters_again)
+      (ap (λ l. letters_and_version ++ l) (rest_again (get_or s 10 0) (get_or s 9 0) long) ∙ letters_again)
 
 pub begun : (s : List ℕ) → begins_with_header s ≡ true → (same_bytes (take 5 s) letters_and_version ≡ true) × (header_length s ≤ length s) × (header_sound (header_of s) ≡ true)
 unfolding begins_with_header

@@ -127,14 +127,14 @@ module _ {n₀ k₀ : ℕ} {t₀ : Tables} {bytes : List ℕ} {last : Bool} {fil
     ready : (stopped ≡ false) × (room_wanted ≤ room) × (ready_length last stopped room left ≡ length_now last left)
     ready = ready_says last stopped room left (rw is at some)
 
-    now-is : m ≡ length_now last left
-    now-is = is ∙ ready.2
+    now_is : m ≡ length_now last left
+    now_is = is ∙ ready.2
 
-    pub next-inside : place + m ≤ length bytes
-    next-inside = let f : m ≤ length left = rw now-is (now_fits last left) in omega (arith, rw (length-drop place bytes) at f, w.inside)
+    pub next_inside : place + m ≤ length bytes
+    next_inside = let f : m ≤ length left = rw now_is (now_fits last left) in omega (arith, rw (length-drop place bytes) at f, w.inside)
 
-    pub next-room : end + room_wanted ≤ length out
-    next-room = omega (arith, ready.1)
+    pub next_room : end + room_wanted ≤ length out
+    next_room = omega (arith, ready.1)
 
     module _ {t' : Tables} {out' : List ℕ} {r : Printed} (one : RanOne (n + 1) end (apply_spec t (take m left)) out out' t' r) (kept : length out' ≡ length out) where
       abbrev o : Outcome Tables
@@ -145,47 +145,47 @@ module _ {n₀ k₀ : ℕ} {t₀ : Tables} {bytes : List ℕ} {last : Bool} {fil
         s = left ++ more
 
         fits : m ≤ length left
-        fits = rw now-is (now_fits last left)
+        fits = rw now_is (now_fits last left)
 
         long : 0 < length s
         long = let f = fits in rw (length-append left more) (omega arith)
 
         next : next_length s ≡ m
-        next = now_next last left (rw now-is at some) more ends ∙ sym now-is
+        next = now_next last left (rw now_is at some) more ends ∙ sym now_is
 
-        same-record : apply_spec t (take m s) ≡ o
-        same-record = ap (apply_spec t) (take-append-le m left more fits)
+        same_record : apply_spec t (take m s) ≡ o
+        same_record = ap (apply_spec t) (take-append-le m left more fits)
 
         past : drop m s ≡ drop (place + m) (bytes ++ more)
         past = ap (drop m) (sym (here more)) ∙ drop-drop m place (bytes ++ more)
 
         behind : records_text n k t (drop place (bytes ++ more))
             ≡ answer_text (n + 1) o ++ cond r.is_unsound (end_text (n + 1) (k + r.accepted) t') (records_text (n + 1) (k + r.accepted) t' (drop (place + m) (bytes ++ more)))
-        behind = rw (here more, ← past) (next_text m t t' s o next same-record one.outcome n k r.accepted r.is_unsound long one.counted one.unsound)
+        behind = rw (here more, ← past) (next_text m t t' s o next same_record one.outcome n k r.accepted r.is_unsound long one.counted one.unsound)
 
-        behind-end : records_end t (drop place (bytes ++ more))
+        behind_end : records_end t (drop place (bytes ++ more))
             ≡ cond r.is_unsound (record { stage = RecordUnsound; tables = t' }) (records_end t' (drop (place + m) (bytes ++ more)))
-        behind-end = rw (here more, ← past) (next_end m t t' s o next same-record one.outcome r.is_unsound long one.unsound)
+        behind_end = rw (here more, ← past) (next_end m t t' s o next same_record one.outcome r.is_unsound long one.unsound)
 
-        behind-rest : record { tables = t'; bytes = drop (place + m) (bytes ++ more) } ≡ after_records (n + 1 - n₀) (record { tables = t₀; bytes = bytes ++ more })
+        behind_rest : record { tables = t'; bytes = drop (place + m) (bytes ++ more) } ≡ after_records (n + 1 - n₀) (record { tables = t₀; bytes = bytes ++ more })
         unfolding after_records
-        behind-rest =
+        behind_rest =
             let one_more : n + 1 - n₀ ≡ suc (n - n₀) = omega (arith, w.grown) in
-            rw (one_more, ← w.tables more ends, here more, ← past) (next_rest m t t' s o next same-record one.outcome)
+            rw (one_more, ← w.tables more ends, here more, ← past) (next_rest m t t' s o next same_record one.outcome)
 
-      pub runs-next : Runs n₀ k₀ t₀ bytes last filled entry out' t' (place + m) r.end (n + 1) (k + r.accepted) r.is_unsound
-      runs-next =
+      pub runs_next : Runs n₀ k₀ t₀ bytes last filled entry out' t' (place + m) r.end (n + 1) (k + r.accepted) r.is_unsound
+      runs_next =
           record {
             text = w.text ++ answer_text (n + 1) o;
             wrote = then w.wrote one.wrote covered;
-            inside = next-inside;
-            within = omega (arith, one.room, next-room, w.same);
+            inside = next_inside;
+            within = omega (arith, one.room, next_room, w.same);
             same = kept ∙ w.same;
             below = omega (arith, w.below, one_at_most one);
             few = omega (arith, w.few);
             grown = omega (arith, w.grown);
-            tables = behind-rest;
-            ends = λ more ends. (rw ready.0 at (w.ends more ends)) ∙ behind-end more ends;
+            tables = behind_rest;
+            ends = λ more ends. (rw ready.0 at (w.ends more ends)) ∙ behind_end more ends;
             rest = λ more ends.
                 going ready.0 more ends ∙ (ap (λ x. w.text ++ x) (behind more ends) ∙ sym (append_assoc w.text (answer_text (n + 1) o) _));
           }
@@ -267,20 +267,20 @@ module _ {n₀ k₀ : ℕ} {t₀ : Tables} {bytes : List ℕ} {last : Bool} {fil
 
   -- ---- the stage that is told
   module _ (room : ℕ) (read : Bool) (roomy : end + room ≡ length out) (is_read : read ≡ last && eqb place (length bytes)) where
-    told-room : stopped ≡ false → ltb room room_wanted ≡ true → End (stage_after n k stopped read room) (wants_after stopped read room)
+    told_room : stopped ≡ false → ltb room room_wanted ≡ true → End (stage_after n k stopped read room) (wants_after stopped read room)
     unfolding stage_after wants_after
-    told-room e f = rw (e, f) (end_room room e roomy (ltb-true room room_wanted f))
+    told_room e f = rw (e, f) (end_room room e roomy (ltb-true room room_wanted f))
 
-    told-read : stopped ≡ false → ltb room room_wanted ≡ false → read ≡ true → End (stage_after n k stopped read room) (wants_after stopped read room)
+    told_read : stopped ≡ false → ltb room room_wanted ≡ false → read ≡ true → End (stage_after n k stopped read room) (wants_after stopped read room)
     unfolding stage_after wants_after
-    told-read e f g =
+    told_read e f g =
         let both : last && eqb place (length bytes) ≡ true = sym is_read ∙ g in
         rw (e, f, g)
         (end_read e (and_left last (eqb place (length bytes)) both) (borrow.Author.Tests.eqb-true place (length bytes) (and_right last (eqb place (length bytes)) both)))
 
-    told-bytes : stopped ≡ false → ltb room room_wanted ≡ false → read ≡ false → length_now last left ≡ 0 → End (stage_after n k stopped read room) (wants_after stopped read room)
+    told_bytes : stopped ≡ false → ltb room room_wanted ≡ false → read ≡ false → length_now last left ≡ 0 → End (stage_after n k stopped read room) (wants_after stopped read room)
     unfolding stage_after wants_after
-    told-bytes e f g z = rw (e, f, g) (end_bytes e not_last (now_short last left z))
+    told_bytes e f g z = rw (e, f, g) (end_bytes e not_last (now_short last left z))
       where
         none_left : last ≡ true → place ≡ length bytes
         none_left y = let gone : length left ≡ 0 = now_none last left z y in omega (arith, rw (length-drop place bytes) at gone, w.inside)
@@ -288,12 +288,12 @@ module _ {n₀ k₀ : ℕ} {t₀ : Tables} {bytes : List ℕ} {last : Bool} {fil
         not_last : last ≡ false
         not_last = true_or last (λ y. never (sym (rw (y, eq-eqb place (length bytes) (none_left y)) at is_read) ∙ g)) (λ y. y)
 
-    told-stopped : stopped ≡ true → End (stage_after n k stopped read room) (wants_after stopped read room)
+    told_stopped : stopped ≡ true → End (stage_after n k stopped read room) (wants_after stopped read room)
     unfolding stage_after wants_after
-    told-stopped e = rw e (end_stopped e)
+    told_stopped e = rw e (end_stopped e)
 
-    pub runs-end : {stage : Stage} {wants : Wants} → ready_length last stopped room left ≡ 0 → stage ≡ stage_after n k stopped read room → wants ≡ wants_after stopped read room → End stage wants
-    runs-end none es ew =
+    pub runs_end : {stage : Stage} {wants : Wants} → ready_length last stopped room left ≡ 0 → stage ≡ stage_after n k stopped read room → wants ≡ wants_after stopped read room → End stage wants
+    runs_end none es ew =
         rw (es, ew)
-        (true_or stopped told-stopped (λ e. true_or (ltb room room_wanted) (told-room e)
-        (λ f. true_or read (told-read e f) (λ g. told-bytes e f g (ready_none last room left (rw e at none) f)))))
+        (true_or stopped told_stopped (λ e. true_or (ltb room room_wanted) (told_room e)
+        (λ f. true_or read (told_read e f) (λ g. told_bytes e f g (ready_none last room left (rw e at none) f)))))

@@ -42,24 +42,24 @@ module _ (kind legs : ℕ) where
       go false = refl
 
   module _ {n : ℕ} where
-    pub count-with-legs : kind ≡ proposal_kind → n ≡ length (kind_fields kind) → n + 3 * legs ≡ length (fields_of_kind kind legs)
-    count-with-legs k own = rw (own, fields_count, eq-eqb kind proposal_kind k) refl
+    pub count_with_legs : kind ≡ proposal_kind → n ≡ length (kind_fields kind) → n + 3 * legs ≡ length (fields_of_kind kind legs)
+    count_with_legs k own = rw (own, fields_count, eq-eqb kind proposal_kind k) refl
 
-    pub only-count : kind ≡ proposal_kind → n ≡ length (kind_fields kind) → n ≡ 1
+    pub only_count : kind ≡ proposal_kind → n ≡ length (kind_fields kind) → n ≡ 1
     unfolding kind_fields
-    only-count k own = own ∙ rw k refl
+    only_count k own = own ∙ rw k refl
 
-    pub count-without : (kind ≡ proposal_kind → ⊥) → n ≡ length (kind_fields kind) → n ≡ length (fields_of_kind kind legs)
-    count-without k own = own ∙ rw (fields_count, ne_eqb kind proposal_kind k) (sym (add-zero (length (kind_fields kind))))
+    pub count_without : (kind ≡ proposal_kind → ⊥) → n ≡ length (kind_fields kind) → n ≡ length (fields_of_kind kind legs)
+    count_without k own = own ∙ rw (fields_count, ne_eqb kind proposal_kind k) (sym (add-zero (length (kind_fields kind))))
 
   module _ {f : Field} {n : ℕ} (i : ℕ) (own : n ≡ length (kind_fields kind)) where
     pub own_at : i < n → f ≡ get_or (kind_fields kind) i Kind → f ≡ get_or (fields_of_kind kind legs) i Kind
     unfolding fields_of_kind
     own_at h e = e ∙ sym (get_or-append (kind_fields kind) _ Kind i (rw own at h))
 
-    pub leg-of-kind : n ≤ i → i < length (fields_of_kind kind legs) → f ≡ get_or leg_fields ((i - n) % 3) Kind → f ≡ get_or (fields_of_kind kind legs) i Kind
+    pub leg_of_kind : n ≤ i → i < length (fields_of_kind kind legs) → f ≡ get_or leg_fields ((i - n) % 3) Kind → f ≡ get_or (fields_of_kind kind legs) i Kind
     unfolding fields_of_kind
-    leg-of-kind h l e =
+    leg_of_kind h l e =
         let place : i ≡ length (kind_fields kind) + (i - n) = omega (arith, own) in
         rw place (sym (get_or-append-add (kind_fields kind) (cond (has_legs kind) (times_over legs leg_fields) []) (i - n) Kind ∙ sym (go (has_legs kind) (omega (arith, own, rw fields_count at l)))))
       where

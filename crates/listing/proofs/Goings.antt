@@ -56,11 +56,11 @@ module _ (first base n : ℕ) (s : List ℕ) (fs : List Field) {entry : List ℕ
             same = same ∙ g.same;
           }
 
-      pub going-fault : {out' : List ℕ} {end' : ℕ} (count : ℕ) → passes (verdict_of n s place f) ≡ false → start + 80 * i ≤ length entry → i < count
+      pub going_fault : {out' : List ℕ} {end' : ℕ} (count : ℕ) → passes (verdict_of n s place f) ≡ false → start + 80 * i ≤ length entry → i < count
           → Short 170 end (fault_words base n s place f) out out' end'
           → ListedAs (80 * count + 170) start (words_in first base n s 0 fs) (fault_in n s 0 fs) entry out' (record { end = end'; is_sound = false })
       unfolding words_in fault_in
-      going-fault count e room few w =
+      going_fault count e room few w =
           record {
             written = within_room (80 * count + 170) _ (next g.wrote w room) (rw (here, e) at g.words) (omega arith);
             sound = ap is_none (rw (here, e) at g.faults);

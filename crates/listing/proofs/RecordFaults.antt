@@ -159,9 +159,9 @@ module _ (n : ℕ) (s : List ℕ) (some : 1 ≤ n) where
         (of_length (length s) (front_length s) n (legs_of s) (fields_by_kind (get_or s 0 0) s) (in_ranges n s 0 (fields_in (record_shape s))) (ranges e))
 
     -- Of no kind: unsound, and the kind is out of its range.
-    unknown-exact : fields_by_kind (get_or s 0 0) s ≡ Unsound → within (range 1 7) (get_or s 0 0) ≡ false → Exact
+    unknown_exact : fields_by_kind (get_or s 0 0) s ≡ Unsound → within (range 1 7) (get_or s 0 0) ≡ false → Exact
     unfolding Exact read_of read_fields fields_in in_ranges number_at
-    unknown-exact reads out =
+    unknown_exact reads out =
         rw (members, none_is n s 0 (fields_in (record_shape s)) (omega arith), out, reads, and_false (leb (0 + widths (fields_in (record_shape s))) (length s)))
         (true_or (eqb (length s) (front_length s)) (λ h. rw h refl) (λ h. rw h refl))
 
@@ -187,4 +187,4 @@ record_exact n s members =
     (λ d. same_or k 5 (exact n s some members 5 (omega arith) (default_ranges n s some))
     (λ e. same_or k 6 (exact n s some members 6 (omega arith) (close_out_ranges n s some))
     (λ f. same_or k 7 (exact n s some members 7 (omega arith) (close_ranges n s some))
-    (λ g. unknown-exact n s some members (sym (no_kind (record_numbers k s) k a b c d e f g)) (kind_out k a b c d e f g))))))))
+    (λ g. unknown_exact n s some members (sym (no_kind (record_numbers k s) k a b c d e f g)) (kind_out k a b c d e f g))))))))

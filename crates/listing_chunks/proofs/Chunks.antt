@@ -121,17 +121,17 @@ module _ (last : Bool) (s : List ℕ) where
 
   -- With these bytes behind it.
   module _ (m : ℕ) (piece : piece_of last s ≡ Record m) (more : List ℕ) (ends : last ≡ true → more ≡ []) where
-    pub piece-next : next_length (s ++ more) ≡ m
-    piece-next = let p = piece_is piece in now_next last s (rw p.0 p.1) more ends ∙ p.0
+    pub piece_next : next_length (s ++ more) ≡ m
+    piece_next = let p = piece_is piece in now_next last s (rw p.0 p.1) more ends ∙ p.0
 
-    pub piece-some : 0 < length (s ++ more)
-    piece-some = let p = piece_is piece in rw (length-append s more) (omega (arith, p.1, p.2))
+    pub piece_some : 0 < length (s ++ more)
+    piece_some = let p = piece_is piece in rw (length-append s more) (omega (arith, p.1, p.2))
 
-    pub piece-taken : take (next_length (s ++ more)) (s ++ more) ≡ take m s
-    piece-taken = rw piece-next (take-append-le m s more (piece_is piece).2)
+    pub piece_taken : take (next_length (s ++ more)) (s ++ more) ≡ take m s
+    piece_taken = rw piece_next (take-append-le m s more (piece_is piece).2)
 
-    pub piece-behind : drop (next_length (s ++ more)) (s ++ more) ≡ drop m s ++ more
-    piece-behind = rw piece-next (drop-append-le m s more (piece_is piece).2)
+    pub piece_behind : drop (next_length (s ++ more)) (s ++ more) ≡ drop m s ++ more
+    piece_behind = rw piece_next (drop-append-le m s more (piece_is piece).2)
 
 -- ---- a line, and the lines behind it
 module _ (n first k b : ℕ) (last : Bool) (s : List ℕ) (m : ℕ) (piece : piece_of last s ≡ Record m) (more : List ℕ) (ends : last ≡ true → more ≡ []) where
@@ -139,16 +139,16 @@ module _ (n first k b : ℕ) (last : Bool) (s : List ℕ) (m : ℕ) (piece : pie
       → (record_lines n first k b (s ++ more) ≡ record_line n first (k + 1) b (take m s) ++ record_lines n first (k + 1) (b + m) (drop m s ++ more))
       × (records_sound n (s ++ more) ≡ records_sound n (drop m s ++ more))
   line_sound sound =
-      let some = piece-some last s m piece more ends in
-      let taken = piece-taken last s m piece more ends in
-      let behind = piece-behind last s m piece more ends in
-      (lines_first n first k b (s ++ more) some ∙ rw (taken, behind, piece-next last s m piece more ends, sound) refl, sound_first n first (s ++ more) some ∙ rw (taken, behind, sound) refl)
+      let some = piece_some last s m piece more ends in
+      let taken = piece_taken last s m piece more ends in
+      let behind = piece_behind last s m piece more ends in
+      (lines_first n first k b (s ++ more) some ∙ rw (taken, behind, piece_next last s m piece more ends, sound) refl, sound_first n first (s ++ more) some ∙ rw (taken, behind, sound) refl)
 
   line_at_fault : is_none (fault_of n (take m s)) ≡ false
       → (record_lines n first k b (s ++ more) ≡ record_line n first (k + 1) b (take m s)) × (records_sound n (s ++ more) ≡ false)
   line_at_fault bad =
-      let some = piece-some last s m piece more ends in
-      let taken = piece-taken last s m piece more ends in
+      let some = piece_some last s m piece more ends in
+      let taken = piece_taken last s m piece more ends in
       (lines_first n first k b (s ++ more) some ∙ rw (taken, bad) (append-nil (record_line n first (k + 1) b (take m s))), sound_first n first (s ++ more) some ∙ rw (taken, bad) refl)
 
 -- ---- the header

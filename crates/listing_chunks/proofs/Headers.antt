@@ -41,17 +41,17 @@ module _ (s more : List ℕ) (eleven : 11 ≤ length s) where
     unfolding number_at
     four h = u32_more s more place h
 
-    weekend-found : (b : Bool) → fault_place (s ++ more) place (cond b NoBusinessDay Passes) ≡ fault_place s place (cond b NoBusinessDay Passes)
-    weekend-found true = refl
-    weekend-found false = refl
+    weekend_found : (b : Bool) → fault_place (s ++ more) place (cond b NoBusinessDay Passes) ≡ fault_place s place (cond b NoBusinessDay Passes)
+    weekend_found true = refl
+    weekend_found false = refl
 
-    holiday-found : (b : Bool) → fault_place (s ++ more) place (cond b OnStartDay Passes) ≡ fault_place s place (cond b OnStartDay Passes)
-    holiday-found true = refl
-    holiday-found false = refl
+    holiday_found : (b : Bool) → fault_place (s ++ more) place (cond b OnStartDay Passes) ≡ fault_place s place (cond b OnStartDay Passes)
+    holiday_found true = refl
+    holiday_found false = refl
 
-    holiday-range : place ≤ length s → holiday_range (s ++ more) place ≡ holiday_range s place
+    holiday_range_lem : place ≤ length s → holiday_range (s ++ more) place ≡ holiday_range s place
     unfolding holiday_range
-    holiday-range h =
+    holiday_range_lem h =
         le_or_lt place 11 (λ e. rw (le-leb place 11 e, u16_more s more 5 (omega arith)) refl)
         (λ e. rw (lt-leb place 11 e, u16_more s more 5 (omega arith), u16_more s more (place - 2) (omega arith)) refl)
 
@@ -65,11 +65,11 @@ module _ (s more : List ℕ) (eleven : 11 ≤ length s) where
     alike LetterR h = plain (one h) refl (λ v. refl) (λ v. refl)
     alike Version h = plain (two h) refl (λ v. refl) (λ v. refl)
     alike FirstYear h = plain (two h) refl (λ v. refl) (λ v. refl)
-    alike StartDay h = record { number = two h; range = rw (u16_more s more 5 (omega arith)) refl; day = λ v. refl; found = λ v. weekend-found (saturday v || sunday v) }
+    alike StartDay h = record { number = two h; range = rw (u16_more s more 5 (omega arith)) refl; day = λ v. refl; found = λ v. weekend_found (saturday v || sunday v) }
     alike Members h = plain (one h) refl (λ v. refl) (λ v. refl)
     alike HolidayCount h = plain (one h) refl (λ v. refl) (λ v. refl)
     alike Holiday h =
-        record { number = two h; range = holiday-range (omega arith); day = λ v. rw (u16_more s more 7 (omega arith)) refl; found = λ v. holiday-found (eqb v (u16_at s 7)) }
+        record { number = two h; range = holiday_range_lem (omega arith); day = λ v. rw (u16_more s more 7 (omega arith)) refl; found = λ v. holiday_found (eqb v (u16_at s 7)) }
     alike Limit h = plain (four h) refl (λ v. refl) (λ v. refl)
     alike Kind h = plain (one h) refl (λ v. refl) (λ v. refl)
     alike Time h = plain (four h) refl (λ v. refl) (λ v. refl)
@@ -90,9 +90,9 @@ module _ (s more : List ℕ) (eleven : 11 ≤ length s) where
     unfolding verdict_of
     not_cut = rw (le-ltb (length s) (place + width_of f) h) refl
 
-    verdict-more : verdict_of n (s ++ more) place f ≡ verdict_of n s place f
+    verdict_more : verdict_of n (s ++ more) place f ≡ verdict_of n s place f
     unfolding verdict_of
-    verdict-more =
+    verdict_more =
         let a = alike n place f h in
         let l = length-append s more in
         rw (
@@ -103,8 +103,8 @@ module _ (s more : List ℕ) (eleven : 11 ≤ length s) where
           a.day (number_at s place (width_of f)),
         ) refl
 
-    found-more : fault_place (s ++ more) place (verdict_of n s place f) ≡ fault_place s place (verdict_of n s place f)
-    found-more =
+    found_more : fault_place (s ++ more) place (verdict_of n s place f) ≡ fault_place s place (verdict_of n s place f)
+    found_more =
         rw not_cut
         (true_or (within (range_of n s place f) (number_at s place (width_of f))) (λ e. rw e ((alike n place f h).found (number_at s place (width_of f)))) (λ e. rw e refl))
 
@@ -114,14 +114,14 @@ module _ (s more : List ℕ) (eleven : 11 ≤ length s) where
   words_more first base n place (f ∷ fs) h =
       let fits : place + width_of f ≤ length s = omega arith in
       let a = alike n place f fits in
-      rw (verdict-more n place f fits, found-more n place f fits, a.number, a.range, words_more first base n (place + width_of f) fs (omega arith)) refl
+      rw (verdict_more n place f fits, found_more n place f fits, a.number, a.range, words_more first base n (place + width_of f) fs (omega arith)) refl
 
   fault_more : (n place : ℕ) (fs : List Field) → place + widths fs ≤ length s → fault_in n (s ++ more) place fs ≡ fault_in n s place fs
   unfolding fault_in widths
   fault_more n place [] h = refl
   fault_more n place (f ∷ fs) h =
       let fits : place + width_of f ≤ length s = omega arith in
-      rw (verdict-more n place f fits, found-more n place f fits, fault_more n (place + width_of f) fs (omega arith)) refl
+      rw (verdict_more n place f fits, found_more n place f fits, fault_more n (place + width_of f) fs (omega arith)) refl
 
 -- The bytes hold a whole header.
 module _ (s more : List ℕ) (fits : header_length s ≤ length s) where

@@ -92,8 +92,8 @@ module _ (s : List ℕ) (some : 0 < length s) where
     abbrev Exactly : List ℕ → Type 0
     Exactly bytes = is_sound (read_of n bytes) ≡ is_none (fault_of n bytes)
 
-    no-surplus : (bytes : List ℕ) → length bytes ≤ front_length bytes → Exactly bytes
-    no-surplus bytes h = record_exact n bytes few ∙ rw (le-leb (length bytes) (front_length bytes) h) (and_true (is_none (fault_of n bytes)))
+    no_surplus : (bytes : List ℕ) → length bytes ≤ front_length bytes → Exactly bytes
+    no_surplus bytes h = record_exact n bytes few ∙ rw (le-leb (length bytes) (front_length bytes) h) (and_true (is_none (fault_of n bytes)))
 
     unknown : eqb (front_length s) 0 ≡ true → Exactly (take 1 s)
     unknown e = let bad = unknown_at_fault n (eqb-true (front_length s) 0 e) in record_exact n (take 1 s) few ∙ rw bad refl
@@ -103,17 +103,17 @@ module _ (s : List ℕ) (some : 0 < length s) where
         let two = two_at_least s (eqb-false (front_length s) 0 e) in
         let fits = leb-true (front_length s) (length s) f in
         let same : front_length (take (front_length s) s) ≡ front_length s = rw (first_byte (front_length s) (omega arith) fits, second_byte (front_length s) two fits) refl in
-        no-surplus (take (front_length s) s) (omega (arith, same, length-take-le (front_length s) s fits))
+        no_surplus (take (front_length s) s) (omega (arith, same, length-take-le (front_length s) s fits))
 
     cut : leb (front_length s) (length s) ≡ false → Exactly (take (length s) s)
-    cut f = let longer = leb-false (front_length s) (length s) f in rw (take_all (length s) s (omega arith)) (no-surplus s (omega arith))
+    cut f = let longer = leb-false (front_length s) (length s) f in rw (take_all (length s) s (omega arith)) (no_surplus s (omega arith))
 
-    pub next-exact : Exactly (take (next_length s) s)
-    next-exact =
+    pub next_exact : Exactly (take (next_length s) s)
+    next_exact =
         true_or (eqb (front_length s) 0) (λ e. rw (next_unknown e) (unknown e))
         (λ e. true_or (leb (front_length s) (length s)) (λ f. rw (next_whole e f) (whole e f)) (λ f. rw (next_cut e f) (cut f)))
 
 -- The next record stops the journal exactly if a field of it is at fault.
 pub stops_at_fault : (t : Tables) (s : List ℕ) → unsound t ≡ false → members_sound (members t) ≡ true → 0 < length s
     → stops (apply_spec t (take (next_length s) s)).answer ≡ not (is_none (fault_of (members t) (take (next_length s) s)))
-stops_at_fault t s sound few some = stops_exactly t (take (next_length s) s) sound ∙ ap not (next-exact s some (members t) few)
+stops_at_fault t s sound few some = stops_exactly t (take (next_length s) s) sound ∙ ap not (next_exact s some (members t) few)

@@ -25,7 +25,7 @@ use Rattle.matching.specs.Matching.{DealMade, Matchable, Ended, MatchMade}
 use Rattle.tables.specs.Fit.{orders_in}
 use Rattle.arith.proofs.Alls.{all_place}
 use Rattle.matching.proofs.Best.{ranks_length, ranks_at, live, rank_live, rank_room}
-use Rattle.matching.proofs.Running.{Running, running_start, running-deal, ranks_set, ended_full, ended_far, ended_none}
+use Rattle.matching.proofs.Running.{Running, running_start, running_deal, ranks_set, ended_full, ended_far, ended_none}
 use Rattle.matching.proofs.Lows.{placed_gone, best_is}
 use Rattle.order_book.proofs.Left.{orders_length, all_orders}
 use Rattle.matching.proofs.Passes.{order_here}
@@ -218,8 +218,8 @@ module _ (o : Order) (book : List ℕ) (n : ℕ) (first left ranks lows deals : 
       alive = live o (get_or left i 0) (get_or os i (order_at book i)) (rw rank_there at x.lowest.some)
 
       -- an order used up has no rank, another keeps its rank
-      placed-made : Placed (ranks_of o left' os) ranks'
-      placed-made =
+      placed_made : Placed (ranks_of o left' os) ranks'
+      placed_made =
           let r = get_or os i (order_at book i) in
           let rest = get_or left i 0 - lots in
           let after = ap (λ l. ranks_of o l os) d.left_after_holds ∙ ranks_set o (order_at book i) left os i rest g.running.sized inside in
@@ -233,59 +233,59 @@ module _ (o : Order) (book : List ℕ) (n : ℕ) (first left ranks lows deals : 
       pub left_long : length left' ≡ n
       left_long = ap length d.left_after_holds ∙ length-set left i _ ∙ g.left_length
 
-      pub ranks-long : length ranks' ≡ most_orders
-      ranks-long = placed-made.long
+      pub ranks_long : length ranks' ≡ most_orders
+      ranks_long = placed_made.long
 
       fits : k * deal_width + 3 ≤ length deals
       fits = omega (arith, g.room, g.few, g.some)
 
-      pub deals-long : length deals' ≡ length first
-      deals-long = ap length d.deals_after ∙ over_length (k * deal_width) (deal_places (counterparty (order_at book i) lots)) deals fits ∙ g.deals_length
+      pub deals_long : length deals' ≡ length first
+      deals_long = ap length d.deals_after ∙ over_length (k * deal_width) (deal_places (counterparty (order_at book i) lots)) deals fits ∙ g.deals_length
 
-      running-made : Running o os left' still (deals_in (k + 1) deals')
-      running-made =
-          let next = running-deal o os left wanted (deals_in k deals) g.running (order_at book i) i lots g.ranked g.numbers x.lowest (ap (meets o) here ∙ e)
+      running_made : Running o os left' still (deals_in (k + 1) deals')
+      running_made =
+          let next = running_deal o os left wanted (deals_in k deals) g.running (order_at book i) i lots g.ranked g.numbers x.lowest (ap (meets o) here ∙ e)
           g.some refl in
           rw (d.still_wanted, d.left_after_holds, d.deals_after, deals_more k (counterparty (order_at book i) lots) deals fits) (rw here at next)
 
-      from-made : (j : ℕ) → j < k + 1 → FromBook book n (deal_at deals' j)
-      from-made j h =
+      from_made : (j : ℕ) → j < k + 1 → FromBook book n (deal_at deals' j)
+      from_made j h =
           let new = counterparty (order_at book i) lots in
           rw d.deals_after
           (same_or j k (λ e. rw (e, deal_new k new deals fits) (record { place = i; below = x.below; member = refl; price = refl }))
           (λ e. rw (deal_old k new deals fits j (omega arith)) (g.from_book j (omega arith))))
 
-      past-made : drop ((k + 1) * deal_width) deals' ≡ drop ((k + 1) * deal_width) first
-      past-made =
+      past_made : drop ((k + 1) * deal_width) deals' ≡ drop ((k + 1) * deal_width) first
+      past_made =
           rw d.deals_after (deals_past k (counterparty (order_at book i) lots) deals fits) ∙ drop_further (k * deal_width) ((k + 1) * deal_width) deals first (omega arith) g.past
 
-      pub going-made : (still ≡ 0 → ⊥) → Going o book n first left' ranks' lows' deals' still (k + 1)
-      going-made z =
+      pub going_made : (still ≡ 0 → ⊥) → Going o book n first left' ranks' lows' deals' still (k + 1)
+      going_made z =
           record {
             ranked = g.ranked;
             numbers = g.numbers;
             long = g.long;
             most_orders_holds = g.most_orders_holds;
-            running = running-made;
-            placed = placed-made;
+            running = running_made;
+            placed = placed_made;
             block_lows = b;
             some = omega (arith, z);
             few = omega (arith, d.still_wanted, alive.1, g.few, g.some);
             left_length = left_long;
-            deals_length = deals-long;
-            room = omega (arith, g.room, deals-long, g.deals_length);
-            from_book = from-made;
-            past = past-made;
+            deals_length = deals_long;
+            room = omega (arith, g.room, deals_long, g.deals_length);
+            from_book = from_made;
+            past = past_made;
           }
 
-      pub still-less : still < wanted
-      still-less = omega (arith, d.still_wanted, alive.1, g.some)
+      pub still_less : still < wanted
+      still_less = omega (arith, d.still_wanted, alive.1, g.some)
 
-      pub match-made : still ≡ 0 → MatchMade o book n first (record { deals = k + 1; left = record { 0 = still } }) left' deals'
-      match-made z =
+      pub match_made : still ≡ 0 → MatchMade o book n first (record { deals = k + 1; left = record { 0 = still } }) left' deals'
+      match_made z =
           record {
-            ended = ended_full o os left' still (deals_in (k + 1) deals') running-made z;
+            ended = ended_full o os left' still (deals_in (k + 1) deals') running_made z;
             few = omega (arith, g.few, g.some);
-            from_book = from-made;
-            past = past-made;
+            from_book = from_made;
+            past = past_made;
           }

@@ -136,8 +136,8 @@ module _ (ranks column : List ℕ) (p : Placed ranks column) (few : length ranks
   rank_there j h = p.placed j (omega arith) ∙ ap (placed_rank j) (any_default ranks j no_rank 0 h)
 
   module _ (x : ℕ) (q : LowestAmong column 0 most_orders x) where
-    none-there : no_rank ≤ x → (j : ℕ) → j < length ranks → no_rank ≤ get_or ranks j 0
-    none-there e j h =
+    none_there : no_rank ≤ x → (j : ℕ) → j < length ranks → no_rank ≤ get_or ranks j 0
+    none_there e j h =
         le_or_lt no_rank (get_or ranks j 0) (λ k. k)
         (λ k. absurd (omega (arith, small j h k, rank_there j h, placed_some j (get_or ranks j 0) k, q.least j (omega arith) (omega arith))))
 
@@ -156,16 +156,16 @@ module _ (ranks column : List ℕ) (p : Placed ranks column) (few : length ranks
       rank< : get_or ranks i 0 < no_rank
       rank< = rw (any_default ranks i no_rank 0 inside) at found
 
-      low-is : x ≡ get_or ranks i 0 * most_orders + i
-      low-is = q.same ∙ rank_there i inside ∙ placed_some i (get_or ranks i 0) rank<
+      low_is : x ≡ get_or ranks i 0 * most_orders + i
+      low_is = q.same ∙ rank_there i inside ∙ placed_some i (get_or ranks i 0) rank<
 
       other : (j : ℕ) → j < length ranks → get_or ranks i 0 * most_orders + i ≤ get_or ranks j 0 * most_orders + j
       other j h =
           le_or_lt no_rank (get_or ranks j 0) (λ k. omega (arith, small i inside rank<))
-          (λ k. omega (arith, low-is, q.least j (omega arith) (omega arith), rank_there j h, placed_some j (get_or ranks j 0) k))
+          (λ k. omega (arith, low_is, q.least j (omega arith) (omega arith), rank_there j h, placed_some j (get_or ranks j 0) k))
 
-      lowest-there : Lowest ranks i
-      lowest-there =
+      lowest_there : Lowest ranks i
+      lowest_there =
           record {
             below = inside;
             some = rank<;
@@ -174,14 +174,14 @@ module _ (ranks column : List ℕ) (p : Placed ranks column) (few : length ranks
           }
 
       place_is : x % most_orders ≡ i
-      place_is = omega (arith, low-is, few, inside)
+      place_is = omega (arith, low_is, few, inside)
 
   pub best_is : (lows : List ℕ) (place : ℕ) → BlockLows column lows → BestPlace lows (length ranks) place → LowestOf ranks place
   best_is lows place b f =
       let q = lowest_all column lows b f.low f.lowest in
       le_or_lt no_rank f.low
       (λ k. let at_end_lem : place ≡ length ranks = f.reply_of ∙ rw (le-ltb f.low no_rank k) in
-      rw at_end_lem (record { most = omega arith; lowest = λ h. absurd (omega arith); none = λ _. none-there f.low q k }))
+      rw at_end_lem (record { most = omega arith; lowest = λ h. absurd (omega arith); none = λ _. none_there f.low q k }))
       (λ k. let there : place ≡ q.place = f.reply_of ∙ rw (lt-ltb f.low no_rank k) (place_is f.low q k) in
-      let low = lowest-there f.low q k in
+      let low = lowest_there f.low q k in
       rw there (record { most = omega (arith, low.below); lowest = λ _. low; none = λ e. absurd (omega (arith, low.below)) }))

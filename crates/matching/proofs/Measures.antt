@@ -20,7 +20,7 @@ use Rattle.matching.specs.Ranks.{no_rank, rank_in, ranks_of, Lowest, crossing}
 use Rattle.matching.specs.Crossing.{crosses}
 use Rattle.matching.specs.Matching.{Ended}
 use Rattle.matching.proofs.Best.{ranks_length, ranks_at, live, rank_live, rank_below, meets_far}
-use Rattle.matching.proofs.Running.{Running, ended_full, ended_far, ended_none, running-deal, count_fewer}
+use Rattle.matching.proofs.Running.{Running, ended_full, ended_far, ended_none, running_deal, count_fewer}
 use Rattle.rules.proofs.Distinct.{Distinct}
 
 -- ---- the lowest rank of a list, if there is one
@@ -171,7 +171,7 @@ module _ (o : Order) (os : List Order) (z : Order) (h : All Ranked os) (d : Dist
   pub measured : (n x : ℕ) → x ≤ n → (left : List ℕ) (ds : List Counterparty) → Running o os left x ds → Measured left x
   measured zero x b left ds r = at_end_lem left x ds r.sized (ended_full o os left x ds r (omega arith)) (λ g. absurd (omega arith))
   measured (suc n) x b left ds r = le_or_lt x 0 (λ g. at_end_lem left x ds r.sized (ended_full o os left x ds r (omega arith)) (λ f. absurd (omega arith)))
-      (λ g. go g (λ i l m. measured n (x - min x (get_or left i 0)) (smaller i l) _ _ (running-deal o os left x ds r z i (min x (get_or left i 0)) h d l m g refl)) (found (ranks_of o left os)))
+      (λ g. go g (λ i l m. measured n (x - min x (get_or left i 0)) (smaller i l) _ _ (running_deal o os left x ds r z i (min x (get_or left i 0)) h d l m g refl)) (found (ranks_of o left os)))
     where
       smaller : (i : ℕ) → Lowest (ranks_of o left os) i → x - min x (get_or left i 0) ≤ n
       smaller i l = omega (arith, (met left r.sized i l).1)

@@ -35,13 +35,13 @@ module _ (b : List ℕ) where
 
   -- the columns while nothing is used
   module _ (o : Order) (n i : ℕ) (h : i < n) where
-    pub lots-here : get_or (map lots_of (orders_in n b)) i 0 ≡ (order_at b i).lots.0
-    lots-here = map_at lots_of (orders_in n b) i (order_at b i) 0 (omega (arith, orders_length b n)) ∙ ap lots_of (order_here n i (order_at b i) h)
+    pub lots_here : get_or (map lots_of (orders_in n b)) i 0 ≡ (order_at b i).lots.0
+    lots_here = map_at lots_of (orders_in n b) i (order_at b i) 0 (omega (arith, orders_length b n)) ∙ ap lots_of (order_here n i (order_at b i) h)
 
-    pub rank-here : get_or (first_rank o (orders_in n b)) i 0 ≡ rank_in o (order_at b i).lots.0 (order_at b i)
-    rank-here =
+    pub rank_here : get_or (first_rank o (orders_in n b)) i 0 ≡ rank_in o (order_at b i).lots.0 (order_at b i)
+    rank_here =
         ranks_at o (order_at b i) (map lots_of (orders_in n b)) (orders_in n b) i (length-map (orders_in n b) lots_of) (omega (arith, orders_length b n))
-        ∙ rw (lots-here, order_here n i (order_at b i) h)
+        ∙ rw (lots_here, order_here n i (order_at b i) h)
 
 -- ---- what an incoming order finds among the first i orders
 -- nothing in an order of another contract

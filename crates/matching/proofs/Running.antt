@@ -109,8 +109,8 @@ module _ (o : Order) (os : List Order) (left : List ℕ) (x : ℕ) (ds : List Co
         ∙ ap (λ l. after_deal (record { resting = with_lots (get_or left i 0) (get_or os i z); lots = q }) (matching k (with_lots (x - q) o) l))
         (used_left z left os i q r.sized d place alive.1 (omega arith))
 
-    pub running-deal : Running o os left' (x - q) (ds ++ (counterparty (get_or os i z) q ∷ []))
-    running-deal = go r.fuel refl
+    pub running_deal : Running o os left' (x - q) (ds ++ (counterparty (get_or os i z) q ∷ []))
+    running_deal = go r.fuel refl
       where
         go : (k : ℕ) → r.fuel ≡ k → Running o os left' (x - q) (ds ++ (counterparty (get_or os i z) q ∷ []))
         go zero f = absurd (omega (arith, r.enough n, count_some left i (omega (arith, r.sized, place)) alive.1))

@@ -44,14 +44,14 @@ module _ (s row : List ℕ) where
   read_header_short h = rw (lt-ltb (length row) header_fields h) refl
 
   module _ (h : header_fields ≤ length row) where
-    pub read-header-none : begins_with_header s ≡ false → record { answer = HeaderUnsound; after = row } ≡ read_header_fields s row
+    pub read_header_none : begins_with_header s ≡ false → record { answer = HeaderUnsound; after = row } ≡ read_header_fields s row
     unfolding read_header_fields
-    read-header-none b = rw (le-ltb (length row) header_fields h, b) refl
+    read_header_none b = rw (le-ltb (length row) header_fields h, b) refl
 
-    pub read-header-whole : begins_with_header s ≡ true → (a : Answer) (after : List ℕ) → a ≡ Accepted (header_length s) → after ≡ with_header (header_of s) row
+    pub read_header_whole : begins_with_header s ≡ true → (a : Answer) (after : List ℕ) → a ≡ Accepted (header_length s) → after ≡ with_header (header_of s) row
         → record { answer = a; after = after } ≡ read_header_fields s row
     unfolding read_header_fields
-    read-header-whole b a after c d = rw (le-ltb (length row) header_fields h, b, c, d) refl
+    read_header_whole b a after c d = rw (le-ltb (length row) header_fields h, b, c, d) refl
 
 -- ---- writing
 module _ (row out : List ℕ) where
@@ -60,21 +60,21 @@ module _ (row out : List ℕ) where
   write_header_row_short h = rw (lt-ltb (length row) header_fields h) refl
 
   module _ (h : header_fields ≤ length row) where
-    pub write-header-by : write_header_fields row out ≡ write_header_spec (header_in row) out
+    pub write_header_by : write_header_fields row out ≡ write_header_spec (header_in row) out
     unfolding write_header_fields
-    write-header-by = rw (le-ltb (length row) header_fields h) refl
+    write_header_by = rw (le-ltb (length row) header_fields h) refl
 
     unsound : header_sound (header_in row) ≡ false → record { answer = HeaderUnsound; after = out } ≡ write_header_fields row out
-    unsound e = write_header_unsound (header_in row) out e ∙ sym write-header-by
+    unsound e = write_header_unsound (header_in row) out e ∙ sym write_header_by
 
-    pub write-many-members : most_members < get_or row members_field 0 → record { answer = HeaderUnsound; after = out } ≡ write_header_fields row out
-    write-many-members m = unsound (members_wrong (header_in row) (rw (lt-leb (get_or row members_field 0) most_members m, and_false (leb 1 (get_or row members_field 0))) refl))
+    pub write_many_members : most_members < get_or row members_field 0 → record { answer = HeaderUnsound; after = out } ≡ write_header_fields row out
+    write_many_members m = unsound (members_wrong (header_in row) (rw (lt-leb (get_or row members_field 0) most_members m, and_false (leb 1 (get_or row members_field 0))) refl))
 
-    pub write-many-holidays : most_holidays < get_or row holiday_count_field 0 → record { answer = HeaderUnsound; after = out } ≡ write_header_fields row out
-    write-many-holidays m = unsound (holidays_many (header_in row) (rw (length_numbers row 4 (get_or row holiday_count_field 0)) m))
+    pub write_many_holidays : most_holidays < get_or row holiday_count_field 0 → record { answer = HeaderUnsound; after = out } ≡ write_header_fields row out
+    write_many_holidays m = unsound (holidays_many (header_in row) (rw (length_numbers row 4 (get_or row holiday_count_field 0)) m))
 
-    pub columns-in : header_from (header_columns (header_in row)) ≡ header_in row
-    columns-in = columns_back (header_in row) (length_numbers row limits_field (get_or row members_field 0))
+    pub columns_in : header_from (header_columns (header_in row)) ≡ header_in row
+    columns_in = columns_back (header_in row) (length_numbers row limits_field (get_or row members_field 0))
 
-    pub write-header-row : {c : JournalHeader} {o : Outcome (List ℕ)} → c ≡ header_columns (header_in row) → o ≡ write_header_spec (header_from c) out → o ≡ write_header_fields row out
-    write-header-row {c} e w = w ∙ (ap (λ x. write_header_spec x out) (ap header_from e ∙ columns-in) ∙ sym write-header-by)
+    pub write_header_row : {c : JournalHeader} {o : Outcome (List ℕ)} → c ≡ header_columns (header_in row) → o ≡ write_header_spec (header_from c) out → o ≡ write_header_fields row out
+    write_header_row {c} e w = w ∙ (ap (λ x. write_header_spec x out) (ap header_from e ∙ columns_in) ∙ sym write_header_by)

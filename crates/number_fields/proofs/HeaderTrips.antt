@@ -21,7 +21,7 @@ use Rattle.header.proofs.Readings.{counts, limits_length}
 use Rattle.header.proofs.Trips as header
 use Rattle.number_fields.specs.HeaderFields.{header_fields, members_field, holiday_count_field, holidays_field, limits_field, with_header, numbers_at, header_in, read_header_fields}
 use Rattle.number_fields.specs.Trips.{NumbersGiveHeader, HeaderGivesNumbers, HeaderReadIsWritten, HeaderWrittenIsRead}
-use Rattle.number_fields.proofs.HeaderOutcomes.{length_numbers, read_header_short, read-header-none, read-header-whole, write_header_row_short, write-header-by, columns-in}
+use Rattle.number_fields.proofs.HeaderOutcomes.{length_numbers, read_header_short, read_header_none, read_header_whole, write_header_row_short, write_header_by, columns_in}
 use Rattle.number_fields.proofs.RecordTrips.{refused, over_self}
 
 -- ---- a header's numbers give the header
@@ -117,12 +117,12 @@ record HeaderRead (s row : List ℕ) (k : ℕ) (after : List ℕ) : Type 0 where
 header_read : (s row : List ℕ) (k : ℕ) (after : List ℕ) → record { answer = Accepted k; after = after } ≡ read_header_fields s row → HeaderRead s row k after
 header_read s row k after w =
     le_or_lt header_fields (length row)
-    (λ h. true_or (begins_with_header s) (λ b. whole h b) (λ b. refused (w ∙ sym (read-header-none s row h b)) (λ z. omega arith)))
+    (λ h. true_or (begins_with_header s) (λ b. whole h b) (λ b. refused (w ∙ sym (read_header_none s row h b)) (λ z. omega arith)))
     (λ h. refused (w ∙ sym (read_header_short s row h)) (λ z. omega arith))
   where
     whole : header_fields ≤ length row → begins_with_header s ≡ true → HeaderRead s row k after
     whole h b =
-        let same = w ∙ sym (read-header-whole s row h b (Accepted (header_length s)) (with_header (header_of s) row) refl refl) in
+        let same = w ∙ sym (read_header_whole s row h b (Accepted (header_length s)) (with_header (header_of s) row) refl refl) in
         record { long = h; begins = b; size = ap (λ (o : Outcome (List ℕ)). (reply_of o.answer).detail) same; put = ap (λ (o : Outcome (List ℕ)). o.after) same }
 
 -- ---- the promises
@@ -135,17 +135,17 @@ header_read_is_written s row out k after b room w =
     let enough = r.long in
     let long : header_fields ≤ length after = rw r.put (rw (with_long h row r.long most.2 (limits_length s) most.1) enough) in
     let read = sym (reading_sound s k r.begins r.size) in
-    write-header-by after out long ∙ rw (back, ← columns_read s) (header.read_is_written s out k (header_columns h) b read room)
+    write_header_by after out long ∙ rw (back, ← columns_read s) (header.read_is_written s out k (header_columns h) b read room)
 
 pub header_written_is_read : HeaderWrittenIsRead
 header_written_is_read row out other k after room w =
-    le_or_lt header_fields (length row) (λ h. long h (w ∙ write-header-by row out h)) (λ h. refused (w ∙ sym (write_header_row_short row out h)) (λ z. omega arith))
+    le_or_lt header_fields (length row) (λ h. long h (w ∙ write_header_by row out h)) (λ h. refused (w ∙ sym (write_header_row_short row out h)) (λ z. omega arith))
   where
     long : header_fields ≤ length row → record { answer = Accepted k; after = after } ≡ write_header_spec (header_in row) out
         → (with_header (header_in row) row ≡ row) × (read_header_fields after other ≡ record { answer = Accepted k; after = with_header (header_in row) other })
     long h x =
         let columns = header_columns (header_in row) in
-        let same : header_from columns ≡ header_in row = columns-in row out h in
+        let same : header_from columns ≡ header_in row = columns_in row out h in
         let read = header.written_is_read columns out k after (rw same x) in
         let reply_of = header.given after k (header_columns (header_from columns)) read in
         let back : header_of after ≡ header_in row = sym (columns_read after) ∙ (ap header_from (sym reply_of.2) ∙ (ap (λ y. header_from (header_columns y)) same ∙ same)) in
@@ -153,4 +153,4 @@ header_written_is_read row out other k after room w =
         let most = counts (header_in row) sound in
         let days : get_or row holiday_count_field 0 ≤ most_holidays = rw (length_numbers row holidays_field (get_or row holiday_count_field 0)) at most.2 in
         let put : with_header (header_of after) other ≡ with_header (header_in row) other = ap (λ y. with_header y other) back in
-        (header_gives_numbers row h days most.1, sym (read-header-whole after other room reply_of.0 (Accepted k) (with_header (header_in row) other) (ap Accepted reply_of.1) (sym put)))
+        (header_gives_numbers row h days most.1, sym (read_header_whole after other room reply_of.0 (Accepted k) (with_header (header_in row) other) (ap Accepted reply_of.1) (sym put)))

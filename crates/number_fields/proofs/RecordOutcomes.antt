@@ -37,23 +37,23 @@ module _ (n : ℕ) (s row : List ℕ) where
       unfolding read_fields
       read_by = rw (le-ltb (length row) record_fields h, ← q) refl
 
-      pub read-unsound : r ≡ Unsound → record { answer = RecordUnsound; after = row } ≡ read_fields n s row
-      read-unsound u = sym (read_by ∙ rw u refl)
+      pub read_unsound : r ≡ Unsound → record { answer = RecordUnsound; after = row } ≡ read_fields n s row
+      read_unsound u = sym (read_by ∙ rw u refl)
 
     module _ {e : Event} (u : r ≡ Sound e) where
       read : read_of n s ≡ Sound e
       read = sym q ∙ u
 
-      pub few-read : leg_count e ≤ most_legs
-      few-read = let known = said n s read in (sound_event n known.0 (legs_of s) e known.2).few
+      pub few_read : leg_count e ≤ most_legs
+      few_read = let known = said n s read in (sound_event n known.0 (legs_of s) e known.2).few
 
-      pub rows-read : leg_rows (leg_count e) (leg_columns (held_legs s)) ≡ legs_of s
-      rows-read = let known = said n s read in rows_said n s e known.1 known.2
+      pub rows_read : leg_rows (leg_count e) (leg_columns (held_legs s)) ≡ legs_of s
+      rows_read = let known = said n s read in rows_said n s e known.1 known.2
 
       pub read_sound : record_fields ≤ length row → {l : Legs} {o : Outcome (List ℕ)} → l ≡ leg_columns (held_legs s)
           → o ≡ with_numbers e (leg_rows (leg_count e) l) row → o ≡ read_fields n s row
       read_sound h {l} {o} c w =
-          let rows : leg_rows (leg_count e) l ≡ legs_of s = rw c rows-read in
+          let rows : leg_rows (leg_count e) l ≡ legs_of s = rw c rows_read in
           w ∙ (ap (λ x. with_numbers e x row) rows ∙ sym (read_by h ∙ rw u refl))
 
 -- ---- writing
@@ -64,24 +64,24 @@ module _ (n : ℕ) (row out : List ℕ) where
 
   module _ {r : Reading} (q : r ≡ event_in row) where
     module _ (h : record_fields ≤ length row) where
-      pub write-by : write_fields n row out ≡ write_reading n r (legs_in row) out
+      pub write_by : write_fields n row out ≡ write_reading n r (legs_in row) out
       unfolding write_fields
-      write-by = rw (le-ltb (length row) record_fields h, ← q) refl
+      write_by = rw (le-ltb (length row) record_fields h, ← q) refl
 
-      pub write-none : r ≡ Unsound → record { answer = RecordUnsound; after = out } ≡ write_fields n row out
-      write-none u = sym (write-by ∙ rw u refl)
+      pub write_none : r ≡ Unsound → record { answer = RecordUnsound; after = out } ≡ write_fields n row out
+      write_none u = sym (write_by ∙ rw u refl)
 
       module _ {e : Event} (u : r ≡ Sound e) where
-        pub few-in : leg_count e ≤ most_legs
-        few-in = (given row e h (sym q ∙ u)).few
+        pub few_in : leg_count e ≤ most_legs
+        few_in = (given row e h (sym q ∙ u)).few
 
         rows_in : leg_rows (leg_count e) (leg_columns (first_legs row (leg_count e))) ≡ legs_in row
         rows_in =
             let legs = first_legs row (leg_count e) in
             rw (length_legs row (leg_count e)) at (rows_of_columns legs) ∙ sym (legs_given row e (given row e h (sym q ∙ u)))
 
-        pub write-event : {k : ℕ} {l : Legs} {o : Outcome (List ℕ)} → k ≡ leg_count e → l ≡ leg_columns (first_legs row k)
+        pub write_event : {k : ℕ} {l : Legs} {o : Outcome (List ℕ)} → k ≡ leg_count e → l ≡ leg_columns (first_legs row k)
             → o ≡ write_spec n e (leg_rows (leg_count e) l) out → o ≡ write_fields n row out
-        write-event {k} {l} {o} c d w =
+        write_event {k} {l} {o} c d w =
             let rows : leg_rows (leg_count e) l ≡ legs_in row = rw (d, c) rows_in in
-            w ∙ (ap (λ x. write_spec n e x out) rows ∙ sym (write-by ∙ rw u refl))
+            w ∙ (ap (λ x. write_spec n e x out) rows ∙ sym (write_by ∙ rw u refl))

@@ -34,7 +34,7 @@ use Rattle.number_fields.specs.RecordFields.{record_fields, kind_field, proposal
 use Rattle.number_fields.specs.Trips.{NumbersGiveEvent, EventGivesNumbers, ReadIsWritten, WrittenIsRead}
 use Rattle.number_fields.proofs.Given.{Given, given, legs_given}
 use Rattle.number_fields.proofs.Rows.{numbers_joined, most_numbers_lem}
-use Rattle.number_fields.proofs.RecordOutcomes.{length_legs, read_short, read_by, few-read, rows-read, write_short, write-by}
+use Rattle.number_fields.proofs.RecordOutcomes.{length_legs, read_short, read_by, few_read, rows_read, write_short, write_by}
 
 -- ---- an event's numbers give the event
 leg_back : (p q : List ℕ) (i : ℕ) → i ≡ length p → (g : Leg) → Unit {0} → leg_in (p ++ (leg_numbers g ++ q)) i ≡ g
@@ -106,11 +106,11 @@ module _ (f : List ℕ) where
 
   module _ (e : Event) (h : record_fields ≤ length f) (g : Given f e) where
     -- What stands past the event's own numbers.
-    past-own : List ℕ
-    past-own = drop (1 + length (kind_fields (kind_number e))) f
+    past_own : List ℕ
+    past_own = drop (1 + length (kind_fields (kind_number e))) f
 
-    legs_again : (past : List ℕ) × (flat_map leg_numbers (legs_in f) ++ past ≡ past-own)
-    unfolding past-own first_legs flat_map from
+    legs_again : (past : List ℕ) × (flat_map leg_numbers (legs_in f) ++ past ≡ past_own)
+    unfolding past_own first_legs flat_map from
     legs_again =
         legs_or_none e
         (λ four one. let fields : length (kind_fields (kind_number e)) ≡ 1 = sym (described e).counted ∙ one in
@@ -118,7 +118,7 @@ module _ (f : List ℕ) where
         (λ no none. (drop (1 + length (kind_fields (kind_number e))) f, rw (legs_given f e g, none) refl))
 
     again : take (length (numbers_of e (legs_in f))) f ≡ numbers_of e (legs_in f)
-    unfolding past-own
+    unfolding past_own
     again =
         let legs = legs_in f in
         let counted : length legs ≡ leg_count e = ap length (legs_given f e g) ∙ length_legs f (leg_count e) in
@@ -162,16 +162,16 @@ written_from n row out k after w =
     le_or_lt record_fields (length row) (λ h. go h (event_in row) refl) (λ h. refused (w ∙ sym (write_short n row out h)) (λ z. omega arith))
   where
     go : record_fields ≤ length row → (r : Reading) → r ≡ event_in row → WrittenFrom n row out (record { answer = Accepted k; after = after })
-    go h (Sound e) q = record { event = e; long = h; says = sym q; given = given row e h (sym q); wrote = w ∙ write-by n row out q h }
-    go h Unsound q = refused (w ∙ write-by n row out q h) (λ z. omega arith)
+    go h (Sound e) q = record { event = e; long = h; says = sym q; given = given row e h (sym q); wrote = w ∙ write_by n row out q h }
+    go h Unsound q = refused (w ∙ write_by n row out q h) (λ z. omega arith)
 
 -- ---- the promises
 read_then_written : (n : ℕ) (s row out after : List ℕ) (e : Event) → T (every (λ b. ltb b 256) s) → length s ≤ length out → record_fields ≤ length row
     → read_of n s ≡ Sound e → after ≡ over 0 (numbers_of e (legs_of s)) row → write_fields n after out ≡ record { answer = Accepted (length s); after = over 0 s out }
 read_then_written n s row out after e b h long said put =
     let legs = legs_of s in
-    let few = few-read n s row refl said in
-    let rows = rows-read n s row refl said in
+    let few = few_read n s row refl said in
+    let rows = rows_read n s row refl said in
     let counted : length legs ≡ leg_count e = ap length (sym rows) ∙ length_rows (leg_count e) (leg_columns (held_legs s)) in
     let numbers = numbers_of e legs in
     let rest = drop (length numbers) row in
@@ -180,7 +180,7 @@ read_then_written n s row out after e b h long said put =
     let most = most_numbers_lem e legs counted few in
     let as_long : length after ≡ length row = ap length put ∙ over_length 0 numbers row (omega arith) in
     let same : legs_in after ≡ legs = ap legs_in shape ∙ back.1 in
-    write-by n after out (sym (ap event_in shape ∙ back.0)) (omega arith) ∙ rw (same, ← rows) (codec.read_is_written n s e out b said h)
+    write_by n after out (sym (ap event_in shape ∙ back.0)) (omega arith) ∙ rw (same, ← rows) (codec.read_is_written n s e out b said h)
 
 pub read_is_written : ReadIsWritten
 read_is_written n s row out k after b h w =
@@ -200,5 +200,5 @@ written_is_read n row out other k after room w =
     let rows : leg_rows (leg_count e) (leg_columns legs) ≡ legs = rw counted at (rows_of_columns legs) in
     let s = take k after in
     let read = codec.written_is_read n e (leg_columns legs) out k after (rw rows x.wrote) in
-    let same : legs_of s ≡ legs = sym (rows-read n s other refl read.0) ∙ (read.1 ∙ rows) in
+    let same : legs_of s ≡ legs = sym (rows_read n s other refl read.0) ∙ (read.1 ∙ rows) in
     (e, (x.says, (again row e x.long x.given, read_by n s other (sym read.0) room ∙ rw same refl)))

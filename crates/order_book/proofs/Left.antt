@@ -151,12 +151,12 @@ module _ (qs b : List ℕ) where
   left_few i = omega (arith, left_most qs (orders_in i b), orders_length b i)
 
   module _ (i : ℕ) (small : i < 256) (long : book_length ≤ length b) (column : i < length qs) where
-    left-next : left_to (i + 1) ≡ left_to i ++ cond (eqb (get_or qs i 0) 0) [] (with_lots (get_or qs i 0) (order_at b i) ∷ [])
-    left-next = rw (orders_more b i, left_more qs (orders_in i b) (order_at b i) (omega (arith, orders_length b i)), orders_length b i)
+    left_next : left_to (i + 1) ≡ left_to i ++ cond (eqb (get_or qs i 0) 0) [] (with_lots (get_or qs i 0) (order_at b i) ∷ [])
+    left_next = rw (orders_more b i, left_more qs (orders_in i b) (order_at b i) (omega (arith, orders_length b i)), orders_length b i)
 
-    pub kept-count : (free : ℕ) → free ≡ length (left_to i) → cond (eqb (get_or qs i 0) 0) free (free + 1) ≡ length (left_to (i + 1))
-    kept-count free e =
-        rw (e, left-next, length-append (left_to i) (cond (eqb (get_or qs i 0) 0) [] (with_lots (get_or qs i 0) (order_at b i) ∷ [])))
+    pub kept_count : (free : ℕ) → free ≡ length (left_to i) → cond (eqb (get_or qs i 0) 0) free (free + 1) ≡ length (left_to (i + 1))
+    kept_count free e =
+        rw (e, left_next, length-append (left_to i) (cond (eqb (get_or qs i 0) 0) [] (with_lots (get_or qs i 0) (order_at b i) ∷ [])))
         (true_or (eqb (get_or qs i 0) 0) (λ t. rw t (omega arith)) (λ t. rw t (omega arith)))
 
     written : (o : Order) → o ≡ order_at b i
@@ -165,13 +165,13 @@ module _ (qs b : List ℕ) where
         ≡ over 0 (flat_map order_places (left_to (i + 1))) b
     written o e =
         let rest = with_lots (get_or qs i 0) (order_at b i) in
-        rw (e, left-next)
+        rw (e, left_next)
         (true_or (eqb (get_or qs i 0) 0) (λ t. rw (t, append-nil (left_to i)))
         (λ t. rw (t, flat_append order_places (left_to i) (rest ∷ []), flat_one order_places rest)
         (over_more (length (left_to i) * order_width) (flat_map order_places (left_to i)) (order_places rest) b (places_length (left_to i)))))
 
-    pub kept-book : (free : ℕ) (book : List ℕ) → free ≡ length (left_to i) → book ≡ over 0 (flat_map order_places (left_to i)) b
+    pub kept_book : (free : ℕ) (book : List ℕ) → free ≡ length (left_to i) → book ≡ over 0 (flat_map order_places (left_to i)) b
         → cond (eqb (get_or qs i 0) 0) book (over (free * order_width) (order_places (with_lots (get_or qs i 0) (order_at book i))) book) ≡ over 0 (flat_map order_places (left_to (i + 1))) b
-    kept-book free book e f =
+    kept_book free book e f =
         rw (f, e) (written (order_at (over 0 (flat_map order_places (left_to i)) b) i)
         (order_there (flat_map order_places (left_to i)) b i (omega (arith, places_length (left_to i), left_few i)) small long))

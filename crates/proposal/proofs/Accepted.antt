@@ -21,7 +21,7 @@ use Rattle.order_book.specs.Left.{left_over}
 use Rattle.proposal_check.specs.Columns.{LegsFit, PlacesFit, column_legs, places_of}
 use Rattle.proposal.specs.Booking.{lines_to, left_after, order_lots}
 use Rattle.proposal_check.proofs.Named.{found_fit}
-use Rattle.proposal_check.proofs.Checks.{acceptable_not, places_many, places-named}
+use Rattle.proposal_check.proofs.Checks.{acceptable_not, places_many, places_named}
 use Rattle.proposal.proofs.Printed.{lines_length_lem, lines_run, lines_of}
 use Rattle.proposal.proofs.Taken.{taken_columns}
 
@@ -73,7 +73,7 @@ module _ (t : Tables) (places numbers lots prices : List ℕ) (fit : LegsFit (le
   unfolding proposal_lines
   lines_all =
       ap (λ os. map leg_line (named_legs os (column_legs numbers lots prices))) same
-      ∙ lines_of t.book places lots prices numbers (orders_in (order_count t) t.book) (places-named t (order_count t) t.book places numbers lots prices fit same at found)
+      ∙ lines_of t.book places lots prices numbers (orders_in (order_count t) t.book) (places_named t (order_count t) t.book places numbers lots prices fit same at found)
       ∙ ap (lines_to t.book places lots prices) (sym many_all)
 
   run_all : line_run (proposal_lines t (column_legs numbers lots prices)) ≡ total (λ i. get_or lots i 0) (from 0 (length lots))
@@ -101,8 +101,8 @@ module _ {t : Tables} {places numbers lots prices : List ℕ} (n : Named t place
   line_count = sym (ap length n.lines_are ∙ lines_length_lem t.book places lots prices (length places) ∙ n.many)
 
   module _ (sum : ℕ) (e : sum ≡ total (λ i. get_or lots i 0) (from 0 (length lots))) where
-    pub run-passes : most_lots_run < lots_run t + sum → run_would_pass t (proposal_lines t (column_legs numbers lots prices)) ≡ true
-    run-passes h = rw (n.run_is, ← e) (lt-ltb most_lots_run (lots_run t + sum) h)
+    pub run_passes : most_lots_run < lots_run t + sum → run_would_pass t (proposal_lines t (column_legs numbers lots prices)) ≡ true
+    run_passes h = rw (n.run_is, ← e) (lt-ltb most_lots_run (lots_run t + sum) h)
 
     pub run_fits : lots_run t + sum ≤ most_lots_run → run_would_pass t (proposal_lines t (column_legs numbers lots prices)) ≡ false
     run_fits h = rw (n.run_is, ← e) (le-ltb most_lots_run (lots_run t + sum) h)

@@ -45,9 +45,9 @@ module _ (book places lots prices : List ℕ) where
         ≡ (booked (lines_to book places lots prices i) (with_head head₀ (with_rows rows₀ value₀ (with_lines lines₀ t)))).after
 
   module _ (head₀ : List ℕ) (rows₀ value₀ lines₀ : List ℤ) where
-    pub legs-start : Bookable (total (λ j. get_or lots j 0) (from 0 (length places))) head₀ rows₀ value₀ lines₀ → LegsBooked head₀ rows₀ value₀ lines₀ 0 head₀ rows₀ value₀ lines₀
+    pub legs_start : Bookable (total (λ j. get_or lots j 0) (from 0 (length places))) head₀ rows₀ value₀ lines₀ → LegsBooked head₀ rows₀ value₀ lines₀ 0 head₀ rows₀ value₀ lines₀
     unfolding from
-    legs-start able =
+    legs_start able =
         record {
           able = rw (sub-zero (length places)) able;
           same_members = refl;
@@ -66,14 +66,14 @@ module _ (book places lots prices : List ℕ) where
       sound : LineFit head (leg_line_at book places lots prices i)
       sound = record { contract_below = order_fit.contract_below; member_below = rw done.same_members order_fit.member_below; most_price_holds = fit.most_price_holds i below }
 
-      pub leg-takes : Bookable (get_or lots i 0) head rows value lines × (LineFit head (line_of (deal_line o (get_or lots i 0) (get_or prices i 0))) × (i < least_lines))
-      leg-takes = (less_room _ _ (omega (arith, lots_first i below)) done.able, (rw same_line sound, omega (arith, fit.most_legs_holds)))
+      pub leg_takes : Bookable (get_or lots i 0) head rows value lines × (LineFit head (line_of (deal_line o (get_or lots i 0) (get_or prices i 0))) × (i < least_lines))
+      leg_takes = (less_room _ _ (omega (arith, lots_first i below)) done.able, (rw same_line sound, omega (arith, fit.most_legs_holds)))
 
-      pub legs-next : (head' : List ℕ) (rows' value' lines' : List ℤ)
+      pub legs_next : (head' : List ℕ) (rows' value' lines' : List ℤ)
           → ((t : Tables) → with_head head' (with_rows rows' value' (with_lines lines' t)) ≡ with_line i (line_of (deal_line o (get_or lots i 0) (get_or prices i 0)))
           (with_head head (with_rows rows value (with_lines lines t))))
           → LegsBooked head₀ rows₀ value₀ lines₀ (i + 1) head' rows' value' lines'
-      legs-next head' rows' value' lines' says =
+      legs_next head' rows' value' lines' says =
           let l = leg_line_at book places lots prices i in
           let u = with_head head (with_rows rows value (with_lines lines zero_tables)) in
           let says-line : (t : Tables) → with_head head' (with_rows rows' value' (with_lines lines' t)) ≡ with_line i l (with_head head (with_rows rows value (with_lines lines t)))

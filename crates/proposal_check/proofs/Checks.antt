@@ -54,21 +54,21 @@ module _ (book places numbers lots prices : List ℕ) (fit : LegsFit (length num
 
   -- ---- balance
   module _ (k : Calendar) (f : Named → ℕ) (amounts : List ℕ) (same : (i : ℕ) → i < length numbers → get_or amounts i 0 ≡ f (named i)) where
-    month-columns : (s : Side) (m : ℕ) → m < months_in_span → in_hour k f s (24 * month_start (first_month k + m)) ns ≡ in_month book places amounts s m
+    month_columns : (s : Side) (m : ℕ) → m < months_in_span → in_hour k f s (24 * month_start (first_month k + m)) ns ≡ in_month book places amounts s m
     unfolding in_month
-    month-columns s m l =
+    month_columns s m l =
         hour_month k f s m ns l
         ∙ total_map (λ n. cond (same_side n.order.side s && holds_month n.order.contract m) (f n) 0) named (from 0 (length numbers))
         ∙ total_same _ (λ i. cond (counts_at book s m (get_or places i 0)) (get_or amounts i 0) 0) 0 (length numbers)
         (λ i l u. ap (λ x. cond (counts_at book s m (get_or places i 0)) x 0) (sym (same i (omega arith))))
         ∙ ap (λ n. total (λ i. cond (counts_at book s m (get_or places i 0)) (get_or amounts i 0) 0) (from 0 n)) (sym as_many)
 
-    pub months-balanced : every (λ m. eqb (in_hour k f Buy (24 * month_start (first_month k + m)) ns) (in_hour k f Sell (24 * month_start (first_month k + m)) ns)) (from 0 months_in_span)
+    pub months_balanced : every (λ m. eqb (in_hour k f Buy (24 * month_start (first_month k + m)) ns) (in_hour k f Sell (24 * month_start (first_month k + m)) ns)) (from 0 months_in_span)
         ≡ balanced_months book places amounts
     unfolding balanced_months
-    months-balanced =
+    months_balanced =
         every_same_from (λ m. eqb (in_hour k f Buy (24 * month_start (first_month k + m)) ns) (in_hour k f Sell (24 * month_start (first_month k + m)) ns))
-        (λ m. eqb (in_month book places amounts Buy m) (in_month book places amounts Sell m)) 0 months_in_span (λ m l. rw (month-columns Buy m l, month-columns Sell m l))
+        (λ m. eqb (in_month book places amounts Buy m) (in_month book places amounts Sell m)) 0 months_in_span (λ m l. rw (month_columns Buy m l, month_columns Sell m l))
 
   pub balanced_columns : (k : Calendar) → balanced_months book places lots && balanced_months book places (zip_with (λ q p. q * p) lots prices) ≡ balanced k ns
   unfolding balanced balanced_in_hour
@@ -76,7 +76,7 @@ module _ (book places numbers lots prices : List ℕ) (fit : LegsFit (length num
       let values = zip_with (λ q p. q * p) lots prices in
       let worth : (i : ℕ) → i < length numbers → get_or values i 0 ≡ leg_value (named i)
       = λ i h. zip_at (λ q p. q * p) lots prices i 0 (omega (arith, fit.lots_length)) (omega (arith, fit.prices_length_holds)) in
-      rw (← months-balanced k leg_lots lots (λ i h. refl), ← months-balanced k leg_value values worth)
+      rw (← months_balanced k leg_lots lots (λ i h. refl), ← months_balanced k leg_value values worth)
       (sym (every_both _ _ (from 0 months_in_span)))
 
   -- ---- priority
@@ -120,8 +120,8 @@ module _ (t : Tables) (count : ℕ) (book places numbers lots prices : List ℕ)
   places_many = ap length at ∙ length-map numbers (λ n. place_of n (orders_in count book))
 
   module _ (found : every (λ p. ltb p count) places ≡ true) where
-    pub places-named : named_legs (orders_in count book) (column_legs numbers lots prices) ≡ named_to book places numbers lots prices
-    places-named =
+    pub places_named : named_legs (orders_in count book) (column_legs numbers lots prices) ≡ named_to book places numbers lots prices
+    places_named =
         subst (λ ps. every (λ p. ltb p count) ps ≡ true → named_legs (orders_in count book) (column_legs numbers lots prices) ≡ named_to book ps numbers lots prices) (sym at)
         (named_columns count book numbers lots prices) found
 
@@ -130,16 +130,16 @@ module _ (t : Tables) (count : ℕ) (book places numbers lots prices : List ℕ)
     all_named = length-map (from 0 (length numbers)) (named_at book places numbers lots prices) ∙ sym (length-map (from 0 (length numbers)) (column_leg numbers lots prices))
 
     -- Where each leg names an order, a proposal is acceptable exactly if the other tests pass.
-    pub acceptable-found : (member contract within months kept : Bool) → member ≡ two_occur (λ n. n.order.member) (named_to book places numbers lots prices)
+    pub acceptable_found : (member contract within months kept : Bool) → member ≡ two_occur (λ n. n.order.member) (named_to book places numbers lots prices)
         → contract ≡ two_occur (λ n. n.order.contract) (named_to book places numbers lots prices)
         → within ≡ every (λ n. has_lots n && price_allowed t n) (named_to book places numbers lots prices)
         → months ≡ balanced (calendar t) (named_to book places numbers lots prices)
         → kept ≡ every (priority_kept (orders_in count book) (named_to book places numbers lots prices)) (named_to book places numbers lots prices)
         → ((((rising numbers && member) && contract) && within) && months) && kept ≡ acceptable t (column_legs numbers lots prices)
     unfolding acceptable
-    acceptable-found member contract within months kept m c w b k =
+    acceptable_found member contract within months kept m c w b k =
         let ns = named_to book places numbers lots prices in
-        rw (same, places-named, columns_orders numbers lots prices, eq-eqb _ _ all_named, m, c, w, b, k, every_both has_lots (price_allowed t) ns)
+        rw (same, places_named, columns_orders numbers lots prices, eq-eqb _ _ all_named, m, c, w, b, k, every_both has_lots (price_allowed t) ns)
         (all_eight (rising numbers) _ _ (every has_lots ns) (every (price_allowed t) ns) _ _)
 
 -- What the tests may count on once each leg names a resting order.

@@ -87,18 +87,18 @@ module _ (count : ℕ) (book places : List ℕ) (fit : OrdersRanked count book) 
       }
 
   module _ (lasts : List ℕ) (s : LastRanks book places lasts) where
-    ahead-last : (o : Order) → Ranked o → side_place_of o < side_places → ltb (rank_of o) (get_or lasts (side_place_of o) 0) ≡ is_ahead book places o
+    ahead_last : (o : Order) → Ranked o → side_place_of o < side_places → ltb (rank_of o) (get_or lasts (side_place_of o) 0) ≡ is_ahead book places o
     unfolding is_ahead
-    ahead-last o f h =
+    ahead_last o f h =
         s.last (side_place_of o) (rank_of o) h
         ∙ sym (any_at _ _ places (λ i k. before_behind o (order_at book (get_or places i 0)) f (legs_ranked.ranked i k)))
 
-    pub kept-last : (orders lots : List ℕ) → every (kept_by lasts orders lots) (orders_in count book) ≡ every (λ o. not (is_ahead book places o) || is_full_leg orders lots o) (orders_in count book)
-    kept-last orders lots =
+    pub kept_last : (orders lots : List ℕ) → every (kept_by lasts orders lots) (orders_in count book) ≡ every (λ o. not (is_ahead book places o) || is_full_leg orders lots o) (orders_in count book)
+    kept_last orders lots =
         every_map _ (order_at book) (from 0 count)
         ∙ each_same _ _ 0 count
         (λ i _ h. ap (λ t. not t || is_full_leg orders lots (order_at book i))
-        (ahead-last (order_at book i) (fit.ranked i (omega arith)) (omega (arith, fit.contract_below i (omega arith), side_below (order_at book i).side))))
+        (ahead_last (order_at book i) (fit.ranked i (omega arith)) (omega (arith, fit.contract_below i (omega arith), side_below (order_at book i).side))))
         ∙ sym (every_map _ (order_at book) (from 0 count))
 
 module _ (lasts orders lots : List ℕ) (o : Order) (at r : ℕ) (e : at ≡ side_place_of o) (f : r ≡ rank_of o) where

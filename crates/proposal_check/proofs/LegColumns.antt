@@ -58,23 +58,23 @@ module _ (legs : List Leg) where
         most_legs_holds = rw size (proposal n k legs sound).few;
         lots_length = length-map legs lots_of ∙ sym size;
         prices_length_holds = length-map legs price_of ∙ sym size;
-        least_lots = λ i h. rw (at_place lots_of i refl) (leg-lots i (rw size at h)).from;
-        most_lots_holds = λ i h. rw (at_place lots_of i refl) (leg-lots i (rw size at h)).to;
-        least_price = λ i h. rw (at_place price_of i refl) (leg-price i (rw size at h)).from;
-        most_price_holds = λ i h. rw (at_place price_of i refl) (leg-price i (rw size at h)).to;
+        least_lots = λ i h. rw (at_place lots_of i refl) (leg_lots_lem i (rw size at h)).from;
+        most_lots_holds = λ i h. rw (at_place lots_of i refl) (leg_lots_lem i (rw size at h)).to;
+        least_price = λ i h. rw (at_place price_of i refl) (leg_price i (rw size at h)).from;
+        most_price_holds = λ i h. rw (at_place price_of i refl) (leg_price i (rw size at h)).to;
       }
     where
       leg : (i : ℕ) → i < length legs → leg_sound (get_or legs i no_leg) ≡ true
       leg i h = all_place (λ g. leg_sound g ≡ true) no_leg legs (proposal n k legs sound).each i h
 
-      leg-lots : (i : ℕ) → i < length legs → InRange 1 (lots_of (get_or legs i no_leg)) most_lots
-      leg-lots i h =
+      leg_lots_lem : (i : ℕ) → i < length legs → InRange 1 (lots_of (get_or legs i no_leg)) most_lots
+      leg_lots_lem i h =
           let g = get_or legs i no_leg in
           let number = number_sound (order_of g) in
           let lots = lots_sound (lots_of g) in
           lots_in_range (lots_of g) (and_right number lots (and_left (number && lots) (price_sound (price_of g)) (leg i h)))
 
-      leg-price : (i : ℕ) → i < length legs → InRange 1 (price_of (get_or legs i no_leg)) most_price
-      leg-price i h =
+      leg_price : (i : ℕ) → i < length legs → InRange 1 (price_of (get_or legs i no_leg)) most_price
+      leg_price i h =
           let g = get_or legs i no_leg in
           price_in_range (price_of g) (and_right (number_sound (order_of g) && lots_sound (lots_of g)) (price_sound (price_of g)) (leg i h))

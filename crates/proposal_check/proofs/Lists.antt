@@ -45,9 +45,9 @@ module _ (p : ℕ → Bool) (n : ℕ) where
   one_start = rw (sub-zero n)
 
   module _ (i : ℕ) (found one : Bool) (known : found || any p (from i (n - i)) ≡ one) where
-    pub one-next : i < n → (found || p i) || any p (from (i + 1) (n - (i + 1))) ≡ one
+    pub one_next : i < n → (found || p i) || any p (from (i + 1) (n - (i + 1))) ≡ one
     unfolding any
-    one-next h = or_assoc found (p i) (any p (from (i + 1) (n - (i + 1)))) ∙ rw (from_next i n h) at known
+    one_next h = or_assoc found (p i) (any p (from (i + 1) (n - (i + 1)))) ∙ rw (from_next i n h) at known
 
     pub one_end : n ≤ i → found ≡ one
     unfolding any

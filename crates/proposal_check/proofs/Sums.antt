@@ -153,16 +153,16 @@ module _ (book places lots prices : List ℕ) (fit : LegsFit (length places) lot
       )
 
   module _ (sums : List ℕ) (s : SumsTo book places lots prices legs sums) where
-    month-sum : (u : Side) (m : ℕ) → m < months_in_span → month_sum sums u m ≡ in_month book places lots u m * lot_unit + in_month book places values u m
-    month-sum u m h =
+    month_sum_lem : (u : Side) (m : ℕ) → m < months_in_span → month_sum sums u m ≡ in_month book places lots u m * lot_unit + in_month book places values u m
+    month_sum_lem u m h =
         let below = months_below m h u in
         rw (s.at (side_place (year_of m) u) below.0, s.at (side_place (quarter_of m) u) below.1, s.at (side_place (month_of m) u) below.2, ← month_three u m)
         (month_two u m)
 
-    month-same : (m : ℕ) → m < months_in_span → eqb (month_sum sums Buy m) (month_sum sums Sell m)
+    month_same : (m : ℕ) → m < months_in_span → eqb (month_sum sums Buy m) (month_sum sums Sell m)
         ≡ eqb (in_month book places lots Buy m) (in_month book places lots Sell m) && eqb (in_month book places values Buy m) (in_month book places values Sell m)
-    month-same m h = rw (month-sum Buy m h, month-sum Sell m h) (two_same _ _ _ _ (value_below Buy m) (value_below Sell m))
+    month_same m h = rw (month_sum_lem Buy m h, month_sum_lem Sell m h) (two_same _ _ _ _ (value_below Buy m) (value_below Sell m))
 
-    pub sums-balanced : balanced_sums sums ≡ balanced_months book places lots && balanced_months book places values
+    pub sums_balanced : balanced_sums sums ≡ balanced_months book places lots && balanced_months book places values
     unfolding balanced_sums balanced_months
-    sums-balanced = each_same _ _ 0 months_in_span (λ m _ h. month-same m (omega arith)) ∙ every_both _ _ (from 0 months_in_span)
+    sums_balanced = each_same _ _ 0 months_in_span (λ m _ h. month_same m (omega arith)) ∙ every_both _ _ (from 0 months_in_span)

@@ -27,13 +27,13 @@ module _ {A : Type 0} where
         ∙ ap (λ r. take k l ++ r) (append_assoc ys (drop (k + length ys) (take w l)) (drop w l) ∙ ap (λ r. ys ++ r) rest))
 
     -- the next block
-    pub inside-written : (n : ℕ) (l : List A) → suc n * w ≤ length l → over (n * w + k) ys (in_each_block w (over k ys) n l) ≡ in_each_block w (over k ys) (suc n) l
+    pub inside_written : (n : ℕ) (l : List A) → suc n * w ≤ length l → over (n * w + k) ys (in_each_block w (over k ys) n l) ≡ in_each_block w (over k ys) (suc n) l
     unfolding in_each_block
-    inside-written zero l h = rw (zero-mul w, zero-add k) (sym (first_block l (omega (arith, suc-mul zero w, zero-mul w))))
-    inside-written (suc n) l h =
+    inside_written zero l h = rw (zero-mul w, zero-add k) (sym (first_block l (omega (arith, suc-mul zero w, zero-mul w))))
+    inside_written (suc n) l h =
         let long : w ≤ length l = omega (arith, suc-mul (suc n) w) in
         let one = over k ys (take w l) in
         let many : length one ≡ w = over_length k ys (take w l) (rw (length-take-le w l long) fits) ∙ length-take-le w l long in
         let place : suc n * w + k ≡ length one + (n * w + k) = omega (arith, suc-mul n w, many) in
         rw place (over_behind (n * w + k) ys one (in_each_block w (over k ys) n (drop w l)))
-        ∙ ap (λ r. one ++ r) (inside-written n (drop w l) (simp length-drop (omega (arith, suc-mul (suc n) w))))
+        ∙ ap (λ r. one ++ r) (inside_written n (drop w l) (simp length-drop (omega (arith, suc-mul (suc n) w))))

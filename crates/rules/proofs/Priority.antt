@@ -78,14 +78,14 @@ unfolding best
 best_none p [] e = tt
 best_none p (o ∷ os) e =
     by_bool (λ b. cond b (better o (best p os)) (best p os) ≡ none → (b ≡ false) × All (λ o. p o ≡ false) os) (p o)
-    (λ _ f. absurd (some-better o (best p os) f)) (λ _ f. (refl, best_none p os f)) e
+    (λ _ f. absurd (some_better o (best p os) f)) (λ _ f. (refl, best_none p os f)) e
   where
     not_none : (b : Order) → some b ≡ none → ⊥
     not_none b e = let z : ◌≡◌ {A = ℕ} 0 1 = cc in omega arith
 
-    some-better : (o : Order) (x : Option Order) → better o x ≡ none → ⊥
-    some-better o none f = not_none o f
-    some-better o (some b) f = by_bool (λ c. cond c (some b) (some o) ≡ none → ⊥) (precedes b o) (λ _ g. not_none b g) (λ _ g. not_none o g) f
+    some_better : (o : Order) (x : Option Order) → better o x ≡ none → ⊥
+    some_better o none f = not_none o f
+    some_better o (some b) f = by_bool (λ c. cond c (some b) (some o) ≡ none → ⊥) (precedes b o) (λ _ g. not_none b g) (λ _ g. not_none o g) f
 
 -- what the best of orders of side s shows: it passes, and each that passes is of the side and no better
 pub record IsBest (p : Order → Bool) (s : Side) (os : List Order) (r : Order) : Type 0 where

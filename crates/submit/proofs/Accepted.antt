@@ -28,16 +28,16 @@ module _ (t : Tables) (e : Submission)
 
   -- ---- the head with the time
   module _ (lotsCrossing : ℕ) (a : Acceptable t e lotsCrossing) (timedHead : List ℕ) (clock : (u : Tables) → with_head timedHead u ≡ timed e.time (with_head t.head u)) where
-    time-is : timedHead ≡ (timed e.time t).head
-    time-is = ap (λ x. x.head) (clock t)
+    time_is : timedHead ≡ (timed e.time t).head
+    time_is = ap (λ x. x.head) (clock t)
 
     pub countable : (head_length ≤ length timedHead) × (e.member < most_members) × (get_or timedHead (submits_from + e.member) 0 ≤ most_submits_in_second) ×
         (accepted_in timedHead ≤ most_accepted_submits)
     countable = (
-      omega (arith, h.long, ap length time-is ∙ timed_length e.time t h.long h.most_members_holds),
+      omega (arith, h.long, ap length time_is ∙ timed_length e.time t h.long h.most_members_holds),
       omega (arith, f.member_below, h.most_members_holds),
-      omega (arith, ap (λ l. get_or l (submits_from + e.member) 0) time-is ∙ timed_submits e.time t e.member h.long h.most_members_holds f.member_below, a.most_submits),
-      omega (arith, ap (λ l. accepted_in l) time-is ∙ timed_place e.time t h.long h.most_members_holds accepted_submits_place (omega arith) (λ z. omega arith), h.most_accepted),
+      omega (arith, ap (λ l. get_or l (submits_from + e.member) 0) time_is ∙ timed_submits e.time t e.member h.long h.most_members_holds f.member_below, a.most_submits),
+      omega (arith, ap (λ l. accepted_in l) time_is ∙ timed_place e.time t h.long h.most_members_holds accepted_submits_place (omega arith) (λ z. omega arith), h.most_accepted),
     )
 
     pub counted_is : (head₁ : List ℕ)
@@ -48,14 +48,14 @@ module _ (t : Tables) (e : Submission)
 
   -- ---- the head with the time and the counts
   module _ (head₁ : List ℕ) (same : with_head head₁ t ≡ counted e.member (timed e.time t)) where
-    head-is : head₁ ≡ (counted e.member (timed e.time t)).head
-    head-is = ap (λ x. x.head) same
+    head_is : head₁ ≡ (counted e.member (timed e.time t)).head
+    head_is = ap (λ x. x.head) same
 
     pub head_long : head_length ≤ length head₁
-    head_long = omega (arith, h.long, ap length head-is ∙ counted_length e.time t e.member h.long h.most_members_holds f.member_below)
+    head_long = omega (arith, h.long, ap length head_is ∙ counted_length e.time t e.member h.long h.most_members_holds f.member_below)
 
     place : (i : ℕ) → i < submits_from → (i ≡ time_place → ⊥) → (i ≡ accepted_submits_place → ⊥) → get_or head₁ i 0 ≡ get_or t.head i 0
-    place i below other next = ap (λ l. get_or l i 0) head-is ∙ counted_place e.time t e.member h.long h.most_members_holds f.member_below i below other next
+    place i below other next = ap (λ l. get_or l i 0) head_is ∙ counted_place e.time t e.member h.long h.most_members_holds f.member_below i below other next
 
     pub count_same : order_count_in head₁ ≡ order_count_in t.head
     count_same = place order_count_place (omega arith) (λ z. omega arith) (λ z. omega arith)
@@ -67,8 +67,8 @@ module _ (t : Tables) (e : Submission)
     pub members_same : members_in head₁ ≡ members_in t.head
     members_same = place members_place (omega arith) (λ z. omega arith) (λ z. omega arith)
 
-    pub run-same : lots_run_in head₁ ≡ lots_run_in t.head
-    run-same = place lots_run_place (omega arith) (λ z. omega arith) (λ z. omega arith)
+    pub run_same : lots_run_in head₁ ≡ lots_run_in t.head
+    run_same = place lots_run_place (omega arith) (λ z. omega arith) (λ z. omega arith)
 
     tradable : Tradable head₁ t.prices t.book o
     tradable =
@@ -99,10 +99,10 @@ module _ (t : Tables) (e : Submission)
           bookable = record {
             long = head_long;
             most_members_holds = omega (arith, members_same, h.most_members_holds);
-            lots_fit = rw (members_same, run-same) l;
-            value_fit = rw (members_same, run-same) v;
+            lots_fit = rw (members_same, run_same) l;
+            value_fit = rw (members_same, run_same) v;
             lines_long = n;
-            most_run = rw (run-same, count_same) a.most_run;
+            most_run = rw (run_same, count_same) a.most_run;
           };
           member_below = omega (arith, members_same, f.member_below);
           members_below = λ i k. omega (arith, members_same, (b.order_fit i (omega (arith, count_same))).member_below);

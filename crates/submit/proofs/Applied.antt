@@ -54,22 +54,22 @@ module _ (t : Tables) (e : Submission) (h : HeadFit t.head) (b : BookFit t.head 
       (crossing_is : crossing ≡ crossing_in o (orders_in (order_count_in t.head) t.book))
       (first second : Verdict) (k : (x : Outcome Tables) → outcome first t x ≡ decide (first_causes t e) t x)
       (l : (x : Outcome Tables) → outcome second t x ≡ decide (measured_causes own crossing t e) t x) where
-    crossing-same : crossing ≡ crossing_in (incoming t e) (orders t)
+    crossing_same : crossing ≡ crossing_in (incoming t e) (orders t)
     unfolding orders
-    crossing-same = crossing_is ∙ ap (λ y. crossing_in y (orders_in (order_count_in t.head) t.book)) same
+    crossing_same = crossing_is ∙ ap (λ y. crossing_in y (orders_in (order_count_in t.head) t.book)) same
 
     own_same : own ≡ own_in (incoming t e) (orders t)
     unfolding orders
     own_same = own_is ∙ ap (λ y. own_in y (orders_in (order_count_in t.head) t.book)) same
 
     reply_of : (x : Outcome Tables) → outcome second t x ≡ decide (measured_causes (own_in (incoming t e) (orders t)) (crossing_in (incoming t e) (orders t)) t e) t x
-    reply_of x = l x ∙ ap (λ n. decide (measured_causes n crossing t e) t x) own_same ∙ ap (λ n. decide (measured_causes (own_in (incoming t e) (orders t)) n t e) t x) crossing-same
+    reply_of x = l x ∙ ap (λ n. decide (measured_causes n crossing t e) t x) own_same ∙ ap (λ n. decide (measured_causes (own_in (incoming t e) (orders t)) n t e) t x) crossing_same
 
-    pub judged-both : Judged t e first second crossing
-    judged-both =
+    pub judged_both : Judged t e first second crossing
+    judged_both =
         record {
           verdict = judged t e ranked numbers has_lots_holds f.least_lots many h.most_orders_holds first second k reply_of;
-          accepts = λ s r. subst (Acceptable t e) (sym crossing-same) (acceptable t e ranked numbers has_lots_holds f.least_lots many h.most_orders_holds first second k reply_of s r);
+          accepts = λ s r. subst (Acceptable t e) (sym crossing_same) (acceptable t e ranked numbers has_lots_holds f.least_lots many h.most_orders_holds first second k reply_of s r);
         }
 
 module _ {t : Tables} {e : Submission} {first second : Verdict} {crossing : ℕ} (j : Judged t e first second crossing) (s : first ≡ Sound) where

@@ -29,15 +29,15 @@ module _ (l : List ℕ) where
     pub total_next : (k : ℕ) → total f (deals_in (k + 1) l) ≡ total f (deals_in k l) + f (deal_at l k)
     total_next k = rw (deals_next k, total_append f (deals_in k l) (deal_at l k ∷ []), total_one f (deal_at l k))
 
-    pub total-prefix : (k n : ℕ) → k ≤ n → total f (deals_in k l) ≤ total f (deals_in n l)
-    total-prefix k n h = let e : k + (n - k) ≡ n = omega arith in rw (← e) (go (n - k))
+    pub total_prefix : (k n : ℕ) → k ≤ n → total f (deals_in k l) ≤ total f (deals_in n l)
+    total_prefix k n h = let e : k + (n - k) ≡ n = omega arith in rw (← e) (go (n - k))
       where
         go : (d : ℕ) → total f (deals_in k l) ≤ total f (deals_in (k + d) l)
         go zero = rw (add-zero k) (omega arith)
         go (suc d) = let e : k + suc d ≡ k + d + 1 = omega arith in rw e (omega (arith, go d, total_next (k + d)))
 
-    pub total-at : (j n : ℕ) → j < n → f (deal_at l j) ≤ total f (deals_in n l)
-    total-at j n h = omega (arith, total_next j, total-prefix (j + 1) n (omega arith))
+    pub total_at : (j n : ℕ) → j < n → f (deal_at l j) ≤ total f (deals_in n l)
+    total_at j n h = omega (arith, total_next j, total_prefix (j + 1) n (omega arith))
 
   -- ---- their lines
   module _ (o : Order) where

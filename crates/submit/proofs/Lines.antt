@@ -20,7 +20,7 @@ use Rattle.deal_lines.specs.Room.{Bookable}
 use Rattle.deal_lines.proofs.Booked.{booked_more}
 use Rattle.deal_lines.proofs.Takes.{Takes, takes_line, less_room, line_members}
 use Rattle.submit.specs.Deals.{lots_dealt}
-use Rattle.submit.proofs.Kept.{total_next, total-prefix, lines_next, lines_length_lem}
+use Rattle.submit.proofs.Kept.{total_next, total_prefix, lines_next, lines_length_lem}
 
 -- ---- one deal
 module _ (o : Order) (d : Counterparty) (k : ℕ) (below : k < most_lots) (t : Tables) (incoming : LineFit t.head (line_in o d)) (resting : LineFit t.head (line_out o d)) where
@@ -65,16 +65,16 @@ module _ (o : Order) (deals : List ℕ) (count : ℕ) (head₀ : List ℕ) (lots
 
   module _ (k : ℕ) (below : k < count) (head : List ℕ) (lots value lines : List ℤ) (g : Booking k head lots value lines) (d : Counterparty) (e : d ≡ deal_at deals k) where
     room_next : to_book k ≡ 2 * d.lots.0 + to_book (k + 1)
-    room_next = omega (arith, total_next deals lots_dealt k, total-prefix deals lots_dealt (k + 1) count (omega arith), ap lots_dealt e)
+    room_next = omega (arith, total_next deals lots_dealt k, total_prefix deals lots_dealt (k + 1) count (omega arith), ap lots_dealt e)
 
-    pub deal-takes : Bookable (2 * d.lots.0) head lots value lines
-    deal-takes = less_room _ _ (omega (arith, room_next)) g.able
+    pub deal_takes : Bookable (2 * d.lots.0) head lots value lines
+    deal_takes = less_room _ _ (omega (arith, room_next)) g.able
 
-    pub booking-next : (head' : List ℕ) (lots' value' lines' : List ℤ) → lots_run_place < length head₀ → k < most_lots → LineFit head (line_in o d) → LineFit head (line_out o d)
+    pub booking_next : (head' : List ℕ) (lots' value' lines' : List ℤ) → lots_run_place < length head₀ → k < most_lots → LineFit head (line_in o d) → LineFit head (line_out o d)
         → ((t : Tables) → with_head head' (with_rows lots' value' (with_lines lines' t))
         ≡ with_line (k * 2 + 1) (line_out o d) (with_line (k * 2) (line_in o d) (with_head head (with_rows lots value (with_lines lines t)))))
         → Booking (k + 1) head' lots' value' lines'
-    booking-next head' lots' value' lines' long few incoming resting after =
+    booking_next head' lots' value' lines' long few incoming resting after =
         let u = with_head head (with_rows lots value (with_lines lines zero_tables)) in
         let ls = flat_map (lines_with o) (deals_in k deals) in
         let many = lines_length_lem deals o k in

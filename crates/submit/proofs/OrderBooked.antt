@@ -44,66 +44,66 @@ module _ (head prices : List ℕ) (lots value : List ℤ) (book : List ℕ) (lin
 
   -- ---- after the deals
   module _ (m : Matched) (head₂ prices₂ book₂ deals : List ℕ) (x : Traded o head prices book m head₂ prices₂ book₂ deals) where
-    rests-is : is_resting kind && ltb 0 (matched o os).left ≡ is_resting kind && ltb 0 m.left.0
-    rests-is = ap (λ n. is_resting kind && ltb 0 n) x.lots_left
+    rests_is : is_resting kind && ltb 0 (matched o os).left ≡ is_resting kind && ltb 0 m.left.0
+    rests_is = ap (λ n. is_resting kind && ltb 0 n) x.lots_left
 
-    count-after : order_count_in head₂ ≡ length (matched o os).resting
-    count-after = ap (λ l. order_count_in l) x.head_after ∙ get_or-set_same head order_count_place _ 0 (omega (arith, p.tradable.head_long))
+    count_after : order_count_in head₂ ≡ length (matched o os).resting
+    count_after = ap (λ l. order_count_in l) x.head_after ∙ get_or-set_same head order_count_place _ 0 (omega (arith, p.tradable.head_long))
 
-    pub deals-head : length head₂ ≡ length head
-    deals-head = ap length x.head_after ∙ length-set head order_count_place _
+    pub deals_head : length head₂ ≡ length head
+    deals_head = ap length x.head_after ∙ length-set head order_count_place _
 
-    pub room-left : is_resting kind && ltb 0 m.left.0 ≡ true → order_count_in head₂ < most_orders
-    room-left w = omega (arith, count-after, p.place (rests-is ∙ w))
+    pub room_left : is_resting kind && ltb 0 m.left.0 ≡ true → order_count_in head₂ < most_orders
+    room_left w = omega (arith, count_after, p.place (rests_is ∙ w))
 
-    lines-is : flat_map (deal_lines o) (matched o os).deals ≡ flat_map (lines_with o) (deals_in m.deals deals)
-    lines-is = lines_kept o (matched o os).deals ∙ ap (flat_map (lines_with o)) x.deals_kept
+    lines_is : flat_map (deal_lines o) (matched o os).deals ≡ flat_map (lines_with o) (deals_in m.deals deals)
+    lines_is = lines_kept o (matched o os).deals ∙ ap (flat_map (lines_with o)) x.deals_kept
 
-    pub deals-members : (j : ℕ) → j < m.deals → (deal_at deals j).member < members_in head
-    deals-members j k = let r = x.from_book j k in omega (arith, r.member, p.members_below r.place r.below)
+    pub deals_members : (j : ℕ) → j < m.deals → (deal_at deals j).member < members_in head
+    deals_members j k = let r = x.from_book j k in omega (arith, r.member, p.members_below r.place r.below)
 
     run_is : line_run (flat_map (deal_lines o) (matched o os).deals) ≡ 2 * total lots_dealt (deals_in m.deals deals)
-    run_is = ap line_run lines-is ∙ run_of_lines o (deals_in m.deals deals)
+    run_is = ap line_run lines_is ∙ run_of_lines o (deals_in m.deals deals)
 
     -- ---- what rests, and the lines
     module _ (head₃ book₃ : List ℕ) (rests : head₃ ≡ cond (is_resting kind && ltb 0 m.left.0) (with_order_count (order_count_in head₂ + 1) head₂) head₂)
         (put : book₃ ≡ cond (is_resting kind && ltb 0 m.left.0) (over (order_count_in head₂ * order_width) (order_places (with_lots m.left.0 o)) book₂) book₂) where
-      kept-place : (i : ℕ) → (i ≡ order_count_place → ⊥) → get_or head₃ i 0 ≡ get_or head i 0
-      kept-place i z =
+      kept_place : (i : ℕ) → (i ≡ order_count_place → ⊥) → get_or head₃ i 0 ≡ get_or head i 0
+      kept_place i z =
           ap (λ l. get_or l i 0) rests
           ∙ by_bool (λ c. get_or (cond c (with_order_count (order_count_in head₂ + 1) head₂) head₂) i 0 ≡ get_or head₂ i 0) (is_resting kind && ltb 0 m.left.0)
           (λ _. get_or-set_other head₂ order_count_place i _ 0 z) (λ _. refl)
           ∙ ap (λ l. get_or l i 0) x.head_after ∙ get_or-set_other head order_count_place i _ 0 z
 
-      rest-length : length head₃ ≡ length head
-      rest-length =
+      rest_length : length head₃ ≡ length head
+      rest_length =
           ap length rests
           ∙ by_bool (λ c. length (cond c (with_order_count (order_count_in head₂ + 1) head₂) head₂) ≡ length head₂) (is_resting kind && ltb 0 m.left.0)
-          (λ _. length-set head₂ order_count_place _) (λ _. refl) ∙ deals-head
+          (λ _. length-set head₂ order_count_place _) (λ _. refl) ∙ deals_head
 
-      pub rest-members : members_in head₃ ≡ members_in head
-      rest-members = kept-place members_place (λ z. omega arith)
+      pub rest_members : members_in head₃ ≡ members_in head
+      rest_members = kept_place members_place (λ z. omega arith)
 
-      rest-run : lots_run_in head₃ ≡ lots_run_in head
-      rest-run = kept-place lots_run_place (λ z. omega arith)
+      rest_run : lots_run_in head₃ ≡ lots_run_in head
+      rest_run = kept_place lots_run_place (λ z. omega arith)
 
       pub bookable : Bookable (2 * total lots_dealt (deals_in m.deals deals)) head₃ lots value lines
       bookable =
           let b = p.bookable in
           record {
-            long = omega (arith, b.long, rest-length);
-            most_members_holds = omega (arith, rest-members, b.most_members_holds);
-            lots_fit = rw (rest-members, rest-run) b.lots_fit;
-            value_fit = rw (rest-members, rest-run) b.value_fit;
+            long = omega (arith, b.long, rest_length);
+            most_members_holds = omega (arith, rest_members, b.most_members_holds);
+            lots_fit = rw (rest_members, rest_run) b.lots_fit;
+            value_fit = rw (rest_members, rest_run) b.value_fit;
             lines_long = b.lines_long;
-            most_run = omega (arith, b.most_run, run_is, rest-run);
+            most_run = omega (arith, b.most_run, run_is, rest_run);
           }
 
-      tables-is : (t : Tables) → with_head head₃ (with_book book₃ (with_prices prices₂ (of t))) ≡ with_orders
+      tables_is : (t : Tables) → with_head head₃ (with_book book₃ (with_prices prices₂ (of t))) ≡ with_orders
           (cond (is_resting kind && ltb 0 (matched o os).left) ((matched o os).resting ++ (with_lots (matched o os).left o ∷ [])) (matched o os).resting)
           (with_deals o.contract (matched o os).deals (of t))
       unfolding with_deals
-      tables-is t =
+      tables_is t =
           let rs = (matched o os).resting in
           let u = with_prices prices₂ (of t) in
           let b = is_resting kind && ltb 0 m.left.0 in
@@ -111,34 +111,34 @@ module _ (head prices : List ℕ) (lots value : List ℤ) (book : List ℕ) (lin
           ∙ ap (λ l. with_head (cond b (with_order_count (order_count_in head₂ + 1) head₂) head₂) (with_book l u)) put
           ∙ rest_written b rs (with_lots m.left.0 o) u head₂ book₂ (omega (arith, p.tradable.head_long)) x.head_after x.book_after_holds
           ∙ ap (λ n. with_orders (cond b (rs ++ (with_lots n o ∷ [])) rs) u) (sym x.lots_left)
-          ∙ ap (λ c. with_orders (cond c (rs ++ (with_lots (matched o os).left o ∷ [])) rs) u) (sym rests-is)
+          ∙ ap (λ c. with_orders (cond c (rs ++ (with_lots (matched o os).left o ∷ [])) rs) u) (sym rests_is)
           ∙ ap (λ l. with_orders (cond (is_resting kind && ltb 0 (matched o os).left) (rs ++ (with_lots (matched o os).left o ∷ [])) rs) (with_prices l (of t))) x.prices-after
 
-      pub booked-is : (head₄ : List ℕ) (lots₄ value₄ lines₄ : List ℤ)
+      pub booked_is : (head₄ : List ℕ) (lots₄ value₄ lines₄ : List ℤ)
           → ((u : Tables) → with_head head₄ (with_rows lots₄ value₄ (with_lines lines₄ u)) ≡ (booked (flat_map (lines_with o) (deals_in m.deals deals))
           (with_head head₃ (with_rows lots value (with_lines lines u)))).after)
           → (t : Tables)
           → record { answer = Accepted (m.deals * 2); after = with_head head₄ (with_prices prices₂ (with_rows lots₄ value₄ (with_book book₃ (with_lines lines₄ t)))) } ≡ order_booked kind o (of t)
       unfolding order_booked orders
-      booked-is head₄ lots₄ value₄ lines₄ b t =
+      booked_is head₄ lots₄ value₄ lines₄ b t =
           let ls = flat_map (lines_with o) (deals_in m.deals deals) in
           ap (λ n. record { answer = Accepted n; after = with_head head₄ (with_prices prices₂ (with_rows lots₄ value₄ (with_book book₃ (with_lines lines₄ t)))) }) (sym (lines_length_lem deals o m.deals))
           ∙ ap (λ u. record { answer = Accepted (length ls); after = u }) (b (with_prices prices₂ (with_book book₃ (of t))))
           ∙ whole ls (with_head head₃ (with_book book₃ (with_prices prices₂ (of t))))
-          ∙ ap (booked ls) (tables-is t)
+          ∙ ap (booked ls) (tables_is t)
           ∙ ap (λ l. booked l (with_orders
           (cond (is_resting kind && ltb 0 (matched o os).left) ((matched o os).resting ++ (with_lots (matched o os).left o ∷ [])) (matched o os).resting)
-          (with_deals o.contract (matched o os).deals (of t)))) (sym lines-is)
+          (with_deals o.contract (matched o os).deals (of t)))) (sym lines_is)
 
   -- ---- no lots cross
   module _ (none : crossing_in o os ≡ 0) where
     pub room : is_resting kind && ltb 0 o.lots.0 ≡ true → order_count_in head < most_orders
-    room = room-left (record { deals = 0; left = o.lots }) head prices book [] (untraded head prices book o p.tradable none [])
+    room = room_left (record { deals = 0; left = o.lots }) head prices book [] (untraded head prices book o p.tradable none [])
 
     pub rested : (head₃ book₃ : List ℕ) → head₃ ≡ cond (is_resting kind && ltb 0 o.lots.0) (with_order_count (order_count_in head + 1) head) head
         → book₃ ≡ cond (is_resting kind && ltb 0 o.lots.0) (over (order_count_in head * order_width) (order_places (with_lots o.lots.0 o)) book) book
         → (t : Tables) → record { answer = Accepted 0; after = with_head head₃ (with_prices prices (with_rows lots value (with_book book₃ (with_lines lines t)))) } ≡ order_booked kind o (of t)
     unfolding deals_in from flat_map
     rested head₃ book₃ e f =
-        booked-is (record { deals = 0; left = o.lots }) head prices book [] (untraded head prices book o p.tradable none []) head₃ book₃ e f head₃ lots value lines
+        booked_is (record { deals = 0; left = o.lots }) head prices book [] (untraded head prices book o p.tradable none []) head₃ book₃ e f head₃ lots value lines
         (λ u. sym (ap (λ y. y.after) (booked_none (with_head head₃ (with_rows lots value (with_lines lines u))))))

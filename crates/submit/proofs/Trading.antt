@@ -24,7 +24,7 @@ use Rattle.matching.specs.Matching.{Matchable, Ended, MatchMade}
 use Rattle.matching.proofs.Totals.{dealt_and_left, lots_kept, worth_kept}
 use Rattle.submit.specs.Deals.{DealColumnFit, Tradable, Traded, lots_dealt, worth_of}
 use Rattle.submit_causes.proofs.Judged.{still, resting_still}
-use Rattle.submit.proofs.Kept.{total-at}
+use Rattle.submit.proofs.Kept.{total_at}
 use Rattle.submit.proofs.Orders.{written_back}
 use Rattle.rules.proofs.Distinct.{Distinct, distinct_orders}
 
@@ -54,11 +54,11 @@ module _ (head prices book : List ℕ) (o : Order) (x : Tradable head prices boo
     pub ended : Ended o os left m.left.0 (deals_in m.deals deals)
     ended = rw count at made.ended
 
-    lots-dealt : total lots_dealt (deals_in m.deals deals) + m.left.0 ≡ o.lots.0
-    lots-dealt = omega (arith, dealt_and_left o os, lots_kept (matched o os).deals, ap (total lots_dealt) ended.deals, ended.lots)
+    lots_dealt_lem : total lots_dealt (deals_in m.deals deals) + m.left.0 ≡ o.lots.0
+    lots_dealt_lem = omega (arith, dealt_and_left o os, lots_kept (matched o os).deals, ap (total lots_dealt) ended.deals, ended.lots)
 
     pub left_most : m.left.0 ≤ o.lots.0
-    left_most = omega (arith, lots-dealt)
+    left_most = omega (arith, lots_dealt_lem)
 
     pub deals_fit : DealColumnFit m.deals deals
     deals_fit =
@@ -66,7 +66,7 @@ module _ (head prices book : List ℕ) (o : Order) (x : Tradable head prices boo
           room = omega (arith, long, room);
           most = made.few;
           most_price_holds = λ j h. let b = made.from_book j h in omega (arith, b.price, (x.ranked b.place (omega (arith, b.below, count))).price);
-          most_lots_holds = λ j h. omega (arith, total-at deals lots_dealt j m.deals h, lots-dealt, x.most_lots_holds);
+          most_lots_holds = λ j h. omega (arith, total_at deals lots_dealt j m.deals h, lots_dealt_lem, x.most_lots_holds);
         }
 
     pub traded : (head' prices' book' : List ℕ) (worth : ℕ) → worth ≡ total worth_of (deals_in m.deals deals)

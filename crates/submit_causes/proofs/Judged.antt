@@ -80,10 +80,10 @@ pass_all [] t h = tt
 pass_all ((true, a) ∷ cs) t h =
     let one = h (record { answer = Accepted 0; after = t }) in
     let two = h (record { answer = Accepted 1; after = t }) in
-    absurd (let z : ◌≡◌ {A = ℕ} 0 1 = accepted-same (ap (λ x. x.answer) (one ∙ sym two)) in omega arith)
+    absurd (let z : ◌≡◌ {A = ℕ} 0 1 = accepted_same (ap (λ x. x.answer) (one ∙ sym two)) in omega arith)
   where
-    accepted-same : {m n : ℕ} → Accepted m ≡ Accepted n → m ≡ n
-    accepted-same e = cc
+    accepted_same : {m n : ℕ} → Accepted m ≡ Accepted n → m ≡ n
+    accepted_same e = cc
 pass_all ((false, a) ∷ cs) t h = (refl, pass_all cs t h)
 
 module _ (t : Tables) (e : Submission) (ranked : All Ranked (orders t)) (numbers : Distinct (orders t)) (has_lots_holds : All (λ r. 0 < r.lots.0) (orders t)) (some : 1 ≤ e.lots.0)

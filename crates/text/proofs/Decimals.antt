@@ -116,21 +116,21 @@ module _ (z : ℤ) (f : SFits w64 z) (s : ℕ) (e : s ≡ nat_abs (rd z)) (a : �
     is_below : signed_decimal z ≡ minus ∷ decimal s
     is_below = rw (e, to_z-of_z f) (signed_below z (rw (to_z-of_z f) at t))
 
-    pub room-below : {k : ℕ} → a + length (signed_decimal z) ≤ k → (a + 1) + length (decimal s) ≤ k
-    room-below h = let g : length (signed_decimal z) ≡ suc (length (decimal s)) = ap length is_below in omega arith
+    pub room_below : {k : ℕ} → a + length (signed_decimal z) ≤ k → (a + 1) + length (decimal s) ≤ k
+    room_below h = let g : length (signed_decimal z) ≡ suc (length (decimal s)) = ap length is_below in omega arith
 
-    pub wrote-below : {b c : ℕ} {l m k : List ℕ} → a + length (signed_decimal z) ≤ length l → Wrote a (minus ∷ []) l m b → Wrote b (decimal s) m k c → Wrote a (signed_decimal z) l k c
-    wrote-below h p q = rw is_below (then p q (omega (arith, room-below h)))
+    pub wrote_below : {b c : ℕ} {l m k : List ℕ} → a + length (signed_decimal z) ≤ length l → Wrote a (minus ∷ []) l m b → Wrote b (decimal s) m k c → Wrote a (signed_decimal z) l k c
+    wrote_below h p q = rw is_below (then p q (omega (arith, room_below h)))
 
   module _ (t : lt_z (rd z) (pos 0) ≡ false) where
-    is-other : signed_decimal z ≡ decimal s
-    is-other = rw (e, to_z-of_z f) (signed_other z (rw (to_z-of_z f) at t))
+    is_other : signed_decimal z ≡ decimal s
+    is_other = rw (e, to_z-of_z f) (signed_other z (rw (to_z-of_z f) at t))
 
-    pub room-other : {k : ℕ} → a + length (signed_decimal z) ≤ k → a + length (decimal s) ≤ k
-    room-other h = rw is-other at h
+    pub room_other : {k : ℕ} → a + length (signed_decimal z) ≤ k → a + length (decimal s) ≤ k
+    room_other h = rw is_other at h
 
-    pub wrote-other : {c : ℕ} {l k : List ℕ} → Wrote a (decimal s) l k c → Wrote a (signed_decimal z) l k c
-    wrote-other p = rw is-other p
+    pub wrote_other : {c : ℕ} {l k : List ℕ} → Wrote a (decimal s) l k c → Wrote a (signed_decimal z) l k c
+    wrote_other p = rw is_other p
 
 -- What a call was handed.
 pub as_read : (z : ℤ) → SFits w64 z → {a r : ℕ} {l m : List ℕ} → Wrote a (signed_decimal (rd z)) l m r → Wrote a (signed_decimal z) l m r

@@ -3,7 +3,7 @@ use mathlib.Core.Path.{◌∙◌}
 use native.Mathlib.Omega.{arith}
 use Rattle.rules.specs.Ranges.{most_members, most_lots_run}
 use Rattle.deal_lines.proofs.Takes.{with_room}
-use Rattle.close_out.proofs.Verdicts.{rows_fit, most_netted, most_remaining, no-lots, no_taker, passed, booked-so, dealable}
+use Rattle.close_out.proofs.Verdicts.{rows_fit, most_netted, most_remaining, no_lots, no_taker, passed, booked_so, dealable}
 use borrow.Author.Rules.{rules}
 use Rattle.close_out.proofs.close_out_lots.Statement.{statement}
 use Rattle.close_out.proofs.close_out_lots.Tie as tie
@@ -46,7 +46,7 @@ returns c =
     let a = s.args in
     let f = s.pre.0.1 in
     let p = s.pre.1.0 in
-    λ t o g. no-lots _ _ _ _ f a.e p.0 _ _ _ _ d.find-defaulted.ensures a.price.0 p.3 t o g c.if1.true
+    λ t o g. no_lots _ _ _ _ f a.e p.0 _ _ _ _ d.find-defaulted.ensures a.price.0 p.3 t o g c.if1.true
 
 find-weights-requires : tie.Need-find-weights-requires
 find-weights-requires c κs =
@@ -127,7 +127,7 @@ returns-4 c =
     let a = s.args in
     let f = s.pre.0.1 in
     let p = s.pre.1.0 in
-    λ t o g. booked-so _ _ _ _ f a.e p.0 _ _ _ _ d.find-defaulted.ensures a.price.0 p.3 t o g (there w).if1.left _ _ k.before.sum_of.ensures
+    λ t o g. booked_so _ _ _ _ f a.e p.0 _ _ _ _ d.find-defaulted.ensures a.price.0 p.3 t o g (there w).if1.left _ _ k.before.sum_of.ensures
     w.find-weights.ensures.0 k.if2.left b.before.before.before.before.before.before.before.before.if3.false _ _ b.book-steps.ensures.0 (b.book-steps.ensures.1.1.1 t)
 
 pub close-out-lots-spec : {M : Type 1} → statement M

@@ -14,7 +14,7 @@ use Rattle.tables.specs.Fit.{order_count_in}
 use Rattle.order_book.proofs.Left.{all_orders}
 use Rattle.proposal_check.specs.Columns.{LegsFit, PlacesFit, column_legs}
 use Rattle.proposal.specs.Booking.{lines_to}
-use Rattle.proposal.proofs.Accepted.{Named, count_after_lines, all_booked, named, line_count, run-passes, run_fits}
+use Rattle.proposal.proofs.Accepted.{Named, count_after_lines, all_booked, named, line_count, run_passes, run_fits}
 use borrow.Author.Rules.{rules}
 use Rattle.proposal.proofs.apply_at.Goals as goal
 
@@ -23,7 +23,7 @@ abbrev tables : tie.Start → Tables → Tables
 tables s t = let a = s.args in with_head a.head.now (with_prices a.prices.now (with_rows a.lots.now a.value.now (with_book a.book.now (with_lines a.lines.now t))))
 
 abbrev legs : tie.Start → List Leg
-legs s = column_legs s.args.orders.now s.args.leg-lots.now s.args.leg-prices.now
+legs s = column_legs s.args.orders.now s.args.leg_lots_lem.now s.args.leg-prices.now
 
 abbrev start : tie.Else1 → tie.Start
 start c = c.before.before.before.before.before.before.before.before.before.before.before
@@ -34,16 +34,16 @@ accepted c = c.before.before.before.before.before.before.before.before.before.be
 ok : (c : tie.Else1) (t : Tables) → acceptable (tables (start c) t) (legs (start c)) ≡ true
 ok c t = sym (c.before.is-acceptable.ensures (tables (start c) t)) ∙ not-false _ c.if1.false
 
-named_at : (c : tie.Else1) (t : Tables) → let a = (start c).args in Named (tables (start c) t) a.places.now a.orders.now a.leg-lots.now a.leg-prices.now
+named_at : (c : tie.Else1) (t : Tables) → let a = (start c).args in Named (tables (start c) t) a.places.now a.orders.now a.leg_lots_lem.now a.leg-prices.now
 named_at c t = let s = start c in let a = s.args in
-    named (tables s t) a.places.now a.orders.now a.leg-lots.now a.leg-prices.now s.pre.1.1.0 s.pre.1.1.1 (ok c t)
+    named (tables s t) a.places.now a.orders.now a.leg_lots_lem.now a.leg-prices.now s.pre.1.1.0 s.pre.1.1.1 (ok c t)
 
 -- The lines leave the number of orders as it was.
 count_at : (c : tie.After-book-legs) → order_count_in c.book-legs.new.0 ≡ order_count_in (start (accepted c)).args.head.now
 count_at c =
     let s = start (accepted c) in
     let a = s.args in
-    let lines = lines_to a.book.now a.places.now a.leg-lots.now a.leg-prices.now (length a.places.now) in
+    let lines = lines_to a.book.now a.places.now a.leg_lots_lem.now a.leg-prices.now (length a.places.now) in
     let u = tables s zero_tables in
     ap order_count (c.book-legs.ensures u) ∙ count_after_lines lines u
 
@@ -59,7 +59,7 @@ total_lots-requires c =
 pub returns-then-run-gt-MOST_LOTS_RUN : goal.returns-then-run-gt-MOST_LOTS_RUN
 unfolding proposal_spec
 returns-then-run-gt-MOST_LOTS_RUN c =
-    λ t. rw (ok c t, run-passes (named_at c t) c.total_lots.result.0 c.total_lots.ensures.0 c.if-run-gt-MOST_LOTS_RUN.true)
+    λ t. rw (ok c t, run_passes (named_at c t) c.total_lots.result.0 c.total_lots.ensures.0 c.if-run-gt-MOST_LOTS_RUN.true)
 
 pub book_legs-requires : goal.book_legs-requires
 book_legs-requires c =
@@ -67,10 +67,10 @@ book_legs-requires c =
     let a = s.args in
     let fit = s.pre.1.1.0 in
     let many = (named_at c zero_tables).many in
-    let sum = c.total_lots.ensures.0 ∙ ap (λ n. total (λ i. get_or a.leg-lots.now i 0) (from 0 n)) (fit.lots_length ∙ sym many) in
+    let sum = c.total_lots.ensures.0 ∙ ap (λ n. total (λ i. get_or a.leg_lots_lem.now i 0) (from 0 n)) (fit.lots_length ∙ sym many) in
     let h = s.pre.0.0 in
     let rows = s.pre.1.0 in record {
-      book_fit = (s.pre.0.2, (named_at c zero_tables).there, subst (λ n. LegsFit n a.leg-lots.now a.leg-prices.now) (sym many) fit);
+      book_fit = (s.pre.0.2, (named_at c zero_tables).there, subst (λ n. LegsFit n a.leg_lots_lem.now a.leg-prices.now) (sym many) fit);
       bookable = (
         record {
           long = h.long;

@@ -2,7 +2,7 @@ use mathlib.Core.Path.{◌≡◌, ◌∙◌}
 use native.Mathlib.Omega.{arith}
 use Rattle.rules.specs.Ledger.{Tables, with_head, with_prices, with_rows, with_book, with_lines}
 use Rattle.submit_causes.specs.declared.causes.Verdict.TheVariants.{Sound}
-use Rattle.submit.proofs.Applied.{Judged, refused_first, judged-both, refused_second, accepted}
+use Rattle.submit.proofs.Applied.{Judged, refused_first, judged_both, refused_second, accepted}
 use borrow.Author.Rules.{rules}
 use Rattle.submit.proofs.apply.Statement.{statement}
 use Rattle.submit.proofs.apply.Tie as tie
@@ -30,7 +30,7 @@ judged-at c t =
     let m = measured c in
     let s = start (first m) in
     let f = s.pre.0 in
-    judged-both (tables s t) s.args.e f.0 f.2 f.3 _ (m.before.order-of.ensures (tables s t)) _ _ m.measure.ensures.0 m.measure.ensures.1.1
+    judged_both (tables s t) s.args.e f.0 f.2 f.3 _ (m.before.order-of.ensures (tables s t)) _ _ m.measure.ensures.0 m.measure.ensures.1.1
     _ _ ((first m).first-cause.ensures (tables s t)) (c.measured-cause.ensures (tables s t))
 
 sound : (c : tie.After-measured-cause) → (first (measured c)).first-cause.result ≡ Sound

@@ -1,11 +1,11 @@
 use native.Mathlib.Omega.{arith}
-use Rattle.text.proofs.Decimals.{room-below, wrote-below, room-other, wrote-other}
+use Rattle.text.proofs.Decimals.{room_below, wrote_below, room_other, wrote_other}
 use Rattle.text.proofs.put_signed.Goals as goal
 
 pub put_byte-digits-requires : goal.put_byte-digits-requires
 put_byte-digits-requires c =
     omega
-    (arith, room-below _ c.ranges.x _ c.size-n.ensures _ c.if-x-lt0.true c.requires)
+    (arith, room_below _ c.ranges.x _ c.size-n.ensures _ c.if-x-lt0.true c.requires)
 
 pub put_decimal-requires : goal.put_decimal-requires
 put_decimal-requires c =
@@ -13,14 +13,14 @@ put_decimal-requires c =
       arith,
       c.put_byte-digits.ensures.after,
       c.put_byte-digits.auto.out,
-      room-below _
+      room_below _
           c.ranges.x _ c.size-n.ensures _
           c.if-x-lt0.true c.requires,
     )
 
 pub returns-then-x-lt0 : goal.returns-then-x-lt0
 returns-then-x-lt0 c =
-    wrote-below _ c.ranges.x _
+    wrote_below _ c.ranges.x _
     c.size-n.ensures _
     c.if-x-lt0.true
     c.requires
@@ -28,10 +28,10 @@ returns-then-x-lt0 c =
 
 pub put_decimal-requires-2 : goal.put_decimal-requires-2
 put_decimal-requires-2 c =
-    room-other _ c.ranges.x _ c.size-n.ensures _ c.if-x-lt0.false
+    room_other _ c.ranges.x _ c.size-n.ensures _ c.if-x-lt0.false
     c.requires
 
 pub returns : goal.returns
 returns c =
-    wrote-other _ c.ranges.x _ c.size-n.ensures _
+    wrote_other _ c.ranges.x _ c.size-n.ensures _
     c.if-x-lt0.false c.put_decimal-2.ensures

@@ -3,7 +3,7 @@ use mathlib.Core.Path.{sym, ◌∙◌}
 use native.Mathlib.Omega.{arith}
 use Rattle.deal_lines.proofs.Takes.{less_room}
 use borrow.Author.Rules.{rules}
-use Rattle.close_out.proofs.Changes.{same_none, more-bought, more-sold, each_none, each_one}
+use Rattle.close_out.proofs.Changes.{same_none, more_bought, more_sold, each_none, each_one}
 use Rattle.close_out.proofs.booking.book_change.Statement.{statement}
 use Rattle.close_out.proofs.booking.book_change.Tie as tie
 
@@ -19,7 +19,7 @@ book-line-requires c κs =
 
 returns-2 : tie.Need-returns-2
 returns-2 c = let a = c.before.before.before.before.before.before.before.before.before.before.before.before.before.args in
-    let one = more-bought a.contract a.price.0 a.member a.gain a.loss c.before.before.before.before.before.before.before.before.before.before.if2.true in
+    let one = more_bought a.contract a.price.0 a.member a.gain a.loss c.before.before.before.before.before.before.before.before.before.before.if2.true in
     (rw one (omega arith), λ t. rw one (c.before.before.before.before.before.book-line.ensures t ∙ sym (each_one a.i _ _)))
 
 book-line-requires-2 : tie.Need-book-line-requires-2
@@ -34,7 +34,7 @@ returns-3 c =
     let if2 = c.before.before.before.before.before.before.before.before.before.before.if2 in
     let book-line2 = c.before.before.before.before.before.book-line2 in
     let less : a.gain < a.loss = omega (arith, if1.false, if2.false) in
-    let one = more-sold a.contract a.price.0 a.member a.gain a.loss less in
+    let one = more_sold a.contract a.price.0 a.member a.gain a.loss less in
     (rw one (omega arith), λ t. rw one (book-line2.ensures t ∙ sym (each_one a.i _ _)))
 
 pub book-change-spec : {M : Type 1} → statement M

@@ -5,7 +5,7 @@ use lib.ListN.{length}
 use borrow.Author.Rules.{rules}
 use Rattle.close_out.proofs.Changes.{lines_end, sum_next, each_none}
 use Rattle.deal_lines.proofs.Takes.{less_room}
-use Rattle.close_out.proofs.Running.{put, Running, running-next}
+use Rattle.close_out.proofs.Running.{put, Running, running_next}
 use Rattle.close_out.proofs.booking.book_changes.Statement.{statement}
 use Rattle.close_out.proofs.booking.book_changes.Tie as tie
 
@@ -43,7 +43,7 @@ loop-again c =
     let loop-test = c.before.before.before.before.before.before.before.before.before.before.before.before.loop-test in
     let book-change = c.before.before.before.before.before.book-change in
     let k = book-change.auto in (
-      running-next a.contract a.price.0 a.i a.gains.now a.losses.now _ pre.1.1.1 pre.1.0.1 pre.1.0.2 pre.1.0.0
+      running_next a.contract a.price.0 a.i a.gains.now a.losses.now _ pre.1.1.1 pre.1.0.1 pre.1.0.2 pre.1.0.0
           l.head l.lots l.value l.lines l.at l.member l.invariant.0 loop-test.true _ _ _ _ _ book-change.ensures.1 book-change.ensures.0,
       k.0 ∙ l.invariant.1,
       k.1.0 ∙ l.invariant.2,

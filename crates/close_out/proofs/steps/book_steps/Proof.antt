@@ -1,7 +1,7 @@
 use native.Mathlib.Omega.{arith}
 use borrow.Author.Rules.{rules}
 use Rattle.deal_lines.proofs.Takes.{less_room}
-use Rattle.close_out.proofs.StepBooking.{remaining_column, second-requires, takers-requires, finish, done}
+use Rattle.close_out.proofs.StepBooking.{remaining_column, second_requires, takers_requires, finish, done}
 use Rattle.close_out.proofs.steps.book_steps.Statement.{statement}
 use Rattle.close_out.proofs.steps.book_steps.Tie as tie
 
@@ -19,7 +19,7 @@ book-changes-requires c κs =
     let a = earlier-still.before.before.before.before.before.before.args in
     let book-netting = earlier.before.before.before.before.before.book-netting in
     let n = book-netting.ensures in
-    second-requires a.contract a.price.0 a.netted a.remaining a.longs.now a.shorts.now a.weights.now pre.0.1 pre.0.2 _ _ _ _ pre.0.0 pre.1
+    second_requires a.contract a.price.0 a.netted a.remaining a.longs.now a.shorts.now a.weights.now pre.0.1 pre.0.2 _ _ _ _ pre.0.0 pre.1
     _ _ _ _ _ _ _ n.0 n.1.0 n.1.1.0 n.1.1.1
 
 returns : tie.Need-returns
@@ -59,7 +59,7 @@ book-takers-requires c κs =
     let if1 = c.before.before.before.before.before.before.if1 in
     let n = book-netting.ensures in
     let b = book-changes.ensures in
-    takers-requires a.contract a.price.0 a.netted a.remaining a.longs.now a.shorts.now a.weights.now pre.0.1 pre.0.2 _ _ _ _ pre.0.0 pre.1
+    takers_requires a.contract a.price.0 a.netted a.remaining a.longs.now a.shorts.now a.weights.now pre.0.1 pre.0.2 _ _ _ _ pre.0.0 pre.1
     _ _ _ _ _ _ _ n.0 n.1.0 n.1.1.0 n.1.1.1 _ _ _ _ _ b.0 b.1 (omega (arith, if1.false))
 
 returns-2 : tie.Need-returns-2

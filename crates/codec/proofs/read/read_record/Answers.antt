@@ -1,6 +1,6 @@
 use mathlib.Core.Path.{sym, ◌∙◌}
 use Rattle.arith.proofs.Tests.{asked_true, asked_false}
-use Rattle.codec.proofs.Fields.{read_none, read-unsound, read-judged}
+use Rattle.codec.proofs.Fields.{read_none, read_unsound, read_judged}
 use borrow.Author.Rules.{rules}
 use Rattle.codec.proofs.read.read_record.Goals as goal
 
@@ -13,16 +13,16 @@ is_sound_as_read-requires c = sym c.fields_of.ensures ∙ c.in-Sound.is
 pub returns-then-is_sound_as_read : goal.returns-then-is_sound_as_read
 returns-then-is_sound_as_read c =
     let few = asked_true c.is_member_count_sound.ensures c.if-not-is_member_count_sound.false in
-    read-judged _ _ few c.fields_of.ensures c.in-Sound.is c.is_sound_as_read.ensures c.if-is_sound_as_read.true
+    read_judged _ _ few c.fields_of.ensures c.in-Sound.is c.is_sound_as_read.ensures c.if-is_sound_as_read.true
 
 pub returns-else-is_sound_as_read : goal.returns-else-is_sound_as_read
 returns-else-is_sound_as_read c =
     let few = asked_true c.is_member_count_sound.ensures c.if-not-is_member_count_sound.false in
-    read-judged _ _ few c.fields_of.ensures c.in-Sound.is c.is_sound_as_read.ensures c.if-is_sound_as_read.false
+    read_judged _ _ few c.fields_of.ensures c.in-Sound.is c.is_sound_as_read.ensures c.if-is_sound_as_read.false
 
 pub returns-in-Unsound : goal.returns-in-Unsound
 returns-in-Unsound c =
     let fields-of = c.fields_of in
     let test1 = c.if-not-is_member_count_sound in
     let is-member-count-sound = c.is_member_count_sound in
-    read-unsound _ _ (asked_true is-member-count-sound.ensures test1.false) fields-of.ensures c.in-Unsound.is
+    read_unsound _ _ (asked_true is-member-count-sound.ensures test1.false) fields-of.ensures c.in-Unsound.is

@@ -4,7 +4,7 @@ use Rattle.arith.proofs.Tests.{asked_true, asked_false}
 use Rattle.record_kinds.specs.Numbers.{leg_count}
 use Rattle.codec.specs.Columns.{leg_rows}
 use Rattle.codec.proofs.LegColumns.{length_rows}
-use Rattle.codec.proofs.Written.{length_record, sound_event, some_bytes, record_put, write_few, write-unsound, write_short, write-whole}
+use Rattle.codec.proofs.Written.{length_record, sound_event, some_bytes, record_put, write_few, write_unsound, write_short, write_whole}
 use borrow.Author.Rules.{rules}
 use Rattle.codec.proofs.write.write_record.Goals as goal
 
@@ -14,7 +14,7 @@ returns-then-not-is_member_count_sound c = write_few _ _ _ _ (asked_false c.is_m
 pub returns-then-not-is_event_sound : goal.returns-then-not-is_event_sound
 returns-then-not-is_event_sound c =
     let few = asked_true c.is_member_count_sound.ensures c.if-not-is_member_count_sound.false in
-    write-unsound _ _ _ _ few (asked_false c.is_event_sound.ensures c.if-not-is_event_sound.true)
+    write_unsound _ _ _ _ few (asked_false c.is_event_sound.ensures c.if-not-is_event_sound.true)
 
 pub record_length-n-requires : goal.record_length-n-requires
 record_length-n-requires c =
@@ -75,4 +75,4 @@ returns c =
     let whole = length_record e (leg_rows (leg_count e) a.legs) (length_rows (leg_count e) a.legs) in
     let some = some_bytes e (leg_count e) in
     let put = record_put e _ _ _ _ kind-number.ensures.0 put-u8.ensures put-fields.ensures (omega (arith, sized)) in
-    write-whole _ _ _ _ few (asked_true is-event-sound.ensures if2.false) _ _ (sized ∙ sym whole) (omega (arith, sized, whole)) put
+    write_whole _ _ _ _ few (asked_true is-event-sound.ensures if2.false) _ _ (sized ∙ sym whole) (omega (arith, sized, whole)) put

@@ -5,7 +5,7 @@ use native.Mathlib.Omega.{arith}
 use borrow.Author.Rules.{rules}
 use Rattle.rules.specs.Days.{Calendar}
 use Rattle.contract_phases.specs.Least.{day_after_nth, least_first_day}
-use Rattle.contract_phases.proofs.Least.{none_to_count, idle-day, counted-day, nth-day}
+use Rattle.contract_phases.proofs.Least.{none_to_count, idle_day, counted_day, nth_day}
 use Rattle.contract_phases.proofs.least_days.least_first_day.Goals as goal
 
 pub loop-x-init : goal.loop-x-init
@@ -13,16 +13,16 @@ loop-x-init c = (c.requires.0, λ y. refl)
 
 pub returns-then-to_count-le1 : goal.returns-then-to_count-le1
 returns-then-to_count-le1 c =
-    λ y. sym (nth-day _ _ _ c.loop-x.to_count c.loop-x.x (omega arith) (sym (c.is_business_day.ensures y) ∙ c.if-is_business_day.true) (omega arith)) ∙ c.loop-x.invariant.1 y
+    λ y. sym (nth_day _ _ _ c.loop-x.to_count c.loop-x.x (omega arith) (sym (c.is_business_day.ensures y) ∙ c.if-is_business_day.true) (omega arith)) ∙ c.loop-x.invariant.1 y
 
 pub loop-x-preserved : goal.loop-x-preserved
 loop-x-preserved c =
     let day = c.is_business_day.ensures in
     ⊎_elim
     (λ w. let less : c.if-is_business_day.to_count ≡ c.loop-x.to_count - 1 = omega arith in
-    (omega arith, λ y. rw less (sym (counted-day _ _ _ c.loop-x.to_count c.loop-x.x (omega arith) (sym (day y) ∙ w.0.taken) (omega arith)) ∙ c.loop-x.invariant.1 y)))
+    (omega arith, λ y. rw less (sym (counted_day _ _ _ c.loop-x.to_count c.loop-x.x (omega arith) (sym (day y) ∙ w.0.taken) (omega arith)) ∙ c.loop-x.invariant.1 y)))
     (λ w. let same : c.if-is_business_day.to_count ≡ c.loop-x.to_count = omega arith in
-    (omega arith, λ y. rw same (sym (idle-day _ _ _ c.loop-x.to_count c.loop-x.x (omega arith) (sym (day y) ∙ w.0.left)) ∙ c.loop-x.invariant.1 y)))
+    (omega arith, λ y. rw same (sym (idle_day _ _ _ c.loop-x.to_count c.loop-x.x (omega arith) (sym (day y) ∙ w.0.left)) ∙ c.loop-x.invariant.1 y)))
     c.if-is_business_day.branch
 
 pub returns : goal.returns

@@ -6,7 +6,7 @@ use Rattle.rules.specs.Header.{begins_with_header}
 use Rattle.rules.specs.Refusals.{make_spec}
 use Rattle.rules.specs.Ledger.{lent, with_book, with_lines, zero_tables}
 use Rattle.rules.proofs.SoundTables.{long_enough}
-use Rattle.header.proofs.Readings.{turned_back, read_well, holiday-room, limit-room, holiday-most, limit-most, as-listed}
+use Rattle.header.proofs.Readings.{turned_back, read_well, holiday_room, limit_room, holiday_most, limit_most, as-listed}
 use borrow.Author.Rules.{rules}
 use Rattle.engine.proofs.making.make.Statement.{statement}
 use Rattle.engine.proofs.making.make.Tie as tie
@@ -36,7 +36,7 @@ array-share-prefix-holidays c =
     let args = c.before.before.before.before.before.before.before.before.before.before.before.before.before.before.before.before.before.before.before.before.args in
     let read-header = c.before.before.before.before.before.before.before.before.before.read-header in
     let before = c.before.before.before.before.before.before in
-    holiday-room args.bytes.now read-header.result read-header.ensures (sound-at (before))
+    holiday_room args.bytes.now read-header.result read-header.ensures (sound-at (before))
 
 slice-aggregate-write-fresh : tie.Need-slice-aggregate-write-fresh
 slice-aggregate-write-fresh c =
@@ -44,14 +44,14 @@ slice-aggregate-write-fresh c =
     let read-header = c.before.before.before.before.before.before.before.before.before.before.read-header in
     let before = c.before.before.before.before.before.before.before in
     sym (length-take-le read-header.result.header.holiday_count read-header.result.header.holidays
-    (holiday-room args.bytes.now read-header.result read-header.ensures (sound-at (before))))
+    (holiday_room args.bytes.now read-header.result read-header.ensures (sound-at (before))))
 
 array-share-prefix-limits : tie.Need-array-share-prefix-limits
 array-share-prefix-limits c =
     let args = c.before.before.before.before.before.before.before.before.before.before.before.before.before.before.before.before.before.before.before.before.before.args in
     let read-header = c.before.before.before.before.before.before.before.before.before.before.read-header in
     let before = c.before.before.before.before.before.before.before in
-    limit-room args.bytes.now read-header.result read-header.ensures (sound-at (before))
+    limit_room args.bytes.now read-header.result read-header.ensures (sound-at (before))
 
 slice-aggregate-write-fresh-2 : tie.Need-slice-aggregate-write-fresh-2
 slice-aggregate-write-fresh-2 c =
@@ -60,7 +60,7 @@ slice-aggregate-write-fresh-2 c =
     let read-header = earlier.before.read-header in
     let before = c.before.before.before.before.before.before.before.before in
     sym (length-take-le read-header.result.header.members read-header.result.header.limits
-    (limit-room args.bytes.now read-header.result read-header.ensures (sound-at (before))))
+    (limit_room args.bytes.now read-header.result read-header.ensures (sound-at (before))))
 
 write-fresh-requires : tie.Need-write-fresh-requires
 write-fresh-requires c κs =
@@ -74,7 +74,7 @@ write-fresh-requires c κs =
     let e = read-header.ensures in
     let b = sound-at (before) in
     let w = long_enough (lent a.head.now a.prices.now a.lots.now a.value.now a.book.now []) (sym (is-ledger-short.ensures (with_lines [] zero_tables)) ∙ if1.false) in
-    ((w.head, w.prices, w.lots, w.value), (holiday-most s r e b, limit-most s r e b))
+    ((w.head, w.prices, w.lots, w.value), (holiday_most s r e b, limit_most s r e b))
 
 returns-3 : tie.Need-returns-3
 unfolding make_spec

@@ -7,7 +7,7 @@ use Rattle.accounts.specs.Lengths.{SameLengths}
 use Rattle.journal.specs.Room.{room_wanted}
 use Rattle.journal.specs.Stages.{ready_length}
 use Rattle.journal.proofs.Fronts.{positive}
-use Rattle.journal.proofs.Running.{Runs, runs_start, next-inside, next-room, one_at_most, ran_part, ready_of_rest, runs-next, runs-end}
+use Rattle.journal.proofs.Running.{Runs, runs_start, next_inside, next_room, one_at_most, ran_part, ready_of_rest, runs_next, runs_end}
 use borrow.Author.Rules.{rules}
 use Rattle.journal.proofs.run.run_records.Statement.{statement}
 use Rattle.journal.proofs.run.run_records.Tie as tie
@@ -32,10 +32,10 @@ turn c = c.before.before.before.before.before.before.before.before.before
 
 -- One more record is ready: it is inside the bytes, and there is room for what is printed of it.
 inside : (c : tie.In-loop invariant-loop decreases-loop) → c.before.loop.place + c.before.loop.n ≤ length (start c).args.bytes.now
-inside c = let l = c.before.loop in let w = l.invariant.0 in next-inside w _ l.invariant.2 (positive _ c.loop-test.true) (omega (arith, w.within, w.same))
+inside c = let l = c.before.loop in let w = l.invariant.0 in next_inside w _ l.invariant.2 (positive _ c.loop-test.true) (omega (arith, w.within, w.same))
 
 room : (c : tie.In-loop invariant-loop decreases-loop) → c.before.loop.end + room_wanted ≤ length c.before.loop.out
-room c = let l = c.before.loop in let w = l.invariant.0 in next-room w _ l.invariant.2 (positive _ c.loop-test.true) (omega (arith, w.within, w.same))
+room c = let l = c.before.loop in let w = l.invariant.0 in next_room w _ l.invariant.2 (positive _ c.loop-test.true) (omega (arith, w.within, w.same))
 
 loop-holds : tie.Need-loop-init invariant-loop decreases-loop
 loop-holds c = (
@@ -95,7 +95,7 @@ loop-again c =
     let s = l.inv.1 in
     let ran = r.run-record in
     let k = ran.auto.1.1 in (
-      runs-next w _ l.inv.2 (positive _ (turn r).loop-test.true) (omega (arith, w.within, w.same)) (ran_part l.place l.n _ _ ran.ensures) k.0,
+      runs_next w _ l.inv.2 (positive _ (turn r).loop-test.true) (omega (arith, w.within, w.same)) (ran_part l.place l.n _ _ ran.ensures) k.0,
       record {
         head = omega (arith, k.1.1.0, s.head);
         prices = omega (arith, k.1.1.1.0, s.prices);
@@ -135,7 +135,7 @@ returns : tie.Need-returns invariant-loop decreases-loop
 returns c =
     let l = c.before.before.before.loop in
     let w = l.invariant.0 in
-    runs-end w _ _ (omega (arith, w.within, w.same)) refl (sym l.invariant.2 ∙ c.before.before.loop-test.false) c.before.stage-after.ensures c.wants-after.ensures
+    runs_end w _ _ (omega (arith, w.within, w.same)) refl (sym l.invariant.2 ∙ c.before.before.loop-test.false) c.before.stage-after.ensures c.wants-after.ensures
 
 pub run-records-spec : {M : Type 1} → statement M
 run-records-spec =

@@ -4,7 +4,7 @@ use Prim.Native.Nat.{◌-◌}
 use Rattle.arith.proofs.Tests.{asked_true, asked_false}
 use Rattle.listing_words.specs.Fields.{fields_in}
 use Rattle.listing.specs.Lines.{Going}
-use Rattle.listing.proofs.Goings.{going_start, going_next, going-fault, going_end}
+use Rattle.listing.proofs.Goings.{going_start, going_next, going_fault, going_end}
 use Rattle.listing.proofs.lines.put_fields.Statement.{statement}
 use Rattle.listing.proofs.lines.put_fields.Tie as tie
 
@@ -35,7 +35,7 @@ returns : tie.Need-returns invariant-loop decreases-loop
 returns c =
     let e = rw c.before.before.before.before.before.before.verdict-of.ensures at
     (asked_false c.before.before.before.before.before.does-pass.ensures c.before.before.before.before.if1.true) in
-    going-fault _ _ _ _ _ c.before.before.before.before.before.before.before.before.before.loop.invariant _ (omega arith)
+    going_fault _ _ _ _ _ c.before.before.before.before.before.before.before.before.before.loop.invariant _ (omega arith)
     c.before.before.before.before.before.before.before.field_at.ensures _ e (omega arith) (omega arith) c.before.before.put-fault.ensures
 
 number-at-requires : tie.Need-number-at-requires invariant-loop decreases-loop

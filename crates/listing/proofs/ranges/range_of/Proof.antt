@@ -28,7 +28,7 @@ returns-8 : tie.Need-returns-8
 returns-8 c = c.range7.ensures ∙ rw c.before.enum-told8.given.1 refl
 
 returns-9 : tie.Need-returns-9
-returns-9 c = c.holiday-range.ensures ∙ rw c.before.enum-told9.given.1 refl
+returns-9 c = c.holiday_range_lem.ensures ∙ rw c.before.enum-told9.given.1 refl
 
 returns-10 : tie.Need-returns-10
 returns-10 c = c.range8.ensures ∙ rw c.before.enum-told10.given.1 refl

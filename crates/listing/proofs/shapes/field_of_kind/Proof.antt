@@ -1,4 +1,4 @@
-use Rattle.listing.proofs.FieldPlaces.{own_at, leg-of-kind}
+use Rattle.listing.proofs.FieldPlaces.{own_at, leg_of_kind}
 use borrow.Author.Rules.{rules}
 use Rattle.listing.proofs.shapes.field_of_kind.Statement.{statement}
 use Rattle.listing.proofs.shapes.field_of_kind.Tie as tie
@@ -12,7 +12,7 @@ returns-2 : tie.Need-returns-2
 returns-2 c =
     let start = c.before.before.before in
     let a = start.args in
-    leg-of-kind a.kind a.legs a.i c.before.before.field-count.ensures.0 c.before.if1.false start.requires c.leg-field.ensures
+    leg_of_kind a.kind a.legs a.i c.before.before.field-count.ensures.0 c.before.if1.false start.requires c.leg-field.ensures
 
 pub field-of-kind-spec : {M : Type 1} → statement M
 field-of-kind-spec =

@@ -9,7 +9,7 @@ use Rattle.matching.specs.Ranks.{lots_of, first_rank, rank_in, placed_rank}
 use Rattle.matching.proofs.Best.{ranks_length}
 use Rattle.tables.specs.Fit.{orders_in}
 use Rattle.order_book.proofs.Left.{orders_length}
-use Rattle.matching.proofs.Passes.{lots-here, rank-here}
+use Rattle.matching.proofs.Passes.{lots_here, rank_here}
 use Rattle.matching.proofs.Lows.{PlacedTo, placed_start, placed_next, placed_all}
 use Rattle.matching.proofs.columns.write_columns.Goals as goal
 
@@ -30,9 +30,9 @@ loop-i-preserved c =
     let os = orders_in n a.book.now in
     let h : c.loop-i.i < n = omega arith in
     let here = c.order_at-r.ensures in
-    let lots : c.order_at-r.result.lots.0 ≡ get_or (map lots_of os) c.loop-i.i 0 = ap (λ r. r.lots.0) here ∙ sym (lots-here a.book.now a.o n c.loop-i.i h) in
+    let lots : c.order_at-r.result.lots.0 ≡ get_or (map lots_of os) c.loop-i.i 0 = ap (λ r. r.lots.0) here ∙ sym (lots_here a.book.now a.o n c.loop-i.i h) in
     let rank : c.rank_at.result ≡ placed_rank c.loop-i.i (get_or (first_rank a.o os) c.loop-i.i 0)
-    = c.rank_at.ensures ∙ ap (λ r. placed_rank c.loop-i.i (rank_in a.o r.lots.0 r)) here ∙ ap (placed_rank c.loop-i.i) (sym (rank-here a.book.now a.o n c.loop-i.i h)) in (
+    = c.rank_at.ensures ∙ ap (λ r. placed_rank c.loop-i.i (rank_in a.o r.lots.0 r)) here ∙ ap (placed_rank c.loop-i.i) (sym (rank_here a.book.now a.o n c.loop-i.i h)) in (
       length-set c.loop-i.left c.loop-i.i _ ∙ c.loop-i.invariant.0,
       omega arith,
       rw (lots, c.loop-i.invariant.2) (front_next c.loop-i.i (map lots_of os) a.left.now 0 (omega (arith, length-map os lots_of, orders_length a.book.now n)) h),

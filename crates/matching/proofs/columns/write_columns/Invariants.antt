@@ -9,7 +9,7 @@ use Rattle.matching.specs.Ranks.{lots_of, first_rank, rank_in, placed_rank}
 use Rattle.matching.proofs.Best.{ranks_length}
 use Rattle.tables.specs.Fit.{orders_in}
 use Rattle.order_book.proofs.Left.{orders_length}
-use Rattle.matching.proofs.Passes.{lots-here, rank-here}
+use Rattle.matching.proofs.Passes.{lots_here, rank_here}
 use Rattle.matching.proofs.Lows.{PlacedTo, placed_start, placed_next, placed_all}
 use Rattle.matching.proofs.columns.write_columns.Given as goal
 

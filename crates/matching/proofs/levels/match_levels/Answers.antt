@@ -4,8 +4,8 @@ use native.Mathlib.Omega.{arith}
 use mathlib.Core.Path.{sym, ◌∙◌}
 use borrow.Author.Tests.{not-true, not-false}
 use Rattle.matching.specs.Ranks.{BestPlace}
-use Rattle.matching.proofs.Going.{Going, going_start, going_from, Next, none_left, best_apart, next_first, next_level, most_best, going-made, still-less, match-made}
-use Rattle.matching.proofs.Going.{left_long, ranks-long, deals-long}
+use Rattle.matching.proofs.Going.{Going, going_start, going_from, Next, none_left, best_apart, next_first, next_level, most_best, going_made, still_less, match_made}
+use Rattle.matching.proofs.Going.{left_long, ranks_long, deals_long}
 use Rattle.matching.proofs.levels.match_levels.Goals as goal
 
 pub best_place-best-requires : goal.best_place-best-requires
@@ -46,14 +46,14 @@ pub is_at-requires : goal.is_at-requires
 is_at-requires c =
     let i = c.orders.invariant in
     let d = c.deal-wanted.ensures in
-    let made = going-made _ _ _ _ _ _ _ _ _ _ i.0 _ _ i.1 _ _ _ _ _ d.deal_made d.block_lows c.if-wanted-eq0.false in
+    let made = going_made _ _ _ _ _ _ _ _ _ _ i.0 _ _ i.1 _ _ _ _ _ d.deal_made d.block_lows c.if-wanted-eq0.false in
     (most_best _ _ _ _ _ _ _ _ _ _ made _ c.best_place-best-in-orders.ensures, made.most_orders_holds, made.long)
 
 pub levels-smaller : goal.levels-smaller
 levels-smaller c =
     let i = c.orders.invariant in
     let d = c.deal-wanted.ensures in
-    omega (arith, still-less _ _ _ _ _ _ _ _ _ _ i.0 _ _ i.1 _ _ _ _ _ d.deal_made d.block_lows, i.2)
+    omega (arith, still_less _ _ _ _ _ _ _ _ _ _ i.0 _ _ i.1 _ _ _ _ _ d.deal_made d.block_lows, i.2)
 
 pub levels-preserved : goal.levels-preserved
 levels-preserved c =
@@ -61,22 +61,22 @@ levels-preserved c =
     let d = c.deal-wanted.ensures in
     let whole = c.levels.invariant.0 in
     let g = going_from _ _ _ _ _ _ _ _ _ _ i.0 _ c.levels.k i.3 whole.deals_length whole.past in
-    (going-made _ _ _ _ _ _ _ _ _ _ g _ _ i.1 _ _ _ _ _ d.deal_made d.block_lows c.if-wanted-eq0.false, c.best_place-best-in-orders.ensures)
+    (going_made _ _ _ _ _ _ _ _ _ _ g _ _ i.1 _ _ _ _ _ d.deal_made d.block_lows c.if-wanted-eq0.false, c.best_place-best-in-orders.ensures)
 
 pub orders-smaller : goal.orders-smaller
 orders-smaller c =
     let i = c.orders.invariant in
     let d = c.deal-wanted.ensures in
-    still-less _ _ _ _ _ _ _ _ _ _ i.0 _ _ i.1 _ _ _ _ _ d.deal_made d.block_lows
+    still_less _ _ _ _ _ _ _ _ _ _ i.0 _ _ i.1 _ _ _ _ _ d.deal_made d.block_lows
 
 pub orders-preserved : goal.orders-preserved
 orders-preserved c =
     let i = c.orders.invariant in
     let d = c.deal-wanted.ensures in
-    let made = going-made _ _ _ _ _ _ _ _ _ _ i.0 _ _ i.1 _ _ _ _ _ d.deal_made d.block_lows c.if-wanted-eq0.false in (
+    let made = going_made _ _ _ _ _ _ _ _ _ _ i.0 _ _ i.1 _ _ _ _ _ d.deal_made d.block_lows c.if-wanted-eq0.false in (
       made,
       next_level _ _ _ _ _ _ _ _ _ _ made _ _ c.best_place-best-in-orders.ensures (c.is_at.ensures (c.if-not-is_at.false)) i.1.crosses,
-      omega (arith, still-less _ _ _ _ _ _ _ _ _ _ i.0 _ _ i.1 _ _ _ _ _ d.deal_made d.block_lows, i.2),
+      omega (arith, still_less _ _ _ _ _ _ _ _ _ _ i.0 _ _ i.1 _ _ _ _ _ d.deal_made d.block_lows, i.2),
       omega (arith, i.3),
     )
 
@@ -124,7 +124,7 @@ shape_of-left-then-wanted-eq0 c =
 pub shape_of-ranks-then-wanted-eq0 : goal.shape_of-ranks-then-wanted-eq0
 shape_of-ranks-then-wanted-eq0 c =
     let i = c.orders.invariant in
-    let d = c.deal-wanted.ensures in ranks-long _ _ _ _ _ _ _ _ _ _ i.0 _ _ i.1 _ _ _ _ _ d.deal_made d.block_lows ∙ sym c.requires.left_value.1.long
+    let d = c.deal-wanted.ensures in ranks_long _ _ _ _ _ _ _ _ _ _ i.0 _ _ i.1 _ _ _ _ _ d.deal_made d.block_lows ∙ sym c.requires.left_value.1.long
 
 pub shape_of-lows-then-wanted-eq0 : goal.shape_of-lows-then-wanted-eq0
 shape_of-lows-then-wanted-eq0 c =
@@ -133,7 +133,7 @@ shape_of-lows-then-wanted-eq0 c =
 pub shape_of-deals-then-wanted-eq0 : goal.shape_of-deals-then-wanted-eq0
 shape_of-deals-then-wanted-eq0 c =
     let i = c.orders.invariant in
-    let d = c.deal-wanted.ensures in deals-long _ _ _ _ _ _ _ _ _ _ i.0 _ _ i.1 _ _ _ _ _ d.deal_made d.block_lows ∙ c.levels.invariant.0.deals_length
+    let d = c.deal-wanted.ensures in deals_long _ _ _ _ _ _ _ _ _ _ i.0 _ _ i.1 _ _ _ _ _ d.deal_made d.block_lows ∙ c.levels.invariant.0.deals_length
 
 pub returns-then-wanted-eq0 : goal.returns-then-wanted-eq0
 returns-then-wanted-eq0 c =
@@ -141,4 +141,4 @@ returns-then-wanted-eq0 c =
     let d = c.deal-wanted.ensures in
     let whole = c.levels.invariant.0 in
     let g = going_from _ _ _ _ _ _ _ _ _ _ i.0 _ c.levels.k i.3 whole.deals_length whole.past in
-    match-made _ _ _ _ _ _ _ _ _ _ g _ _ i.1 _ _ _ _ _ d.deal_made d.block_lows c.if-wanted-eq0.true
+    match_made _ _ _ _ _ _ _ _ _ _ g _ _ i.1 _ _ _ _ _ d.deal_made d.block_lows c.if-wanted-eq0.true

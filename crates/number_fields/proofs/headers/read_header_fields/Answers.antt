@@ -1,9 +1,9 @@
 use mathlib.Core.Path.{sym, ap, ◌∙◌}
 use lib.Seq.{length-take-le}
 use Rattle.header.specs.declared.reader.HeaderReading.{HeaderReading}
-use Rattle.header.proofs.Readings.{as_read, turned_back, read_well, holiday-room, limit-room, holiday-most, limit-most, as-listed}
+use Rattle.header.proofs.Readings.{as_read, turned_back, read_well, holiday_room, limit_room, holiday_most, limit_most, as-listed}
 use Rattle.number_fields.specs.HeaderFields.{with_header}
-use Rattle.number_fields.proofs.HeaderOutcomes.{read_header_short, read-header-none, read-header-whole}
+use Rattle.number_fields.proofs.HeaderOutcomes.{read_header_short, read_header_none, read_header_whole}
 use borrow.Author.Rules.{rules}
 use Rattle.number_fields.proofs.headers.read_header_fields.Goals as goal
 
@@ -13,35 +13,35 @@ returns-then-row-lt-HEADER_FIELDS c = let a = c.args in read_header_short a.byte
 pub returns-then-header-eq0 : goal.returns-then-header-eq0
 returns-then-header-eq0 c =
     let a = c.args in
-    read-header-none a.bytes.now a.row.now c.if-row-lt-HEADER_FIELDS.false (turned_back a.bytes.now c.read_header-reading.result c.read_header-reading.ensures c.if-header-eq0.true)
+    read_header_none a.bytes.now a.row.now c.if-row-lt-HEADER_FIELDS.false (turned_back a.bytes.now c.read_header-reading.result c.read_header-reading.ensures c.if-header-eq0.true)
 
 pub slice_bounds-holidays-end : goal.slice_bounds-holidays-end
 slice_bounds-holidays-end c =
     let s = c.args.bytes.now in
-    holiday-room s c.read_header-reading.result c.read_header-reading.ensures (read_well s c.read_header-reading.result c.read_header-reading.ensures c.if-header-eq0.false)
+    holiday_room s c.read_header-reading.result c.read_header-reading.ensures (read_well s c.read_header-reading.result c.read_header-reading.ensures c.if-header-eq0.false)
 
 pub slice_bounds-put_header-end : goal.slice_bounds-put_header-end
 slice_bounds-put_header-end c =
     let s = c.args.bytes.now in
-    let room = holiday-room s c.read_header-reading.result c.read_header-reading.ensures (read_well s c.read_header-reading.result c.read_header-reading.ensures c.if-header-eq0.false) in
+    let room = holiday_room s c.read_header-reading.result c.read_header-reading.ensures (read_well s c.read_header-reading.result c.read_header-reading.ensures c.if-header-eq0.false) in
     sym (length-take-le _ _ room)
 
 pub slice_bounds-limits-end : goal.slice_bounds-limits-end
 slice_bounds-limits-end c =
     let s = c.args.bytes.now in
-    limit-room s c.read_header-reading.result c.read_header-reading.ensures (read_well s c.read_header-reading.result c.read_header-reading.ensures c.if-header-eq0.false)
+    limit_room s c.read_header-reading.result c.read_header-reading.ensures (read_well s c.read_header-reading.result c.read_header-reading.ensures c.if-header-eq0.false)
 
 pub slice_bounds-put_header-end-2 : goal.slice_bounds-put_header-end-2
 slice_bounds-put_header-end-2 c =
     let s = c.args.bytes.now in
-    let room = limit-room s c.read_header-reading.result c.read_header-reading.ensures (read_well s c.read_header-reading.result c.read_header-reading.ensures c.if-header-eq0.false) in
+    let room = limit_room s c.read_header-reading.result c.read_header-reading.ensures (read_well s c.read_header-reading.result c.read_header-reading.ensures c.if-header-eq0.false) in
     sym (length-take-le _ _ room)
 
 pub put_header-requires : goal.put_header-requires
 put_header-requires c =
     let s = c.args.bytes.now in
     let begun = read_well s c.read_header-reading.result c.read_header-reading.ensures c.if-header-eq0.false in
-    (c.if-row-lt-HEADER_FIELDS.false, holiday-most s c.read_header-reading.result c.read_header-reading.ensures begun, limit-most s c.read_header-reading.result c.read_header-reading.ensures begun)
+    (c.if-row-lt-HEADER_FIELDS.false, holiday_most s c.read_header-reading.result c.read_header-reading.ensures begun, limit_most s c.read_header-reading.result c.read_header-reading.ensures begun)
 
 pub returns : goal.returns
 returns c =
@@ -50,4 +50,4 @@ returns c =
     let begun = read_well s c.read_header-reading.result c.read_header-reading.ensures c.if-header-eq0.false in
     let listed = as-listed s c.read_header-reading.result c.read_header-reading.ensures begun in
     let answered = ap (λ (r : HeaderReading). r.answer) (as_read s c.read_header-reading.result c.read_header-reading.ensures begun) in
-    read-header-whole s a.row.now c.if-row-lt-HEADER_FIELDS.false begun _ _ answered (c.put_header.ensures ∙ ap (λ h. with_header h a.row.now) listed)
+    read_header_whole s a.row.now c.if-row-lt-HEADER_FIELDS.false begun _ _ answered (c.put_header.ensures ∙ ap (λ h. with_header h a.row.now) listed)

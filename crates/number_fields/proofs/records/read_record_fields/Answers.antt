@@ -1,4 +1,4 @@
-use Rattle.number_fields.proofs.RecordOutcomes.{read_short, read-unsound, few-read, read_sound}
+use Rattle.number_fields.proofs.RecordOutcomes.{read_short, read_unsound, few_read, read_sound}
 use borrow.Author.Rules.{rules}
 use Rattle.number_fields.proofs.records.read_record_fields.Goals as goal
 
@@ -8,7 +8,7 @@ returns-then-row-lt-RECORD_FIELDS c = let a = c.args in read_short a.members a.b
 pub put_event-requires : goal.put_event-requires
 put_event-requires c =
     let a = c.args in
-    (c.if-row-lt-RECORD_FIELDS.false, few-read a.members a.bytes.now a.row.now c.read_record.ensures c.in-Sound.is)
+    (c.if-row-lt-RECORD_FIELDS.false, few_read a.members a.bytes.now a.row.now c.read_record.ensures c.in-Sound.is)
 
 pub returns-in-Sound : goal.returns-in-Sound
 returns-in-Sound c =
@@ -18,4 +18,4 @@ returns-in-Sound c =
 pub returns-in-Unsound : goal.returns-in-Unsound
 returns-in-Unsound c =
     let a = c.args in
-    read-unsound a.members a.bytes.now a.row.now c.read_record.ensures c.if-row-lt-RECORD_FIELDS.false c.in-Unsound.is
+    read_unsound a.members a.bytes.now a.row.now c.read_record.ensures c.if-row-lt-RECORD_FIELDS.false c.in-Unsound.is

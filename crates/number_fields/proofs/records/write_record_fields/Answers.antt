@@ -1,4 +1,4 @@
-use Rattle.number_fields.proofs.RecordOutcomes.{write_short, write-none, few-in, write-event}
+use Rattle.number_fields.proofs.RecordOutcomes.{write_short, write_none, few_in, write_event}
 use borrow.Author.Rules.{rules}
 use Rattle.number_fields.proofs.records.write_record_fields.Goals as goal
 
@@ -8,14 +8,14 @@ returns-then-row-lt-RECORD_FIELDS c = let a = c.args in write_short a.members a.
 pub legs_in-legs-requires : goal.legs_in-legs-requires
 legs_in-legs-requires c =
     let a = c.args in
-    (c.if-row-lt-RECORD_FIELDS.false, rw c.leg_count.ensures (few-in a.members a.row.now a.out.now c.event_in.ensures c.if-row-lt-RECORD_FIELDS.false c.in-Sound.is))
+    (c.if-row-lt-RECORD_FIELDS.false, rw c.leg_count.ensures (few_in a.members a.row.now a.out.now c.event_in.ensures c.if-row-lt-RECORD_FIELDS.false c.in-Sound.is))
 
 pub returns-in-Sound : goal.returns-in-Sound
 returns-in-Sound c =
     let a = c.args in
-    write-event a.members a.row.now a.out.now c.event_in.ensures c.if-row-lt-RECORD_FIELDS.false c.in-Sound.is c.leg_count.ensures c.legs_in-legs.ensures c.write_record.ensures
+    write_event a.members a.row.now a.out.now c.event_in.ensures c.if-row-lt-RECORD_FIELDS.false c.in-Sound.is c.leg_count.ensures c.legs_in-legs.ensures c.write_record.ensures
 
 pub returns-in-Unsound : goal.returns-in-Unsound
 returns-in-Unsound c =
     let a = c.args in
-    write-none a.members a.row.now a.out.now c.event_in.ensures c.if-row-lt-RECORD_FIELDS.false c.in-Unsound.is
+    write_none a.members a.row.now a.out.now c.event_in.ensures c.if-row-lt-RECORD_FIELDS.false c.in-Unsound.is

@@ -7,7 +7,7 @@ use Prim.Native.Nat.{◌-◌, ◌≤◌}
 use lib.ListN.{length}
 use Rattle.arith.specs.Lists.{over, from}
 use Rattle.rules.specs.Ledger.{order_places}
-use Rattle.order_book.proofs.Left.{left_to, left_few, left_nothing, kept-count, kept-book, side_there, places_length}
+use Rattle.order_book.proofs.Left.{left_to, left_few, left_nothing, kept_count, kept_book, side_there, places_length}
 use Rattle.order_book.proofs.leaving.write_staying.Goals as goal
 
 pub loop-i-init : goal.loop-i-init
@@ -28,8 +28,8 @@ loop-i-preserved c =
     let qs = a.left.now in (
       omega arith,
       omega (arith, c.keep_order-free.auto.book),
-      c.keep_order-free.ensures.value ∙ kept-count qs a.book.now c.loop-i.i (omega arith) (omega arith) (omega arith) c.loop-i.free c.loop-i.invariant.2,
-      c.keep_order-free.ensures.book_after ∙ kept-book qs a.book.now c.loop-i.i (omega arith) (omega arith) (omega arith) c.loop-i.free c.loop-i.book c.loop-i.invariant.2 c.loop-i.invariant.3,
+      c.keep_order-free.ensures.value ∙ kept_count qs a.book.now c.loop-i.i (omega arith) (omega arith) (omega arith) c.loop-i.free c.loop-i.invariant.2,
+      c.keep_order-free.ensures.book_after ∙ kept_book qs a.book.now c.loop-i.i (omega arith) (omega arith) (omega arith) c.loop-i.free c.loop-i.book c.loop-i.invariant.2 c.loop-i.invariant.3,
     )
 
 pub returns : goal.returns

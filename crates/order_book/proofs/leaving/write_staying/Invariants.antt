@@ -7,7 +7,7 @@ use Prim.Native.Nat.{◌-◌, ◌≤◌}
 use lib.ListN.{length}
 use Rattle.arith.specs.Lists.{over, from}
 use Rattle.rules.specs.Ledger.{order_places}
-use Rattle.order_book.proofs.Left.{left_to, left_few, left_nothing, kept-count, kept-book, side_there, places_length}
+use Rattle.order_book.proofs.Left.{left_to, left_few, left_nothing, kept_count, kept_book, side_there, places_length}
 use Rattle.order_book.proofs.leaving.write_staying.Given as goal
 
 abbrev pub invariant-loop-i : goal.invariant-loop-i

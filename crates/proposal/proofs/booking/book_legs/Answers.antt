@@ -5,13 +5,13 @@ use Prim.Native.Nat.{◌-◌, ◌≤◌}
 use lib.ListN.{length}
 use Rattle.rules.specs.Ledger.{with_head, with_rows, with_lines, booked}
 use Rattle.proposal.specs.Booking.{lines_to}
-use Rattle.proposal.proofs.LegLines.{LegsBooked, legs-start, legs-next, leg-takes}
+use Rattle.proposal.proofs.LegLines.{LegsBooked, legs_start, legs_next, leg_takes}
 use Rattle.proposal.proofs.booking.book_legs.Goals as goal
 
 pub loop-i-init : goal.loop-i-init
 loop-i-init c = let a = c.args in (
   omega arith,
-  legs-start a.book.now a.places.now a.leg_lots.now a.leg_prices.now a.head.now a.lots.now a.value.now a.lines.now
+  legs_start a.book.now a.places.now a.leg_lots.now a.leg_prices.now a.head.now a.lots.now a.value.now a.lines.now
       c.requires.bookable.0,
   refl,
   refl,
@@ -25,7 +25,7 @@ order_at-order-requires c =
 
 pub book_line-requires : goal.book_line-requires
 book_line-requires c =
-    let a = c.args in leg-takes a.book.now a.places.now a.leg_lots.now a.leg_prices.now a.head.now a.lots.now a.value.now a.lines.now c.requires.book_fit.2
+    let a = c.args in leg_takes a.book.now a.places.now a.leg_lots.now a.leg_prices.now a.head.now a.lots.now a.value.now a.lines.now c.requires.book_fit.2
     c.requires.book_fit.0 c.requires.book_fit.1 (omega (arith, c.requires.bookable.0.long)) c.loop-i.i c.loop-i-test.true c.loop-i.head c.loop-i.lots c.loop-i.value c.loop-i.lines
     c.loop-i.invariant.1 c.order_at-order.result c.order_at-order.ensures
 
@@ -35,7 +35,7 @@ overflow_add-i c =
 
 pub loop-i-preserved : goal.loop-i-preserved
 loop-i-preserved c =
-    let a = c.args in let next = legs-next a.book.now a.places.now a.leg_lots.now a.leg_prices.now a.head.now a.lots.now a.value.now a.lines.now c.requires.book_fit.2
+    let a = c.args in let next = legs_next a.book.now a.places.now a.leg_lots.now a.leg_prices.now a.head.now a.lots.now a.value.now a.lines.now c.requires.book_fit.2
     c.requires.book_fit.0 c.requires.book_fit.1 (omega (arith, c.requires.bookable.0.long)) c.loop-i.i c.loop-i-test.true c.loop-i.head c.loop-i.lots c.loop-i.value c.loop-i.lines
     c.loop-i.invariant.1 c.order_at-order.result c.order_at-order.ensures in
     let kept = c.book_line.auto in (

@@ -5,7 +5,7 @@ use Prim.Native.Nat.{◌-◌, ◌≤◌}
 use lib.ListN.{length}
 use Rattle.rules.specs.Ledger.{with_head, with_rows, with_lines, booked}
 use Rattle.proposal.specs.Booking.{lines_to}
-use Rattle.proposal.proofs.LegLines.{LegsBooked, legs-start, legs-next, leg-takes}
+use Rattle.proposal.proofs.LegLines.{LegsBooked, legs_start, legs_next, leg_takes}
 use Rattle.proposal.proofs.booking.book_legs.Given as goal
 
 abbrev pub invariant-loop-i : goal.invariant-loop-i

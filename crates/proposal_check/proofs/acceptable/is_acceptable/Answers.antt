@@ -5,7 +5,7 @@ use lib.ListN.{get_or}
 use Rattle.tables.specs.Fit.{order_count_in, orders_in}
 use Rattle.rules.specs.Ledger.{order_count_place}
 use Rattle.rules.specs.Ledger.{with_head, with_prices, with_book, orders, calendar}
-use Rattle.proposal_check.proofs.Checks.{two_columns, balanced_columns, priority_columns, acceptable_not, acceptable-found, legs_found}
+use Rattle.proposal_check.proofs.Checks.{two_columns, balanced_columns, priority_columns, acceptable_not, acceptable_found, legs_found}
 use Rattle.proposal_check.proofs.LastRanks.{orders_ranked}
 use borrow.Author.Rules.{rules}
 use Rattle.proposal_check.proofs.acceptable.is_acceptable.Goals as goal
@@ -73,7 +73,7 @@ returns c =
     λ t.
     let u = with_head a.head.now (with_prices a.prices.now (with_book book t)) in
     rw c.are_rising.ensures
-    (acceptable-found u (order_count_in a.head.now) book places numbers lots prices legs refl c.requires.legs_fit.1 found _ _ _ _ _
+    (acceptable_found u (order_count_in a.head.now) book places numbers lots prices legs refl c.requires.legs_fit.1 found _ _ _ _ _
     (c.do_two_occur.ensures ∙ two_columns book places numbers lots prices legs f.as_many (λ o. o.member))
     (c.do_two_occur-2.ensures ∙ two_columns book places numbers lots prices legs f.as_many (λ o. o.contract))
     (c.are_within.ensures (with_head a.head.now (with_book book t)))

@@ -1,5 +1,5 @@
 use mathlib.Core.Path.{◌∙◌}
-use Rattle.proposal_check.proofs.Sums.{sums_fit, sums-balanced}
+use Rattle.proposal_check.proofs.Sums.{sums_fit, sums_balanced}
 use borrow.Author.Rules.{rules}
 use Rattle.proposal_check.proofs.balance.are_both_balanced.Goals as goal
 
@@ -10,4 +10,4 @@ are_months_balanced-requires c =
 pub returns : goal.returns
 returns c =
     let a = c.args in c.are_months_balanced.ensures
-    ∙ sums-balanced a.book.now a.places.now a.lots.now a.prices.now c.requires.2 _ c.write_sums.ensures
+    ∙ sums_balanced a.book.now a.places.now a.lots.now a.prices.now c.requires.2 _ c.write_sums.ensures

@@ -1,5 +1,5 @@
 use mathlib.Core.Path.{refl, ◌∙◌}
-use Rattle.proposal_check.proofs.LastRanks.{legs_ranked, kept-last}
+use Rattle.proposal_check.proofs.LastRanks.{legs_ranked, kept_last}
 use borrow.Author.Rules.{rules}
 use Rattle.proposal_check.proofs.priority.is_priority_kept.Goals as goal
 
@@ -14,5 +14,5 @@ are_kept-requires c =
 pub returns : goal.returns
 returns c =
     let a = c.args in
-    c.are_kept.ensures ∙ kept-last a.count a.book.now a.places.now c.requires.0 c.requires.1 _ c.write_last_ranks.ensures
+    c.are_kept.ensures ∙ kept_last a.count a.book.now a.places.now c.requires.0 c.requires.1 _ c.write_last_ranks.ensures
     a.orders.now a.lots.now

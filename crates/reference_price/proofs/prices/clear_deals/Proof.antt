@@ -11,7 +11,7 @@ use Rattle.arith.proofs.Writes.{stored}
 use Rattle.rules.specs.Ledger.{price_width}
 use Rattle.rules.specs.Ranges.{contract_count}
 use Rattle.rules.specs.CloseOfDay.{without_deals}
-use Rattle.reference_price.proofs.Blocks.{inside-written}
+use Rattle.reference_price.proofs.Blocks.{inside_written}
 use Rattle.reference_price.proofs.prices.clear_deals.Statement.{statement}
 use Rattle.reference_price.proofs.prices.clear_deals.Tie as tie
 
@@ -38,7 +38,7 @@ loop-again c =
     let both : set (set l.prices (at + 3) 0) (at + 4) 0 ≡ over (at + 3) none l.prices = rw next (stored none l.prices (at + 3) (omega arith)) in (
       omega arith,
       simp length-set (omega arith),
-      both ∙ rw (l.invariant.2, add-one l.contract) (inside-written 5 3 none (omega arith) l.contract d (omega arith)),
+      both ∙ rw (l.invariant.2, add-one l.contract) (inside_written 5 3 none (omega arith) l.contract d (omega arith)),
     )
 
 same_length : tie.Need-same-length invariant-loop decreases-loop

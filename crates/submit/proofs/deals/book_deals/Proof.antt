@@ -6,7 +6,7 @@ use lib.ListN.{length}
 use Rattle.rules.specs.Ranges.{most_price}
 use Rattle.matching.specs.Deals.{line_in, line_out}
 use Rattle.deal_lines.specs.Lines.{LineFit}
-use Rattle.submit.proofs.Lines.{Booking, booking_start, deal-takes, booking-next}
+use Rattle.submit.proofs.Lines.{Booking, booking_start, deal_takes, booking_next}
 use Rattle.submit.proofs.deals.book_deals.Statement.{statement}
 use Rattle.submit.proofs.deals.book_deals.Tie as tie
 
@@ -44,7 +44,7 @@ book-deal-requires c κs =
     let at-loop-test = at-deal-at.before in
     let l = at-loop-test.before.loop in
     let start = at-loop-test.before.before.before.before in (
-      (deal-takes _ _ _ _ _ _ _ _ at-loop-test.loop-test.true _ _ _ _ l.invariant.1 _ at-deal-at.deal-at.ensures, omega (arith, start.requires.0.1.most)),
+      (deal_takes _ _ _ _ _ _ _ _ at-loop-test.loop-test.true _ _ _ _ l.invariant.1 _ at-deal-at.deal-at.ensures, omega (arith, start.requires.0.1.most)),
       fits at-deal-at,
     )
 
@@ -57,7 +57,7 @@ loop-again c =
     let l = at-loop.loop in
     let f = fits at-deal-at in (
       omega arith,
-      booking-next _ _ _ _ _ _ _ _ at-deal-at.before.loop-test.true _ _ _ _ l.invariant.1 _ at-deal-at.deal-at.ensures _ _ _ _
+      booking_next _ _ _ _ _ _ _ _ at-deal-at.before.loop-test.true _ _ _ _ l.invariant.1 _ at-deal-at.deal-at.ensures _ _ _ _
           (omega (arith, start.requires.0.0.long)) (omega (arith, start.requires.0.1.most)) f.0 f.1 at-book-deal.book-deal.ensures,
       at-book-deal.book-deal.auto.0 ∙ l.invariant.2,
       at-book-deal.book-deal.auto.1.0 ∙ l.invariant.3,
