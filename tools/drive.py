@@ -10,7 +10,7 @@ for line in open('crates.txt'):
     if line:
         n,d=line.split(':'); deps[n.split()[0]]=d.split()
 kit={'check'}
-for skip in ('accounts','replay','text'): state[skip]='skip'
+for skip in ('damage','proposal','proposal_legs','streams','journal_program','listing_program','calendar_cases','codec_cases','proposal_cases','durskafn'): state[skip]='skip'
 
 def proved(c):
     p=os.path.join(out,c+'.log')

@@ -19,7 +19,7 @@ pub loop-x-preserved : goal.loop-x-preserved
 loop-x-preserved c =
     let day = c.is_business_day.ensures in
     elim c.if-is_business_day.branch [
-      | then-is_business_day w ↦ (let less : c.if-is_business_day.to_count ≡ c.loop-x.to_count - 1 = omega arith in
+      | then-is_business_day+else-to_count-le1 w ↦ (let less : c.if-is_business_day.to_count ≡ c.loop-x.to_count - 1 = omega arith in
           (omega arith, λ y. rw less (sym (counted_day _ _ _ c.loop-x.to_count c.loop-x.x (omega arith) (sym (day y) ∙ w.if-is_business_day.true) (omega arith)) ∙ c.loop-x.invariant.1 y)))
       | else-is_business_day w ↦ (let same : c.if-is_business_day.to_count ≡ c.loop-x.to_count = omega arith in
           (omega arith, λ y. rw same (sym (idle_day _ _ _ c.loop-x.to_count c.loop-x.x (omega arith) (sym (day y) ∙ w.if-is_business_day.false)) ∙ c.loop-x.invariant.1 y)))

@@ -1,0 +1,29 @@
+use borrow.Author.Rules.{rules}
+use Prim.Native.Nat.{◌+◌, ◌*◌, ◌-◌, ◌≤◌}
+use mathlib.Core.Path.{◌≡◌}
+use mathlib.Core.List.{flat_map}
+use native.Mathlib.Omega.{arith}
+use lib.ListN.{length}
+use Rattle.rules.specs.Journal.{deal_text}
+use Rattle.rules.specs.Ledger.{first_lines}
+use Rattle.text.specs.Wrote.{Wrote}
+use Rattle.printing.proofs.Lines.{line_read, deals_none, deals_next, deals_all}
+use Rattle.printing.proofs.put_deals.Goals as goal
+
+pub loop-i-init : goal.loop-i-init
+loop-i-init c = (omega arith, omega arith, deals_none _ _ _)
+
+pub loop-i-preserved : goal.loop-i-preserved
+loop-i-preserved c =
+    let lines = c.args.lines.now in
+    let line =
+    line_read lines c.loop-i.i c.size-arg-1.given
+    c.size-arg-in-loop-i-1.given c.put_deal-arg-in-loop-i-1.given
+    c.size-arg-in-loop-i-2-1.given
+    c.size-member.ensures
+    c.size-contract.ensures c.size-price.ensures
+    c.put_deal-end.ensures in
+    (omega arith, omega (arith, c.put_deal-end.auto.out), deals_next c.loop-i.i lines (omega arith) c.loop-i.invariant.2 line)
+
+pub returns : goal.returns
+returns c = deals_all c.loop-i.i _ _ c.loop-i.invariant.0 c.loop-i-test.false c.loop-i.invariant.2

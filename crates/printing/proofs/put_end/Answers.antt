@@ -1,0 +1,7 @@
+use Rattle.rules.specs.Journal.{end_text}
+use borrow.Author.Rules.{rules}
+use Rattle.printing.proofs.put_end.Goals as goal
+
+pub returns : goal.returns
+unfolding end_text
+returns c = (λ t. c.put_three.ensures.0, c.put_three.ensures.1)

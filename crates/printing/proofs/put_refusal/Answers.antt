@@ -1,0 +1,7 @@
+use Rattle.rules.specs.Journal.{refusal_text}
+use borrow.Author.Rules.{rules}
+use Rattle.printing.proofs.put_refusal.Goals as goal
+
+pub returns : goal.returns
+unfolding refusal_text
+returns c = c.put_two.ensures

@@ -1,0 +1,13 @@
+use native.Mathlib.Omega.{arith}
+use Rattle.printing.proofs.Lines.{begun, field, ended}
+use borrow.Author.Rules.{rules}
+use Rattle.printing.proofs.put_three.Goals as goal
+
+pub returns : goal.returns
+returns c =
+    let room = c.requires in
+    let two = field room (omega arith) (field room (omega arith)
+    (begun c.put_byte-end.ensures)
+    c.put_field-end.ensures)
+    c.put_field-end-2.ensures in
+    ended room (omega arith) (field room (omega arith) two c.put_field-end-3.ensures) c.put_byte.ensures

@@ -1,0 +1,29 @@
+use mathlib.Core.Path.{sym, subst}
+use native.Mathlib.Omega.{arith}
+use Rattle.rules.specs.Ledger.{Tables, with_head, with_rows, with_lines, zero_tables}
+use Rattle.matching.specs.Deals.{line_out}
+use Rattle.deal_lines.specs.Lines.{LineFit}
+use Rattle.deal_lines.proofs.Takes.{Takes, less_room}
+use Rattle.submit.proofs.Lines.{resting_fit, first_takes}
+use borrow.Author.Rules.{rules}
+use Rattle.submit.proofs.deals.book_deal.Goals as goal
+
+pub book_line-requires : goal.book_line-requires
+book_line-requires c =
+    let pre = c.requires in
+    record { bookable = less_room _ _ (omega arith) pre.bookable.0; line_fit = (pre.line_fit.0, omega (arith, pre.bookable.1)) }
+
+pub book_line-requires-2 : goal.book_line-requires-2
+book_line-requires-2 c =
+    let a = c.args in
+    let q = c.requires.line_fit in
+    let small = c.requires.bookable.1 in
+    let u = with_head a.head.now (with_rows a.lots.now a.value.now (with_lines a.lines.now zero_tables)) in
+    let after = c.book_line.ensures u in
+    let other = c.other_side-against.ensures in
+    let takes = first_takes a.o a.d a.k small u q.0 q.1 a.d.lots.0 (less_room _ _ (omega arith) c.requires.bookable.0) in
+    let fits = resting_fit a.o a.d a.k small u q.0 q.1 in record { bookable = subst (λ (x : Tables). Takes a.d.lots.0 x) (sym after) takes; line_fit = (rw other (subst (λ (x : Tables). LineFit x.head (line_out a.o a.d)) (sym after) fits), omega (arith, small)) }
+
+pub returns : goal.returns
+returns c =
+    λ t. rw (← c.other_side-against.ensures, ← (c.book_line.ensures t)) (c.book_line-2.ensures t)
