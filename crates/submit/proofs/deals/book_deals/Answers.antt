@@ -9,21 +9,6 @@ use Rattle.deal_lines.specs.Lines.{LineFit}
 use Rattle.submit.proofs.Lines.{Booking, booking_start, deal_takes, booking_next}
 use Rattle.submit.proofs.deals.book_deals.Goals as goal
 
--- The lines of a deal are lines of the ledger's members and contracts.
-fits : (c : tie.After-deal-at invariant-loop decreases-loop) → let o = c.before.before.before.before.before.args.o in
-    LineFit c.before.before.loop.head (line_in o c.deal-at.result) × LineFit c.before.before.loop.head (line_out o c.deal-at.result)
-fits c =
-    let l = c.before.before.loop in
-    let s = c.before.before.before.before.before in
-    let k = c.before.loop-test.true in
-    let d = c.deal-at.ensures in
-    let q = s.requires.1 in
-    let m = l.invariant.1.members_same in
-    let priced : c.deal-at.result.price.0 ≤ most_price = rw d (s.requires.0.1.most_price_holds l.k k) in (
-      record { member_below = omega (arith, m, q.0); contract_below = q.1; most_price_holds = priced },
-      record { member_below = rw d (omega (arith, m, q.2 l.k k)); contract_below = q.1; most_price_holds = priced },
-    )
-
 pub loop-k-init : goal.loop-k-init
 loop-k-init c = (omega arith, booking_start _ _ _ _ _ _ _ c.requires.bookable.0, refl, refl, refl, refl)
 
@@ -32,14 +17,27 @@ deal_at-d-requires c = let f = c.requires.bookable.1 in (omega (arith, f.most), 
 
 pub book_deal-requires : goal.book_deal-requires
 book_deal-requires c =
-    record { bookable = (deal_takes _ _ _ _ _ _ _ _ c.loop-k-test.true _ _ _ _ c.loop-k.invariant.1 _ c.deal_at-d.ensures, omega (arith, c.requires.bookable.1.most)); line_fit = fits c }
+    let l = c.loop-k in
+    let m = l.invariant.1.members_same in
+    let q = c.requires.member_bound in
+    let d = c.deal_at-d.ensures in
+    let priced : c.deal_at-d.result.price.0 ≤ most_price = rw d (c.requires.bookable.1.most_price_holds l.k c.loop-k-test.true) in
+    let into : LineFit l.head (line_in c.args.o c.deal_at-d.result) = record { member_below = omega (arith, m, q.0); contract_below = q.1; most_price_holds = priced } in
+    let out : LineFit l.head (line_out c.args.o c.deal_at-d.result) = record { member_below = rw d (omega (arith, m, q.2 l.k c.loop-k-test.true)); contract_below = q.1; most_price_holds = priced } in
+    record { bookable = (deal_takes _ _ _ _ _ _ _ _ c.loop-k-test.true _ _ _ _ c.loop-k.invariant.1 _ c.deal_at-d.ensures, omega (arith, c.requires.bookable.1.most)); line_fit = (into, out) }
 
 pub loop-k-preserved : goal.loop-k-preserved
 loop-k-preserved c =
-    let f = fits c in (
+    let l = c.loop-k in
+    let m = l.invariant.1.members_same in
+    let q = c.requires.member_bound in
+    let d = c.deal_at-d.ensures in
+    let priced : c.deal_at-d.result.price.0 ≤ most_price = rw d (c.requires.bookable.1.most_price_holds l.k c.loop-k-test.true) in
+    let into : LineFit l.head (line_in c.args.o c.deal_at-d.result) = record { member_below = omega (arith, m, q.0); contract_below = q.1; most_price_holds = priced } in
+    let out : LineFit l.head (line_out c.args.o c.deal_at-d.result) = record { member_below = rw d (omega (arith, m, q.2 l.k c.loop-k-test.true)); contract_below = q.1; most_price_holds = priced } in (
       omega arith,
       booking_next _ _ _ _ _ _ _ _ c.loop-k-test.true _ _ _ _ c.loop-k.invariant.1 _ c.deal_at-d.ensures _ _ _ _
-          (omega (arith, c.requires.bookable.0.long)) (omega (arith, c.requires.bookable.1.most)) f.0 f.1 c.book_deal.ensures,
+          (omega (arith, c.requires.bookable.0.long)) (omega (arith, c.requires.bookable.1.most)) into out c.book_deal.ensures,
       c.book_deal.auto.head ∙ c.loop-k.invariant.2,
       c.book_deal.auto.lots ∙ c.loop-k.invariant.3,
       c.book_deal.auto.value ∙ c.loop-k.invariant.4,
