@@ -1,5 +1,5 @@
 -- Windows within a bound, and the rows of n members column by column. Assumes nothing.
-use Rattle.std.proofs.Common.{◌≡◌, ℕ, ◌+◌, ◌-◌, ◌*◌, ◌/◌, ◌^◌, ◌<◌, ◌≤◌, Bool, true, ◌&&◌, leb, List, take, ℤ, pos, nat_abs, sym, add-one, arith, pow_pos, pow_mono, lt-ltb}
+use Rattle.std.proofs.Common.{◌≡◌, ℕ, ◌+◌, ◌-◌, ◌*◌, ◌/◌, ◌^◌, ◌<◌, ◌≤◌, Bool, true, ◌&&◌, leb, List, get_or, take, ℤ, pos, nat_abs, sym, add-one, arith, pow_pos, pow_mono, lt-ltb}
 use mathlib.Core.Bool.{and_assoc}
 use lib.Count.{count_leading_zeros, leading_length}
 use Rattle.arith.specs.Lists.{every}
@@ -38,6 +38,10 @@ row_whole p l = whole_rows p 32 contract_count l
 pub row_within : (w b n : ℕ) (l : List ℤ) → w ≤ 2 * b + 1 → every_row (in_window w) n l ≡ true → true ≡ every_row (λ z. leb (nat_abs z) b) n l
 unfolding every_row
 row_within w b n l h e = sym (rows_weaker (in_window w) (λ z. leb (nat_abs z) b) (λ z. window_within z w b h) 32 n contract_count l e)
+
+-- Both places of a row are in the window.
+abbrev pub both_in : ℕ → ℕ → List ℤ → Bool
+both_in w member b = in_window w (get_or b member (pos 0)) && in_window w (get_or b (member + 1) (pos 0))
 
 -- ---- the widest window
 short : (m b : ℕ) → 2 ^ m ≤ 2 * b + 1 → b ≤ 5000000000000 → m ≤ 62

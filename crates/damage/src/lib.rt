@@ -1,4 +1,6 @@
 // Whether a lent table is too short or damaged. Then every record is turned back with 1.
+#![tactic(auto)]
+
 mod between;
 mod book;
 mod head;

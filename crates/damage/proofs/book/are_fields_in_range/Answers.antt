@@ -1,4 +1,4 @@
-use Rattle.std.proofs.Common.{sym, rules, lt-ltb, le-leb}
+use Rattle.std.proofs.Common.{sym, lt-ltb, le-leb}
 use Rattle.arith.specs.Lists.{all_of}
 use Rattle.arith.proofs.Tests.{and_true, tests, asked_true, asked_false}
 use Rattle.damage.specs.Orders.{fields_in_range}

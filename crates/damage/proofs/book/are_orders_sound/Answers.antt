@@ -1,12 +1,12 @@
-use Rattle.std.proofs.Common.{◌≡◌, ◌-◌, ◌^◌, ◌≤◌, ◌&&◌, ltb, map, sym, ◌∙◌, arith, rules, le-ltb, lt-ltb}
+use Rattle.std.proofs.Common.{◌≡◌, ◌^◌, ltb, map, sym, ◌∙◌, arith, le-ltb, lt-ltb}
 use native.Mathlib.Nat.{sub-zero}
-use Rattle.arith.specs.Lists.{every, from}
+use Rattle.arith.specs.Lists.{from}
 use Rattle.arith.proofs.Tests.{asked_true, asked_false}
 use Rattle.arith.proofs.Bits.{or_below, falls}
 use Rattle.arith.proofs.Scans.{each_next, each_stop, each_end}
 use Rattle.rules.specs.Ledger.{side_at}
 use Rattle.damage.specs.Orders.{number_at, place_sound, places_sound}
-use Rattle.damage.proofs.Numbers.{rises_from, rises_next, rises_end, rises_distinct}
+use Rattle.damage.proofs.Numbers.{rises_next, rises_end, rises_distinct}
 use Rattle.damage.proofs.book.are_orders_sound.Goals as goal
 
 pub loop-i-init : goal.loop-i-init
@@ -34,7 +34,7 @@ loop-i-preserved c =
     let side = side_at a.book.now c.loop-i.i in
     let here : sound c.loop-i.i ≡ ltb side 2 = rw (lt-ltb _ _ c.if-accepted-number.false, asked_true c.are_fields_in_range.ensures c.if-not-are_fields_in_range.false) in
     let s = c.wrapping_sub_u64-falls.result in
-    let rises = falls (f c.loop-i.i) c.loop-i.least s (omega arith) (omega arith) c.wrapping_sub_u64-falls.ensures (omega (arith, c.wrapping_sub_u64-falls.type-inv)) in (
+    let rises = falls (f c.loop-i.i) c.loop-i.least s (omega arith) (omega arith) c.wrapping_sub_u64-falls.ensures.value (omega arith) in (
       omega arith,
       omega arith,
       rw (or_below 1 c.loop-i.sides side, sym here) (each_next sound a.count c.loop-i.i (ltb c.loop-i.sides 2) _ c.loop-i.invariant.2 c.loop-i-test.true),

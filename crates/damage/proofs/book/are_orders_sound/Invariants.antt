@@ -1,12 +1,7 @@
-use Rattle.std.proofs.Common.{◌≡◌, ◌-◌, ◌^◌, ◌≤◌, ◌&&◌, ltb, map, sym, ◌∙◌, arith, rules, le-ltb, lt-ltb}
-use native.Mathlib.Nat.{sub-zero}
+use Rattle.std.proofs.Common.{◌≡◌, ◌-◌, ◌^◌, ◌≤◌, ◌&&◌, ltb, map}
 use Rattle.arith.specs.Lists.{every, from}
-use Rattle.arith.proofs.Tests.{asked_true, asked_false}
-use Rattle.arith.proofs.Bits.{or_below, falls}
-use Rattle.arith.proofs.Scans.{each_next, each_stop, each_end}
-use Rattle.rules.specs.Ledger.{side_at}
 use Rattle.damage.specs.Orders.{number_at, place_sound, places_sound}
-use Rattle.damage.proofs.Numbers.{rises_from, rises_next, rises_end, rises_distinct}
+use Rattle.damage.proofs.Numbers.{rises_from}
 use Rattle.damage.proofs.book.are_orders_sound.Given as goal
 
 abbrev pub invariant-loop-i : goal.invariant-loop-i

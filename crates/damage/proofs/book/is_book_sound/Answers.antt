@@ -1,4 +1,4 @@
-use Rattle.std.proofs.Common.{[], ◌∙◌, rules}
+use Rattle.std.proofs.Common.{[], ◌∙◌}
 use Rattle.rules.specs.Ledger.{with_head, with_book}
 use Rattle.damage.proofs.BookPlaces.{span_rises, book_is}
 use Rattle.damage.proofs.book.is_book_sound.Goals as goal

@@ -1,4 +1,4 @@
-use Rattle.std.proofs.Common.{◌≡◌, ◌-◌, ◌≤◌, ◌&&◌, map, arith, rules}
+use Rattle.std.proofs.Common.{map, arith}
 use native.Mathlib.Nat.{sub-zero}
 use Rattle.arith.specs.Lists.{from}
 use Rattle.rules.specs.Refusals.{distinct}

@@ -1,9 +1,7 @@
-use Rattle.std.proofs.Common.{◌≡◌, ◌-◌, ◌≤◌, ◌&&◌, map, arith, rules}
-use native.Mathlib.Nat.{sub-zero}
+use Rattle.std.proofs.Common.{◌≡◌, ◌-◌, ◌≤◌, ◌&&◌, map}
 use Rattle.arith.specs.Lists.{from}
 use Rattle.rules.specs.Refusals.{distinct}
 use Rattle.damage.specs.Orders.{number_at}
-use Rattle.damage.proofs.Numbers.{distinct_next, distinct_end}
 use Rattle.damage.proofs.book.is_none_repeated.Given as goal
 
 abbrev pub invariant-loop-i : goal.invariant-loop-i

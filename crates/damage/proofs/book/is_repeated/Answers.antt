@@ -1,4 +1,4 @@
-use Rattle.std.proofs.Common.{◌≡◌, suc, ◌-◌, ◌≤◌, ◌||◌, eqb, map, add-one, arith, rules}
+use Rattle.std.proofs.Common.{suc, ◌-◌, eqb, map, add-one, arith}
 use Rattle.arith.specs.Lists.{any, from}
 use Rattle.damage.specs.Orders.{number_at}
 use Rattle.arith.proofs.Scans.{some_next, some_end}

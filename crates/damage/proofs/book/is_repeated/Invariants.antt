@@ -1,7 +1,6 @@
-use Rattle.std.proofs.Common.{◌≡◌, suc, ◌-◌, ◌≤◌, ◌||◌, eqb, map, add-one, arith, rules}
+use Rattle.std.proofs.Common.{◌≡◌, suc, ◌-◌, ◌≤◌, ◌||◌, eqb, map}
 use Rattle.arith.specs.Lists.{any, from}
 use Rattle.damage.specs.Orders.{number_at}
-use Rattle.arith.proofs.Scans.{some_next, some_end}
 use Rattle.damage.proofs.book.is_repeated.Given as goal
 
 abbrev pub invariant-loop-j : goal.invariant-loop-j

@@ -1,7 +1,7 @@
-use Rattle.std.proofs.Common.{◌≡◌, ◌+◌, ◌-◌, ◌≤◌, ◌&&◌, leb, get_or, arith, rules}
+use Rattle.std.proofs.Common.{◌+◌, leb, get_or, arith}
 use Rattle.arith.specs.Lists.{every, from}
 use Rattle.rules.specs.Ranges.{most_limit}
-use Rattle.rules.specs.Ledger.{Tables, with_head, limits_from, marks_from, submits_from}
+use Rattle.rules.specs.Ledger.{with_head, limits_from, marks_from, submits_from}
 use Rattle.rules.specs.Refusals.{member_sound}
 use Rattle.arith.proofs.Scans.{each_start, each_next, each_end}
 use Rattle.damage.proofs.Tests.{all_three}

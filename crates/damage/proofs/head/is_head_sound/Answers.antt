@@ -1,4 +1,4 @@
-use Rattle.std.proofs.Common.{◌≡◌, ◌+◌, ◌-◌, true, leb, get_or, take, drop, arith, rules, le-leb}
+use Rattle.std.proofs.Common.{◌≡◌, ◌+◌, ◌-◌, true, leb, get_or, take, drop, arith, le-leb}
 use borrow.Author.Tests.{lt-leb}
 use Rattle.arith.specs.Lists.{every, all_of, from}
 use Rattle.rules.specs.Ranges.{last_second, most_accepted_submits, most_lots_run}

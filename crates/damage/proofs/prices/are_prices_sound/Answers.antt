@@ -1,4 +1,4 @@
-use Rattle.std.proofs.Common.{◌≡◌, ◌+◌, ◌-◌, ◌*◌, ◌≤◌, true, drop, refl, arith, length-drop, length-take, rules}
+use Rattle.std.proofs.Common.{◌≡◌, ◌+◌, ◌-◌, ◌*◌, true, refl, arith, length-drop, length-take}
 use Rattle.arith.proofs.Tests.{asked_true, asked_false}
 use Rattle.arith.specs.Lists.{every_block}
 use Rattle.arith.proofs.Scans.{block_end, pass_block, stop_block}

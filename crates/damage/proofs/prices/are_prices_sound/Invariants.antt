@@ -1,7 +1,5 @@
-use Rattle.std.proofs.Common.{◌≡◌, ◌+◌, ◌-◌, ◌*◌, ◌≤◌, true, drop, refl, arith, length-drop, length-take, rules}
-use Rattle.arith.proofs.Tests.{asked_true, asked_false}
+use Rattle.std.proofs.Common.{◌≡◌, ◌-◌, ◌*◌, ◌≤◌, drop}
 use Rattle.arith.specs.Lists.{every_block}
-use Rattle.arith.proofs.Scans.{block_end, pass_block, stop_block}
 use Rattle.rules.specs.Ledger.{price_width}
 use Rattle.rules.specs.Ranges.{contract_count}
 use Rattle.rules.specs.Refusals.{contract_prices_sound}

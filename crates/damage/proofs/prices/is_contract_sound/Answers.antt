@@ -2,7 +2,6 @@ use Rattle.arith.specs.Lists.{all_of}
 use Rattle.arith.proofs.Tests.{and_true, asked_true, asked_false}
 use Rattle.arith.proofs.Tests.{tests}
 use Rattle.damage.proofs.InTurn.{contract_in_turn}
-use Rattle.std.proofs.Common.{rules}
 use Rattle.damage.proofs.prices.is_contract_sound.Goals as goal
 
 pub returns-then-prices-gt-MOST_PRICE : goal.returns-then-prices-gt-MOST_PRICE

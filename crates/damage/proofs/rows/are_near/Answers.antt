@@ -1,4 +1,4 @@
-use Rattle.std.proofs.Common.{◌/◌, ◌^◌, sym, ap, ◌∙◌, arith, length-take-le, rules}
+use Rattle.std.proofs.Common.{◌/◌, ◌^◌, sym, ap, ◌∙◌, arith, length-take-le}
 use Rattle.arith.specs.Bits.{in_window}
 use Rattle.rules.specs.Ledger.{rows_length}
 use Rattle.damage.proofs.Columns.{row_whole}

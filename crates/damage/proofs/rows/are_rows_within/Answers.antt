@@ -1,4 +1,4 @@
-use Rattle.std.proofs.Common.{sym, ◌∙◌, rules}
+use Rattle.std.proofs.Common.{sym, ◌∙◌}
 use Rattle.damage.proofs.Columns.{row_within}
 use Rattle.damage.proofs.rows.are_rows_within.Goals as goal
 

@@ -1,5 +1,4 @@
-use Rattle.std.proofs.Common.{◌≡◌, ◌-◌, ◌≤◌, ◌&&◌, leb, length, get_or, drop, pos, nat_abs, refl, arith, rules}
-use Rattle.arith.specs.Lists.{every}
+use Rattle.std.proofs.Common.{leb, get_or, pos, nat_abs, refl, arith}
 use Rattle.arith.proofs.Signed.{back_mag}
 use Rattle.arith.proofs.Scans.{every_next, every_end}
 use Rattle.damage.proofs.rows.are_within.Goals as goal

@@ -1,7 +1,5 @@
-use Rattle.std.proofs.Common.{◌≡◌, ◌-◌, ◌≤◌, ◌&&◌, leb, length, get_or, drop, pos, nat_abs, refl, arith, rules}
+use Rattle.std.proofs.Common.{◌≡◌, ◌-◌, ◌≤◌, ◌&&◌, leb, length, drop, nat_abs}
 use Rattle.arith.specs.Lists.{every}
-use Rattle.arith.proofs.Signed.{back_mag}
-use Rattle.arith.proofs.Scans.{every_next, every_end}
 use Rattle.damage.proofs.rows.are_within.Given as goal
 
 abbrev pub invariant-loop-i : goal.invariant-loop-i

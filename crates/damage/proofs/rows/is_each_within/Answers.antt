@@ -1,5 +1,5 @@
-use Rattle.std.proofs.Common.{◌≡◌, ◌+◌, ◌-◌, ◌*◌, ◌≤◌, ◌&&◌, leb, take, drop, nat_abs, refl, arith, take-take, rules}
-use Rattle.arith.specs.Lists.{every, every_block}
+use Rattle.std.proofs.Common.{◌≡◌, ◌+◌, ◌-◌, ◌*◌, leb, take, drop, nat_abs, refl, arith, take-take}
+use Rattle.arith.specs.Lists.{every}
 use Rattle.rules.specs.Ledger.{row_width}
 use Rattle.rules.specs.Ranges.{contract_count}
 use Rattle.rules.specs.Refusals.{every_row}

@@ -1,9 +1,8 @@
-use Rattle.std.proofs.Common.{◌≡◌, ◌+◌, ◌-◌, ◌*◌, ◌≤◌, ◌&&◌, leb, take, drop, nat_abs, refl, arith, take-take, rules}
+use Rattle.std.proofs.Common.{◌≡◌, ◌-◌, ◌*◌, ◌≤◌, ◌&&◌, leb, take, drop, nat_abs}
 use Rattle.arith.specs.Lists.{every, every_block}
 use Rattle.rules.specs.Ledger.{row_width}
 use Rattle.rules.specs.Ranges.{contract_count}
 use Rattle.rules.specs.Refusals.{every_row}
-use Rattle.arith.proofs.Scans.{block_next, block_end}
 use Rattle.damage.proofs.rows.is_each_within.Given as goal
 
 abbrev pub invariant-loop-contract : goal.invariant-loop-contract

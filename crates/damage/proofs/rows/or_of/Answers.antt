@@ -1,10 +1,8 @@
-use Rattle.std.proofs.Common.{◌≡◌, ℕ, ◌-◌, ◌^◌, ◌≤◌, ◌&&◌, ltb, length, get_or, drop, pos, arith, rules}
+use Rattle.std.proofs.Common.{◌^◌, ltb, get_or, pos, arith}
 use Rattle.arith.specs.Bits.{in_window}
-use Rattle.arith.specs.Lists.{every}
 use Rattle.arith.proofs.Bits.{or_window, none_below}
 use Rattle.arith.proofs.Signed.{back_mag}
 use Rattle.arith.proofs.Scans.{every_next, every_end}
-use Rattle.damage.specs.Windows.{IsHalf}
 use Rattle.damage.proofs.rows.or_of.Goals as goal
 
 pub loop-i-init : goal.loop-i-init

@@ -1,9 +1,6 @@
-use Rattle.std.proofs.Common.{◌≡◌, ℕ, ◌-◌, ◌^◌, ◌≤◌, ◌&&◌, ltb, length, get_or, drop, pos, arith, rules}
+use Rattle.std.proofs.Common.{◌≡◌, ℕ, ◌-◌, ◌^◌, ◌≤◌, ◌&&◌, ltb, length, drop}
 use Rattle.arith.specs.Bits.{in_window}
 use Rattle.arith.specs.Lists.{every}
-use Rattle.arith.proofs.Bits.{or_window, none_below}
-use Rattle.arith.proofs.Signed.{back_mag}
-use Rattle.arith.proofs.Scans.{every_next, every_end}
 use Rattle.damage.specs.Windows.{IsHalf}
 use Rattle.damage.proofs.rows.or_of.Given as goal
 

@@ -1,13 +1,12 @@
-use Rattle.std.proofs.Common.{◌≡◌, ℕ, ◌+◌, ◌-◌, ◌*◌, ◌^◌, ◌≤◌, ◌&&◌, ltb, get_or, drop, pos, arith, rules}
+use Rattle.std.proofs.Common.{◌+◌, ◌*◌, ◌^◌, ltb, get_or, pos, arith}
 use Rattle.rules.specs.Ledger.{row_width}
 use Rattle.rules.specs.Ranges.{contract_count}
 use Rattle.arith.specs.Bits.{in_window}
-use Rattle.arith.specs.Lists.{every_block}
 use Rattle.arith.proofs.Bits.{or_window, none_below}
 use Rattle.arith.proofs.Signed.{back_mag}
 use Rattle.arith.proofs.Scans.{block_next, block_end}
 use Rattle.arith.proofs.Rows.{place_at}
-use Rattle.damage.specs.Windows.{every_column, IsHalf}
+use Rattle.damage.specs.Windows.{every_column}
 use Rattle.damage.proofs.rows.or_of_column.Goals as goal
 
 pub loop-contract-init : goal.loop-contract-init

@@ -1,9 +1,7 @@
-use Rattle.std.proofs.Common.{◌≡◌, ℕ, ◌+◌, ◌-◌, ◌^◌, ◌≤◌, ltb, sym, arith, rules}
+use Rattle.std.proofs.Common.{◌≡◌, ℕ, ◌-◌, ◌^◌, ◌≤◌, ltb}
 use Rattle.arith.specs.Bits.{in_window}
-use Rattle.arith.proofs.Bits.{or_below, none_below}
 use Rattle.rules.specs.Refusals.{every_row}
 use Rattle.damage.specs.Windows.{IsHalf}
-use Rattle.damage.proofs.Columns.{row_none, row_more, row_two_more}
 use Rattle.damage.proofs.rows.or_of_columns.Given as goal
 
 abbrev pub invariant-loop-member : goal.invariant-loop-member

@@ -1,4 +1,4 @@
-use Rattle.std.proofs.Common.{◌≡◌, ℕ, ◌+◌, ◌-◌, ◌*◌, ◌^◌, ◌≤◌, Bool, ◌&&◌, ltb, List, get_or, drop, ℤ, pos, ◌∙◌, arith, rules}
+use Rattle.std.proofs.Common.{◌≡◌, ◌+◌, ◌*◌, ◌^◌, ltb, get_or, pos, ◌∙◌, arith}
 use Rattle.rules.specs.Ledger.{row_width}
 use Rattle.rules.specs.Ranges.{contract_count}
 use Rattle.arith.specs.Bits.{in_window}
@@ -7,12 +7,9 @@ use Rattle.arith.proofs.Bits.{or_windows, none_below}
 use Rattle.arith.proofs.Signed.{back_mag}
 use Rattle.arith.proofs.Scans.{block_next, block_end}
 use Rattle.arith.proofs.Rows.{place_at, blocks_both}
-use Rattle.damage.specs.Windows.{every_column, IsHalf}
+use Rattle.damage.specs.Windows.{every_column}
+use Rattle.damage.proofs.Columns.{both_in}
 use Rattle.damage.proofs.rows.or_of_pair.Goals as goal
-
--- Both places of a row are in the window.
-abbrev bothIn : ℕ → ℕ → List ℤ → Bool
-bothIn w member b = in_window w (get_or b member (pos 0)) && in_window w (get_or b (member + 1) (pos 0))
 
 pub loop-contract-init : goal.loop-contract-init
 loop-contract-init c = (omega arith, λ k h. rw (none_below k))
@@ -36,7 +33,7 @@ loop-contract-preserved c =
         ← place_at rows (pos 0) 32 c.loop-contract.contract a.member (omega arith),
         ← place_at rows (pos 0) 32 c.loop-contract.contract (a.member + 1) (omega arith),
       )
-          (block_next 32 (bothIn (2 ^ k) a.member) contract_count rows c.loop-contract.contract (ltb c.loop-contract.seen (2 ^ k)) (every_block 32 (bothIn (2 ^ k) a.member) contract_count rows) (c.loop-contract.invariant.1 k h)
+          (block_next 32 (both_in (2 ^ k) a.member) contract_count rows c.loop-contract.contract (ltb c.loop-contract.seen (2 ^ k)) (every_block 32 (both_in (2 ^ k) a.member) contract_count rows) (c.loop-contract.invariant.1 k h)
           c.loop-contract-test.true),
     )
 
@@ -45,6 +42,6 @@ unfolding every_column
 returns c =
     let a = c.args in
     let rows = a.rows.now in
-    λ k h. block_end 32 (bothIn (2 ^ k) a.member) contract_count rows c.loop-contract.contract (ltb c.loop-contract.seen (2 ^ k)) (every_block 32 (bothIn (2 ^ k) a.member) contract_count rows) (c.loop-contract.invariant.1 k h)
+    λ k h. block_end 32 (both_in (2 ^ k) a.member) contract_count rows c.loop-contract.contract (ltb c.loop-contract.seen (2 ^ k)) (every_block 32 (both_in (2 ^ k) a.member) contract_count rows) (c.loop-contract.invariant.1 k h)
     c.loop-contract-test.false
     ∙ blocks_both (λ b. in_window (2 ^ k) (get_or b a.member (pos 0))) (λ b. in_window (2 ^ k) (get_or b (a.member + 1) (pos 0))) 32 contract_count rows

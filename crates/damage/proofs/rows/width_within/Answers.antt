@@ -1,4 +1,4 @@
-use Rattle.std.proofs.Common.{◌≡◌, ◌-◌, ◌*◌, ◌%◌, ◌^◌, ◌≤◌, arith, pow_mono, rules}
+use Rattle.std.proofs.Common.{◌≡◌, ◌-◌, ◌*◌, ◌%◌, ◌^◌, ◌≤◌, arith, pow_mono}
 use lib.Count.{count_leading_zeros, leading_le}
 use Rattle.damage.proofs.Columns.{digits}
 use Rattle.damage.proofs.rows.width_within.Goals as goal
