@@ -1,4 +1,6 @@
 // A synthetic proposal. It is handed tables that are long enough and not damaged, and legs in their ranges.
+#![tactic(auto)]
+
 mod booking;
 
 ghost use Rattle.std.specs.Prelude.{◌≡◌, ◌*◌, ◌≤◌, length};

@@ -4,7 +4,6 @@ use lib.ListN.{get_or, replicate}
 use lib.Seq.{length-take-le}
 use Rattle.rules.specs.Ledger.{order_count_place}
 use Rattle.proposal_check.proofs.Named.{places_long, places_as_many, places_front}
-use borrow.Author.Rules.{rules}
 use Rattle.proposal.proofs.apply.Goals as goal
 
 pub slice_bounds-places-end : goal.slice_bounds-places-end

@@ -1,55 +1,34 @@
-use Prim.Native.Nat.{◌≤◌}
+use Prim.Native.Nat.{ℕ, ◌≤◌}
+use lib.IntN.{ℤ}
 use mathlib.Core.List.{List}
 use mathlib.Core.Path.{◌≡◌, sym, ap, subst, ◌∙◌}
-use mathlib.Core.Bool.{true}
 use native.Mathlib.Omega.{arith}
 use lib.ListN.{length, get_or}
-use borrow.Author.Tests.{not-true, not-false}
 use Rattle.arith.specs.Lists.{total, from}
-use Rattle.rules.specs.declared.event.Leg.{Leg}
-use Rattle.rules.specs.Ledger.{Tables, zero_tables, order_count, with_head, with_prices, with_rows, with_book, with_lines, with_orders, orders, booked}
-use Rattle.rules.specs.Synthetic.{acceptable, proposal_lines, used_by_legs, proposal_booked}
+use Rattle.rules.specs.Ledger.{Tables, Line, zero_tables, order_count, with_head, with_prices, with_rows, with_book, with_lines, with_orders, orders, booked}
+use Rattle.rules.specs.Synthetic.{proposal_lines, used_by_legs, proposal_booked}
 use Rattle.rules.specs.Refusals.{proposal_spec}
 use Rattle.tables.specs.Fit.{order_count_in}
 use Rattle.order_book.proofs.Left.{all_orders}
 use Rattle.proposal_check.specs.Columns.{LegsFit, PlacesFit, column_legs}
 use Rattle.proposal.specs.Booking.{lines_to}
-use Rattle.proposal.proofs.Accepted.{Named, count_after_lines, all_booked, named, line_count, run_passes, run_fits}
-use borrow.Author.Rules.{rules}
+use Rattle.proposal.proofs.Accepted.{count_after_lines, all_booked, named, line_count, run_passes, run_fits}
 use Rattle.proposal.proofs.apply_at.Goals as goal
 
 -- Tables with the lists of a call put into them.
-abbrev tables : tie.Start → Tables → Tables
-tables s t = let a = s.args in with_head a.head.now (with_prices a.prices.now (with_rows a.lots.now a.value.now (with_book a.book.now (with_lines a.lines.now t))))
-
-abbrev legs : tie.Start → List Leg
-legs s = column_legs s.args.orders.now s.args.leg_lots_lem.now s.args.leg-prices.now
-
-abbrev start : tie.Else1 → tie.Start
-start c = c.before.before.before.before.before.before.before.before.before.before.before
-
-abbrev accepted : tie.After-book-legs → tie.Else1
-accepted c = c.before.before.before.before.before.before.before.before.before.before
-
-ok : (c : tie.Else1) (t : Tables) → acceptable (tables (start c) t) (legs (start c)) ≡ true
-ok c t = sym (c.before.is-acceptable.ensures (tables (start c) t)) ∙ not-false _ c.if1.false
-
-named_at : (c : tie.Else1) (t : Tables) → let a = (start c).args in Named (tables (start c) t) a.places.now a.orders.now a.leg_lots_lem.now a.leg-prices.now
-named_at c t = let s = start c in let a = s.args in
-    named (tables s t) a.places.now a.orders.now a.leg_lots_lem.now a.leg-prices.now s.pre.1.1.0 s.pre.1.1.1 (ok c t)
+abbrev tables : List ℕ → List ℕ → List ℤ → List ℤ → List ℕ → List ℤ → Tables → Tables
+tables head prices lots value book lines t = with_head head (with_prices prices (with_rows lots value (with_book book (with_lines lines t))))
 
 -- The lines leave the number of orders as it was.
-count_at : (c : tie.After-book-legs) → order_count_in c.book-legs.new.0 ≡ order_count_in (start (accepted c)).args.head.now
-count_at c =
-    let s = start (accepted c) in
-    let a = s.args in
-    let lines = lines_to a.book.now a.places.now a.leg_lots_lem.now a.leg-prices.now (length a.places.now) in
-    let u = tables s zero_tables in
-    ap order_count (c.book-legs.ensures u) ∙ count_after_lines lines u
+count_at : (head head' : List ℕ) (lots value lines : List ℤ) (ls : List Line) (t : Tables)
+    → with_head head' (with_rows lots value (with_lines lines t)) ≡ (booked ls (with_head head t)).after → order_count_in head' ≡ order_count_in head
+count_at head head' lots value lines ls t e = ap order_count e ∙ count_after_lines ls (with_head head t)
 
 pub returns-then-not-is_acceptable : goal.returns-then-not-is_acceptable
 unfolding proposal_spec
-returns-then-not-is_acceptable c = λ t. rw (sym (c.is_acceptable.ensures (tables c t)) ∙ c.if-not-is_acceptable.true)
+returns-then-not-is_acceptable c =
+    let a = c.args in
+    λ t. rw (sym (c.is_acceptable.ensures (tables a.head.now a.prices.now a.lots.now a.value.now a.book.now a.lines.now t)) ∙ c.if-not-is_acceptable.true)
 
 pub total_lots-requires : goal.total_lots-requires
 total_lots-requires c =
@@ -59,25 +38,30 @@ total_lots-requires c =
 pub returns-then-run-gt-MOST_LOTS_RUN : goal.returns-then-run-gt-MOST_LOTS_RUN
 unfolding proposal_spec
 returns-then-run-gt-MOST_LOTS_RUN c =
-    λ t. rw (ok c t, run_passes (named_at c t) c.total_lots.result.0 c.total_lots.ensures.0 c.if-run-gt-MOST_LOTS_RUN.true)
+    let a = c.args in
+    λ t.
+    let u = tables a.head.now a.prices.now a.lots.now a.value.now a.book.now a.lines.now t in
+    let ok = sym (c.is_acceptable.ensures u) ∙ c.if-not-is_acceptable.false in
+    let n = named u a.places.now a.orders.now a.leg_lots.now a.leg_prices.now c.requires.legs_fit.0 c.requires.legs_fit.1 ok in
+    rw (ok, run_passes n c.total_lots.result.0 c.total_lots.ensures.0 c.if-run-gt-MOST_LOTS_RUN.true)
 
 pub book_legs-requires : goal.book_legs-requires
 book_legs-requires c =
-    let s = start c in
-    let a = s.args in
-    let fit = s.pre.1.1.0 in
-    let many = (named_at c zero_tables).many in
-    let sum = c.total_lots.ensures.0 ∙ ap (λ n. total (λ i. get_or a.leg_lots_lem.now i 0) (from 0 n)) (fit.lots_length ∙ sym many) in
-    let h = s.pre.0.0 in
-    let rows = s.pre.1.0 in record {
-      book_fit = (s.pre.0.2, (named_at c zero_tables).there, subst (λ n. LegsFit n a.leg_lots_lem.now a.leg-prices.now) (sym many) fit);
+    let a = c.args in
+    let u = tables a.head.now a.prices.now a.lots.now a.value.now a.book.now a.lines.now zero_tables in
+    let fit = c.requires.legs_fit.0 in
+    let n = named u a.places.now a.orders.now a.leg_lots.now a.leg_prices.now fit c.requires.legs_fit.1 (sym (c.is_acceptable.ensures u) ∙ c.if-not-is_acceptable.false) in
+    let sum = c.total_lots.ensures.0 ∙ ap (λ n. total (λ i. get_or a.leg_lots.now i 0) (from 0 n)) (fit.lots_length ∙ sym n.many) in
+    let h = c.requires.head_fit.0 in
+    let rows = c.requires.rows_fit in record {
+      book_fit = (c.requires.head_fit.2, n.there, subst (λ n. LegsFit n a.leg_lots.now a.leg_prices.now) (sym n.many) fit);
       bookable = (
         record {
           long = h.long;
           most_members_holds = h.most_members_holds;
           lots_fit = rows.0;
           value_fit = rows.1;
-          lines_long = s.pre.0.3;
+          lines_long = c.requires.head_fit.3;
           most_run = rw (← sum) (omega (arith, c.if-run-gt-MOST_LOTS_RUN.false));
         },
         h.most_orders_holds,
@@ -86,31 +70,39 @@ book_legs-requires c =
 
 pub use_orders-requires : goal.use_orders-requires
 use_orders-requires c =
-    let k = accepted c in
-    let s = start k in
-    let count = count_at c in (
-      omega (arith, c.book_legs.auto.head, s.pre.0.0.long),
-      omega (arith, count, s.pre.0.0.most_orders_holds),
-      s.pre.0.2.long,
-      subst (λ n. PlacesFit n s.args.places.now) (sym count) (named_at k zero_tables).there,
-      s.pre.1.1.0.lots_length ∙ sym (named_at k zero_tables).many,
-      λ i h. (s.pre.0.2.order_fit i (omega (arith, count))).most_side,
+    let a = c.args in
+    let u = tables a.head.now a.prices.now a.lots.now a.value.now a.book.now a.lines.now zero_tables in
+    let fit = c.requires.legs_fit.0 in
+    let n = named u a.places.now a.orders.now a.leg_lots.now a.leg_prices.now fit c.requires.legs_fit.1 (sym (c.is_acceptable.ensures u) ∙ c.if-not-is_acceptable.false) in
+    let h = c.requires.head_fit in
+    let l = c.book_legs.new in
+    let lines = lines_to a.book.now a.places.now a.leg_lots.now a.leg_prices.now (length a.places.now) in
+    let count = count_at a.head.now l.head l.lots l.value l.lines lines u (c.book_legs.ensures u) in (
+      omega (arith, c.book_legs.auto.head, h.0.long),
+      omega (arith, count, h.0.most_orders_holds),
+      h.2.long,
+      subst (λ n. PlacesFit n a.places.now) (sym count) n.there,
+      fit.lots_length ∙ sym n.many,
+      λ i b. (h.2.order_fit i (omega (arith, count))).most_side,
     )
 
 pub returns : goal.returns
 unfolding proposal_spec proposal_booked orders
 returns c =
-    let k = accepted c in
-    let s = start k in
-    let a = s.args in
+    let a = c.args in
+    let h = c.requires.head_fit in
     let l = c.book_legs.new in
-    let each = all_orders (λ o. 1 ≤ o.lots.0) a.book.now (order_count_in a.head.now) (λ i h. (s.pre.0.2.order_fit i h).least_lots) in
+    let legs = column_legs a.orders.now a.leg_lots.now a.leg_prices.now in
+    let each = all_orders (λ o. 1 ≤ o.lots.0) a.book.now (order_count_in a.head.now) (λ i b. (h.2.order_fit i b).least_lots) in
     λ t.
-    let u = tables s t in
-    let n = named_at k t in
-    let used = n.used each s.pre.0.2.numbers_distinct _ (count_at c) in
-    let after = with_head l.0 (with_rows l.1.0 l.1.1.0 (with_lines l.1.1.1.0 (with_prices a.prices.now (with_book a.book.now t)))) in
-    rw (ok k t, run_fits n c.total_lots.result.0 c.total_lots.ensures.0 c.if-run-gt-MOST_LOTS_RUN.false)
-    (all_booked (proposal_lines u (legs s)) (used_by_legs (legs s) (orders u)) (length a.orders.now) u after _ (line_count n)
+    let u = tables a.head.now a.prices.now a.lots.now a.value.now a.book.now a.lines.now t in
+    let ok = sym (c.is_acceptable.ensures u) ∙ c.if-not-is_acceptable.false in
+    let n = named u a.places.now a.orders.now a.leg_lots.now a.leg_prices.now c.requires.legs_fit.0 c.requires.legs_fit.1 ok in
+    let lines = lines_to a.book.now a.places.now a.leg_lots.now a.leg_prices.now (length a.places.now) in
+    let count = count_at a.head.now l.head l.lots l.value l.lines lines u (c.book_legs.ensures u) in
+    let used = n.used each h.2.numbers_distinct _ count in
+    let after = with_head l.head (with_rows l.lots l.value (with_lines l.lines (with_prices a.prices.now (with_book a.book.now t)))) in
+    rw (ok, run_fits n c.total_lots.result.0 c.total_lots.ensures.0 c.if-run-gt-MOST_LOTS_RUN.false)
+    (all_booked (proposal_lines u legs) (used_by_legs legs (orders u)) (length a.orders.now) u after _ (line_count n)
     (c.book_legs.ensures (with_prices a.prices.now (with_book a.book.now t)) ∙ ap (λ ls. (booked ls u).after) (sym n.lines_are))
-    (c.use_orders.ensures (with_prices a.prices.now (with_rows l.1.0 l.1.1.0 (with_lines l.1.1.1.0 t))) ∙ ap (λ os. with_orders os after) used))
+    (c.use_orders.ensures (with_prices a.prices.now (with_rows l.lots l.value (with_lines l.lines t))) ∙ ap (λ os. with_orders os after) used))

@@ -1,11 +1,9 @@
-use borrow.Author.Rules.{rules}
 use native.Mathlib.Omega.{arith}
 use mathlib.Core.Path.{◌≡◌, refl, ap, ◌∙◌}
-use Prim.Native.Nat.{◌-◌, ◌≤◌}
 use lib.ListN.{length}
 use Rattle.rules.specs.Ledger.{with_head, with_rows, with_lines, booked}
 use Rattle.proposal.specs.Booking.{lines_to}
-use Rattle.proposal.proofs.LegLines.{LegsBooked, legs_start, legs_next, leg_takes}
+use Rattle.proposal.proofs.LegLines.{legs_start, legs_next, leg_takes}
 use Rattle.proposal.proofs.booking.book_legs.Goals as goal
 
 pub loop-i-init : goal.loop-i-init
@@ -25,9 +23,10 @@ order_at-order-requires c =
 
 pub book_line-requires : goal.book_line-requires
 book_line-requires c =
-    let a = c.args in leg_takes a.book.now a.places.now a.leg_lots.now a.leg_prices.now a.head.now a.lots.now a.value.now a.lines.now c.requires.book_fit.2
+    let a = c.args in let takes = leg_takes a.book.now a.places.now a.leg_lots.now a.leg_prices.now a.head.now a.lots.now a.value.now a.lines.now c.requires.book_fit.2
     c.requires.book_fit.0 c.requires.book_fit.1 (omega (arith, c.requires.bookable.0.long)) c.loop-i.i c.loop-i-test.true c.loop-i.head c.loop-i.lots c.loop-i.value c.loop-i.lines
-    c.loop-i.invariant.1 c.order_at-order.result c.order_at-order.ensures
+    c.loop-i.invariant.1 c.order_at-order.result c.order_at-order.ensures in
+    record { bookable = takes.0; line_fit = takes.1 }
 
 pub overflow_add-i : goal.overflow_add-i
 overflow_add-i c =
@@ -41,11 +40,10 @@ loop-i-preserved c =
     let kept = c.book_line.auto in (
       omega (arith, c.loop-i-test.true),
       next _ _ _ _ c.book_line.ensures,
-      kept.0 ∙ c.loop-i.invariant.2,
-      kept.1.0 ∙ c.loop-i.invariant.3,
-      kept.1.1.0
-          ∙ c.loop-i.invariant.4,
-      kept.1.1.1.0 ∙ c.loop-i.invariant.5,
+      kept.head ∙ c.loop-i.invariant.2,
+      kept.lots ∙ c.loop-i.invariant.3,
+      kept.value ∙ c.loop-i.invariant.4,
+      kept.lines ∙ c.loop-i.invariant.5,
     )
 
 pub returns : goal.returns

@@ -1,11 +1,7 @@
-use borrow.Author.Rules.{rules}
-use native.Mathlib.Omega.{arith}
-use mathlib.Core.Path.{◌≡◌, refl, ap, ◌∙◌}
+use mathlib.Core.Path.{◌≡◌}
 use Prim.Native.Nat.{◌-◌, ◌≤◌}
 use lib.ListN.{length}
-use Rattle.rules.specs.Ledger.{with_head, with_rows, with_lines, booked}
-use Rattle.proposal.specs.Booking.{lines_to}
-use Rattle.proposal.proofs.LegLines.{LegsBooked, legs_start, legs_next, leg_takes}
+use Rattle.proposal.proofs.LegLines.{LegsBooked}
 use Rattle.proposal.proofs.booking.book_legs.Given as goal
 
 abbrev pub invariant-loop-i : goal.invariant-loop-i

@@ -1,10 +1,7 @@
-use borrow.Author.Rules.{rules}
-use native.Mathlib.Omega.{arith}
-use mathlib.Core.Path.{◌≡◌, refl, ap, ◌∙◌}
+use mathlib.Core.Path.{◌≡◌}
 use Prim.Native.Nat.{◌-◌, ◌≤◌}
-use lib.ListN.{length, length-set}
+use lib.ListN.{length}
 use Rattle.proposal.specs.Booking.{left_after}
-use Rattle.proposal.proofs.Taken.{after_next}
 use Rattle.proposal.proofs.booking.take_lots.Given as goal
 
 abbrev pub invariant-loop-i : goal.invariant-loop-i

@@ -1,10 +1,7 @@
-use borrow.Author.Rules.{rules}
-use native.Mathlib.Omega.{arith}
-use mathlib.Core.Path.{◌≡◌, refl, ap, ◌∙◌}
+use mathlib.Core.Path.{◌≡◌}
 use Prim.Native.Nat.{◌*◌, ◌-◌, ◌≤◌}
 use lib.ListN.{length, get_or}
 use Rattle.arith.specs.Lists.{total, from}
-use Rattle.proposal_check.proofs.Lists.{sum_next}
 use Rattle.proposal.proofs.booking.total_lots.Given as goal
 
 abbrev pub invariant-loop-i : goal.invariant-loop-i

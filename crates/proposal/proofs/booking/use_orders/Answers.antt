@@ -8,7 +8,6 @@ use Rattle.tables.specs.Fit.{orders_in}
 use Rattle.order_book.specs.Left.{left_over}
 use Rattle.proposal_check.specs.Columns.{PlacesFit}
 use Rattle.proposal.proofs.Taken.{left_long, left_many, left_front}
-use borrow.Author.Rules.{rules}
 use Rattle.proposal.proofs.booking.use_orders.Goals as goal
 
 pub slice_bounds-write_left-end : goal.slice_bounds-write_left-end

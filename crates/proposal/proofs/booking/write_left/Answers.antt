@@ -4,7 +4,6 @@ use lib.ListN.{length}
 use Rattle.proposal_check.specs.Columns.{PlacesFit}
 use Rattle.proposal.specs.Booking.{left_after}
 use Rattle.proposal.proofs.Taken.{lots_length}
-use borrow.Author.Rules.{rules}
 use Rattle.proposal.proofs.booking.write_left.Goals as goal
 
 pub take_lots-requires : goal.take_lots-requires

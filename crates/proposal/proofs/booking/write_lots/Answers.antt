@@ -1,9 +1,6 @@
-use borrow.Author.Rules.{rules}
 use native.Mathlib.Omega.{arith}
-use mathlib.Core.Path.{◌≡◌, refl, sym, ap, ◌∙◌}
-use mathlib.Core.List.{◌++◌}
-use Prim.Native.Nat.{◌-◌, ◌≤◌}
-use lib.ListN.{length, take, drop, length-set}
+use mathlib.Core.Path.{refl, sym, ap, ◌∙◌}
+use lib.ListN.{length, length-set}
 use Rattle.arith.proofs.Writes.{front_next, front_end}
 use Rattle.proposal.specs.Booking.{order_lots}
 use Rattle.proposal.proofs.Taken.{lots_length, lots_at_lem}

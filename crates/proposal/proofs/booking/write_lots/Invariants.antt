@@ -1,12 +1,8 @@
-use borrow.Author.Rules.{rules}
-use native.Mathlib.Omega.{arith}
-use mathlib.Core.Path.{◌≡◌, refl, sym, ap, ◌∙◌}
+use mathlib.Core.Path.{◌≡◌}
 use mathlib.Core.List.{◌++◌}
 use Prim.Native.Nat.{◌-◌, ◌≤◌}
-use lib.ListN.{length, take, drop, length-set}
-use Rattle.arith.proofs.Writes.{front_next, front_end}
+use lib.ListN.{length, take, drop}
 use Rattle.proposal.specs.Booking.{order_lots}
-use Rattle.proposal.proofs.Taken.{lots_length, lots_at_lem}
 use Rattle.proposal.proofs.booking.write_lots.Given as goal
 
 abbrev pub invariant-loop-i : goal.invariant-loop-i
