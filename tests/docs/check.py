@@ -5,7 +5,7 @@ Citations, on README.md, docs/ and examples/:
 - A link must lead to a file. A link is `[Days](../crates/rules/specs/Days.antt)`, or `[Days]` where the page ends with
   `[Days]: ../crates/rules/specs/Days.antt`. A label without such a line is wrong, and so is a line whose label no text has.
   A label leads to the same file on every page.
-- A name in backticks that follows a link and a colon must be defined in that file: `[Days]: \\`yearStart\\`, \\`sunday\\``.
+- A name in backticks that follows a link and a colon must be defined in that file: `[Days]: \\`year_start\\`, \\`sunday\\``.
   Any other name in backticks must be a crate, a path, a command, or be defined somewhere.
 - A name in quotes that follows a link to cases.txt and a colon must begin a case there: `[cases.txt]: 'own order met'`.
 - A decision that is cited by its number, as in `[DECISIONS.md](DECISIONS.md), 26`, must be there.
@@ -62,7 +62,7 @@ FUNCTION = re.compile(r"^[a-z][\w *]*\b(\w+)\(", re.M)
 DEF = re.compile(r"^\s*def (\w+)", re.M)
 WORD = re.compile(r"\w+")
 # A slip of a must-fail edit.
-SLIP = re.compile(r"^slip: (\S+)$", re.M)
+SLIP = re.compile(r"^# slip: (\S+)$", re.M)
 DEFINES = {".edit": (SLIP,), ".antt": (SIGNATURE,), ".rt": (ITEM, FIELD), ".rs": (ITEM,), ".c": (FUNCTION,), ".py": (DEF,)}
 
 
