@@ -1,0 +1,19 @@
+use borrow.Author.Rules.{rules}
+use mathlib.Core.Path.{refl, sym, ap, ◌∙◌}
+use Prim.Native.Nat.{◌-◌}
+use native.Mathlib.Omega.{arith}
+use lib.IntN.{pos}
+use lib.ListN.{length, get_or}
+use lib.Seq.{get_or-take}
+use Rattle.arith.specs.Lists.{from}
+use Rattle.arith.proofs.Scans.{from_end}
+use Rattle.rules.specs.CloseOfDay.{added_to}
+use Rattle.rules.proofs.Cascade.{rows_at}
+use Rattle.cascade.proofs.Cascades.{Adding, adding_next}
+use Rattle.cascade.proofs.rows.add_to_children.Given as goal
+
+abbrev pub invariant-loop-child : goal.invariant-loop-child
+invariant-loop-child l = Adding l.members l.contract l.end (length l.initial.rows) (added_to l.members l.contract (from l.first (l.end - l.first)) l.initial.rows) l.parent l.child l.rows
+
+abbrev pub decreases-loop-child : goal.decreases-loop-child
+decreases-loop-child l = l.end - l.child

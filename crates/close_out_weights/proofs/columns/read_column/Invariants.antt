@@ -1,0 +1,23 @@
+use Prim.Native.Nat.{ℕ, ◌+◌, ◌-◌, ◌≤◌}
+use mathlib.Core.Path.{◌≡◌, refl, ap, ◌∙◌}
+use mathlib.Core.List.{◌++◌, map}
+use native.Mathlib.Omega.{arith}
+use native.Mathlib.Nat.{sub-zero}
+use lib.Dec.{eqb}
+use lib.IntN.{pos}
+use lib.ListN.{length, get_or, take, length-set}
+use borrow.Author.Rules.{rules}
+use Rattle.arith.proofs.Signed.{back_mag}
+use Rattle.arith.proofs.Columns.{mapped_next, mapped_end, written_next, written_end}
+use Rattle.arith.specs.Lists.{from}
+use Rattle.rules.specs.Ledger.{marks_from, row_place}
+use Rattle.close_out_weights.specs.Columns.{lots_in, column_of}
+use Rattle.close_out_weights.proofs.columns.read_column.Given as goal
+
+abbrev pub invariant-loop-i : goal.invariant-loop-i
+invariant-loop-i l = (l.i ≤ length l.initial.column) × (length l.column ≡ length l.initial.column)
+    × (take l.i l.column ++ map (λ m. lots_in l.part (eqb (get_or l.head (marks_from + m) 0) 1) (get_or l.lots (row_place l.contract m) (pos 0))) (from l.i (length l.initial.column - l.i))
+    ≡ map (λ m. lots_in l.part (eqb (get_or l.head (marks_from + m) 0) 1) (get_or l.lots (row_place l.contract m) (pos 0))) (from 0 (length l.initial.column)))
+
+abbrev pub decreases-loop-i : goal.decreases-loop-i
+decreases-loop-i l = length l.initial.column - l.i

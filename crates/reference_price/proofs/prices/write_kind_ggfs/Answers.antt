@@ -1,0 +1,72 @@
+use borrow.Author.Rules.{rules}
+use mathlib.Core.Path.{◌≡◌, refl}
+use mathlib.Core.List.{map}
+use mathlib.Core.Bool.{◌&&◌}
+use Prim.Native.Nat.{◌+◌, ◌-◌, ◌≤◌}
+use native.Mathlib.Omega.{arith}
+use native.Mathlib.Nat.{sub-zero}
+use lib.Dec.{ltb}
+use lib.ListN.{length, take}
+use lib.Seq.{take-nil}
+use Prim.Native.Nat.{◌<◌}
+use Rattle.arith.specs.Lists.{from, kept}
+use Rattle.arith.proofs.Scans.{from_next, from_end}
+use Rattle.rules.specs.OtherForms.{contract_of, contracts_in}
+use Rattle.rules.proofs.CalendarLaws.{contracts_of_lem}
+use Rattle.contract_phases.specs.Phases.{waits, open_in}
+use Rattle.reference_price.specs.Columns.{DealsFit, ggf_from, ggfs_from}
+use Rattle.contract_phases.proofs.Phases.{number_below}
+use Rattle.reference_price.proofs.Ggfs.{deals_if, open_next}
+use Rattle.reference_price.proofs.prices.write_kind_ggfs.Goals as goal
+
+pub loop-i-init : goal.loop-i-init
+unfolding open_in
+loop-i-init c =
+    let kind = c.args.kind in
+    (c.requires.0, refl, omega arith, rw (c.open_count-more.ensures, contracts_of_lem kind, sub-zero (contracts_in kind)))
+
+pub contract_of-contract-requires : goal.contract_of-contract-requires
+contract_of-contract-requires c = omega (arith, c.contracts_in-count.ensures)
+
+pub offset_bounds-column-contract : goal.offset_bounds-column-contract
+offset_bounds-column-contract c =
+    let args = c.args in
+    let b = number_below args.kind c.loop-i.i (omega (arith, c.contracts_in-count.ensures)) in omega (arith, c.contract_of-contract.ensures)
+
+pub bounds-column-contract : goal.bounds-column-contract
+bounds-column-contract c =
+    let args = c.args in
+    let b = number_below args.kind c.loop-i.i (omega (arith, c.contracts_in-count.ensures)) in omega (arith, c.contract_of-contract.ensures)
+
+pub write_if_open-more-requires : goal.write_if_open-more-requires
+write_if_open-more-requires c =
+    let pre = c.requires in
+    let args = c.args in
+    let b = number_below args.kind c.loop-i.i (omega (arith, c.contracts_in-count.ensures)) in
+    (c.loop-i.invariant.0, pre.1, pre.2, omega (arith, c.contract_of-contract.ensures))
+
+pub loop-i-preserved : goal.loop-i-preserved
+loop-i-preserved c =
+    let a = c.args in
+    let size = contracts_in a.kind in
+    let h : c.loop-i.i < size = omega (arith, c.contracts_in-count.ensures) in
+    let x = contract_of a.kind c.loop-i.i in
+    let rest = map (contract_of a.kind) (from (c.loop-i.i + 1) (size - (c.loop-i.i + 1))) in
+    let known = rw (from_next c.loop-i.i size h) at c.loop-i.invariant.3 in
+    let v = ggf_from a.buys.now a.sells.now c.loop-i.prices x in (
+      rw (c.write_if_open-more.ensures.prices_after, c.contract_of-contract.ensures) (deals_if (waits a.column.now x && ltb 0 c.loop-i.more) c.loop-i.prices x v c.loop-i.invariant.0),
+      omega (arith, c.write_if_open-more.auto.prices),
+      omega arith,
+      rw (c.write_if_open-more.ensures.value, c.write_if_open-more.ensures.prices_after, c.contract_of-contract.ensures)
+          (open_next a.buys.now a.sells.now c.loop-i.prices _ (waits a.column.now) c.loop-i.more x rest known),
+    )
+
+pub shape_of-prices : goal.shape_of-prices
+shape_of-prices c = c.loop-i.invariant.1
+
+pub returns : goal.returns
+unfolding ggfs_from kept
+returns c =
+    let a = c.args in
+    let size = contracts_in a.kind in
+    rw (take-nil c.loop-i.more) at (rw (from_end c.loop-i.i size (omega (arith, c.contracts_in-count.ensures))) at c.loop-i.invariant.3)

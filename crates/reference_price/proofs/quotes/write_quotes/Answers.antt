@@ -1,0 +1,57 @@
+use borrow.Author.Rules.{rules}
+use mathlib.Core.List.{◌∷◌}
+use mathlib.Core.Path.{◌≡◌, sym, ap, ◌∙◌}
+use mathlib.Core.List.{map}
+use Prim.Native.Nat.{ℕ, ◌+◌, ◌-◌, ◌≤◌, ◌<◌}
+use native.Mathlib.Omega.{arith}
+use native.Mathlib.Nat.{sub-zero}
+use lib.ListN.{length, get_or, get_or-replicate, length-replicate}
+use Rattle.arith.specs.Lists.{from}
+use Rattle.arith.proofs.Scans.{from_next, from_end}
+use Rattle.rules.specs.Ranges.{contract_count}
+use Rattle.rules.specs.Ledger.{order_at}
+use Rattle.reference_price.specs.Columns.{best_price}
+use Rattle.reference_price.proofs.BestPrices.{quotes_next, quotes_none, all_from_place}
+use Rattle.reference_price.proofs.quotes.write_quotes.Goals as goal
+
+pub loop-i-init : goal.loop-i-init
+loop-i-init c =
+    let pre = c.requires in
+    let a = c.args in
+    let n = a.count in (
+      omega arith,
+      rw pre.1 (length-replicate {A = ℕ} contract_count 0),
+      λ x h. rw (pre.1, get_or-replicate {A = ℕ} contract_count x 0 0 h, from_end n n (omega arith)) (sym (quotes_none a.day.0 a.time a.side x)),
+    )
+
+pub order_at-o-requires : goal.order_at-o-requires
+order_at-o-requires c = (omega (arith, c.requires.0.most_orders_holds), c.requires.0.long)
+
+pub note_quote-requires : goal.note_quote-requires
+note_quote-requires c =
+    let fit = c.requires.0 in
+    rw c.order_at-o.ensures (fit.most_time (c.loop-i.i - 1) (omega arith), omega (arith, fit.contract_below (c.loop-i.i - 1) (omega arith)))
+
+pub loop-i-preserved : goal.loop-i-preserved
+loop-i-preserved c =
+    let pre = c.requires in
+    let a = c.args in
+    let fit = pre.0 in
+    let b = a.book.now in
+    let i = c.loop-i.i - 1 in
+    let up : i + 1 ≡ c.loop-i.i = omega arith in
+    let rest = map (order_at b) (from c.loop-i.i (a.count - c.loop-i.i)) in
+    let more : map (order_at b) (from i (a.count - i)) ≡ order_at b i ∷ rest = ap (map (order_at b)) (from_next i a.count (omega arith)) ∙ rw up in (
+      omega arith,
+      omega (arith, c.note_quote.auto.quotes),
+      λ x h. rw (c.note_quote.ensures, c.order_at-o.ensures, more)
+          (quotes_next a.day.0 a.time a.side c.loop-i.quotes (order_at b i) rest
+          (all_from_place (λ o. 1 ≤ o.price.0) (order_at b) c.loop-i.i (a.count - c.loop-i.i) (λ j u v. fit.least_price j (omega arith)))
+          (omega (arith, fit.contract_below i (omega arith))) c.loop-i.invariant.2 x h),
+    )
+
+pub returns : goal.returns
+returns c =
+    let a = c.args in
+    let e : c.loop-i.i ≡ 0 = omega arith in
+    rw (e, sub-zero a.count) at c.loop-i.invariant.2

@@ -1,0 +1,22 @@
+use borrow.Author.Rules.{rules}
+use mathlib.Core.List.{◌∷◌}
+use mathlib.Core.Path.{◌≡◌, sym, ap, ◌∙◌}
+use mathlib.Core.List.{map}
+use Prim.Native.Nat.{ℕ, ◌+◌, ◌-◌, ◌≤◌, ◌<◌}
+use native.Mathlib.Omega.{arith}
+use native.Mathlib.Nat.{sub-zero}
+use lib.ListN.{length, get_or, get_or-replicate, length-replicate}
+use Rattle.arith.specs.Lists.{from}
+use Rattle.arith.proofs.Scans.{from_next, from_end}
+use Rattle.rules.specs.Ranges.{contract_count}
+use Rattle.rules.specs.Ledger.{order_at}
+use Rattle.reference_price.specs.Columns.{best_price}
+use Rattle.reference_price.proofs.BestPrices.{quotes_next, quotes_none, all_from_place}
+use Rattle.reference_price.proofs.quotes.write_quotes.Given as goal
+
+abbrev pub invariant-loop-i : goal.invariant-loop-i
+invariant-loop-i l = (l.i ≤ l.count) × (length l.quotes ≡ contract_count)
+    × ((c : ℕ) → c < contract_count → get_or l.quotes c 0 ≡ best_price l.day.0 l.time l.side (map (order_at l.book) (from l.i (l.count - l.i))) c)
+
+abbrev pub decreases-loop-i : goal.decreases-loop-i
+decreases-loop-i l = l.i
