@@ -171,12 +171,14 @@ class Turner:
         if not fields:
             return fields, None
         if not self.f.callee[at]:
+            if self.f.step[at][1].startswith(("if-", "loop-")):
+                fields = [{"taken": "true", "left": "false"}.get(fields[0], fields[0])] + fields[1:]
             return [fields[0] if fields[0] == "invariant" else fields[0].replace("-", "_")] + fields[1:], None
         if len(fields) > 1 and fields[0] in ("auto", "new") and fields[1].isdigit():
             # the pairs are over the parameters
             names = self.f.lts["params"].get(self.f.callee[at], [])
             k = 0
-            while fields[1 + k] == "1":
+            while 1 + k < len(fields) and fields[1 + k] == "1":
                 k += 1
             return [fields[0]] + ([names[k]] + fields[2 + k :] if k < len(names) else fields[1:]), None
         if fields[0] == "ensures":
