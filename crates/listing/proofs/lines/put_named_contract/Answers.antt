@@ -1,0 +1,10 @@
+use mathlib.Core.Path.{refl}
+use native.Mathlib.Omega.{arith}
+use Rattle.listing_numbers.proofs.Writers.{next, within_room}
+use Rattle.listing_words.proofs.Spelled.{worded}
+use borrow.Author.Rules.{rules}
+use Rattle.listing.proofs.lines.put_named_contract.Goals as goal
+
+pub returns : goal.returns
+returns c = within_room 71 _ (next (worded c.name_of.ensures
+    c.put_word-i.ensures) c.put_contract.ensures (omega arith)) refl (omega arith)
