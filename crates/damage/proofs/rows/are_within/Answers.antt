@@ -11,7 +11,7 @@ loop-i-preserved c =
     let a = c.args in
     let x = get_or a.rows.now c.loop-i.i (pos 0) in (
       omega arith,
-      rw (c.is_within-ok.ensures, back_mag x c.x-1.given)
+      rw (c.is_within-ok.ensures, back_mag x (omega arith))
           (every_next (λ z. leb (nat_abs z) a.bound) a.rows.now (pos 0) c.loop-i.i c.loop-i.ok c.loop-i.invariant.1 c.loop-i-test.true),
     )
 

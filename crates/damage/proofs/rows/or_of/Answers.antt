@@ -1,6 +1,7 @@
-use Rattle.std.proofs.Common.{◌^◌, ltb, get_or, pos, arith}
+use Rattle.std.proofs.Common.{◌^◌, ◌<◌, ltb, get_or, pos, arith}
 use Rattle.arith.specs.Bits.{in_window}
 use Rattle.arith.proofs.Bits.{or_window, none_below}
+use lib.Signed.{mag}
 use Rattle.arith.proofs.Signed.{back_mag}
 use Rattle.arith.proofs.Scans.{every_next, every_end}
 use Rattle.damage.proofs.rows.or_of.Goals as goal
@@ -12,7 +13,7 @@ pub loop-i-preserved : goal.loop-i-preserved
 loop-i-preserved c =
     let a = c.args in
     let x = get_or a.rows.now c.loop-i.i (pos 0) in
-    let fits = c.x-1.given in (
+    let fits : mag x < 2 ^ 63 = omega arith in (
       omega arith,
       λ k h. rw (or_window k c.loop-i.seen c.raised-seen.result a.half x h fits (rw (back_mag x fits) at c.raised-seen.ensures))
           (every_next (in_window (2 ^ k)) a.rows.now (pos 0) c.loop-i.i (ltb c.loop-i.seen (2 ^ k)) (c.loop-i.invariant.1 k h) c.loop-i-test.true),

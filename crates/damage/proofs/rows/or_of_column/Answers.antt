@@ -1,8 +1,9 @@
-use Rattle.std.proofs.Common.{◌+◌, ◌*◌, ◌^◌, ltb, get_or, pos, arith}
+use Rattle.std.proofs.Common.{◌+◌, ◌*◌, ◌^◌, ◌<◌, ltb, get_or, pos, arith}
 use Rattle.rules.specs.Ledger.{row_width}
 use Rattle.rules.specs.Ranges.{contract_count}
 use Rattle.arith.specs.Bits.{in_window}
 use Rattle.arith.proofs.Bits.{or_window, none_below}
+use lib.Signed.{mag}
 use Rattle.arith.proofs.Signed.{back_mag}
 use Rattle.arith.proofs.Scans.{block_next, block_end}
 use Rattle.arith.proofs.Rows.{place_at}
@@ -17,7 +18,7 @@ pub loop-contract-preserved : goal.loop-contract-preserved
 loop-contract-preserved c =
     let a = c.args in
     let x = get_or a.rows.now (c.loop-contract.contract * row_width + a.member) (pos 0) in
-    let fits = c.x-1.given in (
+    let fits : mag x < 2 ^ 63 = omega arith in (
       omega arith,
       λ k h. rw (
         or_window k c.loop-contract.seen c.raised-seen.result a.half x h fits (rw (back_mag x fits) at c.raised-seen.ensures),

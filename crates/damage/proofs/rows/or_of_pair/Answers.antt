@@ -1,9 +1,10 @@
-use Rattle.std.proofs.Common.{◌≡◌, ◌+◌, ◌*◌, ◌^◌, ltb, get_or, pos, ◌∙◌, arith}
+use Rattle.std.proofs.Common.{◌≡◌, ◌+◌, ◌*◌, ◌^◌, ◌<◌, ltb, get_or, pos, ◌∙◌, arith}
 use Rattle.rules.specs.Ledger.{row_width}
 use Rattle.rules.specs.Ranges.{contract_count}
 use Rattle.arith.specs.Bits.{in_window}
 use Rattle.arith.specs.Lists.{every_block}
 use Rattle.arith.proofs.Bits.{or_windows, none_below}
+use lib.Signed.{mag}
 use Rattle.arith.proofs.Signed.{back_mag}
 use Rattle.arith.proofs.Scans.{block_next, block_end}
 use Rattle.arith.proofs.Rows.{place_at, blocks_both}
@@ -22,13 +23,13 @@ loop-contract-preserved c =
     let x = get_or rows place (pos 0) in
     let y = get_or rows (place + 1) (pos 0) in
     let next : place + 1 ≡ c.loop-contract.contract * row_width + (a.member + 1) = omega arith in
-    let x_Fits = c.x-1.given in
-    let y-fits = c.y-1.given in
-    let x-is = rw (back_mag x x_Fits) at c.raised.ensures in
-    let y-is = rw (back_mag y y-fits) at c.raised-in-loop-contract.ensures in (
+    let x_fits : mag x < 2 ^ 63 = omega arith in
+    let y_fits : mag y < 2 ^ 63 = omega arith in
+    let x-is = rw (back_mag x x_fits) at c.raised.ensures in
+    let y-is = rw (back_mag y y_fits) at c.raised-in-loop-contract.ensures in (
       omega arith,
       λ k h. rw (
-        or_windows k c.loop-contract.seen c.raised.result c.raised-in-loop-contract.result a.half x y h x_Fits x-is y-fits y-is,
+        or_windows k c.loop-contract.seen c.raised.result c.raised-in-loop-contract.result a.half x y h x_fits x-is y_fits y-is,
         next,
         ← place_at rows (pos 0) 32 c.loop-contract.contract a.member (omega arith),
         ← place_at rows (pos 0) 32 c.loop-contract.contract (a.member + 1) (omega arith),
