@@ -1,4 +1,4 @@
-// The first legs of an array, lent. Legs come by value, so callers need not lend them.
+// The first legs of an array, lent. The array comes by value, so callers need not lend it.
 ghost use Rattle.std.specs.Prelude.{◌≡◌, ◌≤◌, length, take};
 ghost use Rattle.rules.specs.Ranges.{most_legs};
 ghost use Rattle.rules.specs.Ledger.{Tables, with_head, with_prices, with_book, prices_length};
