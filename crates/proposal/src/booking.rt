@@ -62,7 +62,7 @@ pub fn book_legs(
 }
 
 // What is left of an order's lots after a leg: none where the leg takes them all.
-fn left_after_holds(left: Lots, lots: Lots) -> Lots
+fn left_after(left: Lots, lots: Lots) -> Lots
     ensures { result.0 ≡ left.0 - lots.0 }
 {
     if left.0 <= lots.0 {
@@ -92,7 +92,7 @@ fn take_lots(left: &mut [u64], places: &[usize], lots: &[u64])
     let mut i: usize = 0;
     while i < places.len() {
         let place = places[i];
-        left[place] = left_after_holds(Lots(left[place]), Lots(lots[i])).0;
+        left[place] = left_after(Lots(left[place]), Lots(lots[i])).0;
         i += 1;
     }
 }

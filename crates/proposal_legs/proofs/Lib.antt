@@ -1,2 +1,1 @@
 pub mod LegColumns
-pub mod Lent

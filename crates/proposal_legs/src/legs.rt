@@ -8,7 +8,7 @@ use crate::acceptable::is_proposal_acceptable;
 use crate::columns::columns_of;
 use rules::Leg;
 
-// One lifetime for the legs and one for the tables: the proof by hand hands the tables over as one.
+// One lifetime for the legs and one for the tables, since the legs may be lent for less long.
 pub fn are_legs_acceptable<'l, 't>(
     legs: &'l [Leg],
     head: &'t [u64],

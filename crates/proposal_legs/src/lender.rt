@@ -1,4 +1,4 @@
-// The first legs of an array, lent. The array comes by value, so that callers need no proof by hand.
+// The first legs of an array, lent. The array comes by value, so callers need not lend it.
 ghost use Rattle.std.specs.Prelude.{◌≡◌, ◌≤◌, length, take};
 ghost use Rattle.rules.specs.Ranges.{most_legs};
 ghost use Rattle.rules.specs.Ledger.{Tables, with_head, with_prices, with_book, prices_length};

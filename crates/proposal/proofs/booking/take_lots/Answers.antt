@@ -31,7 +31,7 @@ loop-i-preserved c =
       omega (arith, c.loop-i-test.true),
       length-set c.loop-i.left _ _
           ∙ c.loop-i.invariant.1,
-      after_next a.places.now a.lots.now c.loop-i.i a.left.now c.loop-i.left _ c.loop-i.invariant.2 c.left_after_holds.ensures,
+      after_next a.places.now a.lots.now c.loop-i.i a.left.now c.loop-i.left _ c.loop-i.invariant.2 c.left_after.ensures,
     )
 
 pub returns : goal.returns

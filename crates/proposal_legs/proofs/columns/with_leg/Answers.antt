@@ -3,7 +3,6 @@ use native.Mathlib.Omega.{arith}
 use borrow.Author.Tests.{lt-ltb, le-ltb}
 use Rattle.rules.specs.Ranges.{most_legs}
 use Rattle.proposal_legs.specs.Proposals.{with_leg}
-use borrow.Author.Rules.{rules}
 use Rattle.proposal_legs.proofs.columns.with_leg.Goals as goal
 
 pub returns-then-i-ge-MOST_LEGS : goal.returns-then-i-ge-MOST_LEGS

@@ -2,10 +2,9 @@ use native.Mathlib.Omega.{arith}
 use lib.ListN.{take}
 use Rattle.rules.specs.Ledger.{with_head, with_prices, with_book}
 use Rattle.proposal_legs.proofs.LegColumns.{too_many}
-use borrow.Author.Rules.{rules}
 use Rattle.proposal_legs.proofs.lender.are_first_acceptable.Goals as goal
 
-returns : tie.Need-returns
-returns c t =
-    let a = c.before.before.before.before.args in
-    too_many (with_head a.head.now (with_prices a.prices.now (with_book a.book.now t))) a.count (take a.count a.legs) (omega (arith, c.if1.true))
+pub returns-then-count-gt-MOST_LEGS : goal.returns-then-count-gt-MOST_LEGS
+returns-then-count-gt-MOST_LEGS c =
+    let a = c.args in
+    λ t. too_many (with_head a.head.now (with_prices a.prices.now (with_book a.book.now t))) a.count (take a.count a.legs) (omega arith)
