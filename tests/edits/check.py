@@ -5,8 +5,9 @@ An edit may hold several slips, so that its crate is proved once for all of them
 Here every slip must be refused by itself. Each name on its line `# refused:` is one of these:
 - a function of which a fact does not hold (not only a function that calls one which is refused);
 - a law or an example that does not hold.
-No other function may be refused by itself, and none because its proof names a step that the edited code lacks: then the
-text changed and not a fact. So a slip of code has the shape of what it stands for: values and comparisons differ, and
+No other function may be refused by itself, and none because its proof names a goal that the edited code lacks: then the
+text changed and not a fact. Rattle names the goals of a branch by its condition (`then-n-eq0`), so where a slip changes a
+condition, the names in the function's proof follow it, and the edit is tried again. So a slip of code has the shape of what it stands for: values and comparisons differ, and
 nothing else. A slip of another shape has a control, a change of the same shape that is no slip, in controls/CRATE.control;
 controls.py asks whether it is proved. Every function that another crate or a host calls is named by a slip of its crate.
 With --forms, which the gate does not ask, no proof may be refused for its form at all: for a path to a step that is not
@@ -32,12 +33,16 @@ ERROR = re.compile(r"^(?:\./)?((?:specs|proofs)/\S+)\.antt:\d+:\d+: error: (.*)"
 # The files of a function's own proof, in a folder of its name.
 OF_A_FUNCTION = ("Answers", "Invariants", "Proof")
 # The prover's verdict on a function. It may be that a callee is not proved, and then the search is not tried at its own goals.
-VERDICT = re.compile(r"^fn \w+?::(\S+): (.*)$")
+VERDICT = re.compile(r"^fn \w+?::(\S+): (.*)$", re.M)
 WAITS_FOR_CALLEE = re.compile(r"\bit calls .*not proved$")
-# A goal of the function whose verdict follows, with values that make it false.
-IS_FALSE = re.compile(r"^note: .* it is not proved that .*allow values at which this goal is false$")
 # What is said of whatever rests on something that was refused.
 RESTS_ON_REFUSED = re.compile(r"which was (?:rejected|not admitted), w(?:as|ere) not checked|was not admitted \(")
+# What is said of a proof that names a goal that is not there, with the goals that there are.
+LOST_GOAL = re.compile(r"has no `([^`]*)` that can be named from here|is not in scope")
+ASKED = re.compile(r"^help: `Goals` has no `([^`]*)`; rattle asks for (.*?);", re.M)
+# A goal's name, up to its condition, the condition, and what of the clause.
+CONDITION = re.compile(r"(.*-(?:then|else|in)-)(.+?)((?:-clause-\w+|-raw)*)$")
+FOLLOWS = "---- the names of the goals follow the code"
 # What is said where a text names what is not there.
 LOST = re.compile(r"is not in scope|has no field|is no name|has no `|operand is missing|expected the end|cannot continue")
 # What is said of a proof, with the lines that it goes on over, and what is said of its form.
@@ -110,55 +115,55 @@ class Refusals:
 
     def __init__(self, said, complain):
         self.functions, self.laws, self.waiting = set(), set(), set()
-        lost = self.read_errors(said, complain)
-        has_false_goal = self.read_verdicts(said)
-        # A goal may be named by a value of the code, and its answer then stands for no goal. So the new goal has to be false.
-        for function in sorted(lost - has_false_goal):
-            complain(f"the proof of {function} names a step that the edited code lacks")
+        # The function and the goal's name, of each answer to a goal that is not there.
+        self.lost = set()
+        self.read_errors(said, complain)
+        for function, words in VERDICT.findall(said):
+            if WAITS_FOR_CALLEE.search(words):
+                self.waiting.add(function)
+            elif words.startswith("no proof: "):
+                self.functions.add(function)
+        for function, goal in sorted(self.lost):
+            complain(f"the proof of {function} names a goal that the edited code lacks: {goal}")
 
     def read_errors(self, said, complain):
-        """The functions whose proof names a step that is not there."""
-        lost = set()
         for path, error in ERROR.findall(said):
             if RESTS_ON_REFUSED.search(error):
                 continue
             folder, _, name = path.rpartition("/")
             named = re.match(r"`([^`]*)`: ", error)
-            is_lost = LOST.search(error[named.end() :] if named else error)
+            words = error[named.end() :] if named else error
             if name in OF_A_FUNCTION and folder != "specs":
-                function = function_of(folder)
-                self.functions.add(function)
-                if is_lost:
-                    lost.add(function)
+                self.functions.add(function_of(folder))
+                lost = LOST_GOAL.search(words)
+                if lost:
+                    self.lost.add((function_of(folder), lost[1] or words))
             else:
                 self.laws.add(named[1] if named else error)
-                if is_lost or not named:
+                if not named or LOST.search(words):
                     complain(f"{path}.antt cannot be read with this edit: {error}")
-        return lost
-
-    def read_verdicts(self, said):
-        """The functions of which a goal is false."""
-        has_false_goal, is_false = set(), False
-        for line in said.splitlines():
-            verdict = VERDICT.match(line)
-            if not verdict:
-                is_false = is_false or bool(IS_FALSE.match(line))
-                continue
-            function, words = verdict.groups()
-            if WAITS_FOR_CALLEE.search(words):
-                self.waiting.add(function)
-            elif words.startswith("no proof: "):
-                self.functions.add(function)
-            if is_false:
-                has_false_goal.add(function)
-            is_false = False
-        return has_false_goal
 
     def has(self, name):
         return name in self.laws or any(is_called(function, name) for function in self.functions)
 
     def waits(self, name):
         return any(is_called(function, name) for function in self.waiting)
+
+
+def renames_of(crate, said):
+    """For each goal that the edited code lacks the one that stands for it: its condition, in the function's proof."""
+    asked = {goal: re.findall(r"`([^`]*)`", goals) for goal, goals in ASKED.findall(said)}
+    renames = []
+    for function, goal in sorted(Refusals(said, lambda _: None).lost):
+        folders = [path.parent for path in (ROOT / "crates" / crate / "proofs").rglob("Answers.antt") if function_of(path.parent.relative_to(ROOT / "crates" / crate).as_posix()) == function]
+        old = CONDITION.match(goal)
+        for folder in folders:
+            answered = set(re.findall(r"^pub ([^\s:]+) :", (folder / "Answers.antt").read_text(encoding="utf-8"), re.M))
+            new = [found for found in map(CONDITION.match, asked.get(goal, ())) if found and found[0] not in answered and old and found[1] == old[1] and found[3] == old[3]]
+            if len(new) == 1:
+                pattern = rf"\b([Tt]hen|[Ee]lse|[Ii]f|[Ii]n)-{re.escape(old[2])}(?![\w'])"
+                renames.append((folder.relative_to(ROOT / "crates" / crate), pattern, rf"\g<1>-{new[0][2]}"))
+    return renames
 
 
 def function_of(folder):
@@ -241,13 +246,18 @@ def is_slipped(crate, function):
     return any(f"`{function}`" in text or re.search(rf"^# refused: .*\b{function}\b", text, re.M) for text in edits)
 
 
+def crate_of(edit):
+    return edit.parent.parent.name
+
+
 def log_of(edit, slip=None):
     name = f"{edit.stem}.{slip.name}" if slip else edit.stem
-    return ROOT / "target" / "must-fail" / edit.parent.parent.name / f"{name}.log"
+    return ROOT / "target" / "must-fail" / crate_of(edit) / f"{name}.log"
 
 
 def said_of(edit, slip=None):
-    return log_of(edit, slip).read_text(encoding="utf-8")
+    """What the prover said last."""
+    return log_of(edit, slip).read_text(encoding="utf-8").rpartition(FOLLOWS)[2]
 
 
 def try_edits(edits):
@@ -256,16 +266,21 @@ def try_edits(edits):
     crates, kit = prover.dependencies(), prover.version()
     of_crate = {}
     for edit in edits:
-        of_crate.setdefault(edit.parent.parent.name, []).append((edit, prover.sum_of(edit.parent.parent.name, crates, edit, kit)))
+        of_crate.setdefault(crate_of(edit), []).append((edit, prover.sum_of(crate_of(edit), crates, edit, kit)))
 
     def is_tried(edit, told, slip=None):
         log = log_of(edit, slip)
-        return log.exists() and said_of(edit, slip).partition("\n")[0] == told
+        return log.exists() and log.read_text(encoding="utf-8").partition("\n")[0] == told
 
     def try_one(copy, edit, told, slips, slip=None):
         if is_tried(edit, told, slip):
             return
-        said, status = copy.check(edit.parent.parent.name, [change for it in slips for change in it.changes])
+        changes = [change for it in slips for change in it.changes]
+        said, status = copy.check(crate_of(edit), changes)
+        renames = renames_of(crate_of(edit), said)
+        if renames:
+            followed, status = copy.check(crate_of(edit), changes, renames)
+            said += f"{FOLLOWS}\n{followed}"
         log_of(edit, slip).parent.mkdir(parents=True, exist_ok=True)
         log_of(edit, slip).write_text(f"{told if status in (0, 1) else 'no verdict'}\n{said}", encoding="utf-8")
 
@@ -286,11 +301,11 @@ def main():
     asks_forms = "--forms" in sys.argv[1:]
     names = [word for word in sys.argv[1:] if word != "--forms"]
     complaints = []
-    edits = [edit for edit in sorted(ROOT.glob("crates/*/must-fail/*.edit")) if not names or edit.parent.parent.name in names]
+    edits = [edit for edit in sorted(ROOT.glob("crates/*/must-fail/*.edit")) if not names or crate_of(edit) in names]
     slips = {path.stem: [] for path in CONTROLS.glob("*.control") if not names or path.stem in names}
     try_edits(edits)
     for edit in edits:
-        crate = edit.parent.parent.name
+        crate = crate_of(edit)
         complain = lambda text, at=f"{crate}/{edit.stem}": complaints.append(f"{at}: {text}")
         slips.setdefault(crate, []).extend(check_edit(edit, complain))
         if not re.search(rf"^{prover.NOT_PROVED}", said_of(edit), re.M):

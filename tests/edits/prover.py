@@ -8,6 +8,7 @@ import hashlib
 import os
 import pathlib
 import queue
+import re
 import shutil
 import subprocess
 import tempfile
@@ -39,9 +40,11 @@ def version():
 
 
 @functools.lru_cache(maxsize=None)
-def sum_of_crate(name):
-    told = hashlib.sha256(name.encode())
-    for file in sorted(path for part in PARTS for path in (ROOT / "crates" / name / part).rglob("*") if path.is_file()):
+def sum_of_crate(name, is_own):
+    """A sum of a crate's files; where the crate stands below, without the proofs of its functions, which no other crate cites."""
+    told, folder = hashlib.sha256(name.encode()), ROOT / "crates" / name
+    files = [path for part in PARTS for path in (folder / part).rglob("*") if path.is_file()]
+    for file in sorted(path for path in files if is_own or path.parent == folder / "proofs" or folder / "proofs" not in path.parents):
         told.update(f"{file.relative_to(ROOT)}\n".encode() + file.read_bytes())
     return told.hexdigest()
 
@@ -50,7 +53,7 @@ def sum_of(crate, crates, edit, kit):
     """A sum of all that the prover reads when it tries the edit."""
     told = hashlib.sha256(kit + edit.read_bytes())
     for name in sorted(below(crate, crates)):
-        told.update(sum_of_crate(name).encode())
+        told.update(sum_of_crate(name, name == crate).encode())
     return told.hexdigest()
 
 
@@ -66,10 +69,16 @@ class Copy:
                     copy_file = shutil.copy2 if part in PARTS else link_or_copy
                     shutil.copytree(crate / part, self.folder / crate.relative_to(ROOT) / part, copy_function=copy_file)
 
-    def check(self, crate, changes):
-        """What rt says of the crate with these changes, each a file, the text that stands there once and the new one, and its status."""
+    def check(self, crate, changes, renames=()):
+        """What rt says of the crate with these changes, each a file, the text that stands there once and the new one, and its status.
+        A rename is of a pattern in all files of a folder."""
         folder, before = self.folder / "crates" / crate, {}
         try:
+            for inside, pattern, new in renames:
+                for path in sorted((folder / inside).glob("*.antt")):
+                    text = path.read_text(encoding="utf-8")
+                    before.setdefault(path, text)
+                    path.write_text(re.sub(pattern, new, text), encoding="utf-8")
             for file, old, new in changes:
                 path = folder / file
                 text = path.read_text(encoding="utf-8")
