@@ -171,7 +171,7 @@ class Turner:
         if not fields:
             return fields, None
         if not self.f.callee[at]:
-            if self.f.step[at][1].startswith(("if-", "loop-")):
+            if re.match(r"if-|loop-.*-test", self.f.step[at][1]):
                 fields = [{"taken": "true", "left": "false"}.get(fields[0], fields[0])] + fields[1:]
             return [fields[0] if fields[0] == "invariant" else fields[0].replace("-", "_")] + fields[1:], None
         if len(fields) > 1 and fields[0] in ("auto", "new") and fields[1].isdigit():

@@ -1,0 +1,20 @@
+use borrow.Author.Rules.{rules}
+use mathlib.Core.Bool.{Bool, cond}
+use mathlib.Core.Path.{◌≡◌, refl, sym, ap, ◌∙◌}
+use mathlib.Core.List.{◌++◌}
+use Prim.Native.Nat.{◌-◌, ◌≤◌}
+use native.Mathlib.Omega.{arith}
+use lib.ListN.{length, take, drop, get_or, length-set}
+use Rattle.arith.proofs.Writes.{front_next, front_end}
+use Rattle.rules.specs.declared.order.Order.{Order}
+use Rattle.tables.specs.Fit.{orders_in}
+use Rattle.order_book.specs.Left.{staying}
+use Rattle.order_book.proofs.Left.{staying_length, staying_at}
+use Rattle.contract_phases.specs.Phases.{closes}
+use Rattle.close_of_day.proofs.orders.write_left.Given as goal
+
+abbrev pub invariant-loop-i : goal.invariant-loop-i
+invariant-loop-i l = (length l.left ≡ length l.initial.left) × (l.i ≤ length l.initial.left) × (l.left ≡ take l.i (staying (λ o. closes l.column o.contract) (orders_in (length l.initial.left) l.book)) ++ drop l.i l.initial.left)
+
+abbrev pub decreases-loop-i : goal.decreases-loop-i
+decreases-loop-i l = length l.initial.left - l.i

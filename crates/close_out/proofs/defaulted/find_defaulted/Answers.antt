@@ -1,0 +1,18 @@
+use Rattle.close_out_weights.specs.declared.columns.Part.TheVariants.{DefaultedLongs, DefaultedShorts}
+use Rattle.close_out.proofs.Verdicts.{read_fits, defaulted_found}
+use borrow.Author.Rules.{rules}
+use Rattle.close_out.proofs.defaulted.find_defaulted.Goals as goal
+
+pub sum_of-long-requires : goal.sum_of-long-requires
+sum_of-long-requires c =
+    let pre = c.requires in
+    (read_fits DefaultedLongs _ _ _ _ pre.head_fit.0.most_members_holds pre.head_fit.1 pre.head_fit.2 c.read_column.ensures).fits
+
+pub sum_of-short-requires : goal.sum_of-short-requires
+sum_of-short-requires c =
+    let pre = c.requires in
+    (read_fits DefaultedShorts _ _ _ _ pre.head_fit.0.most_members_holds pre.head_fit.1 pre.head_fit.2 c.read_column-2.ensures).fits
+
+pub returns : goal.returns
+returns c =
+    defaulted_found _ _ _ _ _ c.read_column.ensures c.read_column-2.ensures _ _ _ c.sum_of-long.ensures c.sum_of-short.ensures c.smaller-netted.ensures
