@@ -31,10 +31,10 @@ loop-member-preserved c =
     let k = c.book_change-at.auto in (
       running_next a.contract a.price.0 a.i a.gains.now a.losses.now _ pre.gains_len.1 pre.gains_bound.1 pre.gains_bound.2 pre.gains_bound.0
           c.loop-member.head c.loop-member.lots c.loop-member.value c.loop-member.lines c.loop-member.at c.loop-member.member c.loop-member.invariant.0 c.loop-member-test.true _ _ _ _ _ c.book_change-at.ensures.t_after c.book_change-at.ensures.value,
-      k.0 ∙ c.loop-member.invariant.1,
-      k.1.0 ∙ c.loop-member.invariant.2,
-      k.1.1.0 ∙ c.loop-member.invariant.3,
-      k.1.1.1.0 ∙ c.loop-member.invariant.4,
+      k.head ∙ c.loop-member.invariant.1,
+      k.lots ∙ c.loop-member.invariant.2,
+      k.value ∙ c.loop-member.invariant.3,
+      k.lines ∙ c.loop-member.invariant.4,
     )
 
 pub shape_of-head : goal.shape_of-head

@@ -15,8 +15,10 @@ book_changes-second-requires c =
     let pre = c.requires in
     let a = c.args in
     let n = c.book_netting-first.ensures in
+    let all =
     second_requires a.contract a.price.0 a.netted a.remaining a.longs.now a.shorts.now a.weights.now pre.bookable.1 pre.bookable.2 _ _ _ _ pre.bookable.0 pre.dealable
-    _ _ _ _ _ _ _ n.value n.longs_after n.shorts_after n.t_after
+    _ _ _ _ _ _ _ n.value n.longs_after n.shorts_after n.t_after in
+    record { bookable = all.0; gains_bound = all.1.0; gains_len = all.1.1 }
 
 pub returns-then-remaining-eq0 : goal.returns-then-remaining-eq0
 returns-then-remaining-eq0 c =
@@ -40,8 +42,10 @@ book_takers-requires c =
     let a = c.args in
     let n = c.book_netting-first.ensures in
     let b = c.book_changes-second.ensures in
+    let all =
     takers_requires a.contract a.price.0 a.netted a.remaining a.longs.now a.shorts.now a.weights.now pre.bookable.1 pre.bookable.2 _ _ _ _ pre.bookable.0 pre.dealable
-    _ _ _ _ _ _ _ n.value n.longs_after n.shorts_after n.t_after _ _ _ _ _ b.value b.t_after (omega (arith, c.if-remaining-eq0.false))
+    _ _ _ _ _ _ _ n.value n.longs_after n.shorts_after n.t_after _ _ _ _ _ b.value b.t_after (omega (arith, c.if-remaining-eq0.false)) in
+    record { bookable = all.0; contract_lt_contract_count = all.1 }
 
 pub returns : goal.returns
 returns c =
