@@ -1,0 +1,6 @@
+use Rattle.host.proofs.Answers.{answered}
+use borrow.Author.Rules.{rules}
+use Rattle.host.proofs.bytes.ledger_read_header.Goals as goal
+
+pub returns : goal.returns
+returns c = answered _ c.read_header_fields.ensures c.reply_of-reply.ensures.0 c.reply_of-reply.ensures.1
