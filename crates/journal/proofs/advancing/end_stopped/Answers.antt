@@ -1,0 +1,6 @@
+use Rattle.journal.proofs.LastLine.{end_printed}
+use borrow.Author.Rules.{rules}
+use Rattle.journal.proofs.advancing.end_stopped.Goals as goal
+
+pub returns : goal.returns
+returns c = let printed = c.put_end-end.ensures in end_printed printed.0 printed.1 c.standing.ensures

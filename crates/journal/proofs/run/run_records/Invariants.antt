@@ -1,0 +1,21 @@
+use Prim.Native.Nat.{◌+◌, ◌-◌, ◌≤◌}
+use mathlib.Core.Path.{◌≡◌, refl, sym, ◌∙◌}
+use native.Mathlib.Omega.{arith}
+use lib.ListN.{length, drop}
+use Rattle.rules.specs.Ledger.{lent}
+use Rattle.accounts.specs.Lengths.{SameLengths}
+use Rattle.journal.specs.Room.{room_wanted}
+use Rattle.journal.specs.Stages.{ready_length}
+use Rattle.journal.proofs.Fronts.{positive}
+use Rattle.journal.proofs.Running.{Runs, runs_start, next_inside, next_room, one_at_most, ran_part, ready_of_rest, runs_next, runs_end}
+use borrow.Author.Rules.{rules}
+use Rattle.journal.proofs.run.run_records.Given as goal
+
+abbrev pub invariant-loop-n : goal.invariant-loop-n
+invariant-loop-n l = Runs l.counted_before l.accepted_before (lent l.initial.head l.initial.prices l.initial.lots l.initial.value l.initial.book l.initial.lines) l.bytes l.is_last l.filled l.initial.out l.out
+    (lent l.head l.prices l.lots l.value l.book l.lines) l.place l.end l.counted l.accepted l.is_stopped
+    × SameLengths (lent l.initial.head l.initial.prices l.initial.lots l.initial.value l.initial.book l.initial.lines) (lent l.head l.prices l.lots l.value l.book l.lines)
+    × (l.n ≡ ready_length l.is_last l.is_stopped (length l.out - l.end) (drop l.place l.bytes))
+
+abbrev pub decreases-loop-n : goal.decreases-loop-n
+decreases-loop-n l = length l.bytes - l.place
