@@ -1,0 +1,113 @@
+// A program on the file of a call, or on standard input.
+use crate::argument::{
+    Argument, LONGEST, STACK_KIB, WRONG_CALL, read_argument, tell, too_long, wrong,
+};
+use crate::system::{input_size, stack_limit};
+use crate::word::Word;
+use journal_program::journal_run;
+use listing_program::listing_run;
+use std::fs::File;
+use std::io::{Eprint, Read};
+use std::{fs, io};
+use streams::fail;
+
+const NOT_READ: u8 = 4;
+
+const BYTES_OF_KIB: u64 = 1024;
+
+// What the system says where a folder is read.
+const IS_A_FOLDER: i32 = 21;
+
+// Where the journal comes from.
+#[derive(Clone, Copy)]
+pub enum Source {
+    Standard,
+    // The file that the argument at this place names.
+    File(usize),
+}
+
+pub fn run_on(rt: &HostRuntime, word: Word, source: Source, is_said: bool) -> u8 {
+    if !has_stack(rt) {
+        let _ = eprintln!(rt;
+            "durskafn: it needs {STACK_KIB} KiB of stack (ulimit -s {STACK_KIB})"
+        );
+        return WRONG_CALL;
+    }
+    match source {
+        Source::Standard => {
+            let size = input_size(rt);
+            run_on_reader(rt, word, &mut rt.stdin(), is_said, size)
+        }
+        Source::File(place) => {
+            let mut buffer = [0u8; LONGEST];
+            match read_argument(rt, place, &mut buffer) {
+                Argument::Text(name) => run_on_file(rt, word, name, is_said),
+                Argument::Missing => wrong(rt, "the file's name is gone", b""),
+                Argument::TooLong => too_long(rt),
+            }
+        }
+    }
+}
+
+fn has_stack(rt: &HostRuntime) -> bool {
+    match stack_limit(rt) {
+        Some(bytes) => bytes >= STACK_KIB * BYTES_OF_KIB,
+        None => true,
+    }
+}
+
+fn run_on_file(rt: &HostRuntime, word: Word, name: &[u8], is_said: bool) -> u8 {
+    match str::from_utf8(name) {
+        Ok(path) => match open(rt, path) {
+            Ok(mut file) => {
+                let size = file_size(&file);
+                run_on_reader(rt, word, &mut file, is_said, size)
+            }
+            Err(error) => {
+                fail(rt, path, error);
+                NOT_READ
+            }
+        },
+        Err(_) => {
+            // std's paths are text.
+            tell(rt, "", name, ": the name is not UTF-8");
+            NOT_READ
+        }
+    }
+}
+
+fn open(rt: &HostRuntime, path: &str) -> io::Result<File> {
+    let file = fs::open(rt, path)?;
+    if is_folder(&file) {
+        return Err(io::Error::from_raw_os_error(IS_A_FOLDER));
+    }
+    Ok(file)
+}
+
+fn is_folder(file: &File) -> bool {
+    match file.metadata() {
+        Ok(found) => found.is_dir(),
+        Err(_) => false,
+    }
+}
+
+// How many bytes the file has, or 0 where that is not known.
+fn file_size(file: &File) -> u64 {
+    match file.metadata() {
+        Ok(found) if found.is_file() => found.len(),
+        _ => 0,
+    }
+}
+
+fn run_on_reader(
+    rt: &HostRuntime,
+    word: Word,
+    reader: &mut impl Read,
+    is_said: bool,
+    size: u64,
+) -> u8 {
+    match word {
+        Word::Journal => journal_run(rt, reader, is_said, size) as u8,
+        Word::Listing => listing_run(rt, reader, is_said, size) as u8,
+    }
+}
