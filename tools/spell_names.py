@@ -57,7 +57,7 @@ def declared_names(crates):
         in_members = False
         for line in text.splitlines():
             if line[:1].strip() and not line.startswith("--"):
-                in_members = bool(re.match(r"^(pub )?(record|data)\b", line))
+                in_members = bool(re.match(r"^(pub )?(record|data)\s", line))
             match = (MEMBER if in_members else DECLARED).match(line)
             if match:
                 found.setdefault(match.group(1), set()).add("member" if in_members else "definition")
@@ -104,6 +104,10 @@ def respelled(text, pattern, renamed, comment):
     return "\n".join(lines)
 
 
+def matcher(names):
+    return re.compile(rf"(?<!{NAME_PART})(?:" + "|".join(sorted(map(re.escape, names), key=len, reverse=True) or ["(?!)"]) + rf")(?!{NAME_PART})")
+
+
 def rename_module():
     old, new = RENAMED_MODULE
     if os.path.exists(f"crates/rules/specs/{old}.antt"):
@@ -126,12 +130,15 @@ def main():
     if again:
         print("spell_names: these names would fall together: " + " ".join(again))
         return 1
-    pattern = re.compile(rf"(?<!{NAME_PART})(?:" + "|".join(sorted(map(re.escape, renamed), key=len, reverse=True)) + rf")(?!{NAME_PART})")
+    of_antt = matcher(renamed)
+    # A name in snake case may be a function's own in a .rt file.
+    of_rt = matcher([n for n in renamed if n != snake(n)])
     for path in sources((".antt", ".rt")):
-        text = text_of(path)
         if "--try" in sys.argv:
             continue
-        changed = respelled(text, pattern, renamed, "--" if path.endswith(".antt") else "//")
+        text = text_of(path)
+        is_antt = path.endswith(".antt")
+        changed = respelled(text, of_antt if is_antt else of_rt, renamed, "--" if is_antt else "//")
         if changed != text:
             with open(path, "w", encoding="utf-8") as file:
                 file.write(changed)

@@ -1,11 +1,10 @@
 -- Document 01, "The two accounts of demand 3": a list of calls with two cascades, a proposal and a close-out. Both accounts of every
 -- member, the log and the list's day are written out by hand.
-use Rattle.std.specs.Prelude.{ℕ, ◌+◌, ◌≡◌, refl, Bool, true, false, List, [], ◌∷◌, map, take, replicate, ℤ, pos, negsuc}
+use Rattle.std.specs.Prelude.{ℕ, ◌≡◌, refl, true, false, List, [], ◌∷◌, map, take, replicate, ℤ, pos, negsuc}
 use Rattle.arith.specs.Ints.{sum}
 use Rattle.arith.specs.Lists.{from}
 use Rattle.rules.specs.declared.event.OrderKind.TheVariants.{Resting}
 use Rattle.rules.specs.declared.order.Side.TheVariants.{Buy}
-use Rattle.rules.specs.Days.{Calendar}
 use Rattle.rules.specs.ContractTerms.{has_cascaded}
 use Rattle.rules.specs.Header.{Header, calendar_of, header_bytes}
 use Rattle.rules.specs.Ledger.{Tables, Line, zero_tables}

@@ -1,1 +1,3 @@
+#![tactic(auto)]
+
 // Lemmas only: see specs/.

@@ -1,4 +1,6 @@
 // Big-endian numbers in a slice of bytes.
+#![tactic(auto)]
+
 ghost use Rattle.std.specs.Prelude.{◌≡◌, [], ◌∷◌, ◌+◌, ◌^◌, ◌<◌, ◌≤◌, length, get_or};
 ghost use Rattle.arith.specs.Lists.{over};
 ghost use Rattle.rules.specs.Fields.{number_at, number_bytes};

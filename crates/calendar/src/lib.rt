@@ -1,5 +1,7 @@
 // Business days, and which calendars are sound: each function promises what a definition of `rules` says. A ledger's calendar
 // is its first year and its holidays.
+#![tactic(auto)]
+
 mod days;
 mod sound;
 

@@ -1,4 +1,6 @@
 // The close of a day. It is handed tables that are long enough and not damaged, and a record that was read.
+#![tactic(auto)]
+
 mod orders;
 
 ghost use Rattle.std.specs.Prelude.{◌≡◌, ◌*◌, ◌≤◌, length, get_or};

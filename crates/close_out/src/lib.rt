@@ -1,5 +1,7 @@
 // The close-out of a contract: netting among the defaulted, lots dealt out to the others. It is handed tables that are
 // long enough and not damaged, and a record that was read.
+#![tactic(auto)]
+
 mod booking;
 mod defaulted;
 mod netting;

@@ -1,4 +1,6 @@
 // Columns of a contract's lots, and the weights by days. They are handed tables that are long enough and not damaged.
+#![tactic(auto)]
+
 mod columns;
 mod weights;
 

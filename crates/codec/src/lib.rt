@@ -1,4 +1,6 @@
 // The records of a journal: read, written, and found one after the other.
+#![tactic(auto)]
+
 mod legs;
 mod read;
 mod sound;

@@ -1,4 +1,6 @@
 // Which contracts are still to close on a day, and the phase of each: closed, closing or later.
+#![tactic(auto)]
+
 mod by_contract;
 mod least_days;
 

@@ -1,4 +1,6 @@
 // Day limits of a contract. It is handed tables that are long enough and not damaged, and a record that was read.
+#![tactic(auto)]
+
 ghost use Rattle.std.specs.Prelude.{◌≡◌, ◌≤◌, ◌<◌, length};
 ghost use Rattle.rules.specs.Ranges.{contract_count};
 ghost use Rattle.rules.specs.Ledger.{Tables, with_head, with_prices, prices_length};

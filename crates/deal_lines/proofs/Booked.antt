@@ -7,7 +7,7 @@ use native.Mathlib.Nat.{add-zero, zero-add, add_assoc}
 use lib.IntN.{ℤ, pos, nat_abs, ◌+ℤ◌}
 use lib.ListN.{length, get_or, set, length-set}
 use lib.Seq.{get_or-set_same, get_or-set_other, set-set}
-use Rattle.arith.specs.Lists.{over, total}
+use Rattle.arith.specs.Lists.{total}
 use Rattle.arith.proofs.Sizes.{abs_plus}
 use Rattle.arith.proofs.Tests.{same_or}
 use Rattle.arith.proofs.Appends.{flat_append, flat_one, flat_length}

@@ -1,4 +1,6 @@
 // Lots given up by defaulted members, and lots dealt out to the others in turns.
+#![tactic(auto)]
+
 mod columns;
 mod level;
 mod minimums;

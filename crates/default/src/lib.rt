@@ -1,4 +1,6 @@
 // The default of a member. It is handed tables that are long enough and not damaged, and a record that was read.
+#![tactic(auto)]
+
 ghost use Rattle.std.specs.Prelude.{◌≡◌, ◌<◌};
 ghost use Rattle.rules.specs.Ledger.{Tables, with_head, with_book};
 ghost use Rattle.rules.specs.Refusals.{default_spec};

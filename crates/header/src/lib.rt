@@ -1,4 +1,6 @@
 // The header of a journal: which are sound, reading and writing.
+#![tactic(auto)]
+
 mod journal;
 mod reader;
 mod writer;

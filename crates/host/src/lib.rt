@@ -1,4 +1,6 @@
 // The ledger for a host program in C. include/ledger.h declares these functions, docs/LAYOUT.md names every place.
+#![tactic(auto)]
+
 ghost use Rattle.std.specs.Prelude.{◌≡◌, List, ℤ};
 ghost use Rattle.rules.specs.Ledger.{lent};
 ghost use Rattle.host.specs.Entries.{Makes, Applies};

@@ -1,5 +1,7 @@
 // The journal program without its reading and writing: what stands in the input is run, what it prints is written over
 // the output. Nothing here reads or writes a file.
+#![tactic(auto)]
+
 mod advancing;
 mod beginning;
 mod record;

@@ -1,4 +1,6 @@
 // A journal in words: a line for its header and for each record, and the first field that is out of its range.
+#![tactic(auto)]
+
 mod lines;
 mod pieces;
 mod ranges;

@@ -1,4 +1,6 @@
 // Numbers of a journal in words.
-mod numbers;
+#![tactic(auto)]
 
-pub use numbers::{put_contract, put_price, put_time};
+mod in_words;
+
+pub use in_words::{put_contract, put_price, put_time};

@@ -1,4 +1,6 @@
 // The words that a line of the listing is made of.
+#![tactic(auto)]
+
 mod field;
 mod names;
 

@@ -1,4 +1,6 @@
 // An incoming order meets the orders of the book.
+#![tactic(auto)]
+
 mod columns;
 mod crossing;
 mod deals;

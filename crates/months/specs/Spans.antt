@@ -13,7 +13,7 @@ pub record IsSpan (s : Span) (k : Calendar) : Type 0 where
 abbrev pub IsSpanOf : Span → ℕ → Type 0
 IsSpanOf s year = (h : List ℕ) → IsSpan s (record { first_year = year; holidays = h })
 
--- Whether a day is one of a span's days; `lies_in` of proofs/Starts says that it is inSpan of a ledger's span.
+-- Whether a day is one of a span's days; `lies_in_lem` of proofs/Starts says that it is inSpan of a ledger's span.
 abbrev pub lies_in : Span → ℕ → Bool
 lies_in s d = leb s.start.0 d && ltb d s.end.0
 

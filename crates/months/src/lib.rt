@@ -1,5 +1,7 @@
 // The first days of the months, a constant table, and a ledger's span among them. The first year must be 2020 to 2094. All
 // callers are proved code; what reads a header or lent tables tests it first.
+#![tactic(auto)]
+
 mod months;
 mod span;
 

@@ -1,4 +1,6 @@
 // Headers and records as rows of numbers, for a host that knows no event.
+#![tactic(auto)]
+
 mod event;
 mod headers;
 mod numbers;

@@ -1,4 +1,6 @@
 // The smaller and the larger of two numbers, and the size of a signed one.
+#![tactic(auto)]
+
 ghost use Rattle.std.specs.Prelude.{◌≡◌, min, max, nat_abs};
 
 pub fn smaller(a: u64, b: u64) -> u64

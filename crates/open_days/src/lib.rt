@@ -1,5 +1,7 @@
 // The delivery days of all open contracts at once: the table of months is read once, and business days are counted once
 // for each kind.
+#![tactic(auto)]
+
 ghost use Rattle.std.specs.Prelude.{◌≡◌, cond, ℕ, ◌+◌, ◌-◌, length};
 ghost use Rattle.rules.specs.Ranges.{term_count, months_in_span};
 ghost use Rattle.rules.specs.Days.{Calendar};

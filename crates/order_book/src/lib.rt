@@ -1,4 +1,6 @@
 // The order book: resting orders read and written, and orders that leave. docs/LAYOUT.md has every place.
+#![tactic(auto)]
+
 mod leaving;
 mod orders;
 

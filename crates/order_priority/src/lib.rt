@@ -1,4 +1,6 @@
 // Which orders an incoming one meets, and in which order.
+#![tactic(auto)]
+
 ghost use Rattle.std.specs.Prelude.{◌≡◌, ◌≤◌};
 ghost use Rattle.rules.specs.Ranges.{most_price};
 ghost use Rattle.rules.specs.Matching.{opposes, meets};

@@ -1,4 +1,6 @@
 // The lines that the journal program prints, over a lent slice of bytes. Each writer answers the place after its line.
+#![tactic(auto)]
+
 ghost use mathlib.Core.List.{[], ◌∷◌, flat_map};
 ghost use Rattle.std.specs.Prelude.{◌+◌, ◌*◌, ◌≤◌, length};
 ghost use Rattle.rules.specs.Journal.{head_text, deal_text, refusal_text, end_text};

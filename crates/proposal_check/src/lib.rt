@@ -1,4 +1,6 @@
 // Whether a synthetic proposal is acceptable. It is handed tables that are long enough and not damaged, and legs in their ranges.
+#![tactic(auto)]
+
 mod acceptable;
 mod balance;
 mod columns;

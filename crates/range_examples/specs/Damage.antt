@@ -1,6 +1,6 @@
 -- Document 01, "A table is damaged if": places of the tables, each with numbers that are sound there and numbers that are damage.
 -- The places are those of docs/LAYOUT.md, and every number is written out by hand.
-use Rattle.std.specs.Prelude.{ℕ, ◌≡◌, refl, Bool, true, false, List, [], ◌∷◌, ◌++◌, map, set, replicate, ℤ, pos, negsuc}
+use Rattle.std.specs.Prelude.{ℕ, ◌≡◌, refl, true, false, List, [], ◌∷◌, ◌++◌, map, set, replicate, ℤ, pos, negsuc}
 use Rattle.arith.specs.Lists.{from}
 use Rattle.rules.specs.declared.order.Side.TheVariants.{Buy, Sell}
 use Rattle.rules.specs.Ledger.{Tables, with_book, with_rows, with_accepted_submits, with_lots_run, with_ggf, with_day_limits, with_dealt, with_orders}

@@ -1,6 +1,6 @@
 -- Document 01, "Fresh: zero rows, counts and GGFs, empty book, no marks, low 1, high 1,000,000, the start day, time 0 … surplus places
 -- stay untouched": a ledger made in tables that hold 9 everywhere.
-use Rattle.std.specs.Prelude.{ℕ, ◌≡◌, refl, List, [], ◌∷◌, map, get_or, replicate, ℤ, pos}
+use Rattle.std.specs.Prelude.{◌≡◌, refl, List, [], ◌∷◌, map, get_or, replicate, ℤ, pos}
 use Rattle.rules.specs.Header.{header_bytes}
 use Rattle.rules.specs.Ledger.{Tables, lent}
 use Rattle.rules.specs.Refusals.{make_spec}

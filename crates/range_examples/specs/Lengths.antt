@@ -1,6 +1,6 @@
 -- Document 01, "a lent table too short … or under 200 places for lines": the least length of each table, and one place less.
 -- Each number is written out by hand from docs/LAYOUT.md.
-use Rattle.std.specs.Prelude.{ℕ, ◌≡◌, refl, List, [], ◌∷◌, take}
+use Rattle.std.specs.Prelude.{ℕ, refl, [], ◌∷◌, take}
 use Rattle.rules.specs.Answers.{reply_of}
 use Rattle.rules.specs.Ledger.{Tables, with_head, with_prices, with_rows, with_book, with_lines}
 use Rattle.rules.specs.Refusals.{apply_spec, make_spec}

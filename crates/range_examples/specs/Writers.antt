@@ -1,5 +1,5 @@
 -- Document 01, "The writer tests 3 before a short output (1) and writes nothing on either; bytes past a record stay untouched".
-use Rattle.std.specs.Prelude.{ℕ, ◌≡◌, refl, List, [], ◌∷◌, ◌++◌, replicate}
+use Rattle.std.specs.Prelude.{ℕ, refl, List, [], ◌∷◌, ◌++◌, replicate}
 use Rattle.rules.specs.declared.event.Event.{Event}
 use Rattle.rules.specs.declared.event.Event.TheVariants.{Cancel, Proposal, Default, CloseOfDay}
 use Rattle.rules.specs.declared.event.Leg.{Leg}

@@ -1,1 +1,3 @@
+#![tactic(auto)]
+
 // Examples of rules only, in specs/.

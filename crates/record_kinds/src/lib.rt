@@ -1,4 +1,6 @@
 // Each kind of record: its fields, the numbers of its event, and how many bytes it takes.
+#![tactic(auto)]
+
 mod fields;
 mod lengths;
 mod numbers;

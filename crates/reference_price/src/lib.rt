@@ -1,4 +1,6 @@
 // The GGF, the reference price, of the open contracts: which orders quote, and what is written at the close of a day.
+#![tactic(auto)]
+
 mod prices;
 mod quotes;
 

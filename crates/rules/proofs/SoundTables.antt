@@ -7,7 +7,7 @@ use native.Mathlib.Omega.{arith}
 use lib.Dec.{ltb}
 use lib.ListN.{length}
 use borrow.Author.Tests.{leb-true, ltb-true, ltb-false, lt-ltb, le-leb, le-ltb, not-false}
-use Rattle.arith.specs.Lists.{All, from}
+use Rattle.arith.specs.Lists.{All}
 use Rattle.arith.proofs.Alls.{all_hold, hold_all, all_map, every_all}
 use Rattle.arith.proofs.Among.{every_from}
 use Rattle.arith.proofs.Tests.{or_left, or_right, passed, passes}

@@ -1,4 +1,6 @@
 // The types of the ledger, as every crate uses them. What they mean is said in specs/.
+#![tactic(auto)]
+
 mod answer;
 mod contract;
 mod event;

@@ -1,4 +1,6 @@
 // Buy and sell, in a record and in the book.
+#![tactic(auto)]
+
 ghost use Rattle.std.specs.Prelude.{◌≡◌, ◌<◌};
 ghost use Rattle.rules.specs.Sides.{side_number, side_of, same_side, other_side};
 

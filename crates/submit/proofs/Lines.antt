@@ -1,13 +1,13 @@
 -- The deals booked one after the other: what holds when those before deal k are booked. Assumes nothing.
 use mathlib.Core.Path.{◌≡◌, refl, sym, ap, subst, ◌∙◌}
 use mathlib.Core.List.{List, [], ◌∷◌, ◌++◌, flat_map}
-use Prim.Native.Nat.{ℕ, ◌+◌, ◌*◌, ◌-◌, ◌≤◌, ◌<◌}
+use Prim.Native.Nat.{ℕ, ◌+◌, ◌*◌, ◌-◌, ◌<◌}
 use native.Mathlib.Omega.{arith}
 use lib.IntN.{ℤ}
 use lib.ListN.{length, length-append}
 use Rattle.arith.specs.Lists.{from, total}
 use Rattle.rules.specs.declared.order.Order.{Order}
-use Rattle.rules.specs.Ranges.{contract_count, most_lots, most_price, least_lines}
+use Rattle.rules.specs.Ranges.{most_lots}
 use Rattle.rules.specs.Ledger.{Tables, with_head, with_rows, with_lines, zero_tables, lots_run_place, booked}
 use Rattle.rules.specs.Sides.{other_side}
 use Rattle.rules.proofs.LinesRun.{booked_none}

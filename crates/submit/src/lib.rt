@@ -1,4 +1,6 @@
 // A submit. It is handed tables that are long enough and not damaged, and a record that was read.
+#![tactic(auto)]
+
 mod booking;
 mod deals;
 mod placing;

@@ -1,4 +1,6 @@
 // The causes of a submit. They are handed tables that are long enough and not damaged, and a record that was read.
+#![tactic(auto)]
+
 mod causes;
 mod position;
 

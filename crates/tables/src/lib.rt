@@ -1,5 +1,7 @@
 // The lent tables: whether they are long enough, what is read and written in the head, and places set to zero.
 // docs/LAYOUT.md has every place.
+#![tactic(auto)]
+
 mod clearing;
 mod head;
 mod lengths;

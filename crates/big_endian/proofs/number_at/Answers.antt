@@ -1,7 +1,6 @@
 use native.Mathlib.Omega.{arith}
 use Rattle.rules.specs.Fields.{number_at}
 use Rattle.big_endian.proofs.Widths.{is_four}
-use borrow.Author.Rules.{rules}
 use Rattle.big_endian.proofs.number_at.Goals as goal
 
 pub u32_at-requires : goal.u32_at-requires

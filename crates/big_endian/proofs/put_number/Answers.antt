@@ -1,7 +1,6 @@
 use native.Mathlib.Omega.{arith}
 use Rattle.rules.specs.Fields.{number_bytes}
 use Rattle.big_endian.proofs.Widths.{is_four}
-use borrow.Author.Rules.{rules}
 use Rattle.big_endian.proofs.put_number.Goals as goal
 
 pub put_u8-requires : goal.put_u8-requires

@@ -1,6 +1,5 @@
 use mathlib.Core.Path.{refl}
 use native.Mathlib.Omega.{arith}
-use borrow.Author.Rules.{rules}
 use Rattle.rules.specs.Header.{u16_bytes}
 use Rattle.arith.proofs.Beside.{over_next}
 use Rattle.big_endian.proofs.put_u16.Goals as goal

@@ -1,5 +1,4 @@
 use native.Mathlib.Numerals.{add-one}
-use borrow.Author.Rules.{rules}
 use lib.Seq.{set_split}
 use Rattle.arith.specs.Lists.{over}
 use Rattle.big_endian.proofs.put_u8.Goals as goal

@@ -1,5 +1,4 @@
 use native.Mathlib.Omega.{arith}
-use borrow.Author.Rules.{rules}
 use Rattle.rules.specs.Header.{u16_at}
 use Rattle.big_endian.proofs.u16_at.Goals as goal
 

@@ -1,5 +1,4 @@
 use native.Mathlib.Omega.{arith}
-use borrow.Author.Rules.{rules}
 use Rattle.rules.specs.Header.{u32_at}
 use Rattle.big_endian.proofs.u32_at.Goals as goal
 

@@ -3,12 +3,11 @@ use Rattle.tables.specs.Fit.{OrdersFit}
 use mathlib.Core.Path.{sym, ap, subst, ◌∙◌}
 use native.Mathlib.Omega.{arith}
 use lib.ListN.{get_or}
-use borrow.Author.Tests.{lt-ltb, le-ltb, not-true, not-false}
+use borrow.Author.Tests.{lt-ltb, le-ltb}
 use Rattle.rules.specs.Ledger.{orders, with_head, with_book, zero_tables}
 use Rattle.rules.specs.Refusals.{cancel_spec}
 use Rattle.rules.proofs.LinesRun.{booked_none}
 use Rattle.tables.proofs.Heads.{orders_fit, timed_place}
-use borrow.Author.Rules.{rules}
 use Rattle.cancel.proofs.apply.Goals as goal
 
 pub returns-then-time-head : goal.returns-then-time-head

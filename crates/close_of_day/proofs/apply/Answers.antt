@@ -7,7 +7,6 @@ use native.Mathlib.Omega.{arith}
 use lib.ListN.{get_or}
 use borrow.Author.Tests.{lt-ltb}
 use Rattle.rules.specs.Refusals.{close_spec}
-use borrow.Author.Rules.{rules}
 use Rattle.close_of_day.proofs.apply.Goals as goal
 
 pub returns-then-time-head : goal.returns-then-time-head

@@ -2,7 +2,6 @@ use native.Mathlib.Omega.{arith}
 use lib.ListN.{length-set}
 use Rattle.rules.specs.Ledger.{without_submits}
 use Rattle.rules.specs.CloseOfDay.{on_day}
-use borrow.Author.Rules.{rules}
 use Rattle.close_of_day.proofs.begin_day.Goals as goal
 
 pub bounds-head-4 : goal.bounds-head-4

@@ -11,7 +11,6 @@ use Rattle.tables.specs.Fit.{orders_in}
 use Rattle.contract_phases.specs.Phases.{closes, closing}
 use Rattle.contract_phases.proofs.Phases.{phases_length}
 use Rattle.close_of_day.proofs.Closes.{book_reads, closed_is}
-use borrow.Author.Rules.{rules}
 use Rattle.close_of_day.proofs.close.Goals as goal
 
 pub cascade_all-requires : goal.cascade_all-requires

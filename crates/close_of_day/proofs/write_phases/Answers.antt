@@ -2,7 +2,6 @@ use mathlib.Core.Path.{◌≡◌}
 use Prim.Native.Nat.{◌+◌, ◌-◌}
 use native.Mathlib.Omega.{arith}
 use lib.ListN.{get_or}
-use borrow.Author.Rules.{rules}
 use Rattle.arith.proofs.Tests.{and_left}
 use Rattle.rules.specs.Days.{in_span, business_day}
 use Rattle.rules.specs.Header.{day_sound}

@@ -3,8 +3,6 @@ use mathlib.Core.Path.{◌≡◌, sym, ap, ◌∙◌}
 use native.Mathlib.Omega.{arith}
 use native.Mathlib.Nat.{add-zero}
 use lib.ListN.{get_or, length-take}
-use borrow.Author.Tests.{not-true, not-false}
-use borrow.Author.Rules.{rules}
 use Rattle.rules.specs.Ledger.{price_width, with_prices, with_rows, with_lines}
 use Rattle.close_out.proofs.Running.{put}
 use Rattle.close_out.proofs.Verdicts.{not_open, no_reference}

@@ -1,10 +1,7 @@
-use Prim.Native.Nat.{◌*◌, ◌≤◌}
 use mathlib.Core.Path.{◌∙◌}
 use native.Mathlib.Omega.{arith}
-use Rattle.rules.specs.Ranges.{most_members, most_lots_run}
 use Rattle.deal_lines.proofs.Takes.{with_room}
 use Rattle.close_out.proofs.Verdicts.{rows_fit, most_netted, most_remaining, no_lots, no_taker, passed, booked_so, dealable}
-use borrow.Author.Rules.{rules}
 use Rattle.close_out.proofs.close_out_lots.Goals as goal
 
 pub find_defaulted-found-requires : goal.find_defaulted-found-requires

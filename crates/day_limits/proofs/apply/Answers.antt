@@ -1,11 +1,9 @@
 use mathlib.Core.Path.{sym, ◌∙◌}
-use borrow.Author.Tests.{not-true, not-false}
 use lib.ListN.{length-set}
 use native.Mathlib.Omega.{arith}
 use Rattle.rules.specs.Ledger.{with_prices}
 use Rattle.rules.specs.Refusals.{day_limits_spec}
 use Rattle.rules.proofs.LinesRun.{booked_none}
-use borrow.Author.Rules.{rules}
 use Rattle.day_limits.proofs.apply.Goals as goal
 
 pub returns-then-not-is_contract_open : goal.returns-then-not-is_contract_open

@@ -11,7 +11,6 @@ use Rattle.rules.specs.Default.{default_booked}
 use Rattle.rules.specs.Refusals.{default_spec}
 use Rattle.rules.proofs.LinesRun.{booked_none}
 use Rattle.tables.proofs.Heads.{orders_fit}
-use borrow.Author.Rules.{rules}
 use Rattle.default.proofs.apply.Goals as goal
 
 pub returns-then-head-at-eq-DEFAULT_MARK : goal.returns-then-head-at-eq-DEFAULT_MARK

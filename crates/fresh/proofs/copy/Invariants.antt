@@ -1,10 +1,7 @@
-use borrow.Author.Rules.{rules}
-use native.Mathlib.Omega.{arith}
-use mathlib.Core.Path.{◌≡◌, refl, ◌∙◌}
+use mathlib.Core.Path.{◌≡◌}
 use mathlib.Core.List.{◌++◌}
 use Prim.Native.Nat.{◌-◌, ◌≤◌}
-use lib.ListN.{length, take, drop, length-set}
-use Rattle.arith.proofs.Writes.{front_next, front_end}
+use lib.ListN.{length, take, drop}
 use Rattle.fresh.proofs.copy.Given as goal
 
 abbrev pub invariant-loop-i : goal.invariant-loop-i

@@ -2,7 +2,6 @@ use native.Mathlib.Omega.{arith}
 use Prim.Native.Nat.{◌+◌, ◌-◌}
 use lib.ListN.{length}
 use Rattle.arith.proofs.Writes.{came_back}
-use borrow.Author.Rules.{rules}
 use Rattle.fresh.proofs.write_at.Goals as goal
 
 pub returns : goal.returns

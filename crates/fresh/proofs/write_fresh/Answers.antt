@@ -1,5 +1,4 @@
 use Rattle.rules.specs.Ledger.{fresh}
-use borrow.Author.Rules.{rules}
 use Rattle.fresh.proofs.write_fresh.Goals as goal
 
 pub returns : goal.returns

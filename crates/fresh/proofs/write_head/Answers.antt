@@ -1,5 +1,4 @@
 use Rattle.rules.specs.Ledger.{fresh_head}
-use borrow.Author.Rules.{rules}
 use Rattle.fresh.proofs.write_head.Goals as goal
 
 pub returns : goal.returns

@@ -2,7 +2,6 @@ use native.Mathlib.Omega.{arith}
 use mathlib.Core.List.{[], ◌∷◌}
 use lib.ListN.{length-set}
 use Rattle.arith.proofs.Writes.{stored}
-use borrow.Author.Rules.{rules}
 use Rattle.fresh.proofs.write_numbers.Goals as goal
 
 pub bounds-head-1 : goal.bounds-head-1

@@ -1,11 +1,10 @@
-use borrow.Author.Rules.{rules}
 use native.Mathlib.Nat.{add-zero}
 use native.Mathlib.Omega.{arith}
 use native.Mathlib.Numerals.{add-one, add-two, add-three, add-four}
 use mathlib.Core.Path.{◌≡◌, refl, ◌∙◌}
 use mathlib.Core.List.{List, [], ◌∷◌}
-use Prim.Native.Nat.{ℕ, ◌*◌, ◌-◌, ◌≤◌}
-use lib.ListN.{length, take, drop, length-set, length-take}
+use Prim.Native.Nat.{ℕ, ◌*◌, ◌-◌}
+use lib.ListN.{take, drop, length-set, length-take}
 use Rattle.arith.specs.Lists.{in_each_block}
 use Rattle.rules.specs.Ledger.{price_width}
 use Rattle.rules.specs.Ranges.{contract_count, most_price}

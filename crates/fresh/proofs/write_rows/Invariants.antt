@@ -1,16 +1,9 @@
-use borrow.Author.Rules.{rules}
-use native.Mathlib.Omega.{arith}
-use native.Mathlib.Numerals.{add-one}
-use mathlib.Core.Path.{◌≡◌, refl, ◌∙◌}
-use Prim.Native.Nat.{◌*◌, ◌-◌, ◌≤◌}
+use mathlib.Core.Path.{◌≡◌}
+use Prim.Native.Nat.{◌-◌, ◌≤◌}
 use lib.IntN.{pos}
-use lib.ListN.{length, take, drop, replicate, length-replicate}
+use lib.ListN.{length, replicate}
 use Rattle.arith.specs.Lists.{over, in_each_block}
-use Rattle.arith.proofs.Overs.{over_length}
-use Rattle.rules.specs.Ledger.{row_width}
 use Rattle.rules.specs.Ranges.{contract_count}
-use Rattle.rules.specs.Ledger.{fresh_rows}
-use Rattle.arith.proofs.Writes.{filled, over_front, block_written}
 use Rattle.fresh.proofs.write_rows.Given as goal
 
 abbrev pub invariant-loop-contract : goal.invariant-loop-contract

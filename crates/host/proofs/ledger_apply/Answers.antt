@@ -1,5 +1,4 @@
 use Rattle.host.proofs.Answers.{answered}
-use borrow.Author.Rules.{rules}
 use Rattle.host.proofs.ledger_apply.Goals as goal
 
 pub returns : goal.returns

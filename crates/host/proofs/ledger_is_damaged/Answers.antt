@@ -1,4 +1,3 @@
-use borrow.Author.Rules.{rules}
 use Rattle.host.specs.Sent.{damage_number}
 use Rattle.host.proofs.ledger_is_damaged.Goals as goal
 

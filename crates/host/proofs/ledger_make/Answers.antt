@@ -1,6 +1,5 @@
 use Rattle.rules.specs.Ledger.{lent}
 use Rattle.host.proofs.Answers.{made}
-use borrow.Author.Rules.{rules}
 use Rattle.host.proofs.ledger_make.Goals as goal
 
 pub returns : goal.returns

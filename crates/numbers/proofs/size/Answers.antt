@@ -1,5 +1,4 @@
 use native.Mathlib.Omega.{arith}
-use borrow.Author.Rules.{rules}
 use Rattle.arith.proofs.Negatives.{size_parts, flip_fits, flip_cast, flip_more, flip_size, up_below, positive_cast}
 use Rattle.numbers.proofs.size.Goals as goal
 

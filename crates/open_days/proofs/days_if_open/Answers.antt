@@ -1,7 +1,5 @@
 use mathlib.Core.Path.{sym, ◌∙◌}
 use native.Mathlib.Omega.{arith}
-use borrow.Author.Rules.{rules}
-use borrow.Author.Tests.{not-true, not-false}
 use Rattle.contract_phases.proofs.Least.{first_read}
 use Rattle.open_days.proofs.OpenDays.{after_read}
 use Rattle.open_days.proofs.days_if_open.Goals as goal

@@ -2,7 +2,6 @@ use Prim.Native.Nat.{ℕ}
 use mathlib.Core.Path.{ap, ◌∙◌}
 use mathlib.Core.List.{List}
 use lib.ListN.{get_or}
-use borrow.Author.Rules.{rules}
 use Rattle.rules.specs.Ranges.{months_in_span}
 use Rattle.rules.specs.Days.{Calendar}
 use Rattle.months.proofs.Starts.{starts_length, span_end, span_most, none_earlier}

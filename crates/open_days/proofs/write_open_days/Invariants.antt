@@ -1,12 +1,9 @@
 use Prim.Native.Nat.{ℕ, ◌-◌, ◌≤◌}
-use mathlib.Core.Path.{◌≡◌, refl, ◌∙◌}
+use mathlib.Core.Path.{◌≡◌}
 use mathlib.Core.Bool.{cond}
 use mathlib.Core.List.{◌++◌, map}
-use native.Mathlib.Omega.{arith}
-use lib.ListN.{length, take, length-set}
-use borrow.Author.Rules.{rules}
+use lib.ListN.{length, take}
 use Rattle.arith.specs.Lists.{from}
-use Rattle.arith.proofs.Columns.{mapped_next, mapped_end, written_next, written_end}
 use Rattle.rules.specs.declared.contract.ContractKind.{ContractKind}
 use Rattle.rules.specs.Ranges.{term_count}
 use Rattle.rules.specs.Days.{Calendar}
@@ -14,8 +11,6 @@ use Rattle.rules.specs.ContractTerms.{closing_distance, days_of, open_on}
 use Rattle.months.specs.Spans.{starts_of}
 use Rattle.contract_phases.specs.Least.{IsLeast, least_of}
 use Rattle.open_days.specs.OpenDays.{open_days}
-use Rattle.contracts.proofs.InLedger.{numbered}
-use Rattle.open_days.proofs.OpenDays.{days_by_number}
 use Rattle.open_days.proofs.write_open_days.Given as goal
 
 abbrev pub invariant-loop-contract : goal.invariant-loop-contract

@@ -1,5 +1,4 @@
 use Rattle.rules.specs.Matching.{meets}
-use borrow.Author.Rules.{rules}
 use Rattle.order_priority.proofs.does_meet.Goals as goal
 
 pub returns-in-Buy : goal.returns-in-Buy

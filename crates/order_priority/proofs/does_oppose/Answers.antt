@@ -1,6 +1,5 @@
 use borrow.Author.Tests.{eq-eqb, ne_eqb}
 use Rattle.rules.specs.Matching.{opposes}
-use borrow.Author.Rules.{rules}
 use Rattle.order_priority.proofs.does_oppose.Goals as goal
 
 pub returns-then-r-o : goal.returns-then-r-o

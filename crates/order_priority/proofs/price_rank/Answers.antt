@@ -1,4 +1,3 @@
-use borrow.Author.Rules.{rules}
 use Rattle.order_priority.proofs.price_rank.Goals as goal
 
 pub returns-in-Buy : goal.returns-in-Buy

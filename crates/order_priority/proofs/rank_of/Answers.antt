@@ -4,7 +4,6 @@ use Rattle.rules.specs.Ranges.{order_numbers_end}
 use Rattle.order_priority.proofs.Ranks.{price_below}
 use Rattle.order_priority.specs.Priority.{rank_of}
 use native.Mathlib.Omega.{arith}
-use borrow.Author.Rules.{rules}
 use Rattle.order_priority.proofs.rank_of.Goals as goal
 
 pub overflow_mul-result : goal.overflow_mul-result

@@ -1,7 +1,6 @@
 use native.Mathlib.Omega.{arith}
 use Rattle.rules.specs.Journal.{deal_text}
 use Rattle.printing.proofs.Lines.{begun, field, signed_field, ended}
-use borrow.Author.Rules.{rules}
 use Rattle.printing.proofs.put_deal.Goals as goal
 
 pub returns : goal.returns

@@ -1,13 +1,10 @@
-use borrow.Author.Rules.{rules}
 use Prim.Native.Nat.{◌+◌, ◌*◌, ◌-◌, ◌≤◌}
 use mathlib.Core.Path.{◌≡◌}
 use mathlib.Core.List.{flat_map}
-use native.Mathlib.Omega.{arith}
 use lib.ListN.{length}
 use Rattle.rules.specs.Journal.{deal_text}
 use Rattle.rules.specs.Ledger.{first_lines}
 use Rattle.text.specs.Wrote.{Wrote}
-use Rattle.printing.proofs.Lines.{line_read, deals_none, deals_next, deals_all}
 use Rattle.printing.proofs.put_deals.Given as goal
 
 abbrev pub invariant-loop-i : goal.invariant-loop-i

@@ -1,5 +1,4 @@
 use Rattle.rules.specs.Journal.{head_text}
-use borrow.Author.Rules.{rules}
 use Rattle.printing.proofs.put_head.Goals as goal
 
 pub returns : goal.returns

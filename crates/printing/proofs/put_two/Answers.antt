@@ -1,6 +1,5 @@
 use native.Mathlib.Omega.{arith}
 use Rattle.printing.proofs.Lines.{begun, field, ended}
-use borrow.Author.Rules.{rules}
 use Rattle.printing.proofs.put_two.Goals as goal
 
 pub returns : goal.returns

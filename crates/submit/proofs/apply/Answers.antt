@@ -1,9 +1,7 @@
-use mathlib.Core.Path.{◌≡◌, ◌∙◌}
+use mathlib.Core.Path.{◌∙◌}
 use native.Mathlib.Omega.{arith}
-use Rattle.rules.specs.Ledger.{Tables, with_head, with_prices, with_rows, with_book, with_lines}
-use Rattle.submit_causes.specs.declared.causes.Verdict.TheVariants.{Sound}
-use Rattle.submit.proofs.Applied.{Judged, refused_first, judged_both, refused_second, accepted}
-use borrow.Author.Rules.{rules}
+use Rattle.rules.specs.Ledger.{with_head, with_prices, with_rows, with_book, with_lines}
+use Rattle.submit.proofs.Applied.{refused_first, judged_both, refused_second, accepted}
 use Rattle.submit.proofs.apply.Goals as goal
 
 pub returns-in-Refused : goal.returns-in-Refused

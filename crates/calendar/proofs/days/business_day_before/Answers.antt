@@ -1,8 +1,5 @@
-use borrow.Author.Rules.{rules}
-use Prim.Native.Nat.{ℕ, ◌≤◌}
-use mathlib.Core.Path.{◌≡◌, refl, sym, ◌∙◌}
+use mathlib.Core.Path.{refl, sym, ◌∙◌}
 use native.Mathlib.Omega.{arith}
-use Rattle.rules.specs.Days.{business_day_before}
 use Rattle.calendar.proofs.Steps.{back_last, back_more, back_idle, back_end}
 use Rattle.calendar.proofs.days.business_day_before.Goals as goal
 

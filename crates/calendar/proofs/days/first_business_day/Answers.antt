@@ -1,7 +1,4 @@
-use borrow.Author.Rules.{rules}
-use Prim.Native.Nat.{ℕ, ◌-◌}
-use mathlib.Core.Path.{◌≡◌, refl, sym, ◌∙◌}
-use Rattle.rules.specs.Days.{first_business_day}
+use mathlib.Core.Path.{refl, sym, ◌∙◌}
 use Rattle.calendar.proofs.Steps.{next_here, next_more, next_end}
 use Rattle.calendar.proofs.days.first_business_day.Goals as goal
 

@@ -1,8 +1,6 @@
-use borrow.Author.Rules.{rules}
 use Prim.Native.Nat.{ℕ, ◌-◌}
-use mathlib.Core.Path.{◌≡◌, refl, sym, ◌∙◌}
+use mathlib.Core.Path.{◌≡◌}
 use Rattle.rules.specs.Days.{first_business_day}
-use Rattle.calendar.proofs.Steps.{next_here, next_more, next_end}
 use Rattle.calendar.proofs.days.first_business_day.Given as goal
 
 abbrev pub invariant-loop-x : goal.invariant-loop-x

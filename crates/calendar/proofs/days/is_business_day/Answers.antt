@@ -1,6 +1,5 @@
 use borrow.Author.Tests.{eq-eqb, ne_eqb}
 use Rattle.rules.specs.Days.{business_day}
-use borrow.Author.Rules.{rules}
 use Rattle.calendar.proofs.days.is_business_day.Goals as goal
 
 pub returns-then-weekday-eq-SATURDAY : goal.returns-then-weekday-eq-SATURDAY

@@ -1,11 +1,4 @@
-use borrow.Author.Rules.{rules}
-use Prim.Native.Nat.{◌≤◌, ◌-◌}
-use mathlib.Core.Path.{◌≡◌}
-use mathlib.Core.Bool.{◌||◌}
 use native.Mathlib.Omega.{arith}
-use lib.ListN.{length, drop}
-use lib.Dec.{eqb}
-use Rattle.arith.specs.Lists.{any}
 use Rattle.arith.proofs.Tests.{any_next, any_end}
 use Rattle.calendar.proofs.days.is_holiday.Goals as goal
 

@@ -1,6 +1,5 @@
 use mathlib.Core.Path.{sym, ◌∙◌}
 use Rattle.calendar.proofs.Steps.{next_past, next_start}
-use borrow.Author.Rules.{rules}
 use Rattle.calendar.proofs.days.next_business_day.Goals as goal
 
 pub returns-then-span-day : goal.returns-then-span-day

@@ -1,14 +1,10 @@
-use borrow.Author.Rules.{rules}
-use native.Mathlib.Omega.{arith}
-use mathlib.Core.Path.{◌≡◌, refl}
+use mathlib.Core.Path.{◌≡◌}
 use mathlib.Core.Bool.{◌&&◌}
 use Prim.Native.Nat.{◌-◌, ◌≤◌}
 use lib.ListN.{length, drop}
 use Rattle.arith.specs.Lists.{every}
-use Rattle.arith.proofs.Scans.{every_next, every_end}
 use Rattle.rules.specs.Days.{Calendar, in_span}
 use Rattle.months.specs.Spans.{IsSpan}
-use Rattle.months.proofs.Starts.{lies_in_lem}
 use Rattle.calendar.proofs.sound.are_in.Given as goal
 
 abbrev pub invariant-loop-i : goal.invariant-loop-i

@@ -1,10 +1,5 @@
-use borrow.Author.Rules.{rules}
 use native.Mathlib.Omega.{arith}
-use mathlib.Core.Path.{◌≡◌, refl}
-use mathlib.Core.Bool.{◌&&◌}
-use Prim.Native.Nat.{◌-◌, ◌≤◌}
-use lib.ListN.{length, drop}
-use Rattle.rules.specs.Header.{rising}
+use mathlib.Core.Path.{refl}
 use Rattle.rules.proofs.Rising.{rising_next, rising_end}
 use Rattle.calendar.proofs.sound.are_rising.Goals as goal
 

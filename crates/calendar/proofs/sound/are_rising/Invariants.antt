@@ -1,11 +1,8 @@
-use borrow.Author.Rules.{rules}
-use native.Mathlib.Omega.{arith}
-use mathlib.Core.Path.{◌≡◌, refl}
+use mathlib.Core.Path.{◌≡◌}
 use mathlib.Core.Bool.{◌&&◌}
 use Prim.Native.Nat.{◌-◌, ◌≤◌}
 use lib.ListN.{length, drop}
 use Rattle.rules.specs.Header.{rising}
-use Rattle.rules.proofs.Rising.{rising_next, rising_end}
 use Rattle.calendar.proofs.sound.are_rising.Given as goal
 
 abbrev pub invariant-loop-i : goal.invariant-loop-i

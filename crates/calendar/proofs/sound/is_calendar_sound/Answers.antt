@@ -1,6 +1,5 @@
 use borrow.Author.Tests.{le-leb, lt-leb}
 use Rattle.rules.specs.Header.{calendar_sound}
-use borrow.Author.Rules.{rules}
 use Rattle.calendar.proofs.sound.is_calendar_sound.Goals as goal
 
 pub returns-then-holidays-gt-MOST_HOLIDAYS : goal.returns-then-holidays-gt-MOST_HOLIDAYS

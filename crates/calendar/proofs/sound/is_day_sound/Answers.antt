@@ -1,4 +1,3 @@
-use borrow.Author.Rules.{rules}
 use Rattle.calendar.proofs.sound.is_day_sound.Goals as goal
 
 pub returns : goal.returns

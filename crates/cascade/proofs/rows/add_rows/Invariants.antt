@@ -1,14 +1,8 @@
-use borrow.Author.Rules.{rules}
-use mathlib.Core.Path.{◌≡◌, refl, sym, ◌∙◌, ap}
+use mathlib.Core.Path.{◌≡◌}
 use mathlib.Core.List.{◌++◌, zip_with}
 use Prim.Native.Nat.{◌+◌, ◌-◌, ◌≤◌}
-use native.Mathlib.Omega.{arith}
-use lib.ListN.{length, get_or, take, drop, set, length-set}
-use lib.IntN.{pos, ◌+ℤ◌}
-use Rattle.arith.proofs.Overs.{zip_at}
-use Rattle.arith.proofs.Signed.{add_ok, add_is}
-use Rattle.arith.proofs.Writes.{front_next, front_end}
-use Rattle.cascade.proofs.Cascades.{zip_short, front_rest}
+use lib.ListN.{length, take, drop}
+use lib.IntN.{◌+ℤ◌}
 use Rattle.cascade.proofs.rows.add_rows.Given as goal
 
 abbrev pub invariant-loop-i : goal.invariant-loop-i

@@ -7,7 +7,6 @@ use Rattle.arith.proofs.Writes.{came_back}
 use Rattle.rules.specs.CloseOfDay.{contract_rows}
 use Rattle.rules.proofs.Cascade.{rows_length_lem, rows_at}
 use Rattle.cascade.proofs.Cascades.{zip_short}
-use borrow.Author.Rules.{rules}
 use Rattle.cascade.proofs.rows.add_to_child.Goals as goal
 
 pub add_rows-requires : goal.add_rows-requires

@@ -1,15 +1,8 @@
-use borrow.Author.Rules.{rules}
-use mathlib.Core.Path.{refl, sym, ap, ◌∙◌}
 use Prim.Native.Nat.{◌-◌}
-use native.Mathlib.Omega.{arith}
-use lib.IntN.{pos}
-use lib.ListN.{length, get_or}
-use lib.Seq.{get_or-take}
+use lib.ListN.{length}
 use Rattle.arith.specs.Lists.{from}
-use Rattle.arith.proofs.Scans.{from_end}
 use Rattle.rules.specs.CloseOfDay.{added_to}
-use Rattle.rules.proofs.Cascade.{rows_at}
-use Rattle.cascade.proofs.Cascades.{Adding, adding_next}
+use Rattle.cascade.proofs.Cascades.{Adding}
 use Rattle.cascade.proofs.rows.add_to_children.Given as goal
 
 abbrev pub invariant-loop-child : goal.invariant-loop-child

@@ -6,7 +6,6 @@ use Rattle.rules.specs.Ranges.{term_count, contracts_in_year, quarters_in_year, 
 use Rattle.rules.specs.ContractTerms.{children_of}
 use Rattle.rules.specs.OtherForms.{first_month_of}
 use Rattle.rules.specs.CloseOfDay.{cascaded}
-use borrow.Author.Rules.{rules}
 use Rattle.cascade.proofs.rows.cascade.Goals as goal
 
 pub returns-then-k-eq0 : goal.returns-then-k-eq0

@@ -3,7 +3,6 @@ use native.Mathlib.Omega.{arith}
 use Rattle.rules.specs.declared.contract.ContractKind.TheVariants.{Year}
 use Rattle.cascade.specs.Rows.{most_row}
 use Rattle.cascade.proofs.Cascades.{kind_fit_after, all_closed}
-use borrow.Author.Rules.{rules}
 use Rattle.cascade.proofs.rows.cascade_all.Goals as goal
 
 pub cascade_kind-requires : goal.cascade_kind-requires

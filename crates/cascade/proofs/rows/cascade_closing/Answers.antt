@@ -1,5 +1,4 @@
 use borrow.Author.Tests.{eq-eqb, ne_eqb}
-use borrow.Author.Rules.{rules}
 use Rattle.cascade.proofs.rows.cascade_closing.Goals as goal
 
 pub returns-then-phase-eq-CLOSING : goal.returns-then-phase-eq-CLOSING

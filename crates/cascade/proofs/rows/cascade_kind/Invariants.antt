@@ -1,17 +1,11 @@
-use Rattle.cascade.proofs.Cascades.{kind_start, kind_end}
-use borrow.Author.Rules.{rules}
-use mathlib.Core.Path.{refl}
-use Prim.Native.Nat.{◌*◌, ◌-◌, ◌<◌}
-use native.Mathlib.Omega.{arith}
+use Prim.Native.Nat.{◌*◌, ◌-◌}
 use lib.ListN.{length}
 use Rattle.arith.specs.Lists.{kept}
-use Rattle.rules.specs.OtherForms.{contracts_in}
 use Rattle.rules.specs.ContractTerms.{contracts_of}
 use Rattle.rules.specs.CloseOfDay.{all_cascaded}
 use Rattle.contract_phases.specs.Phases.{closes}
-use Rattle.contract_phases.proofs.Phases.{number_below}
 use Rattle.cascade.specs.Rows.{most_row}
-use Rattle.cascade.proofs.Cascades.{KindRun, kind_next, number_parent}
+use Rattle.cascade.proofs.Cascades.{KindRun}
 use Rattle.cascade.proofs.rows.cascade_kind.Given as goal
 
 abbrev pub invariant-loop-i : goal.invariant-loop-i

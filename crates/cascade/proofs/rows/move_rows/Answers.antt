@@ -5,7 +5,6 @@ use Rattle.arith.specs.Lists.{from}
 use Rattle.arith.proofs.Writes.{filled}
 use Rattle.rules.specs.CloseOfDay.{added_to, zero_rows}
 use Rattle.rules.proofs.Cascade.{added_length}
-use borrow.Author.Rules.{rules}
 use Rattle.cascade.proofs.rows.move_rows.Goals as goal
 
 pub returns : goal.returns

@@ -1,8 +1,8 @@
 use borrow.Author.Rules.{rules}
 use mathlib.Core.Path.{◌≡◌, refl}
-use Prim.Native.Nat.{◌+◌, ◌-◌, ◌≤◌}
+use Prim.Native.Nat.{◌+◌, ◌-◌}
 use native.Mathlib.Omega.{arith}
-use lib.ListN.{length, get_or, take, drop, length-drop, length-set}
+use lib.ListN.{get_or, drop, length-drop, length-set}
 use lib.Seq.{get_or-drop}
 use lib.IntN.{pos}
 use Rattle.arith.proofs.Signed.{back_mag}

@@ -1,12 +1,6 @@
-use borrow.Author.Rules.{rules}
-use mathlib.Core.Path.{◌≡◌, refl}
-use Prim.Native.Nat.{◌+◌, ◌-◌, ◌≤◌}
-use native.Mathlib.Omega.{arith}
-use lib.ListN.{length, get_or, take, drop, length-drop, length-set}
-use lib.Seq.{get_or-drop}
-use lib.IntN.{pos}
-use Rattle.arith.proofs.Signed.{back_mag}
-use Rattle.cascade.proofs.Cascades.{take_more}
+use mathlib.Core.Path.{◌≡◌}
+use Prim.Native.Nat.{◌-◌, ◌≤◌}
+use lib.ListN.{length, take, drop}
 use Rattle.cascade.proofs.rows.rows_from.Given as goal
 
 abbrev pub invariant-loop-i : goal.invariant-loop-i

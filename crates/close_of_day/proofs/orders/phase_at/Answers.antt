@@ -1,6 +1,5 @@
 use mathlib.Core.Path.{sym}
 use lib.ListN.{get_or-eq_default}
-use borrow.Author.Rules.{rules}
 use Rattle.close_of_day.proofs.orders.phase_at.Goals as goal
 
 pub returns-then-column-contract : goal.returns-then-column-contract

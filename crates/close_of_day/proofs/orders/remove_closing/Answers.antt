@@ -9,7 +9,6 @@ use Rattle.rules.specs.declared.order.Order.{Order}
 use Rattle.rules.specs.Ledger.{with_head, with_book, with_orders}
 use Rattle.order_book.proofs.Left.{all_orders, column_long, column_many, column_kept}
 use Rattle.contract_phases.specs.Phases.{closes}
-use borrow.Author.Rules.{rules}
 use Rattle.close_of_day.proofs.orders.remove_closing.Goals as goal
 
 pub slice_bounds-write_left-end : goal.slice_bounds-write_left-end

@@ -1,15 +1,9 @@
-use borrow.Author.Rules.{rules}
-use mathlib.Core.Bool.{Bool, cond}
-use mathlib.Core.Path.{◌≡◌, refl, sym, ap, ◌∙◌}
+use mathlib.Core.Path.{◌≡◌}
 use mathlib.Core.List.{◌++◌}
 use Prim.Native.Nat.{◌-◌, ◌≤◌}
-use native.Mathlib.Omega.{arith}
-use lib.ListN.{length, take, drop, get_or, length-set}
-use Rattle.arith.proofs.Writes.{front_next, front_end}
-use Rattle.rules.specs.declared.order.Order.{Order}
+use lib.ListN.{length, take, drop}
 use Rattle.tables.specs.Fit.{orders_in}
 use Rattle.order_book.specs.Left.{staying}
-use Rattle.order_book.proofs.Left.{staying_length, staying_at}
 use Rattle.contract_phases.specs.Phases.{closes}
 use Rattle.close_of_day.proofs.orders.write_left.Given as goal
 

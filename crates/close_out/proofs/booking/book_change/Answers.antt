@@ -2,7 +2,6 @@ use Prim.Native.Nat.{◌<◌}
 use mathlib.Core.Path.{sym, ◌∙◌}
 use native.Mathlib.Omega.{arith}
 use Rattle.deal_lines.proofs.Takes.{less_room}
-use borrow.Author.Rules.{rules}
 use Rattle.close_out.proofs.Changes.{same_none, more_bought, more_sold, each_none, each_one}
 use Rattle.close_out.proofs.booking.book_change.Goals as goal
 

@@ -1,11 +1,10 @@
 use Prim.Native.Nat.{◌-◌}
-use mathlib.Core.Path.{◌≡◌, refl, sym, ap, ◌∙◌}
+use mathlib.Core.Path.{refl, sym, ap, ◌∙◌}
 use native.Mathlib.Omega.{arith}
 use lib.ListN.{length}
-use borrow.Author.Rules.{rules}
 use Rattle.close_out.proofs.Changes.{lines_end, sum_next, each_none}
 use Rattle.deal_lines.proofs.Takes.{less_room}
-use Rattle.close_out.proofs.Running.{put, Running, running_next}
+use Rattle.close_out.proofs.Running.{running_next}
 use Rattle.close_out.proofs.booking.book_changes.Goals as goal
 
 pub loop-member-init : goal.loop-member-init

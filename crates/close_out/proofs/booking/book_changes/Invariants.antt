@@ -1,11 +1,7 @@
 use Prim.Native.Nat.{◌-◌}
-use mathlib.Core.Path.{◌≡◌, refl, sym, ap, ◌∙◌}
-use native.Mathlib.Omega.{arith}
+use mathlib.Core.Path.{◌≡◌}
 use lib.ListN.{length}
-use borrow.Author.Rules.{rules}
-use Rattle.close_out.proofs.Changes.{lines_end, sum_next, each_none}
-use Rattle.deal_lines.proofs.Takes.{less_room}
-use Rattle.close_out.proofs.Running.{put, Running, running_next}
+use Rattle.close_out.proofs.Running.{put, Running}
 use Rattle.close_out.proofs.booking.book_changes.Given as goal
 
 abbrev pub invariant-loop-member : goal.invariant-loop-member

@@ -1,6 +1,5 @@
 use Rattle.close_out_weights.specs.declared.columns.Part.TheVariants.{DefaultedLongs, DefaultedShorts}
 use Rattle.close_out.proofs.Verdicts.{read_fits, defaulted_found}
-use borrow.Author.Rules.{rules}
 use Rattle.close_out.proofs.defaulted.find_defaulted.Goals as goal
 
 pub sum_of-long-requires : goal.sum_of-long-requires

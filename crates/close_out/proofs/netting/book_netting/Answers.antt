@@ -1,6 +1,5 @@
 use native.Mathlib.Omega.{arith}
 use lib.ListN.{length-take}
-use borrow.Author.Rules.{rules}
 use Rattle.close_out.proofs.netting.book_netting.Goals as goal
 
 pub slice_bounds-given_longs-end : goal.slice_bounds-given_longs-end

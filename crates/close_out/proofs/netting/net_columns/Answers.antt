@@ -1,6 +1,5 @@
 use mathlib.Core.Path.{sym, ◌∙◌}
 use native.Mathlib.Omega.{arith}
-use borrow.Author.Rules.{rules}
 use Rattle.close_out.proofs.StepColumns.{netting_count, netting_tables, netting_room, remaining_is, given_fits}
 use Rattle.deal_lines.proofs.Takes.{less_room}
 use Rattle.close_out.proofs.netting.net_columns.Goals as goal

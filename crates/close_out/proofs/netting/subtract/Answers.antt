@@ -1,11 +1,8 @@
-use Prim.Native.Nat.{◌+◌, ◌-◌, ◌≤◌}
-use mathlib.Core.Path.{◌≡◌, refl}
-use mathlib.Core.List.{◌++◌}
+use Prim.Native.Nat.{◌-◌}
+use mathlib.Core.Path.{refl}
 use native.Mathlib.Omega.{arith}
-use lib.ListN.{length, take, drop, length-set}
-use borrow.Author.Rules.{rules}
+use lib.ListN.{length-set}
 use Rattle.arith.proofs.Columns.{written_next, written_end}
-use Rattle.rules.specs.Default.{less}
 use Rattle.close_out_weights.proofs.Still.{still_at, still_after}
 use Rattle.close_out.proofs.StepColumns.{less_end, remaining_next}
 use Rattle.close_out.proofs.netting.subtract.Goals as goal

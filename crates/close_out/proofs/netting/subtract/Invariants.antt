@@ -1,13 +1,8 @@
 use Prim.Native.Nat.{◌+◌, ◌-◌, ◌≤◌}
-use mathlib.Core.Path.{◌≡◌, refl}
+use mathlib.Core.Path.{◌≡◌}
 use mathlib.Core.List.{◌++◌}
-use native.Mathlib.Omega.{arith}
-use lib.ListN.{length, take, drop, length-set}
-use borrow.Author.Rules.{rules}
-use Rattle.arith.proofs.Columns.{written_next, written_end}
+use lib.ListN.{length, take, drop}
 use Rattle.rules.specs.Default.{less}
-use Rattle.close_out_weights.proofs.Still.{still_at, still_after}
-use Rattle.close_out.proofs.StepColumns.{less_end, remaining_next}
 use Rattle.close_out.proofs.netting.subtract.Given as goal
 
 abbrev pub invariant-loop-i : goal.invariant-loop-i

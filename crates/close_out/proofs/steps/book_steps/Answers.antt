@@ -1,5 +1,4 @@
 use native.Mathlib.Omega.{arith}
-use borrow.Author.Rules.{rules}
 use Rattle.deal_lines.proofs.Takes.{less_room}
 use Rattle.close_out.proofs.StepBooking.{remaining_column, second_requires, takers_requires, finish, done}
 use Rattle.close_out.proofs.steps.book_steps.Goals as goal

@@ -1,6 +1,5 @@
 use native.Mathlib.Omega.{arith}
 use lib.ListN.{length, length-take}
-use borrow.Author.Rules.{rules}
 use Rattle.close_out_weights.proofs.Still.{zeros_front}
 use Rattle.close_out.proofs.takers.book_takers.Goals as goal
 

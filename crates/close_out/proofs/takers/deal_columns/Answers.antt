@@ -1,7 +1,6 @@
 use mathlib.Core.Path.{◌≡◌, sym, ap, ◌∙◌}
 use native.Mathlib.Omega.{arith}
 use lib.ListN.{length, length-replicate}
-use borrow.Author.Rules.{rules}
 use Rattle.rules.specs.Default.{sum_of}
 use Rattle.rules.proofs.Netting.{sum_zeros}
 use Rattle.tables.specs.Fit.{members_in}

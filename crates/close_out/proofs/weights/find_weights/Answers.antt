@@ -3,7 +3,6 @@ use mathlib.Core.Path.{◌∙◌}
 use mathlib.Core.List.{[]}
 use native.Mathlib.Omega.{arith}
 use native.Mathlib.Nat.{mul-le-mul}
-use borrow.Author.Rules.{rules}
 use Rattle.rules.specs.Ledger.{with_head, with_rows}
 use Rattle.rules.specs.Ranges.{most_members}
 use Rattle.dealing.specs.Levels.{most_weight}

@@ -1,7 +1,6 @@
 use mathlib.Core.Path.{ap, ◌∙◌}
 use lib.IntN.{nat_abs}
 use mir.Facts.{to_z-of_z}
-use borrow.Author.Rules.{rules}
 use Rattle.arith.specs.Ints.{up, dn}
 use Rattle.close_out_weights.proofs.columns.lots_in.Goals as goal
 

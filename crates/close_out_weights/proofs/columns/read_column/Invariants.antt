@@ -1,17 +1,12 @@
-use Prim.Native.Nat.{ℕ, ◌+◌, ◌-◌, ◌≤◌}
-use mathlib.Core.Path.{◌≡◌, refl, ap, ◌∙◌}
+use Prim.Native.Nat.{◌+◌, ◌-◌, ◌≤◌}
+use mathlib.Core.Path.{◌≡◌}
 use mathlib.Core.List.{◌++◌, map}
-use native.Mathlib.Omega.{arith}
-use native.Mathlib.Nat.{sub-zero}
 use lib.Dec.{eqb}
 use lib.IntN.{pos}
-use lib.ListN.{length, get_or, take, length-set}
-use borrow.Author.Rules.{rules}
-use Rattle.arith.proofs.Signed.{back_mag}
-use Rattle.arith.proofs.Columns.{mapped_next, mapped_end, written_next, written_end}
+use lib.ListN.{length, get_or, take}
 use Rattle.arith.specs.Lists.{from}
 use Rattle.rules.specs.Ledger.{marks_from, row_place}
-use Rattle.close_out_weights.specs.Columns.{lots_in, column_of}
+use Rattle.close_out_weights.specs.Columns.{lots_in}
 use Rattle.close_out_weights.proofs.columns.read_column.Given as goal
 
 abbrev pub invariant-loop-i : goal.invariant-loop-i

@@ -1,14 +1,11 @@
 use Prim.Native.Nat.{ℕ, ◌+◌, ◌*◌, ◌-◌, ◌≤◌}
 use mathlib.Core.Path.{◌≡◌, refl, ap, ◌∙◌}
-use mathlib.Core.List.{◌++◌, map}
 use native.Mathlib.Omega.{arith}
 use native.Mathlib.Nat.{mul-le-mul, sub-zero}
 use lib.IntN.{pos, nat_abs}
-use lib.ListN.{length, get_or, take, drop, length-set}
-use borrow.Author.Rules.{rules}
+use lib.ListN.{length, get_or, length-set}
 use Rattle.arith.proofs.Signed.{back_mag}
 use Rattle.arith.proofs.Columns.{mapped_next, mapped_end, written_next, written_end}
-use Rattle.arith.specs.Lists.{from}
 use Rattle.rules.specs.Ledger.{row_place}
 use Rattle.rules.specs.Ranges.{most_lots_run}
 use Rattle.dealing.specs.Levels.{most_days}

@@ -1,15 +1,10 @@
 use Prim.Native.Nat.{◌-◌, ◌≤◌}
-use mathlib.Core.Path.{◌≡◌, refl, ap, ◌∙◌}
+use mathlib.Core.Path.{◌≡◌}
 use mathlib.Core.List.{map}
-use native.Mathlib.Omega.{arith}
 use lib.ListN.{length}
-use borrow.Author.Rules.{rules}
-use Rattle.arith.proofs.Columns.{mapped_length}
 use Rattle.arith.specs.Lists.{from}
 use Rattle.rules.specs.Ranges.{term_count}
 use Rattle.close_out_weights.specs.Columns.{weight_by}
-use Rattle.close_out_weights.proofs.DayWeights.{sums_start, sums_next}
-use Rattle.close_out_weights.proofs.ColumnFits.{sums_most}
 use Rattle.close_out_weights.proofs.weights.add_contracts.Given as goal
 
 abbrev pub invariant-loop-contract : goal.invariant-loop-contract

@@ -1,4 +1,3 @@
-use borrow.Author.Rules.{rules}
 use Rattle.close_out_weights.proofs.DayWeights.{none_added}
 use Rattle.close_out_weights.proofs.weights.add_if_open.Goals as goal
 

@@ -3,7 +3,6 @@ use mathlib.Core.Path.{◌≡◌, ap, ◌∙◌}
 use native.Mathlib.Omega.{arith}
 use lib.Dec.{eqb}
 use lib.ListN.{length, get_or, replicate, length-replicate}
-use borrow.Author.Rules.{rules}
 use Rattle.arith.proofs.Columns.{mapped_length}
 use Rattle.rules.specs.Ledger.{marks_from}
 use Rattle.rules.specs.Ranges.{most_lots_run}

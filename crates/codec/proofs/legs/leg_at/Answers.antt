@@ -1,5 +1,4 @@
 use Rattle.codec.proofs.Fields.{leg_read}
-use borrow.Author.Rules.{rules}
 use Rattle.codec.proofs.legs.leg_at.Goals as goal
 
 pub returns : goal.returns

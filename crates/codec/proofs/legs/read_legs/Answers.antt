@@ -1,14 +1,12 @@
-use borrow.Author.Rules.{rules}
 use native.Mathlib.Omega.{arith}
-use mathlib.Core.List.{map}
 use mathlib.Core.Path.{◌≡◌, refl, ap, ◌∙◌}
-use Prim.Native.Nat.{◌-◌, ◌≤◌}
+use Prim.Native.Nat.{◌-◌}
 use Rattle.arith.specs.Columns.{padded}
 use Rattle.arith.proofs.Padded.{column_next}
 use Rattle.arith.specs.Lists.{from}
 use Rattle.rules.specs.Ranges.{most_legs}
 use Rattle.rules.specs.Records.{leg_place, leg_at}
-use Rattle.codec.specs.Columns.{leg_columns, legs_to}
+use Rattle.codec.specs.Columns.{leg_columns}
 use Rattle.codec.proofs.legs.read_legs.Goals as goal
 
 pub loop-i-init : goal.loop-i-init

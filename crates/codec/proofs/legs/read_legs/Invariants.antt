@@ -1,14 +1,9 @@
-use borrow.Author.Rules.{rules}
-use native.Mathlib.Omega.{arith}
 use mathlib.Core.List.{map}
-use mathlib.Core.Path.{◌≡◌, refl, ap, ◌∙◌}
+use mathlib.Core.Path.{◌≡◌}
 use Prim.Native.Nat.{◌-◌, ◌≤◌}
 use Rattle.arith.specs.Columns.{padded}
-use Rattle.arith.proofs.Padded.{column_next}
-use Rattle.arith.specs.Lists.{from}
 use Rattle.rules.specs.Ranges.{most_legs}
-use Rattle.rules.specs.Records.{leg_place, leg_at}
-use Rattle.codec.specs.Columns.{leg_columns, legs_to}
+use Rattle.codec.specs.Columns.{legs_to}
 use Rattle.codec.proofs.legs.read_legs.Given as goal
 
 abbrev pub invariant-loop-i : goal.invariant-loop-i

@@ -2,7 +2,6 @@ use native.Mathlib.Omega.{arith}
 use mathlib.Core.Path.{◌∙◌}
 use Rattle.record_kinds.specs.Numbers.{most_numbers}
 use Rattle.codec.proofs.Fields.{fields_inside, fields_cut, fields_of_kind_lem, event_read}
-use borrow.Author.Rules.{rules}
 use Rattle.codec.proofs.read.fields_of.Goals as goal
 
 pub returns-then-bytes-record_length : goal.returns-then-bytes-record_length

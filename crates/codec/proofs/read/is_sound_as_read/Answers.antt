@@ -3,7 +3,6 @@ use Rattle.rules.specs.Records.{event_sound}
 use Rattle.record_kinds.specs.Numbers.{leg_count}
 use Rattle.codec.specs.Columns.{leg_rows, leg_columns, held_legs}
 use Rattle.codec.proofs.LegColumns.{judged_proposal, judged_legless, rows_judged}
-use borrow.Author.Rules.{rules}
 use Rattle.codec.proofs.read.is_sound_as_read.Goals as goal
 
 pub returns-then-kind_number-eq-PROPOSAL : goal.returns-then-kind_number-eq-PROPOSAL

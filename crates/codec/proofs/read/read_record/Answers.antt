@@ -1,7 +1,6 @@
 use mathlib.Core.Path.{sym, ◌∙◌}
 use Rattle.arith.proofs.Tests.{asked_true, asked_false}
 use Rattle.codec.proofs.Fields.{read_none, read_unsound, read_judged}
-use borrow.Author.Rules.{rules}
 use Rattle.codec.proofs.read.read_record.Goals as goal
 
 pub returns-then-not-is_member_count_sound : goal.returns-then-not-is_member_count_sound

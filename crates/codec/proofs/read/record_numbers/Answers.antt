@@ -1,11 +1,8 @@
-use borrow.Author.Rules.{rules}
 use native.Mathlib.Omega.{arith}
-use mathlib.Core.List.{◌∷◌}
-use mathlib.Core.Path.{◌≡◌, refl}
-use Prim.Native.Nat.{◌+◌, ◌-◌, ◌≤◌}
-use lib.ListN.{take}
+use mathlib.Core.Path.{refl}
+use Prim.Native.Nat.{◌-◌}
 use Rattle.arith.specs.Columns.{padded}
-use Rattle.rules.specs.Fields.{widths, kind_fields, numbers_at}
+use Rattle.rules.specs.Fields.{widths, numbers_at}
 use Rattle.record_kinds.specs.Numbers.{most_numbers}
 use Rattle.codec.proofs.FieldBytes.{width}
 use Rattle.codec.proofs.FieldLoops.{place_next, field_inside, numbers_next}

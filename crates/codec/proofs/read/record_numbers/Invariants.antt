@@ -1,15 +1,10 @@
-use borrow.Author.Rules.{rules}
-use native.Mathlib.Omega.{arith}
 use mathlib.Core.List.{◌∷◌}
-use mathlib.Core.Path.{◌≡◌, refl}
+use mathlib.Core.Path.{◌≡◌}
 use Prim.Native.Nat.{◌+◌, ◌-◌, ◌≤◌}
 use lib.ListN.{take}
 use Rattle.arith.specs.Columns.{padded}
 use Rattle.rules.specs.Fields.{widths, kind_fields, numbers_at}
 use Rattle.record_kinds.specs.Numbers.{most_numbers}
-use Rattle.codec.proofs.FieldBytes.{width}
-use Rattle.codec.proofs.FieldLoops.{place_next, field_inside, numbers_next}
-use Rattle.codec.proofs.Fields.{numbers_read}
 use Rattle.codec.proofs.read.record_numbers.Given as goal
 
 abbrev pub invariant-loop-i : goal.invariant-loop-i

@@ -1,11 +1,8 @@
-use borrow.Author.Rules.{rules}
-use native.Mathlib.Omega.{arith}
 use mathlib.Core.List.{map}
-use mathlib.Core.Path.{◌≡◌, ap, ◌∙◌}
+use mathlib.Core.Path.{◌≡◌}
 use mathlib.Core.Bool.{◌&&◌}
 use Prim.Native.Nat.{◌-◌, ◌≤◌}
 use Rattle.arith.specs.Lists.{every, from}
-use Rattle.arith.proofs.Runs.{run_start, run_passed, run_end}
 use Rattle.rules.specs.Records.{leg_sound}
 use Rattle.codec.specs.Columns.{leg_row, leg_rows}
 use Rattle.codec.proofs.sound.are_legs_sound.Given as goal

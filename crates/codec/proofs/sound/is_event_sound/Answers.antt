@@ -1,6 +1,5 @@
 use mathlib.Core.Path.{sym, ◌∙◌}
 use Rattle.codec.proofs.LegColumns.{judged_proposal, judged_legless}
-use borrow.Author.Rules.{rules}
 use Rattle.codec.proofs.sound.is_event_sound.Goals as goal
 
 pub returns-then-kind_number-eq-PROPOSAL : goal.returns-then-kind_number-eq-PROPOSAL

@@ -1,5 +1,4 @@
 use mathlib.Core.Path.{refl}
-use borrow.Author.Rules.{rules}
 use Rattle.codec.proofs.sound.is_leg_sound.Goals as goal
 
 pub returns : goal.returns

@@ -1,6 +1,5 @@
 use mathlib.Core.Path.{sym, ◌∙◌}
 use Rattle.codec.proofs.LegColumns.{few_legs, proposal_many, proposal_judged}
-use borrow.Author.Rules.{rules}
 use Rattle.codec.proofs.sound.is_proposal_sound.Goals as goal
 
 pub returns-then-count-lt-LEAST_LEGS : goal.returns-then-count-lt-LEAST_LEGS

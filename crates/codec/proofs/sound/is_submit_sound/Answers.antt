@@ -1,7 +1,6 @@
 use mathlib.Core.Path.{refl}
 use Rattle.arith.proofs.Tests.{and_true}
 use Rattle.rules.specs.Records.{event_sound}
-use borrow.Author.Rules.{rules}
 use Rattle.codec.proofs.sound.is_submit_sound.Goals as goal
 
 pub returns : goal.returns

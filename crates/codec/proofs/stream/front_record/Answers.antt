@@ -1,6 +1,5 @@
 use Rattle.arith.proofs.Tests.{tests}
 use Rattle.rules.specs.Records.{front_of}
-use borrow.Author.Rules.{rules}
 use Rattle.codec.proofs.stream.front_record.Goals as goal
 
 pub returns-then-bytes-eq0 : goal.returns-then-bytes-eq0

@@ -2,7 +2,6 @@ use native.Mathlib.Omega.{arith}
 use mathlib.Core.Path.{sym, ◌∙◌}
 use Rattle.record_kinds.specs.Numbers.{leg_count}
 use Rattle.codec.proofs.Written.{length_proposal, some_bytes, no_legs_put, legs_put}
-use borrow.Author.Rules.{rules}
 use Rattle.codec.proofs.write.put_fields.Goals as goal
 
 pub put_kind_fields-requires : goal.put_kind_fields-requires

@@ -1,11 +1,9 @@
-use borrow.Author.Rules.{rules}
 use native.Mathlib.Omega.{arith}
-use mathlib.Core.Path.{◌≡◌, refl, sym}
-use Prim.Native.Nat.{◌+◌, ◌-◌, ◌≤◌}
-use lib.ListN.{length, take, drop}
+use mathlib.Core.Path.{refl, sym}
+use Prim.Native.Nat.{◌-◌}
+use lib.ListN.{length}
 use lib.Seq.{get_or-drop}
-use Rattle.arith.specs.Lists.{over}
-use Rattle.rules.specs.Fields.{widths, kind_fields, bytes_by}
+use Rattle.rules.specs.Fields.{widths}
 use Rattle.codec.proofs.FieldBytes.{width}
 use Rattle.codec.proofs.FieldLoops.{place_next, field_inside, put_next, enough, number_fits, fields_put, none_put}
 use Rattle.codec.proofs.write.put_kind_fields.Goals as goal

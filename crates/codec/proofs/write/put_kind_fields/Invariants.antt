@@ -1,13 +1,8 @@
-use borrow.Author.Rules.{rules}
-use native.Mathlib.Omega.{arith}
-use mathlib.Core.Path.{◌≡◌, refl, sym}
+use mathlib.Core.Path.{◌≡◌}
 use Prim.Native.Nat.{◌+◌, ◌-◌, ◌≤◌}
 use lib.ListN.{length, take, drop}
-use lib.Seq.{get_or-drop}
 use Rattle.arith.specs.Lists.{over}
 use Rattle.rules.specs.Fields.{widths, kind_fields, bytes_by}
-use Rattle.codec.proofs.FieldBytes.{width}
-use Rattle.codec.proofs.FieldLoops.{place_next, field_inside, put_next, enough, number_fits, fields_put, none_put}
 use Rattle.codec.proofs.write.put_kind_fields.Given as goal
 
 abbrev pub invariant-loop-i : goal.invariant-loop-i

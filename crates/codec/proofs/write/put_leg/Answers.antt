@@ -3,7 +3,6 @@ use native.Mathlib.Omega.{arith}
 use Rattle.arith.proofs.Beside.{over_next}
 use Rattle.rules.specs.Fields.{bytes_by}
 use Rattle.rules.specs.Header.{u16_bytes, u32_bytes}
-use borrow.Author.Rules.{rules}
 use Rattle.codec.proofs.write.put_leg.Goals as goal
 
 pub returns : goal.returns

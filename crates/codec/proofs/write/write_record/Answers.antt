@@ -5,7 +5,6 @@ use Rattle.record_kinds.specs.Numbers.{leg_count}
 use Rattle.codec.specs.Columns.{leg_rows}
 use Rattle.codec.proofs.LegColumns.{length_rows}
 use Rattle.codec.proofs.Written.{length_record, sound_event, some_bytes, record_put, write_few, write_unsound, write_short, write_whole}
-use borrow.Author.Rules.{rules}
 use Rattle.codec.proofs.write.write_record.Goals as goal
 
 pub returns-then-not-is_member_count_sound : goal.returns-then-not-is_member_count_sound

@@ -1,5 +1,4 @@
 use borrow.Author.Tests.{le-leb, lt-leb}
-use borrow.Author.Rules.{rules}
 use Rattle.contract_phases.proofs.by_contract.phase_from.Goals as goal
 
 pub returns-then-first-least : goal.returns-then-first-least

@@ -1,6 +1,5 @@
 use mathlib.Core.Path.{◌∙◌}
 use native.Mathlib.Omega.{arith}
-use borrow.Author.Rules.{rules}
 use Rattle.contract_phases.proofs.Phases.{phase_by_first}
 use Rattle.contract_phases.proofs.by_contract.phase_of.Goals as goal
 

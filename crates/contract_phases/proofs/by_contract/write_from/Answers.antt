@@ -1,18 +1,11 @@
-use Prim.Native.Nat.{ℕ, ◌+◌, ◌-◌, ◌≤◌}
+use Prim.Native.Nat.{ℕ, ◌-◌}
 use mathlib.Core.Path.{◌≡◌, refl}
-use mathlib.Core.List.{◌++◌, map}
 use native.Mathlib.Omega.{arith}
-use lib.ListN.{length, take, length-set}
-use borrow.Author.Rules.{rules}
-use Rattle.arith.specs.Lists.{from}
+use lib.ListN.{length-set}
 use Rattle.arith.proofs.Columns.{mapped_next, mapped_end, written_next, written_end}
-use Rattle.rules.specs.declared.contract.ContractKind.{ContractKind}
 use Rattle.rules.specs.Ranges.{term_count}
-use Rattle.rules.specs.Days.{Calendar}
-use Rattle.rules.specs.ContractTerms.{closing_distance, term_of}
-use Rattle.months.specs.Spans.{starts_of}
+use Rattle.rules.specs.ContractTerms.{term_of}
 use Rattle.contracts.proofs.InLedger.{numbered}
-use Rattle.contract_phases.specs.Least.{IsLeast, least_of}
 use Rattle.contract_phases.specs.Phases.{term_phase, phases}
 use Rattle.contract_phases.proofs.by_contract.write_from.Goals as goal
 

@@ -1,6 +1,4 @@
-use Prim.Native.Nat.{ℕ}
 use mathlib.Core.Path.{◌≡◌}
-use borrow.Author.Rules.{rules}
 use Rattle.rules.specs.ContractTerms.{closing_distance}
 use Rattle.contract_phases.specs.Least.{least_first_day, least_of}
 use Rattle.contract_phases.proofs.Least.{by_kind}

@@ -1,9 +1,6 @@
-use Prim.Native.Nat.{ℕ, ◌+◌, ◌-◌, ◌<◌}
+use Prim.Native.Nat.{◌+◌, ◌-◌}
 use mathlib.Core.Path.{◌≡◌, refl, sym, ◌∙◌}
 use native.Mathlib.Omega.{arith}
-use borrow.Author.Rules.{rules}
-use Rattle.rules.specs.Days.{Calendar}
-use Rattle.contract_phases.specs.Least.{day_after_nth, least_first_day}
 use Rattle.contract_phases.proofs.Least.{none_to_count, idle_day, counted_day, nth_day}
 use Rattle.contract_phases.proofs.least_days.least_first_day.Goals as goal
 use Rattle.contract_phases.proofs.least_days.least_first_day.Goals.{then-is_business_day+else-to_count-le1, else-is_business_day}

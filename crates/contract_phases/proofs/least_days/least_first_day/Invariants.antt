@@ -1,11 +1,7 @@
 use Prim.Native.Nat.{ℕ, ◌+◌, ◌-◌, ◌<◌}
-use mathlib.Core.Path.{◌≡◌, refl, sym, ◌∙◌}
-use mathlib.Core.Logic.{⊎_elim}
-use native.Mathlib.Omega.{arith}
-use borrow.Author.Rules.{rules}
+use mathlib.Core.Path.{◌≡◌}
 use Rattle.rules.specs.Days.{Calendar}
 use Rattle.contract_phases.specs.Least.{day_after_nth, least_first_day}
-use Rattle.contract_phases.proofs.Least.{none_to_count, idle_day, counted_day, nth_day}
 use Rattle.contract_phases.proofs.least_days.least_first_day.Given as goal
 
 abbrev pub invariant-loop-x : goal.invariant-loop-x

@@ -2,7 +2,6 @@ use mathlib.Core.Path.{sym, ◌∙◌}
 use native.Mathlib.Omega.{arith}
 use Rattle.rules.proofs.CalendarLaws.{open_by_count_lem, without_term}
 use Rattle.contracts.proofs.InLedger.{numbered}
-use borrow.Author.Rules.{rules}
 use Rattle.contracts.proofs.opening.is_open.Goals as goal
 
 pub returns-then-contract-ge-TERM_COUNT : goal.returns-then-contract-ge-TERM_COUNT

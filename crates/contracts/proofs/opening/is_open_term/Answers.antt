@@ -1,10 +1,8 @@
 use mathlib.Core.Path.{sym, ap, ◌∙◌}
 use mathlib.Core.Bool.{not}
 use native.Mathlib.Omega.{arith}
-use borrow.Author.Tests.{not-true, not-false}
 use Rattle.rules.proofs.CalendarLaws.{open_closed, open_first, open_rank}
 use Rattle.contracts.proofs.InLedger.{earlier}
-use borrow.Author.Rules.{rules}
 use Rattle.contracts.proofs.opening.is_open_term.Goals as goal
 
 pub returns-then-not-still_to_close : goal.returns-then-not-still_to_close

@@ -1,6 +1,5 @@
 use mathlib.Core.Path.{sym, ◌∙◌}
 use Rattle.rules.specs.ContractTerms.{still_to_close}
-use borrow.Author.Rules.{rules}
 use Rattle.contracts.proofs.opening.still_to_close.Goals as goal
 
 pub returns-in-On : goal.returns-in-On

@@ -1,5 +1,4 @@
 use Rattle.rules.specs.ContractTerms.{term_closing_day}
-use borrow.Author.Rules.{rules}
 use Rattle.contracts.proofs.opening.term_closing_day.Goals as goal
 
 pub returns : goal.returns

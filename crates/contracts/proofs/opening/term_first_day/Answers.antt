@@ -1,7 +1,6 @@
 use mathlib.Core.List.{[]}
 use native.Mathlib.Omega.{arith}
 use Rattle.rules.specs.ContractTerms.{term_first_day}
-use borrow.Author.Rules.{rules}
 use Rattle.contracts.proofs.opening.term_first_day.Goals as goal
 
 pub overflow_mul-months_in : goal.overflow_mul-months_in

@@ -1,5 +1,4 @@
 use native.Mathlib.Omega.{arith}
-use borrow.Author.Rules.{rules}
 use Rattle.contracts.proofs.terms.contract_of.Goals as goal
 
 pub overflow_mul-result : goal.overflow_mul-result

@@ -1,4 +1,3 @@
-use borrow.Author.Rules.{rules}
 use Rattle.contracts.proofs.terms.kind_of.Goals as goal
 
 pub returns : goal.returns

@@ -1,6 +1,5 @@
 use borrow.Author.Tests.{eq-eqb, ne_eqb, le-leb, lt-leb}
 use Rattle.rules.specs.ContractTerms.{term_of}
-use borrow.Author.Rules.{rules}
 use Rattle.contracts.proofs.terms.term_of.Goals as goal
 
 pub returns-then-k-eq0 : goal.returns-then-k-eq0

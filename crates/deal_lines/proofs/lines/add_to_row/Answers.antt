@@ -1,7 +1,6 @@
 use lib.ListN.{get_or}
 use lib.IntN.{pos}
 use Rattle.arith.proofs.Signed.{add_ok, add_is}
-use borrow.Author.Rules.{rules}
 use Rattle.deal_lines.proofs.lines.add_to_row.Goals as goal
 
 pub overflow_add-lots : goal.overflow_add-lots

@@ -1,5 +1,4 @@
 use Rattle.deal_lines.specs.Lines.{with_line}
-use borrow.Author.Rules.{rules}
 use Rattle.rules.proofs.Sides.{abs_signed}
 use Rattle.deal_lines.proofs.lines.book_line.Goals as goal
 

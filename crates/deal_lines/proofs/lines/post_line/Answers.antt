@@ -3,7 +3,6 @@ use native.Mathlib.Nat.{mul-le-mul}
 use lib.IntN.{pos}
 use Rattle.arith.proofs.Sizes.{abs_times}
 use Rattle.rules.specs.Ledger.{posted}
-use borrow.Author.Rules.{rules}
 use Rattle.deal_lines.proofs.lines.post_line.Goals as goal
 
 pub add_to_row-requires : goal.add_to_row-requires

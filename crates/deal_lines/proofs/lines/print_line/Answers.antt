@@ -8,7 +8,6 @@ use Rattle.rules.specs.Ledger.{line_places}
 use Rattle.deal_lines.specs.Lines.{line_of}
 use Rattle.arith.proofs.Signed.{rd_pos, back}
 use Rattle.arith.proofs.Writes.{stored}
-use borrow.Author.Rules.{rules}
 use Rattle.deal_lines.proofs.lines.print_line.Goals as goal
 
 pub bounds-lines-at-2 : goal.bounds-lines-at-2

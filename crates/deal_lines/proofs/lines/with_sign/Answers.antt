@@ -2,7 +2,6 @@ use native.Mathlib.Omega.{arith}
 use mathlib.Core.Path.{refl}
 use lib.IntN.{pos}
 use Rattle.arith.proofs.Signed.{rd_pos, neg_ok, neg_is}
-use borrow.Author.Rules.{rules}
 use Rattle.arith.proofs.Sizes.{abs_neg}
 use Rattle.deal_lines.proofs.lines.with_sign.Goals as goal
 

@@ -1,11 +1,7 @@
-use Prim.Native.Nat.{◌+◌, ◌-◌, ◌≤◌}
-use mathlib.Core.Path.{◌≡◌, refl}
-use mathlib.Core.List.{◌++◌}
+use mathlib.Core.Path.{refl}
 use native.Mathlib.Omega.{arith}
-use lib.ListN.{length, take, drop, length-set}
-use borrow.Author.Rules.{rules}
+use lib.ListN.{length-set}
 use Rattle.arith.proofs.Columns.{written_next, written_end}
-use Rattle.rules.specs.Default.{given_up}
 use Rattle.rules.proofs.Netting.{given_next, given_end}
 use Rattle.dealing.proofs.columns.give_up.Goals as goal
 

@@ -1,12 +1,8 @@
-use Prim.Native.Nat.{◌+◌, ◌-◌, ◌≤◌}
-use mathlib.Core.Path.{◌≡◌, refl}
+use Prim.Native.Nat.{◌-◌, ◌≤◌}
+use mathlib.Core.Path.{◌≡◌}
 use mathlib.Core.List.{◌++◌}
-use native.Mathlib.Omega.{arith}
-use lib.ListN.{length, take, drop, length-set}
-use borrow.Author.Rules.{rules}
-use Rattle.arith.proofs.Columns.{written_next, written_end}
+use lib.ListN.{length, take, drop}
 use Rattle.rules.specs.Default.{given_up}
-use Rattle.rules.proofs.Netting.{given_next, given_end}
 use Rattle.dealing.proofs.columns.give_up.Given as goal
 
 abbrev pub invariant-loop-i : goal.invariant-loop-i

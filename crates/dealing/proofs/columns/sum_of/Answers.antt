@@ -1,12 +1,6 @@
-use Prim.Native.Nat.{◌+◌, ◌*◌, ◌-◌, ◌≤◌}
-use mathlib.Core.Path.{◌≡◌}
 use native.Mathlib.Omega.{arith}
-use lib.ListN.{length, drop}
-use borrow.Author.Rules.{rules}
 use Rattle.arith.proofs.Columns.{total_next, total_end}
-use Rattle.arith.specs.Lists.{total}
 use Rattle.rules.specs.Default.{sum_of}
-use Rattle.dealing.specs.Levels.{most_weight}
 use Rattle.dealing.proofs.columns.sum_of.Goals as goal
 
 pub loop-i-init : goal.loop-i-init

@@ -1,9 +1,7 @@
-use Prim.Native.Nat.{◌+◌, ◌-◌, ◌≤◌, min}
-use mathlib.Core.Path.{◌≡◌, refl}
-use mathlib.Core.List.{◌++◌, map}
+use Prim.Native.Nat.{min}
+use mathlib.Core.Path.{refl}
 use native.Mathlib.Omega.{arith}
-use lib.ListN.{length, take, drop, length-set}
-use borrow.Author.Rules.{rules}
+use lib.ListN.{length-set}
 use Rattle.arith.proofs.Columns.{map_next, map_end, written_next, written_end}
 use Rattle.dealing.specs.Levels.{at_level}
 use Rattle.dealing.proofs.level.fill_to_level.Goals as goal

@@ -1,10 +1,7 @@
-use Prim.Native.Nat.{◌+◌, ◌-◌, ◌≤◌, min}
-use mathlib.Core.Path.{◌≡◌, refl}
+use Prim.Native.Nat.{◌-◌, ◌≤◌, min}
+use mathlib.Core.Path.{◌≡◌}
 use mathlib.Core.List.{◌++◌, map}
-use native.Mathlib.Omega.{arith}
-use lib.ListN.{length, take, drop, length-set}
-use borrow.Author.Rules.{rules}
-use Rattle.arith.proofs.Columns.{map_next, map_end, written_next, written_end}
+use lib.ListN.{length, take, drop}
 use Rattle.dealing.specs.Levels.{at_level}
 use Rattle.dealing.proofs.level.fill_to_level.Given as goal
 

@@ -1,9 +1,6 @@
-use Prim.Native.Nat.{◌+◌, ◌-◌, ◌/◌, ◌≤◌, ◌<◌}
+use Prim.Native.Nat.{◌+◌, ◌-◌, ◌/◌}
 use mathlib.Core.Path.{◌≡◌}
 use native.Mathlib.Omega.{arith}
-use borrow.Author.Rules.{rules}
-use Rattle.rules.specs.Default.{sum_of}
-use Rattle.dealing.specs.Levels.{at_level}
 use Rattle.dealing.proofs.Levels.{level_top}
 use Rattle.dealing.proofs.level.highest_level.Goals as goal
 

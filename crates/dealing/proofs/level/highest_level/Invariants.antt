@@ -1,10 +1,6 @@
-use Prim.Native.Nat.{◌+◌, ◌-◌, ◌/◌, ◌≤◌, ◌<◌}
-use mathlib.Core.Path.{◌≡◌}
-use native.Mathlib.Omega.{arith}
-use borrow.Author.Rules.{rules}
+use Prim.Native.Nat.{◌+◌, ◌-◌, ◌≤◌, ◌<◌}
 use Rattle.rules.specs.Default.{sum_of}
 use Rattle.dealing.specs.Levels.{at_level}
-use Rattle.dealing.proofs.Levels.{level_top}
 use Rattle.dealing.proofs.level.highest_level.Given as goal
 
 abbrev pub invariant-loop-low : goal.invariant-loop-low

@@ -1,8 +1,5 @@
 use Prim.Native.Nat.{ℕ, ◌-◌, ◌≤◌, ◌<◌}
-use native.Mathlib.Omega.{arith}
-use lib.ListN.{length, get_or, get_or-eq_default}
-use borrow.Author.Rules.{rules}
-use Rattle.arith.proofs.Tests.{le_or_lt, same_or}
+use lib.ListN.{length, get_or}
 use Rattle.dealing.proofs.level.largest.Given as goal
 
 abbrev pub invariant-loop-i : goal.invariant-loop-i

@@ -1,6 +1,5 @@
 use Prim.Native.Nat.{◌-◌, ◌≤◌}
 use native.Mathlib.Omega.{arith}
-use borrow.Author.Rules.{rules}
 use Rattle.rules.specs.Default.{sum_of}
 use Rattle.dealing.specs.Levels.{at_level}
 use Rattle.dealing.proofs.Levels.{level_zero, level_below}

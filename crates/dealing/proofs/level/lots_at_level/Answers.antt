@@ -1,13 +1,7 @@
-use Prim.Native.Nat.{◌+◌, ◌*◌, ◌-◌, ◌≤◌, min}
-use mathlib.Core.Path.{◌≡◌}
+use Prim.Native.Nat.{min}
 use native.Mathlib.Omega.{arith}
-use lib.ListN.{length, drop}
-use borrow.Author.Rules.{rules}
 use Rattle.arith.proofs.Columns.{total_next, total_end}
-use Rattle.arith.specs.Lists.{total}
-use Rattle.rules.specs.Default.{sum_of}
 use Rattle.rules.proofs.Netting.{sum_map}
-use Rattle.rules.specs.Ranges.{most_lots_run}
 use Rattle.dealing.specs.Levels.{at_level}
 use Rattle.dealing.proofs.level.lots_at_level.Goals as goal
 

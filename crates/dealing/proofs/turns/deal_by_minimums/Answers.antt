@@ -3,7 +3,6 @@ use mathlib.Core.Path.{◌≡◌, sym, ap, ◌∙◌}
 use native.Mathlib.Omega.{arith}
 use lib.ListN.{length, length-take, length-append}
 use lib.Seq.{take_at}
-use borrow.Author.Rules.{rules}
 use Rattle.rules.proofs.MembersInOrder.{order_length, order_below}
 use Rattle.arith.proofs.Appends.{from_length}
 use Rattle.rules.proofs.Minimums.{minimums_length}

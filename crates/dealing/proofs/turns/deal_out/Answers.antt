@@ -2,7 +2,6 @@ use mathlib.Core.Path.{◌≡◌, sym, ap, ◌∙◌}
 use native.Mathlib.Omega.{arith}
 use lib.ListN.{length, length-take, length-append}
 use lib.Seq.{take_at}
-use borrow.Author.Rules.{rules}
 use Rattle.rules.proofs.Minimums.{minimums_length}
 use Rattle.dealing.proofs.turns.deal_out.Goals as goal
 

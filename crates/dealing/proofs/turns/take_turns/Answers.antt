@@ -1,12 +1,10 @@
-use Prim.Native.Nat.{◌-◌, ◌≤◌, ◌<◌}
-use mathlib.Core.Path.{◌≡◌, refl, sym, ◌∙◌}
+use Prim.Native.Nat.{◌<◌}
+use mathlib.Core.Path.{refl, sym, ◌∙◌}
 use native.Mathlib.Omega.{arith}
 use lib.Dec.{ltb}
-use lib.ListN.{length, get_or, drop, length-set}
+use lib.ListN.{get_or, length-set}
 use borrow.Author.Tests.{ltb-true}
-use borrow.Author.Rules.{rules}
 use Rattle.arith.proofs.Tests.{and_left, and_right}
-use Rattle.rules.specs.Default.{round}
 use Rattle.rules.proofs.Turns.{round_deals, round_passes, round_end}
 use Rattle.dealing.proofs.turns.take_turns.Goals as goal
 use Rattle.dealing.proofs.turns.take_turns.Goals.{then-undealt-has, else-undealt-has}

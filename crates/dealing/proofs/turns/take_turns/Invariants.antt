@@ -1,14 +1,7 @@
-use Prim.Native.Nat.{◌-◌, ◌≤◌, ◌<◌}
-use mathlib.Core.Path.{◌≡◌, refl, sym, ◌∙◌}
-use mathlib.Core.Logic.{⊎_elim}
-use native.Mathlib.Omega.{arith}
-use lib.Dec.{ltb}
-use lib.ListN.{length, get_or, drop, length-set}
-use borrow.Author.Tests.{ltb-true}
-use borrow.Author.Rules.{rules}
-use Rattle.arith.proofs.Tests.{and_left, and_right}
+use Prim.Native.Nat.{◌-◌, ◌≤◌}
+use mathlib.Core.Path.{◌≡◌}
+use lib.ListN.{length, drop}
 use Rattle.rules.specs.Default.{round}
-use Rattle.rules.proofs.Turns.{round_deals, round_passes, round_end}
 use Rattle.dealing.proofs.turns.take_turns.Given as goal
 
 abbrev pub invariant-loop-i : goal.invariant-loop-i

@@ -3,7 +3,6 @@ use native.Mathlib.Omega.{arith}
 use Rattle.rules.specs.Ledger.{lent}
 use Rattle.rules.specs.Refusals.{apply_spec, reading_spec}
 use Rattle.tables.proofs.Fits.{fits}
-use borrow.Author.Rules.{rules}
 use Rattle.engine.proofs.applying.apply.Goals as goal
 
 pub returns-then-is_unsound : goal.returns-then-is_unsound

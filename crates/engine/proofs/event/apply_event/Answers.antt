@@ -3,7 +3,6 @@ use Rattle.rules.specs.declared.event.Reading.TheVariants.{Sound}
 use Rattle.rules.specs.Ledger.{lent}
 use Rattle.rules.specs.Refusals.{event_spec, submit_spec, cancel_spec, day_limits_spec, proposal_spec, default_spec, close_out_spec, close_spec}
 use Rattle.engine.proofs.Events.{submission_fits, limits_contract, member_below, close_out_contract_below, close_out_ratio, most_run_left}
-use borrow.Author.Rules.{rules}
 use Rattle.engine.proofs.event.apply_event.Goals as goal
 
 pub apply-requires : goal.apply-requires

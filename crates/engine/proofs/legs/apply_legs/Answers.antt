@@ -5,7 +5,6 @@ use Rattle.rules.specs.Ledger.{members_place}
 use Rattle.rules.specs.Ledger.{lent}
 use Rattle.rules.specs.Refusals.{proposal_spec}
 use Rattle.engine.proofs.Events.{orders_room, lots_room, prices_room, legs_fit, legs_are}
-use borrow.Author.Rules.{rules}
 use Rattle.engine.proofs.legs.apply_legs.Goals as goal
 
 pub slice_bounds-orders-end : goal.slice_bounds-orders-end

@@ -1,13 +1,11 @@
 use lib.Seq.{length-take-le}
-use mathlib.Core.Path.{◌≡◌, sym, ◌∙◌}
+use mathlib.Core.Path.{sym, ◌∙◌}
 use mathlib.Core.Bool.{true}
 use mathlib.Core.List.{[]}
-use Rattle.rules.specs.Header.{begins_with_header}
 use Rattle.rules.specs.Refusals.{make_spec}
 use Rattle.rules.specs.Ledger.{lent, with_book, with_lines, zero_tables}
 use Rattle.rules.proofs.SoundTables.{long_enough}
 use Rattle.header.proofs.Readings.{turned_back, read_well, holiday_room, limit_room, holiday_most, limit_most, as-listed}
-use borrow.Author.Rules.{rules}
 use Rattle.engine.proofs.making.make.Goals as goal
 
 pub returns-then-is_ledger_short : goal.returns-then-is_ledger_short

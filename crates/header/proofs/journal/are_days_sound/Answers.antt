@@ -6,7 +6,6 @@ use Rattle.rules.specs.Days.{Calendar}
 use Rattle.header.specs.Journal.{firsts}
 use Rattle.header.proofs.Headers.{take_firsts}
 use Rattle.arith.proofs.Tests.{asked_true, asked_false}
-use borrow.Author.Rules.{rules}
 use Rattle.header.proofs.journal.are_days_sound.Goals as goal
 
 pub returns-then-not-is_first_year_sound : goal.returns-then-not-is_first_year_sound

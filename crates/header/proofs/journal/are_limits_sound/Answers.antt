@@ -1,11 +1,6 @@
-use borrow.Author.Rules.{rules}
 use native.Mathlib.Omega.{arith}
-use mathlib.Core.List.{map}
-use mathlib.Core.Path.{◌≡◌}
-use mathlib.Core.Bool.{◌&&◌}
-use Prim.Native.Nat.{◌-◌, ◌≤◌}
+use Prim.Native.Nat.{◌-◌}
 use lib.ListN.{get_or}
-use Rattle.arith.specs.Lists.{every, from}
 use Rattle.arith.proofs.Runs.{run_start, run_passed, run_end}
 use Rattle.rules.specs.Header.{limit_sound}
 use Rattle.header.specs.Journal.{firsts}

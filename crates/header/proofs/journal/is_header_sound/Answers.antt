@@ -6,7 +6,6 @@ use Rattle.rules.specs.Ranges.{most_members}
 use Rattle.header.specs.Journal.{header_from}
 use Rattle.header.proofs.Headers.{length_firsts, holidays_many, members_wrong, header_judged}
 use Rattle.arith.proofs.Tests.{asked_true, asked_false}
-use borrow.Author.Rules.{rules}
 use Rattle.header.proofs.journal.is_header_sound.Goals as goal
 
 pub returns-then-h-gt-MOST_HOLIDAYS : goal.returns-then-h-gt-MOST_HOLIDAYS

@@ -1,6 +1,5 @@
 use mathlib.Core.Path.{sym}
 use native.Mathlib.Omega.{arith}
-use borrow.Author.Rules.{rules}
 use lib.Seq.{length-take-le}
 use Rattle.header.proofs.Headers.{same_bytes_lem}
 use Rattle.header.proofs.reader.begins_with_letters.Goals as goal

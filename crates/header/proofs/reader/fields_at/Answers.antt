@@ -1,6 +1,5 @@
 use mathlib.Core.Path.{refl}
 use native.Mathlib.Omega.{arith}
-use borrow.Author.Rules.{rules}
 use Rattle.rules.specs.Header.{header_of, header_length}
 use Rattle.header.proofs.Headers.{length_u16s}
 use Rattle.header.proofs.reader.fields_at.Goals as goal

@@ -1,12 +1,9 @@
 use Prim.Native.Nat.{◌+◌, ◌*◌, ◌-◌, ◌≤◌}
 use mathlib.Core.List.{map}
-use mathlib.Core.Path.{◌≡◌, refl}
-use native.Mathlib.Omega.{arith}
-use borrow.Author.Rules.{rules}
+use mathlib.Core.Path.{◌≡◌}
 use Rattle.arith.specs.Lists.{from}
-use Rattle.rules.specs.Header.{u16_at, u16s_at}
+use Rattle.rules.specs.Header.{u16_at}
 use Rattle.arith.specs.Columns.{padded}
-use Rattle.arith.proofs.Padded.{column_filled}
 use Rattle.header.proofs.reader.holidays_at.Given as goal
 
 abbrev pub invariant-loop-i : goal.invariant-loop-i

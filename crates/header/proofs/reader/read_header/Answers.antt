@@ -1,7 +1,5 @@
 use mathlib.Core.Path.{◌∙◌}
 use native.Mathlib.Omega.{arith}
-use borrow.Author.Rules.{rules}
-use borrow.Author.Tests.{not-true, not-false}
 use Rattle.rules.specs.Header.{header_length}
 use Rattle.header.proofs.Headers.{begins_short, begins_other, begins_cut, begins_members, begins_holidays, begins_by, reading_unsound, reading_sound}
 use Rattle.arith.proofs.Tests.{asked_true, asked_false}

@@ -1,6 +1,5 @@
 use mathlib.Core.Path.{refl}
 use native.Mathlib.Omega.{arith}
-use borrow.Author.Rules.{rules}
 use Rattle.rules.specs.Header.{u16_bytes, header_bytes}
 use Rattle.header.proofs.Headers.{length_firsts, length_holidays}
 use Rattle.arith.proofs.Beside.{over_then}

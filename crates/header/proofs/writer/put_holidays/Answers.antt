@@ -1,10 +1,7 @@
-use Prim.Native.Nat.{◌-◌, ◌≤◌}
-use mathlib.Core.List.{flat_map, map}
+use Prim.Native.Nat.{◌-◌}
 use mathlib.Core.Path.{◌≡◌, refl}
 use native.Mathlib.Omega.{arith}
-use borrow.Author.Rules.{rules}
-use lib.ListN.{length, get_or}
-use Rattle.arith.specs.Lists.{from, over}
+use lib.ListN.{get_or}
 use Rattle.rules.specs.Header.{u16_bytes}
 use Rattle.header.specs.Journal.{firsts}
 use Rattle.big_endian.proofs.Numbers.{u16_wide}

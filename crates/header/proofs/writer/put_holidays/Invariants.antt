@@ -1,14 +1,9 @@
 use Prim.Native.Nat.{◌-◌, ◌≤◌}
 use mathlib.Core.List.{flat_map, map}
-use mathlib.Core.Path.{◌≡◌, refl}
-use native.Mathlib.Omega.{arith}
-use borrow.Author.Rules.{rules}
+use mathlib.Core.Path.{◌≡◌}
 use lib.ListN.{length, get_or}
 use Rattle.arith.specs.Lists.{from, over}
 use Rattle.rules.specs.Header.{u16_bytes}
-use Rattle.header.specs.Journal.{firsts}
-use Rattle.big_endian.proofs.Numbers.{u16_wide}
-use Rattle.arith.proofs.Widths.{blocks_none, blocks_next}
 use Rattle.header.proofs.writer.put_holidays.Given as goal
 
 abbrev pub invariant-loop-i : goal.invariant-loop-i

@@ -1,6 +1,5 @@
 use mathlib.Core.Path.{refl}
 use native.Mathlib.Omega.{arith}
-use borrow.Author.Rules.{rules}
 use Rattle.arith.proofs.Beside.{over_then}
 use Rattle.header.proofs.writer.put_letters.Goals as goal
 

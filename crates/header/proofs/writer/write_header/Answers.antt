@@ -1,6 +1,5 @@
 use mathlib.Core.Path.{sym, ◌∙◌}
 use native.Mathlib.Omega.{arith}
-use borrow.Author.Rules.{rules}
 use Rattle.header.proofs.Headers.{length_header, members_fit, holidays_fit, write_header_unsound, write_header_short, write_header_whole}
 use Rattle.arith.proofs.Tests.{asked_true, asked_false}
 use Rattle.header.proofs.writer.write_header.Goals as goal

@@ -1,5 +1,4 @@
 use Rattle.host.proofs.Answers.{answered}
-use borrow.Author.Rules.{rules}
 use Rattle.host.proofs.bytes.ledger_read_record.Goals as goal
 
 pub returns : goal.returns

@@ -2,7 +2,6 @@ use mathlib.Core.Path.{ap}
 use native.Mathlib.Omega.{arith}
 use Rattle.journal.specs.Stages.{rank}
 use Rattle.journal.proofs.LastLine.{records_counts, read_counts, stopped_counts, waits, all_printed_lem, read_line, stopped_line}
-use borrow.Author.Rules.{rules}
 use Rattle.journal.proofs.advancing.advance.Goals as goal
 
 pub returns-then-out-filled-lt-ROOM : goal.returns-then-out-filled-lt-ROOM

@@ -1,5 +1,4 @@
 use Rattle.journal.proofs.LastLine.{end_printed}
-use borrow.Author.Rules.{rules}
 use Rattle.journal.proofs.advancing.end_stopped.Goals as goal
 
 pub returns : goal.returns

@@ -1,6 +1,5 @@
 use native.Mathlib.Omega.{arith}
 use Rattle.journal.proofs.Starts.{start_cut, start_made, start_refused}
-use borrow.Author.Rules.{rules}
 use Rattle.journal.proofs.beginning.begin.Goals as goal
 
 pub returns-then-is_last-bytes : goal.returns-then-is_last-bytes

@@ -1,7 +1,6 @@
 use mathlib.Core.Path.{refl, ◌∙◌}
 use native.Mathlib.Omega.{arith}
 use Rattle.rules.specs.Header.{header_length}
-use borrow.Author.Rules.{rules}
 use Rattle.journal.proofs.beginning.length_of.Goals as goal
 
 pub returns : goal.returns

@@ -1,5 +1,4 @@
 use Rattle.journal.specs.Stages.{length_by_now}
-use borrow.Author.Rules.{rules}
 use Rattle.journal.proofs.record.length_now.Goals as goal
 
 pub returns-in-Whole : goal.returns-in-Whole

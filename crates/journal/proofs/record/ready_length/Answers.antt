@@ -1,6 +1,5 @@
 use borrow.Author.Tests.{lt-ltb, le-ltb}
 use Rattle.journal.specs.Stages.{ready_length}
-use borrow.Author.Rules.{rules}
 use Rattle.journal.proofs.record.ready_length.Goals as goal
 
 pub returns-then-is_stopped : goal.returns-then-is_stopped

@@ -1,14 +1,8 @@
-use Prim.Native.Nat.{◌+◌, ◌-◌, ◌≤◌}
-use mathlib.Core.Path.{◌≡◌, refl, sym, ◌∙◌}
+use Prim.Native.Nat.{◌+◌, ◌-◌}
+use mathlib.Core.Path.{refl, sym, ◌∙◌}
 use native.Mathlib.Omega.{arith}
-use lib.ListN.{length, drop}
-use Rattle.rules.specs.Ledger.{lent}
-use Rattle.accounts.specs.Lengths.{SameLengths}
-use Rattle.journal.specs.Room.{room_wanted}
-use Rattle.journal.specs.Stages.{ready_length}
 use Rattle.journal.proofs.Fronts.{positive}
-use Rattle.journal.proofs.Running.{Runs, runs_start, next_inside, next_room, one_at_most, ran_part, ready_of_rest, runs_next, runs_end}
-use borrow.Author.Rules.{rules}
+use Rattle.journal.proofs.Running.{runs_start, next_inside, next_room, one_at_most, ran_part, ready_of_rest, runs_next, runs_end}
 use Rattle.journal.proofs.run.run_records.Goals as goal
 
 pub loop-n-init : goal.loop-n-init

@@ -1,5 +1,4 @@
 use mathlib.Core.Path.{refl}
-use borrow.Author.Rules.{rules}
 use Rattle.listing.proofs.lines.fault_place.Goals as goal
 
 pub returns-in-Cut : goal.returns-in-Cut

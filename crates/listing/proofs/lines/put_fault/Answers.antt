@@ -1,7 +1,6 @@
 use native.Mathlib.Omega.{arith}
 use Rattle.listing_words.specs.Words.{fault_words}
 use Rattle.listing.proofs.Goings.{fault_most}
-use borrow.Author.Rules.{rules}
 use Rattle.listing.proofs.lines.put_fault.Goals as goal
 
 pub overflow_add-byte : goal.overflow_add-byte

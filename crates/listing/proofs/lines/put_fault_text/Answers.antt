@@ -4,7 +4,6 @@ use Rattle.listing_numbers.proofs.Writers.{next, exactly, number, within_room}
 use Rattle.listing_words.proofs.Spelled.{worded}
 use mathlib.Core.List.{append_assoc}
 use Rattle.listing_words.specs.Words.{fault_text}
-use borrow.Author.Rules.{rules}
 use Rattle.listing.proofs.lines.put_fault_text.Goals as goal
 
 pub put_word-i-requires : goal.put_word-i-requires

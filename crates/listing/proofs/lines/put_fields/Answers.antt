@@ -1,9 +1,6 @@
-use borrow.Author.Rules.{rules}
 use native.Mathlib.Omega.{arith}
 use Prim.Native.Nat.{◌-◌}
 use Rattle.arith.proofs.Tests.{asked_true, asked_false}
-use Rattle.listing_words.specs.Fields.{fields_in}
-use Rattle.listing.specs.Lines.{Going}
 use Rattle.listing.proofs.Goings.{going_start, going_next, going_fault, going_end}
 use Rattle.listing.proofs.lines.put_fields.Goals as goal
 

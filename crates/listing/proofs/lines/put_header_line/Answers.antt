@@ -3,7 +3,6 @@ use native.Mathlib.Omega.{arith}
 use Rattle.listing_numbers.proofs.Writers.{next, exactly, within_room}
 use Rattle.listing_words.specs.Words.{header_line}
 use Rattle.listing.proofs.FieldPlaces.{header_length_lem}
-use borrow.Author.Rules.{rules}
 use Rattle.listing.proofs.lines.put_header_line.Goals as goal
 
 pub put_fields-listed-requires : goal.put_fields-listed-requires

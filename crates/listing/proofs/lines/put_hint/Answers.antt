@@ -2,7 +2,6 @@ use mathlib.Core.Path.{refl}
 use native.Mathlib.Omega.{arith}
 use Rattle.listing_numbers.proofs.Writers.{next, exactly, number, nothing, within_room}
 use Rattle.listing_words.specs.Words.{hint}
-use borrow.Author.Rules.{rules}
 use Rattle.listing.proofs.lines.put_hint.Goals as goal
 
 pub returns-then-is_within : goal.returns-then-is_within

@@ -2,7 +2,6 @@ use mathlib.Core.Path.{refl}
 use native.Mathlib.Omega.{arith}
 use Rattle.listing_numbers.proofs.Writers.{next, within_room, number}
 use Rattle.listing_words.proofs.Spelled.{worded}
-use borrow.Author.Rules.{rules}
 use Rattle.listing.proofs.lines.put_named.Goals as goal
 
 pub returns : goal.returns

@@ -3,7 +3,6 @@ use native.Mathlib.Omega.{arith}
 use Rattle.listing_numbers.proofs.Writers.{next, exactly, number, within_room}
 use mathlib.Core.List.{append_assoc}
 use Rattle.listing_words.specs.Words.{out_of_range}
-use borrow.Author.Rules.{rules}
 use Rattle.listing.proofs.lines.put_out_of_range.Goals as goal
 
 pub returns : goal.returns

@@ -3,7 +3,6 @@ use native.Mathlib.Omega.{arith}
 use Rattle.listing_numbers.proofs.Writers.{exactly, within_room}
 use Rattle.listing_words.proofs.Spelled.{worded}
 use Rattle.listing_words.specs.Words.{quantity_words}
-use borrow.Author.Rules.{rules}
 use Rattle.listing.proofs.lines.put_quantity.Goals as goal
 
 pub returns-in-Letter : goal.returns-in-Letter

@@ -1,7 +1,6 @@
 use mathlib.Core.Path.{refl}
 use native.Mathlib.Omega.{arith}
 use Rattle.listing_numbers.proofs.Writers.{next, exactly, number, nothing, within_room}
-use borrow.Author.Rules.{rules}
 use Rattle.listing.proofs.lines.put_reason.Goals as goal
 
 pub returns-in-Passes : goal.returns-in-Passes

@@ -4,7 +4,6 @@ use Rattle.listing_numbers.proofs.Writers.{next, exactly, digits, decimal_room, 
 use mathlib.Core.List.{append_assoc}
 use Rattle.listing_words.specs.Fields.{fields_in}
 use Rattle.listing_words.specs.Words.{record_line}
-use borrow.Author.Rules.{rules}
 use Rattle.listing.proofs.lines.put_record_line.Goals as goal
 
 pub put_decimal-i-requires : goal.put_decimal-i-requires

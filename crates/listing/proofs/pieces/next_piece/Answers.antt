@@ -4,7 +4,6 @@ use borrow.Author.Tests.{eq-eqb, ne_eqb}
 use Rattle.arith.proofs.Tests.{asked_true, asked_false}
 use Rattle.listing.specs.Pieces.{piece_of}
 use Rattle.listing.proofs.Fronts.{front_fits}
-use borrow.Author.Rules.{rules}
 use Rattle.listing.proofs.pieces.next_piece.Goals as goal
 
 pub returns-then-not-is_last : goal.returns-then-not-is_last

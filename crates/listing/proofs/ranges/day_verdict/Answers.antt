@@ -1,6 +1,5 @@
 use mathlib.Core.Path.{refl}
 use borrow.Author.Tests.{eq-eqb, ne_eqb}
-use borrow.Author.Rules.{rules}
 use Rattle.listing.proofs.ranges.day_verdict.Goals as goal
 
 pub returns-then-is_weekend : goal.returns-then-is_weekend

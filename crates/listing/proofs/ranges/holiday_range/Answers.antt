@@ -1,7 +1,6 @@
 use mathlib.Core.Path.{refl, ◌∙◌}
 use borrow.Author.Tests.{le-leb, lt-leb}
 use Rattle.listing_words.specs.Fields.{holiday_range}
-use borrow.Author.Rules.{rules}
 use Rattle.listing.proofs.ranges.holiday_range.Goals as goal
 
 pub returns-then-place-le-FIRST_HOLIDAY_BYTE : goal.returns-then-place-le-FIRST_HOLIDAY_BYTE

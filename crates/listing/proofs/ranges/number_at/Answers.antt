@@ -2,7 +2,6 @@ use mathlib.Core.Path.{refl, ◌∙◌}
 use borrow.Author.Tests.{ne_eqb}
 use native.Mathlib.Omega.{arith}
 use Rattle.rules.specs.Fields.{number_at}
-use borrow.Author.Rules.{rules}
 use Rattle.listing.proofs.ranges.number_at.Goals as goal
 
 pub returns-then-size-eq1 : goal.returns-then-size-eq1

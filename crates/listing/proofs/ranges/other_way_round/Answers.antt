@@ -3,7 +3,6 @@ use borrow.Author.Tests.{ne_eqb}
 use native.Mathlib.Omega.{arith}
 use Rattle.rules.specs.Header.{u16_at, u32_at}
 use Rattle.listing_words.specs.Words.{other_way_round}
-use borrow.Author.Rules.{rules}
 use Rattle.listing.proofs.ranges.other_way_round.Goals as goal
 
 pub returns-then-size-eq1 : goal.returns-then-size-eq1

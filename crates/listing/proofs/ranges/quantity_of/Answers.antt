@@ -1,5 +1,4 @@
 use mathlib.Core.Path.{refl}
-use borrow.Author.Rules.{rules}
 use Rattle.listing.proofs.ranges.quantity_of.Goals as goal
 
 pub returns-in-LetterV : goal.returns-in-LetterV

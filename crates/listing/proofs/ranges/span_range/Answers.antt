@@ -4,7 +4,6 @@ use native.Mathlib.Omega.{arith}
 use Rattle.arith.proofs.Tests.{asked_true, asked_false}
 use Rattle.listing_words.specs.Fields.{span_range, span_of}
 use Rattle.listing.proofs.SpanDays.{some_day, first_year_in}
-use borrow.Author.Rules.{rules}
 use Rattle.listing.proofs.ranges.span_range.Goals as goal
 
 pub returns-then-not-is_first_year_sound : goal.returns-then-not-is_first_year_sound

@@ -1,7 +1,6 @@
 use mathlib.Core.Path.{refl}
 use native.Mathlib.Omega.{arith}
 use Rattle.rules.specs.Header.{u16_at}
-use borrow.Author.Rules.{rules}
 use Rattle.listing.proofs.ranges.u16_or_zero.Goals as goal
 
 pub returns : goal.returns

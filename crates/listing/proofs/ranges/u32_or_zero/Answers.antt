@@ -1,7 +1,6 @@
 use mathlib.Core.Path.{refl}
 use native.Mathlib.Omega.{arith}
 use Rattle.rules.specs.Header.{u32_at}
-use borrow.Author.Rules.{rules}
 use Rattle.listing.proofs.ranges.u32_or_zero.Goals as goal
 
 pub returns : goal.returns

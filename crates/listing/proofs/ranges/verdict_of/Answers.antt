@@ -1,7 +1,6 @@
 use mathlib.Core.Path.{refl}
 use borrow.Author.Tests.{lt-ltb, le-ltb}
 use Rattle.listing_words.specs.Fields.{verdict_of}
-use borrow.Author.Rules.{rules}
 use Rattle.listing.proofs.ranges.verdict_of.Goals as goal
 
 pub returns-then-bytes-place : goal.returns-then-bytes-place

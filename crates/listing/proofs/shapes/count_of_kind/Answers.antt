@@ -1,6 +1,5 @@
 use native.Mathlib.Omega.{arith}
 use Rattle.listing.proofs.FieldPlaces.{count_with_legs, only_count, count_without}
-use borrow.Author.Rules.{rules}
 use Rattle.listing.proofs.shapes.count_of_kind.Goals as goal
 
 pub returns-then-kind-eq-PROPOSAL : goal.returns-then-kind-eq-PROPOSAL

@@ -4,7 +4,6 @@ use Rattle.listing.proofs.FieldPlaces.{after_first}
 use mathlib.Core.Path.{refl}
 use native.Mathlib.Omega.{arith}
 use Rattle.listing_words.specs.Fields.{fields_in}
-use borrow.Author.Rules.{rules}
 use Rattle.listing.proofs.shapes.field_at.Goals as goal
 
 pub field_of_kind-requires : goal.field_of_kind-requires

@@ -1,5 +1,4 @@
 use Rattle.listing.proofs.FieldPlaces.{own_at, leg_of_kind}
-use borrow.Author.Rules.{rules}
 use Rattle.listing.proofs.shapes.field_of_kind.Goals as goal
 
 pub returns-then-place-count : goal.returns-then-place-count

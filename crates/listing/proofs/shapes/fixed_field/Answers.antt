@@ -1,7 +1,6 @@
 use native.Mathlib.Omega.{arith}
 use mathlib.Core.Path.{◌≡◌, refl}
 use Rattle.listing.proofs.FieldPlaces.{last_of_five}
-use borrow.Author.Rules.{rules}
 use Rattle.listing.proofs.shapes.fixed_field.Goals as goal
 
 pub returns-in_default : goal.returns-in_default

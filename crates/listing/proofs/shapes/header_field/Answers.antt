@@ -1,6 +1,5 @@
 use Rattle.listing.proofs.FieldPlaces.{fixed_at, past_fixed, holiday_at, limit_at, header_length_lem}
 use native.Mathlib.Omega.{arith}
-use borrow.Author.Rules.{rules}
 use Rattle.listing.proofs.shapes.header_field.Goals as goal
 
 pub returns-then-i-lt-FIXED_FIELDS : goal.returns-then-i-lt-FIXED_FIELDS

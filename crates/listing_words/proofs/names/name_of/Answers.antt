@@ -1,7 +1,6 @@
 use Rattle.listing_words.proofs.Spelled.{as_word}
 use native.Mathlib.Omega.{arith}
 use mathlib.Core.Path.{refl}
-use borrow.Author.Rules.{rules}
 use Rattle.listing_words.proofs.names.name_of.Goals as goal
 
 pub returns-in-LetterV : goal.returns-in-LetterV

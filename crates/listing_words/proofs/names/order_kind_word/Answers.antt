@@ -3,7 +3,6 @@ use native.Mathlib.Omega.{arith}
 use mathlib.Core.Path.{refl}
 use Rattle.listing_words.specs.Words.{order_kind_word}
 use borrow.Author.Tests.{ne_eqb}
-use borrow.Author.Rules.{rules}
 use Rattle.listing_words.proofs.names.order_kind_word.Goals as goal
 
 pub returns-in-0 : goal.returns-in-0

@@ -3,7 +3,6 @@ use Rattle.listing_words.specs.Words.{side_word}
 use native.Mathlib.Omega.{arith}
 use mathlib.Core.Path.{refl}
 use borrow.Author.Tests.{ne_eqb}
-use borrow.Author.Rules.{rules}
 use Rattle.listing_words.proofs.names.side_word.Goals as goal
 
 pub returns-in-0 : goal.returns-in-0

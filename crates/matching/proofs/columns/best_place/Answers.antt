@@ -1,6 +1,5 @@
 use borrow.Author.Tests.{lt-ltb, le-ltb}
 use Rattle.matching.specs.Ranks.{no_rank}
-use borrow.Author.Rules.{rules}
 use Rattle.matching.proofs.columns.best_place.Goals as goal
 
 pub returns-then-low-lt-NO_RANK : goal.returns-then-low-lt-NO_RANK

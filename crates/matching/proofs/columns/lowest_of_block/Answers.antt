@@ -1,6 +1,5 @@
 use native.Mathlib.Omega.{arith}
 use Rattle.matching.proofs.Lows.{lowest_both}
-use borrow.Author.Rules.{rules}
 use Rattle.matching.proofs.columns.lowest_of_block.Goals as goal
 
 pub returns : goal.returns

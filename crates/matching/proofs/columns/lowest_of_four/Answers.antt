@@ -1,7 +1,6 @@
 use native.Mathlib.Omega.{arith}
 use Prim.Native.Nat.{◌+◌}
 use Rattle.matching.proofs.Lows.{lowest_one, lowest_both}
-use borrow.Author.Rules.{rules}
 use Rattle.matching.proofs.columns.lowest_of_four.Goals as goal
 
 pub returns : goal.returns

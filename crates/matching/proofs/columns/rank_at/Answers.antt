@@ -3,7 +3,6 @@ use borrow.Author.Tests.{lt-ltb}
 use Rattle.order_priority.specs.Priority.{rank_of}
 use Rattle.matching.specs.Ranks.{no_rank, rank_in, placed_rank}
 use Rattle.matching.proofs.Best.{rank_below, rank_room}
-use borrow.Author.Rules.{rules}
 use Rattle.matching.proofs.columns.rank_at.Goals as goal
 
 pub overflow_mul-result : goal.overflow_mul-result

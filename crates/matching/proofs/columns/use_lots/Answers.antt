@@ -3,7 +3,6 @@ use native.Mathlib.Omega.{arith}
 use lib.ListN.{length-set}
 use borrow.Author.Tests.{eq-eqb, ne_eqb}
 use Rattle.matching.proofs.Lows.{lows_renewed}
-use borrow.Author.Rules.{rules}
 use Rattle.matching.proofs.columns.use_lots.Goals as goal
 
 pub lowest_of_block-requires : goal.lowest_of_block-requires

@@ -1,16 +1,15 @@
 use mathlib.Core.Path.{◌≡◌, refl, sym, ap, ◌∙◌}
-use mathlib.Core.List.{◌++◌, map}
+use mathlib.Core.List.{map}
 use Prim.Native.Nat.{◌-◌, ◌≤◌, ◌<◌}
-use lib.ListN.{length, length-set, length-map, take, drop, get_or}
+use lib.ListN.{length, length-set, length-map, get_or}
 use native.Mathlib.Omega.{arith}
-use borrow.Author.Rules.{rules}
 use Rattle.arith.proofs.Writes.{front_next, front_end}
 use Rattle.matching.specs.Ranks.{lots_of, first_rank, rank_in, placed_rank}
 use Rattle.matching.proofs.Best.{ranks_length}
 use Rattle.tables.specs.Fit.{orders_in}
 use Rattle.order_book.proofs.Left.{orders_length}
 use Rattle.matching.proofs.Passes.{lots_here, rank_here}
-use Rattle.matching.proofs.Lows.{PlacedTo, placed_start, placed_next, placed_all}
+use Rattle.matching.proofs.Lows.{placed_start, placed_next, placed_all}
 use Rattle.matching.proofs.columns.write_columns.Goals as goal
 
 pub loop-i-init : goal.loop-i-init

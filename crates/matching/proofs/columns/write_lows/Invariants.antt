@@ -1,10 +1,7 @@
 use Prim.Native.Nat.{ℕ, ◌-◌, ◌*◌, ◌≤◌, ◌<◌}
-use mathlib.Core.Path.{◌≡◌, refl, ◌∙◌}
-use lib.ListN.{length, get_or, length-set}
-use native.Mathlib.Omega.{arith}
-use borrow.Author.Rules.{rules}
+use mathlib.Core.Path.{◌≡◌}
+use lib.ListN.{length, get_or}
 use Rattle.matching.specs.Ranks.{LowestAmong, block_size}
-use Rattle.matching.proofs.Lows.{lows_next}
 use Rattle.matching.proofs.columns.write_lows.Given as goal
 
 abbrev pub invariant-loop-b : goal.invariant-loop-b

@@ -1,5 +1,4 @@
 use Rattle.matching.specs.Crossing.{crossing_lots}
-use borrow.Author.Rules.{rules}
 use Rattle.matching.proofs.crossing.crossing_lots.Goals as goal
 
 pub returns-then-does_oppose-does_meet : goal.returns-then-does_oppose-does_meet

@@ -1,6 +1,5 @@
 use borrow.Author.Tests.{ne_eqb}
 use Rattle.matching.proofs.Passes.{none_found}
-use borrow.Author.Rules.{rules}
 use Rattle.matching.proofs.crossing.found_in.Goals as goal
 
 pub returns-then-r-o : goal.returns-then-r-o

@@ -1,6 +1,5 @@
-use Rattle.matching.proofs.Passes.{Measuring, measuring_start, measuring_next}
-use Prim.Native.Nat.{◌-◌, ◌≤◌}
-use borrow.Author.Rules.{rules}
+use Rattle.matching.proofs.Passes.{measuring_start, measuring_next}
+use Prim.Native.Nat.{◌-◌}
 use mathlib.Core.Path.{◌≡◌}
 use native.Mathlib.Omega.{arith}
 use Rattle.matching.proofs.crossing.measure.Goals as goal

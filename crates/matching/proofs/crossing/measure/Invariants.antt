@@ -1,8 +1,5 @@
-use Rattle.matching.proofs.Passes.{Measuring, measuring_start, measuring_next}
+use Rattle.matching.proofs.Passes.{Measuring}
 use Prim.Native.Nat.{◌-◌, ◌≤◌}
-use borrow.Author.Rules.{rules}
-use mathlib.Core.Path.{◌≡◌}
-use native.Mathlib.Omega.{arith}
 use Rattle.matching.proofs.crossing.measure.Given as goal
 
 abbrev pub invariant-loop-i : goal.invariant-loop-i

@@ -1,5 +1,4 @@
 use Rattle.matching.specs.Crossing.{own_lots}
-use borrow.Author.Rules.{rules}
 use Rattle.matching.proofs.crossing.own_lots.Goals as goal
 
 pub returns-then-r-o : goal.returns-then-r-o

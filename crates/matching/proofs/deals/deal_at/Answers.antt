@@ -1,6 +1,5 @@
 use native.Mathlib.Nat.{add-zero}
 use Prim.Native.Nat.{◌*◌}
-use borrow.Author.Rules.{rules}
 use Rattle.matching.proofs.deals.deal_at.Goals as goal
 
 pub returns : goal.returns

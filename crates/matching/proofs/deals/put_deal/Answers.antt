@@ -5,7 +5,6 @@ use Rattle.matching.specs.Deals.{deal_places}
 use native.Mathlib.Omega.{arith}
 use lib.ListN.{length-set}
 use Rattle.arith.proofs.Writes.{stored}
-use borrow.Author.Rules.{rules}
 use Rattle.matching.proofs.deals.put_deal.Goals as goal
 
 pub bounds-deals-at-2 : goal.bounds-deals-at-2

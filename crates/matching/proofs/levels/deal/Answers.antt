@@ -3,7 +3,6 @@ use mathlib.Core.Path.{ap, ◌∙◌}
 use lib.ListN.{get_or}
 use Rattle.arith.specs.Lists.{over}
 use Rattle.matching.specs.Deals.{counterparty, deal_places}
-use borrow.Author.Rules.{rules}
 use Rattle.matching.proofs.levels.deal.Goals as goal
 
 pub returns : goal.returns

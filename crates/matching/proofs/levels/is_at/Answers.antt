@@ -2,7 +2,6 @@ use native.Mathlib.Omega.{arith}
 use mathlib.Core.Path.{sym, ap, ◌∙◌}
 use borrow.Author.Tests.{eqb-true}
 use Rattle.arith.proofs.Tests.{never}
-use borrow.Author.Rules.{rules}
 use Rattle.matching.proofs.levels.is_at.Goals as goal
 
 pub returns-then-i-count : goal.returns-then-i-count

@@ -1,11 +1,6 @@
 use Prim.Native.Nat.{◌≤◌}
-use borrow.Author.Rules.{rules}
-use native.Mathlib.Omega.{arith}
-use mathlib.Core.Path.{sym, ◌∙◌}
-use borrow.Author.Tests.{not-true, not-false}
 use Rattle.matching.specs.Ranks.{BestPlace}
-use Rattle.matching.proofs.Going.{Going, going_start, going_from, Next, none_left, best_apart, next_first, next_level, most_best, going_made, still_less, match_made}
-use Rattle.matching.proofs.Going.{left_long, ranks_long, deals_long}
+use Rattle.matching.proofs.Going.{Going, Next}
 use Rattle.matching.proofs.levels.match_levels.Given as goal
 
 abbrev pub invariant-orders : goal.invariant-orders

@@ -1,5 +1,4 @@
 use mathlib.Core.Path.{refl}
-use borrow.Author.Rules.{rules}
 use Rattle.matching.proofs.levels.match_orders.Goals as goal
 
 pub write_columns-requires : goal.write_columns-requires

@@ -3,7 +3,6 @@ use mathlib.Core.Path.{◌∙◌}
 use native.Mathlib.Omega.{arith}
 use Rattle.rules.specs.Days.{month_length, month_days, leap_year}
 use Rattle.months.proofs.Table.{at}
-use borrow.Author.Rules.{rules}
 use Rattle.months.proofs.months.months_span.Goals as goal
 
 pub returns : goal.returns

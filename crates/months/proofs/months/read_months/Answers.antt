@@ -1,11 +1,8 @@
-use Prim.Native.Nat.{◌+◌, ◌-◌, ◌≤◌, ◌<◌}
+use Prim.Native.Nat.{◌+◌, ◌<◌}
 use mathlib.Core.Path.{◌≡◌, refl, ◌∙◌}
-use mathlib.Core.List.{◌++◌, map}
 use native.Mathlib.Omega.{arith}
 use native.Mathlib.Nat.{sub-zero}
-use lib.ListN.{length, take, length-set}
-use borrow.Author.Rules.{rules}
-use Rattle.arith.specs.Lists.{from}
+use lib.ListN.{length, length-set}
 use Rattle.arith.proofs.Columns.{mapped_next, mapped_end, written_next, written_end}
 use Rattle.rules.specs.Days.{month_start, month_length, month_days, leap_year}
 use Rattle.months.proofs.Table.{at}

@@ -1,14 +1,9 @@
-use Prim.Native.Nat.{◌+◌, ◌-◌, ◌≤◌, ◌<◌}
-use mathlib.Core.Path.{◌≡◌, refl, ◌∙◌}
+use Prim.Native.Nat.{◌+◌, ◌-◌, ◌≤◌}
+use mathlib.Core.Path.{◌≡◌}
 use mathlib.Core.List.{◌++◌, map}
-use native.Mathlib.Omega.{arith}
-use native.Mathlib.Nat.{sub-zero}
-use lib.ListN.{length, take, length-set}
-use borrow.Author.Rules.{rules}
+use lib.ListN.{length, take}
 use Rattle.arith.specs.Lists.{from}
-use Rattle.arith.proofs.Columns.{mapped_next, mapped_end, written_next, written_end}
-use Rattle.rules.specs.Days.{month_start, month_length, month_days, leap_year}
-use Rattle.months.proofs.Table.{at}
+use Rattle.rules.specs.Days.{month_start}
 use Rattle.months.proofs.months.read_months.Given as goal
 
 abbrev pub invariant-loop-i : goal.invariant-loop-i

@@ -1,6 +1,5 @@
 use mathlib.Core.List.{[]}
 use native.Mathlib.Omega.{arith}
-use borrow.Author.Rules.{rules}
 use Rattle.arith.proofs.Columns.{mapped_length}
 use Rattle.months.proofs.Starts.{starts_made}
 use Rattle.months.proofs.span.read_starts.Goals as goal

@@ -1,7 +1,6 @@
 use mathlib.Core.List.{[]}
 use native.Mathlib.Omega.{arith}
 use Rattle.rules.specs.Days.{span_start, day_after_span}
-use borrow.Author.Rules.{rules}
 use Rattle.months.proofs.span.span_of.Goals as goal
 
 pub overflow_add-month : goal.overflow_add-month

@@ -1,6 +1,5 @@
 use mathlib.Core.Path.{refl, ◌∙◌}
 use Rattle.number_fields.specs.RecordFields.{row_event}
-use borrow.Author.Rules.{rules}
 use Rattle.number_fields.proofs.event.event_in.Goals as goal
 
 pub returns-then-kind-legs : goal.returns-then-kind-legs

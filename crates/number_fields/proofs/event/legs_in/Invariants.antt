@@ -1,15 +1,11 @@
-use borrow.Author.Rules.{rules}
-use native.Mathlib.Omega.{arith}
 use mathlib.Core.List.{map}
-use mathlib.Core.Path.{◌≡◌, refl}
+use mathlib.Core.Path.{◌≡◌}
 use Prim.Native.Nat.{◌-◌, ◌≤◌}
 use Rattle.arith.specs.Columns.{padded}
 use Rattle.arith.specs.Lists.{from}
-use Rattle.arith.proofs.Padded.{column_next}
 use Rattle.rules.specs.Ranges.{most_legs}
-use Rattle.codec.specs.Columns.{leg_columns}
 use Rattle.rules.specs.Records.{leg_in}
-use Rattle.number_fields.specs.RecordFields.{leg_field, first_legs}
+use Rattle.number_fields.specs.RecordFields.{leg_field}
 use Rattle.number_fields.proofs.event.legs_in.Given as goal
 
 abbrev pub invariant-loop-i : goal.invariant-loop-i

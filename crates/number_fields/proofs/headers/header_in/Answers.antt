@@ -1,6 +1,5 @@
 use mathlib.Core.Path.{refl}
 use Rattle.number_fields.proofs.HeaderOutcomes.{length_numbers}
-use borrow.Author.Rules.{rules}
 use Rattle.number_fields.proofs.headers.header_in.Goals as goal
 
 pub returns : goal.returns

@@ -1,14 +1,11 @@
-use borrow.Author.Rules.{rules}
 use Prim.Native.Nat.{◌+◌, ◌-◌, ◌≤◌}
 use mathlib.Core.List.{map}
-use mathlib.Core.Path.{◌≡◌, refl}
-use native.Mathlib.Omega.{arith}
+use mathlib.Core.Path.{◌≡◌}
 use lib.ListN.{get_or}
 use Rattle.arith.specs.Columns.{padded}
 use Rattle.arith.specs.Lists.{from}
-use Rattle.arith.proofs.Padded.{column_filled}
 use Rattle.rules.specs.Ranges.{most_holidays}
-use Rattle.number_fields.specs.HeaderFields.{holidays_field, numbers_at}
+use Rattle.number_fields.specs.HeaderFields.{holidays_field}
 use Rattle.number_fields.proofs.headers.holidays_in.Given as goal
 
 abbrev pub invariant-loop-i : goal.invariant-loop-i

@@ -5,7 +5,6 @@ use lib.Seq.{length-sets}
 use native.Mathlib.Omega.{arith}
 use lib.ListN.{length-set}
 use Rattle.number_fields.proofs.HeaderOutcomes.{header_put}
-use borrow.Author.Rules.{rules}
 use Rattle.number_fields.proofs.headers.put_header.Goals as goal
 
 pub bounds-row-1 : goal.bounds-row-1

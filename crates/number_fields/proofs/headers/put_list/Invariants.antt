@@ -1,11 +1,7 @@
-use borrow.Author.Rules.{rules}
-use native.Mathlib.Omega.{arith}
-use native.Mathlib.Numerals.{add-one}
-use mathlib.Core.Path.{◌≡◌, refl, ◌∙◌}
+use mathlib.Core.Path.{◌≡◌}
 use Prim.Native.Nat.{◌-◌, ◌≤◌}
-use lib.ListN.{length, length-set}
-use lib.Seq.{paste, paste-zero, paste-suc}
-use Rattle.number_fields.proofs.Rows.{pasted}
+use lib.ListN.{length}
+use lib.Seq.{paste}
 use Rattle.number_fields.proofs.headers.put_list.Given as goal
 
 abbrev pub invariant-loop-i : goal.invariant-loop-i

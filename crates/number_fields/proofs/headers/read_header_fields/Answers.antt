@@ -4,7 +4,6 @@ use Rattle.header.specs.declared.reader.HeaderReading.{HeaderReading}
 use Rattle.header.proofs.Readings.{as_read, turned_back, read_well, holiday_room, limit_room, holiday_most, limit_most, as-listed}
 use Rattle.number_fields.specs.HeaderFields.{with_header}
 use Rattle.number_fields.proofs.HeaderOutcomes.{read_header_short, read_header_none, read_header_whole}
-use borrow.Author.Rules.{rules}
 use Rattle.number_fields.proofs.headers.read_header_fields.Goals as goal
 
 pub returns-then-row-lt-HEADER_FIELDS : goal.returns-then-row-lt-HEADER_FIELDS

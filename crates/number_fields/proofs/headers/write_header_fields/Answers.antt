@@ -1,5 +1,4 @@
 use Rattle.number_fields.proofs.HeaderOutcomes.{write_header_row_short, write_many_members, write_many_holidays, write_header_row}
-use borrow.Author.Rules.{rules}
 use Rattle.number_fields.proofs.headers.write_header_fields.Goals as goal
 
 pub returns-then-row-lt-HEADER_FIELDS : goal.returns-then-row-lt-HEADER_FIELDS

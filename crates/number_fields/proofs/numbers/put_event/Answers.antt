@@ -2,7 +2,6 @@ use mathlib.Core.Path.{ap, ◌∙◌}
 use lib.ListN.{length}
 use Rattle.rules.specs.Fields.{kind_fields}
 use Rattle.number_fields.proofs.Rows.{put_rows}
-use borrow.Author.Rules.{rules}
 use Rattle.number_fields.proofs.numbers.put_event.Goals as goal
 
 pub returns : goal.returns

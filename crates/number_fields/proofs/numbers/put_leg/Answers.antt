@@ -3,7 +3,6 @@ use native.Mathlib.Numerals.{add-one, add-two}
 use lib.ListN.{length-set}
 use Rattle.arith.proofs.Writes.{stored}
 use Rattle.rules.specs.Records.{leg_numbers}
-use borrow.Author.Rules.{rules}
 use Rattle.number_fields.proofs.numbers.put_leg.Goals as goal
 
 pub bounds-row-at-2 : goal.bounds-row-at-2

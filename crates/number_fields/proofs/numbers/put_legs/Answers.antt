@@ -1,11 +1,7 @@
-use borrow.Author.Rules.{rules}
 use native.Mathlib.Omega.{arith}
-use mathlib.Core.List.{flat_map, map}
 use mathlib.Core.Path.{◌≡◌, refl}
-use Prim.Native.Nat.{◌-◌, ◌≤◌}
-use lib.ListN.{length}
+use Prim.Native.Nat.{◌-◌}
 use Rattle.arith.proofs.Widths.{blocks_none, blocks_next}
-use Rattle.arith.specs.Lists.{from, over}
 use Rattle.codec.specs.Columns.{leg_row, leg_rows}
 use Rattle.rules.specs.Records.{leg_numbers}
 use Rattle.number_fields.proofs.numbers.put_legs.Goals as goal

@@ -1,5 +1,4 @@
 use Rattle.number_fields.proofs.RecordOutcomes.{read_short, read_unsound, few_read, read_sound}
-use borrow.Author.Rules.{rules}
 use Rattle.number_fields.proofs.records.read_record_fields.Goals as goal
 
 pub returns-then-row-lt-RECORD_FIELDS : goal.returns-then-row-lt-RECORD_FIELDS

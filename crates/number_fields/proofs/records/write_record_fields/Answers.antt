@@ -1,5 +1,4 @@
 use Rattle.number_fields.proofs.RecordOutcomes.{write_short, write_none, few_in, write_event}
-use borrow.Author.Rules.{rules}
 use Rattle.number_fields.proofs.records.write_record_fields.Goals as goal
 
 pub returns-then-row-lt-RECORD_FIELDS : goal.returns-then-row-lt-RECORD_FIELDS

@@ -1,4 +1,3 @@
-use borrow.Author.Rules.{rules}
 use Rattle.order_book.proofs.leaving.does_leave.Goals as goal
 
 pub returns-in-Numbered : goal.returns-in-Numbered

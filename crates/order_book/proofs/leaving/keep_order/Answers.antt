@@ -2,7 +2,6 @@ use mathlib.Core.Path.{refl}
 use native.Mathlib.Omega.{arith}
 use borrow.Author.Tests.{eq-eqb, ne_eqb}
 use Rattle.order_book.proofs.Left.{lots_written}
-use borrow.Author.Rules.{rules}
 use Rattle.order_book.proofs.leaving.keep_order.Goals as goal
 
 pub returns-then-left-eq0 : goal.returns-then-left-eq0

@@ -1,5 +1,4 @@
 use Rattle.rules.specs.Ledger.{with_orders}
-use borrow.Author.Rules.{rules}
 use Rattle.order_book.proofs.leaving.keep_orders.Goals as goal
 
 pub returns : goal.returns

@@ -1,4 +1,3 @@
-use borrow.Author.Rules.{rules}
 use Rattle.order_book.proofs.leaving.left_of.Goals as goal
 
 pub returns-then-does_leave : goal.returns-then-does_leave

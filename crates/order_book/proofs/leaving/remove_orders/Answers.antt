@@ -10,7 +10,6 @@ use lib.Seq.{length-take-le}
 use lib.ListN.{get_or}
 use Rattle.order_book.proofs.Left.{all_orders}
 use Rattle.order_book.specs.Left.{leaves}
-use borrow.Author.Rules.{rules}
 use Rattle.order_book.proofs.leaving.remove_orders.Goals as goal
 
 pub slice_bounds-write_left-end : goal.slice_bounds-write_left-end

@@ -1,14 +1,10 @@
-use borrow.Author.Rules.{rules}
-use native.Mathlib.Omega.{arith}
-use native.Mathlib.Nat.{sub-zero}
-use mathlib.Core.Path.{◌≡◌, ap, ◌∙◌}
+use mathlib.Core.Path.{◌≡◌}
 use mathlib.Core.Bool.{◌||◌}
 use mathlib.Core.List.{map}
 use Prim.Native.Nat.{◌-◌, ◌≤◌}
 use Rattle.arith.specs.Lists.{any, from}
 use Rattle.rules.specs.Ledger.{order_at}
 use Rattle.order_book.specs.Left.{leaves}
-use Rattle.arith.proofs.Scans.{some_next, some_end}
 use Rattle.order_book.proofs.leaving.would_any_leave.Given as goal
 
 abbrev pub invariant-loop-i : goal.invariant-loop-i

@@ -1,12 +1,10 @@
 use mathlib.Core.Bool.{cond}
 use lib.ListN.{length-set}
 use Rattle.order_book.specs.Left.{leaves}
-use borrow.Author.Rules.{rules}
 use native.Mathlib.Omega.{arith}
 use mathlib.Core.Path.{◌≡◌, refl, sym, ap, ◌∙◌}
-use mathlib.Core.List.{◌++◌}
-use Prim.Native.Nat.{◌-◌, ◌≤◌}
-use lib.ListN.{length, take, drop, get_or}
+use Prim.Native.Nat.{◌-◌}
+use lib.ListN.{length, get_or}
 use Rattle.tables.specs.Fit.{orders_in}
 use Rattle.order_book.specs.Left.{staying}
 use Rattle.order_book.proofs.Left.{staying_length, staying_at}

@@ -1,16 +1,10 @@
-use mathlib.Core.Bool.{cond}
-use lib.ListN.{length-set}
 use Rattle.order_book.specs.Left.{leaves}
-use borrow.Author.Rules.{rules}
-use native.Mathlib.Omega.{arith}
-use mathlib.Core.Path.{◌≡◌, refl, sym, ap, ◌∙◌}
+use mathlib.Core.Path.{◌≡◌}
 use mathlib.Core.List.{◌++◌}
 use Prim.Native.Nat.{◌-◌, ◌≤◌}
-use lib.ListN.{length, take, drop, get_or}
+use lib.ListN.{length, take, drop}
 use Rattle.tables.specs.Fit.{orders_in}
 use Rattle.order_book.specs.Left.{staying}
-use Rattle.order_book.proofs.Left.{staying_length, staying_at}
-use Rattle.arith.proofs.Writes.{front_next, front_end}
 use Rattle.order_book.proofs.leaving.write_left.Given as goal
 
 abbrev pub invariant-loop-i : goal.invariant-loop-i

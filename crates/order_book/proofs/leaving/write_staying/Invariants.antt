@@ -1,13 +1,10 @@
-use mathlib.Core.Path.{sym, ap}
-use borrow.Author.Rules.{rules}
-use native.Mathlib.Omega.{arith}
-use mathlib.Core.Path.{◌≡◌, refl, ◌∙◌}
+use mathlib.Core.Path.{◌≡◌}
 use mathlib.Core.List.{flat_map}
 use Prim.Native.Nat.{◌-◌, ◌≤◌}
 use lib.ListN.{length}
-use Rattle.arith.specs.Lists.{over, from}
+use Rattle.arith.specs.Lists.{over}
 use Rattle.rules.specs.Ledger.{order_places}
-use Rattle.order_book.proofs.Left.{left_to, left_few, left_nothing, kept_count, kept_book, side_there, places_length}
+use Rattle.order_book.proofs.Left.{left_to}
 use Rattle.order_book.proofs.leaving.write_staying.Given as goal
 
 abbrev pub invariant-loop-i : goal.invariant-loop-i

@@ -1,6 +1,5 @@
 use native.Mathlib.Nat.{add-zero}
 use Prim.Native.Nat.{◌*◌}
-use borrow.Author.Rules.{rules}
 use Rattle.rules.specs.Ledger.{order_width}
 use Rattle.order_book.proofs.orders.order_at.Goals as goal
 

@@ -6,7 +6,6 @@ use lib.ListN.{length-set}
 use Rattle.rules.specs.Ledger.{order_width}
 use Rattle.rules.specs.Ledger.{order_places}
 use Rattle.arith.proofs.Writes.{stored}
-use borrow.Author.Rules.{rules}
 use Rattle.order_book.proofs.orders.put_order.Goals as goal
 
 pub bounds-book-at-2 : goal.bounds-book-at-2

@@ -1,13 +1,11 @@
 use native.Mathlib.Omega.{arith}
 use mathlib.Core.Path.{refl, sym, ◌∙◌}
-use borrow.Author.Tests.{not-true, not-false}
 use lib.ListN.{get_or}
 use Rattle.tables.specs.Fit.{order_count_in, orders_in}
 use Rattle.rules.specs.Ledger.{order_count_place}
 use Rattle.rules.specs.Ledger.{with_head, with_prices, with_book, orders, calendar}
 use Rattle.proposal_check.proofs.Checks.{two_columns, balanced_columns, priority_columns, acceptable_not, acceptable_found, legs_found}
 use Rattle.proposal_check.proofs.LastRanks.{orders_ranked}
-use borrow.Author.Rules.{rules}
 use Rattle.proposal_check.proofs.acceptable.is_acceptable.Goals as goal
 
 pub returns-then-not-are_found : goal.returns-then-not-are_found

@@ -1,6 +1,5 @@
 use mathlib.Core.Path.{◌∙◌}
 use Rattle.proposal_check.proofs.Sums.{sums_fit, sums_balanced}
-use borrow.Author.Rules.{rules}
 use Rattle.proposal_check.proofs.balance.are_both_balanced.Goals as goal
 
 pub are_months_balanced-requires : goal.are_months_balanced-requires

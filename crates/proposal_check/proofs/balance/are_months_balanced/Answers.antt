@@ -1,10 +1,7 @@
-use borrow.Author.Rules.{rules}
 use native.Mathlib.Omega.{arith}
-use mathlib.Core.Path.{◌≡◌, refl}
-use mathlib.Core.Bool.{◌&&◌}
-use Prim.Native.Nat.{◌-◌, ◌≤◌}
+use mathlib.Core.Path.{refl}
+use Prim.Native.Nat.{◌-◌}
 use lib.Dec.{eqb}
-use Rattle.arith.specs.Lists.{every, from}
 use Rattle.arith.proofs.Scans.{each_next, each_end}
 use Rattle.rules.specs.declared.order.Side.TheVariants.{Buy, Sell}
 use Rattle.proposal_check.specs.Sums.{month_sum, balanced_sums}

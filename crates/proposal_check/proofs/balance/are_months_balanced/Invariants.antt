@@ -1,11 +1,8 @@
-use borrow.Author.Rules.{rules}
-use native.Mathlib.Omega.{arith}
-use mathlib.Core.Path.{◌≡◌, refl}
+use mathlib.Core.Path.{◌≡◌}
 use mathlib.Core.Bool.{◌&&◌}
 use Prim.Native.Nat.{◌-◌, ◌≤◌}
 use lib.Dec.{eqb}
 use Rattle.arith.specs.Lists.{every, from}
-use Rattle.arith.proofs.Scans.{each_next, each_end}
 use Rattle.rules.specs.declared.order.Side.TheVariants.{Buy, Sell}
 use Rattle.proposal_check.specs.Sums.{month_sum, balanced_sums}
 use Rattle.proposal_check.proofs.balance.are_months_balanced.Given as goal

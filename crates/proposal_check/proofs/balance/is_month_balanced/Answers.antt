@@ -1,5 +1,4 @@
 use native.Mathlib.Nat.{add-zero}
-use borrow.Author.Rules.{rules}
 use Rattle.proposal_check.proofs.balance.is_month_balanced.Goals as goal
 
 pub returns : goal.returns

@@ -1,6 +1,5 @@
 use native.Mathlib.Omega.{arith}
 use native.Mathlib.Nat.{mul-le-mul}
-use borrow.Author.Rules.{rules}
 use Rattle.proposal_check.proofs.balance.leg_amount.Goals as goal
 
 pub times-requires : goal.times-requires

@@ -1,5 +1,4 @@
 use native.Mathlib.Omega.{arith}
-use borrow.Author.Rules.{rules}
 use Rattle.proposal_check.proofs.balance.sum_of_three.Goals as goal
 
 pub overflow_add-result : goal.overflow_add-result

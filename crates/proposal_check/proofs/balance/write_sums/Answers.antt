@@ -1,10 +1,9 @@
-use borrow.Author.Rules.{rules}
 use native.Mathlib.Omega.{arith}
 use mathlib.Core.Path.{◌≡◌, refl, ap, ◌∙◌}
-use Prim.Native.Nat.{◌-◌, ◌≤◌}
+use Prim.Native.Nat.{◌-◌}
 use lib.ListN.{length, length-set}
 use Rattle.proposal_check.specs.SidePlaces.{side_place_of}
-use Rattle.proposal_check.specs.Sums.{SumsTo, amount_at}
+use Rattle.proposal_check.specs.Sums.{amount_at}
 use Rattle.proposal_check.proofs.Sums.{sums_start, sums_next, most_sum, most_at}
 use Rattle.proposal_check.proofs.balance.write_sums.Goals as goal
 

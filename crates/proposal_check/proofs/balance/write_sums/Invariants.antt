@@ -1,11 +1,7 @@
-use borrow.Author.Rules.{rules}
-use native.Mathlib.Omega.{arith}
-use mathlib.Core.Path.{◌≡◌, refl, ap, ◌∙◌}
+use mathlib.Core.Path.{◌≡◌}
 use Prim.Native.Nat.{◌-◌, ◌≤◌}
-use lib.ListN.{length, length-set}
-use Rattle.proposal_check.specs.SidePlaces.{side_place_of}
-use Rattle.proposal_check.specs.Sums.{SumsTo, amount_at}
-use Rattle.proposal_check.proofs.Sums.{sums_start, sums_next, most_sum, most_at}
+use lib.ListN.{length}
+use Rattle.proposal_check.specs.Sums.{SumsTo}
 use Rattle.proposal_check.proofs.balance.write_sums.Given as goal
 
 abbrev pub invariant-loop-i : goal.invariant-loop-i

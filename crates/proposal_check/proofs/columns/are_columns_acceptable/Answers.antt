@@ -4,7 +4,6 @@ use lib.ListN.{replicate}
 use lib.Seq.{length-take-le}
 use Rattle.tables.specs.Fit.{order_count_in}
 use Rattle.proposal_check.proofs.Named.{places_long, places_as_many, places_front}
-use borrow.Author.Rules.{rules}
 use Rattle.proposal_check.proofs.columns.are_columns_acceptable.Goals as goal
 
 pub slice_bounds-write_places-end : goal.slice_bounds-write_places-end

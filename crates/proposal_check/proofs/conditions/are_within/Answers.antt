@@ -1,13 +1,9 @@
 use native.Mathlib.Nat.{sub-zero}
-use borrow.Author.Rules.{rules}
 use native.Mathlib.Omega.{arith}
-use mathlib.Core.Path.{◌≡◌}
 use mathlib.Core.Bool.{◌&&◌}
-use mathlib.Core.List.{map}
-use Prim.Native.Nat.{◌-◌, ◌≤◌}
+use Prim.Native.Nat.{◌-◌}
 use lib.ListN.{length}
-use Rattle.arith.specs.Lists.{every, from}
-use Rattle.rules.specs.Ledger.{Tables, with_prices}
+use Rattle.rules.specs.Ledger.{with_prices}
 use Rattle.rules.specs.Synthetic.{has_lots, price_allowed}
 use Rattle.proposal_check.specs.Columns.{named_at}
 use Rattle.proposal_check.proofs.Lists.{all_next, all_end}

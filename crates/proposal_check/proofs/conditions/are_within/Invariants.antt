@@ -1,6 +1,3 @@
-use native.Mathlib.Nat.{sub-zero}
-use borrow.Author.Rules.{rules}
-use native.Mathlib.Omega.{arith}
 use mathlib.Core.Path.{◌≡◌}
 use mathlib.Core.Bool.{◌&&◌}
 use mathlib.Core.List.{map}
@@ -10,8 +7,6 @@ use Rattle.arith.specs.Lists.{every, from}
 use Rattle.rules.specs.Ledger.{Tables, with_prices}
 use Rattle.rules.specs.Synthetic.{has_lots, price_allowed}
 use Rattle.proposal_check.specs.Columns.{named_at}
-use Rattle.proposal_check.proofs.Lists.{all_next, all_end}
-use Rattle.proposal_check.proofs.Named.{within_same}
 use Rattle.proposal_check.proofs.conditions.are_within.Given as goal
 
 abbrev pub invariant-loop-i : goal.invariant-loop-i

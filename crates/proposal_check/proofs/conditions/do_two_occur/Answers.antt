@@ -1,12 +1,6 @@
-use borrow.Author.Rules.{rules}
 use native.Mathlib.Omega.{arith}
-use mathlib.Core.Path.{◌≡◌, refl}
-use mathlib.Core.Bool.{not, ◌||◌}
-use Prim.Native.Nat.{◌+◌, ◌*◌, ◌-◌, ◌≤◌}
-use lib.Dec.{eqb}
-use lib.ListN.{length, get_or, drop}
-use Rattle.rules.specs.Ledger.{order_width}
-use Rattle.arith.specs.Lists.{any}
+use mathlib.Core.Path.{refl}
+use Prim.Native.Nat.{◌-◌}
 use Rattle.arith.proofs.Tests.{any_next, any_end}
 use Rattle.proposal_check.proofs.conditions.do_two_occur.Goals as goal
 

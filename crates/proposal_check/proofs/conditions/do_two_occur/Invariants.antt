@@ -1,13 +1,10 @@
-use borrow.Author.Rules.{rules}
-use native.Mathlib.Omega.{arith}
-use mathlib.Core.Path.{◌≡◌, refl}
+use mathlib.Core.Path.{◌≡◌}
 use mathlib.Core.Bool.{not, ◌||◌}
 use Prim.Native.Nat.{◌+◌, ◌*◌, ◌-◌, ◌≤◌}
 use lib.Dec.{eqb}
 use lib.ListN.{length, get_or, drop}
 use Rattle.rules.specs.Ledger.{order_width}
 use Rattle.arith.specs.Lists.{any}
-use Rattle.arith.proofs.Tests.{any_next, any_end}
 use Rattle.proposal_check.proofs.conditions.do_two_occur.Given as goal
 
 abbrev pub invariant-loop-i : goal.invariant-loop-i

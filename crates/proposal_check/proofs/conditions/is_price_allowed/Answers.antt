@@ -1,5 +1,4 @@
 use Rattle.rules.specs.Synthetic.{price_allowed}
-use borrow.Author.Rules.{rules}
 use Rattle.proposal_check.proofs.conditions.is_price_allowed.Goals as goal
 
 pub returns-in-Buy : goal.returns-in-Buy

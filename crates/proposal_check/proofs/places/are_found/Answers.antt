@@ -1,11 +1,7 @@
-use borrow.Author.Rules.{rules}
 use native.Mathlib.Omega.{arith}
-use mathlib.Core.Path.{◌≡◌, refl}
-use mathlib.Core.Bool.{◌&&◌}
-use Prim.Native.Nat.{◌-◌, ◌≤◌}
+use mathlib.Core.Path.{refl}
+use Prim.Native.Nat.{◌-◌}
 use lib.Dec.{ltb}
-use lib.ListN.{length, drop}
-use Rattle.arith.specs.Lists.{every}
 use Rattle.arith.proofs.Scans.{every_next, every_end}
 use Rattle.proposal_check.proofs.places.are_found.Goals as goal
 

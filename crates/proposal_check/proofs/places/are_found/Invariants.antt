@@ -1,12 +1,9 @@
-use borrow.Author.Rules.{rules}
-use native.Mathlib.Omega.{arith}
-use mathlib.Core.Path.{◌≡◌, refl}
+use mathlib.Core.Path.{◌≡◌}
 use mathlib.Core.Bool.{◌&&◌}
 use Prim.Native.Nat.{◌-◌, ◌≤◌}
 use lib.Dec.{ltb}
 use lib.ListN.{length, drop}
 use Rattle.arith.specs.Lists.{every}
-use Rattle.arith.proofs.Scans.{every_next, every_end}
 use Rattle.proposal_check.proofs.places.are_found.Given as goal
 
 abbrev pub invariant-loop-i : goal.invariant-loop-i

@@ -1,15 +1,9 @@
-use borrow.Author.Rules.{rules}
-use native.Mathlib.Omega.{arith}
-use native.Mathlib.Nat.{sub-zero, zero-add, add-zero}
-use mathlib.Core.Path.{◌≡◌, sym, ap, ◌∙◌}
+use mathlib.Core.Path.{◌≡◌}
 use mathlib.Core.List.{map}
-use Prim.Native.Nat.{◌+◌, ◌*◌, ◌-◌, ◌≤◌}
-use lib.ListN.{get_or}
+use Prim.Native.Nat.{◌+◌, ◌-◌, ◌≤◌}
 use Rattle.arith.specs.Lists.{from}
-use Rattle.rules.specs.Ledger.{order_width}
 use Rattle.rules.specs.Ledger.{order_at}
 use Rattle.proposal_check.specs.Columns.{place_of}
-use Rattle.proposal_check.proofs.Named.{place_here, place_next, place_end}
 use Rattle.proposal_check.proofs.places.place_of.Given as goal
 
 abbrev pub invariant-loop-i : goal.invariant-loop-i

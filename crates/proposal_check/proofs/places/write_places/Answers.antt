@@ -1,9 +1,8 @@
-use borrow.Author.Rules.{rules}
 use native.Mathlib.Omega.{arith}
-use mathlib.Core.Path.{◌≡◌, refl, sym, ◌∙◌}
-use mathlib.Core.List.{map, ◌++◌}
-use Prim.Native.Nat.{◌-◌, ◌≤◌}
-use lib.ListN.{length, take, drop, length-set, length-map}
+use mathlib.Core.Path.{refl, sym, ◌∙◌}
+use mathlib.Core.List.{map}
+use Prim.Native.Nat.{◌-◌}
+use lib.ListN.{length-set, length-map}
 use Rattle.arith.proofs.Appends.{map_at}
 use Rattle.arith.proofs.Writes.{front_next, front_end}
 use Rattle.tables.specs.Fit.{orders_in}

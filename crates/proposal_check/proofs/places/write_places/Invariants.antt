@@ -1,11 +1,7 @@
-use borrow.Author.Rules.{rules}
-use native.Mathlib.Omega.{arith}
-use mathlib.Core.Path.{◌≡◌, refl, sym, ◌∙◌}
+use mathlib.Core.Path.{◌≡◌}
 use mathlib.Core.List.{map, ◌++◌}
 use Prim.Native.Nat.{◌-◌, ◌≤◌}
-use lib.ListN.{length, take, drop, length-set, length-map}
-use Rattle.arith.proofs.Appends.{map_at}
-use Rattle.arith.proofs.Writes.{front_next, front_end}
+use lib.ListN.{length, take, drop}
 use Rattle.tables.specs.Fit.{orders_in}
 use Rattle.proposal_check.specs.Columns.{place_of}
 use Rattle.proposal_check.proofs.places.write_places.Given as goal

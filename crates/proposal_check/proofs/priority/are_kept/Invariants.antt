@@ -1,14 +1,10 @@
-use borrow.Author.Rules.{rules}
-use native.Mathlib.Omega.{arith}
-use native.Mathlib.Nat.{sub-zero}
-use mathlib.Core.Path.{◌≡◌, ap, ◌∙◌}
+use mathlib.Core.Path.{◌≡◌}
 use mathlib.Core.Bool.{◌&&◌}
 use mathlib.Core.List.{map}
 use Prim.Native.Nat.{◌-◌, ◌≤◌}
 use Rattle.arith.specs.Lists.{every, from}
 use Rattle.rules.specs.Ledger.{order_at}
 use Rattle.proposal_check.specs.LastRanks.{kept_by}
-use Rattle.proposal_check.proofs.Lists.{all_next, all_end}
 use Rattle.proposal_check.proofs.priority.are_kept.Given as goal
 
 abbrev pub invariant-loop-i : goal.invariant-loop-i

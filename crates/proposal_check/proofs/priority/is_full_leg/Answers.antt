@@ -1,11 +1,8 @@
-use borrow.Author.Rules.{rules}
 use native.Mathlib.Omega.{arith}
-use mathlib.Core.Path.{◌≡◌}
-use mathlib.Core.Bool.{◌&&◌, ◌||◌}
-use Prim.Native.Nat.{◌-◌, ◌≤◌}
+use mathlib.Core.Bool.{◌&&◌}
+use Prim.Native.Nat.{◌-◌}
 use lib.Dec.{eqb}
 use lib.ListN.{length, get_or}
-use Rattle.arith.specs.Lists.{any, from}
 use Rattle.proposal_check.specs.Columns.{is_full_leg}
 use Rattle.proposal_check.proofs.Lists.{one_start, one_next, one_end}
 use Rattle.proposal_check.proofs.priority.is_full_leg.Goals as goal

@@ -1,6 +1,5 @@
 use mathlib.Core.Path.{◌∙◌}
 use Rattle.proposal_check.proofs.LastRanks.{kept_behind, kept_ahead}
-use borrow.Author.Rules.{rules}
 use Rattle.proposal_check.proofs.priority.is_kept.Goals as goal
 
 pub returns-then-lasts-at : goal.returns-then-lasts-at

@@ -1,6 +1,5 @@
 use mathlib.Core.Path.{refl, ◌∙◌}
 use Rattle.proposal_check.proofs.LastRanks.{legs_ranked, kept_last}
-use borrow.Author.Rules.{rules}
 use Rattle.proposal_check.proofs.priority.is_priority_kept.Goals as goal
 
 pub write_last_ranks-requires : goal.write_last_ranks-requires

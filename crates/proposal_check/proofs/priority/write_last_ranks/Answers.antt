@@ -1,11 +1,10 @@
-use borrow.Author.Rules.{rules}
 use native.Mathlib.Omega.{arith}
-use mathlib.Core.Path.{◌≡◌, refl, ap, ◌∙◌}
-use Prim.Native.Nat.{◌-◌, ◌≤◌}
-use lib.ListN.{length, length-set}
+use mathlib.Core.Path.{refl, ap, ◌∙◌}
+use Prim.Native.Nat.{◌-◌}
+use lib.ListN.{length-set}
 use Rattle.order_priority.specs.Priority.{rank_of}
 use Rattle.proposal_check.specs.SidePlaces.{side_place_of}
-use Rattle.proposal_check.proofs.LastRanks.{LastRanksTo, lasts_start, lasts_next, lasts_end}
+use Rattle.proposal_check.proofs.LastRanks.{lasts_start, lasts_next, lasts_end}
 use Rattle.proposal_check.proofs.priority.write_last_ranks.Goals as goal
 
 pub loop-i-init : goal.loop-i-init

@@ -1,11 +1,7 @@
-use borrow.Author.Rules.{rules}
-use native.Mathlib.Omega.{arith}
-use mathlib.Core.Path.{◌≡◌, refl, ap, ◌∙◌}
+use mathlib.Core.Path.{◌≡◌}
 use Prim.Native.Nat.{◌-◌, ◌≤◌}
-use lib.ListN.{length, length-set}
-use Rattle.order_priority.specs.Priority.{rank_of}
-use Rattle.proposal_check.specs.SidePlaces.{side_place_of}
-use Rattle.proposal_check.proofs.LastRanks.{LastRanksTo, lasts_start, lasts_next, lasts_end}
+use lib.ListN.{length}
+use Rattle.proposal_check.proofs.LastRanks.{LastRanksTo}
 use Rattle.proposal_check.proofs.priority.write_last_ranks.Given as goal
 
 abbrev pub invariant-loop-i : goal.invariant-loop-i

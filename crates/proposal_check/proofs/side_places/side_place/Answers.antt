@@ -1,6 +1,5 @@
 use native.Mathlib.Omega.{arith}
 use Rattle.proposal_check.proofs.SidePlaces.{side_below}
-use borrow.Author.Rules.{rules}
 use Rattle.proposal_check.proofs.side_places.side_place.Goals as goal
 
 pub returns : goal.returns

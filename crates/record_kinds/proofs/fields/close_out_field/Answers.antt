@@ -1,6 +1,5 @@
 use native.Mathlib.Omega.{arith}
 use mathlib.Core.Path.{◌≡◌, refl}
-use borrow.Author.Rules.{rules}
 use Rattle.record_kinds.proofs.fields.close_out_field.Goals as goal
 
 pub returns-in_default : goal.returns-in_default

@@ -1,7 +1,6 @@
 use native.Mathlib.Omega.{arith}
 use mathlib.Core.Path.{◌≡◌, refl}
 use Rattle.record_kinds.proofs.ByKind.{last_of_four}
-use borrow.Author.Rules.{rules}
 use Rattle.record_kinds.proofs.fields.submit_field.Goals as goal
 
 pub returns-in_default : goal.returns-in_default

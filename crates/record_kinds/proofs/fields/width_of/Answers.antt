@@ -1,6 +1,5 @@
 use native.Mathlib.Omega.{arith}
 use mathlib.Core.Path.{refl}
-use borrow.Author.Rules.{rules}
 use Rattle.record_kinds.proofs.fields.width_of.Goals as goal
 
 pub returns-in-LetterV : goal.returns-in-LetterV

@@ -1,10 +1,6 @@
-use borrow.Author.Rules.{rules}
 use native.Mathlib.Omega.{arith}
 use native.Mathlib.Nat.{zero-add}
-use mathlib.Core.Path.{◌≡◌}
-use Prim.Native.Nat.{◌+◌, ◌*◌, ◌-◌, ◌≤◌}
-use lib.ListN.{drop}
-use Rattle.rules.specs.Fields.{widths, kind_fields}
+use Rattle.rules.specs.Fields.{kind_fields}
 use Rattle.record_kinds.proofs.ByKind.{widths_next, widths_end}
 use Rattle.record_kinds.proofs.lengths.fields_length.Goals as goal
 

@@ -2,7 +2,6 @@ use mathlib.Core.Path.{sym, ◌∙◌}
 use native.Mathlib.Nat.{add-zero}
 use borrow.Author.Tests.{eq-eqb, ne_eqb}
 use Rattle.record_kinds.proofs.ByKind.{length_none, length_some}
-use borrow.Author.Rules.{rules}
 use Rattle.record_kinds.proofs.lengths.record_length.Goals as goal
 
 pub returns-then-field_count-eq0 : goal.returns-then-field_count-eq0

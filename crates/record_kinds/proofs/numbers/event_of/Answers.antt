@@ -3,7 +3,6 @@ use Rattle.rules.specs.declared.event.Event.TheVariants.{Cancel, DayLimits, Clos
 use Rattle.rules.specs.declared.event.Reading.TheVariants.{Sound}
 use Rattle.rules.specs.Records.{event_by_kind}
 use Rattle.record_kinds.proofs.ByKind.{by_kind, no_kind}
-use borrow.Author.Rules.{rules}
 use Rattle.record_kinds.proofs.numbers.event_of.Goals as goal
 
 pub returns-in-1 : goal.returns-in-1

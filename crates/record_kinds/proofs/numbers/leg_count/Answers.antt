@@ -1,5 +1,4 @@
 use mathlib.Core.Path.{refl}
-use borrow.Author.Rules.{rules}
 use Rattle.record_kinds.proofs.numbers.leg_count.Goals as goal
 
 pub returns-in-Submit : goal.returns-in-Submit

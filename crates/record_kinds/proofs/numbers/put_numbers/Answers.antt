@@ -1,4 +1,3 @@
-use borrow.Author.Rules.{rules}
 use Rattle.record_kinds.proofs.numbers.put_numbers.Goals as goal
 
 pub returns-in-Submit : goal.returns-in-Submit

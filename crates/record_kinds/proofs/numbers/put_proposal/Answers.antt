@@ -4,7 +4,6 @@ use lib.ListN.{length-set}
 use Rattle.arith.proofs.Writes.{stored}
 use Rattle.rules.specs.declared.event.Event.TheVariants.{Proposal}
 use Rattle.rules.specs.Records.{kind_number, event_numbers}
-use borrow.Author.Rules.{rules}
 use Rattle.record_kinds.proofs.numbers.put_proposal.Goals as goal
 
 pub bounds-numbers-1 : goal.bounds-numbers-1

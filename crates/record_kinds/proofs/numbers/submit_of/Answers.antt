@@ -1,7 +1,6 @@
 use mathlib.Core.Path.{refl}
 use borrow.Author.Tests.{le-leb}
 use Rattle.record_kinds.proofs.ByKind.{no_side, no_order_kind}
-use borrow.Author.Rules.{rules}
 use Rattle.record_kinds.proofs.numbers.submit_of.Goals as goal
 
 pub returns-then-side-gt-LAST_SIDE : goal.returns-then-side-gt-LAST_SIDE

@@ -1,11 +1,10 @@
 use lib.ListN.{set}
-use borrow.Author.Rules.{rules}
 use mathlib.Core.Path.{◌≡◌, refl, ◌∙◌}
 use mathlib.Core.List.{List, [], ◌∷◌}
-use Prim.Native.Nat.{ℕ, suc, ◌+◌, ◌*◌, ◌-◌, ◌≤◌}
+use Prim.Native.Nat.{ℕ, suc, ◌+◌, ◌*◌, ◌-◌}
 use native.Mathlib.Omega.{arith}
 use native.Mathlib.Numerals.{add-one}
-use lib.ListN.{length, length-set}
+use lib.ListN.{length-set}
 use Rattle.arith.specs.Lists.{over, in_each_block}
 use Rattle.arith.proofs.Writes.{stored}
 use Rattle.rules.specs.Ledger.{price_width}

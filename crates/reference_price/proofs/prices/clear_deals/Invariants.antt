@@ -1,17 +1,9 @@
-use lib.ListN.{set}
-use borrow.Author.Rules.{rules}
-use mathlib.Core.Path.{◌≡◌, refl, ◌∙◌}
-use mathlib.Core.List.{List, [], ◌∷◌}
-use Prim.Native.Nat.{ℕ, suc, ◌+◌, ◌*◌, ◌-◌, ◌≤◌}
-use native.Mathlib.Omega.{arith}
-use native.Mathlib.Numerals.{add-one}
-use lib.ListN.{length, length-set}
+use mathlib.Core.Path.{◌≡◌}
+use mathlib.Core.List.{[], ◌∷◌}
+use Prim.Native.Nat.{◌-◌, ◌≤◌}
+use lib.ListN.{length}
 use Rattle.arith.specs.Lists.{over, in_each_block}
-use Rattle.arith.proofs.Writes.{stored}
-use Rattle.rules.specs.Ledger.{price_width}
 use Rattle.rules.specs.Ranges.{contract_count}
-use Rattle.rules.specs.CloseOfDay.{without_deals}
-use Rattle.reference_price.proofs.Blocks.{inside_written}
 use Rattle.reference_price.proofs.prices.clear_deals.Given as goal
 
 abbrev pub invariant-loop-contract : goal.invariant-loop-contract

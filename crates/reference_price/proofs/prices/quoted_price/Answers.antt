@@ -2,7 +2,6 @@ use Rattle.reference_price.proofs.Ggfs.{quoted_most}
 use native.Mathlib.Omega.{arith}
 use borrow.Author.Tests.{lt-ltb, le-ltb}
 use Rattle.reference_price.specs.Columns.{quoted_from}
-use borrow.Author.Rules.{rules}
 use Rattle.reference_price.proofs.prices.quoted_price.Goals as goal
 
 pub returns-then-buy-sell : goal.returns-then-buy-sell

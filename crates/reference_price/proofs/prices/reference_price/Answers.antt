@@ -1,6 +1,5 @@
 use borrow.Author.Tests.{le-leb, lt-leb}
 use Rattle.reference_price.specs.Columns.{price_from}
-use borrow.Author.Rules.{rules}
 use Rattle.reference_price.proofs.prices.reference_price.Goals as goal
 
 pub returns-then-threshold-lots : goal.returns-then-threshold-lots

@@ -3,7 +3,6 @@ use native.Mathlib.Nat.{add-zero}
 use Rattle.rules.specs.Ledger.{price_width}
 use Rattle.reference_price.specs.Columns.{ggf_from}
 use Rattle.reference_price.proofs.Ggfs.{least_threshold}
-use borrow.Author.Rules.{rules}
 use Rattle.reference_price.proofs.prices.write_ggf.Goals as goal
 
 pub reference_price-ggf-requires : goal.reference_price-ggf-requires

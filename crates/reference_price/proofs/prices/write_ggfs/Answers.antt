@@ -3,7 +3,6 @@ use Rattle.contract_phases.specs.Phases.{open_in, all_open_in}
 use Rattle.reference_price.specs.Columns.{ggfs_from}
 use Rattle.reference_price.proofs.Ggfs.{deals_ggfs, ggfs_append}
 use mathlib.Core.List.{◌++◌}
-use borrow.Author.Rules.{rules}
 use Rattle.reference_price.proofs.prices.write_ggfs.Goals as goal
 
 pub write_kind_ggfs-requires-2 : goal.write_kind_ggfs-requires-2

@@ -1,7 +1,6 @@
 use mathlib.Core.Path.{refl}
 use native.Mathlib.Omega.{arith}
 use borrow.Author.Tests.{lt-ltb, le-ltb}
-use borrow.Author.Rules.{rules}
 use Rattle.reference_price.proofs.prices.write_if_open.Goals as goal
 
 pub returns-then-phase-eq-CLOSED : goal.returns-then-phase-eq-CLOSED

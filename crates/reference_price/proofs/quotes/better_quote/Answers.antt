@@ -1,6 +1,5 @@
 use borrow.Author.Tests.{lt-ltb, le-ltb, eq-eqb, ne_eqb}
 use Rattle.reference_price.specs.Columns.{better_quote}
-use borrow.Author.Rules.{rules}
 use Rattle.reference_price.proofs.quotes.better_quote.Goals as goal
 
 pub returns-then-held-eq0 : goal.returns-then-held-eq0

@@ -1,6 +1,5 @@
 use Rattle.rules.specs.CloseOfDay.{entered_before}
 use Rattle.reference_price.specs.Columns.{quotes_at}
-use borrow.Author.Rules.{rules}
 use Rattle.reference_price.proofs.quotes.does_quote.Goals as goal
 
 pub returns : goal.returns

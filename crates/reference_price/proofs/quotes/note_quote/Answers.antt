@@ -1,5 +1,4 @@
 use mathlib.Core.Path.{sym, ◌∙◌}
-use borrow.Author.Rules.{rules}
 use Rattle.reference_price.proofs.quotes.note_quote.Goals as goal
 
 pub returns-then-does_quote : goal.returns-then-does_quote

@@ -1,17 +1,11 @@
-use borrow.Author.Rules.{rules}
-use mathlib.Core.List.{◌∷◌}
-use mathlib.Core.Path.{◌≡◌, sym, ap, ◌∙◌}
+use mathlib.Core.Path.{◌≡◌}
 use mathlib.Core.List.{map}
-use Prim.Native.Nat.{ℕ, ◌+◌, ◌-◌, ◌≤◌, ◌<◌}
-use native.Mathlib.Omega.{arith}
-use native.Mathlib.Nat.{sub-zero}
-use lib.ListN.{length, get_or, get_or-replicate, length-replicate}
+use Prim.Native.Nat.{ℕ, ◌-◌, ◌≤◌, ◌<◌}
+use lib.ListN.{length, get_or}
 use Rattle.arith.specs.Lists.{from}
-use Rattle.arith.proofs.Scans.{from_next, from_end}
 use Rattle.rules.specs.Ranges.{contract_count}
 use Rattle.rules.specs.Ledger.{order_at}
 use Rattle.reference_price.specs.Columns.{best_price}
-use Rattle.reference_price.proofs.BestPrices.{quotes_next, quotes_none, all_from_place}
 use Rattle.reference_price.proofs.quotes.write_quotes.Given as goal
 
 abbrev pub invariant-loop-i : goal.invariant-loop-i

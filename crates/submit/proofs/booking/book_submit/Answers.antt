@@ -1,8 +1,6 @@
-use mathlib.Core.Path.{◌≡◌, ◌∙◌}
-use Rattle.rules.specs.Ledger.{Tables, with_head, with_prices, with_rows, with_book, with_lines, zero_tables, timed}
-use Rattle.rules.specs.Matching.{counted}
+use mathlib.Core.Path.{◌∙◌}
+use Rattle.rules.specs.Ledger.{with_head, with_prices, with_rows, with_book, with_lines, zero_tables}
 use Rattle.submit.proofs.Accepted.{countable, counted_is, placed, submitted}
-use borrow.Author.Rules.{rules}
 use Rattle.submit.proofs.booking.book_submit.Goals as goal
 
 pub count_submit-requires : goal.count_submit-requires

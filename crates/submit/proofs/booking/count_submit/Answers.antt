@@ -1,6 +1,5 @@
 use native.Mathlib.Omega.{arith}
 use lib.ListN.{length-set}
-use borrow.Author.Rules.{rules}
 use Rattle.submit.proofs.booking.count_submit.Goals as goal
 
 pub bounds-head-5-2 : goal.bounds-head-5-2

@@ -5,7 +5,6 @@ use Rattle.matching.specs.Deals.{line_out}
 use Rattle.deal_lines.specs.Lines.{LineFit}
 use Rattle.deal_lines.proofs.Takes.{Takes, less_room}
 use Rattle.submit.proofs.Lines.{resting_fit, first_takes}
-use borrow.Author.Rules.{rules}
 use Rattle.submit.proofs.deals.book_deal.Goals as goal
 
 pub book_line-requires : goal.book_line-requires

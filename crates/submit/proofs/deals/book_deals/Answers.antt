@@ -1,12 +1,10 @@
-use borrow.Author.Rules.{rules}
 use Prim.Native.Nat.{◌≤◌, ◌-◌}
 use mathlib.Core.Path.{◌≡◌, refl, ◌∙◌}
 use native.Mathlib.Omega.{arith}
-use lib.ListN.{length}
 use Rattle.rules.specs.Ranges.{most_price}
 use Rattle.matching.specs.Deals.{line_in, line_out}
 use Rattle.deal_lines.specs.Lines.{LineFit}
-use Rattle.submit.proofs.Lines.{Booking, booking_start, deal_takes, booking_next}
+use Rattle.submit.proofs.Lines.{booking_start, deal_takes, booking_next}
 use Rattle.submit.proofs.deals.book_deals.Goals as goal
 
 pub loop-k-init : goal.loop-k-init

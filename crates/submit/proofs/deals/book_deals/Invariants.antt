@@ -1,12 +1,7 @@
-use borrow.Author.Rules.{rules}
 use Prim.Native.Nat.{◌≤◌, ◌-◌}
-use mathlib.Core.Path.{◌≡◌, refl, ◌∙◌}
-use native.Mathlib.Omega.{arith}
+use mathlib.Core.Path.{◌≡◌}
 use lib.ListN.{length}
-use Rattle.rules.specs.Ranges.{most_price}
-use Rattle.matching.specs.Deals.{line_in, line_out}
-use Rattle.deal_lines.specs.Lines.{LineFit}
-use Rattle.submit.proofs.Lines.{Booking, booking_start, deal_takes, booking_next}
+use Rattle.submit.proofs.Lines.{Booking}
 use Rattle.submit.proofs.deals.book_deals.Given as goal
 
 abbrev pub invariant-loop-k : goal.invariant-loop-k

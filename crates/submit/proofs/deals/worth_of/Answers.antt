@@ -1,9 +1,8 @@
-use borrow.Author.Rules.{rules}
-use Prim.Native.Nat.{◌≤◌, ◌-◌}
+use Prim.Native.Nat.{◌-◌}
 use mathlib.Core.Path.{◌≡◌}
 use native.Mathlib.Omega.{arith}
 use native.Mathlib.Nat.{mul-le-mul}
-use Rattle.submit.proofs.Kept.{WorthTo, worth_start, worth_next}
+use Rattle.submit.proofs.Kept.{worth_start, worth_next}
 use Rattle.submit.proofs.deals.worth_of.Goals as goal
 
 pub loop-k-init : goal.loop-k-init

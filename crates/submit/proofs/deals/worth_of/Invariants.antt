@@ -1,9 +1,5 @@
-use borrow.Author.Rules.{rules}
 use Prim.Native.Nat.{◌≤◌, ◌-◌}
-use mathlib.Core.Path.{◌≡◌}
-use native.Mathlib.Omega.{arith}
-use native.Mathlib.Nat.{mul-le-mul}
-use Rattle.submit.proofs.Kept.{WorthTo, worth_start, worth_next}
+use Rattle.submit.proofs.Kept.{WorthTo}
 use Rattle.submit.proofs.deals.worth_of.Given as goal
 
 abbrev pub invariant-loop-k : goal.invariant-loop-k

@@ -1,6 +1,5 @@
 use mathlib.Core.Path.{sym, ◌∙◌}
 use Rattle.submit.proofs.OrderBooked.{room, rested}
-use borrow.Author.Rules.{rules}
 use Rattle.submit.proofs.placing.place_order.Goals as goal
 
 pub rest_order-requires : goal.rest_order-requires

@@ -6,7 +6,6 @@ use Rattle.rules.specs.Ledger.{order_count_place}
 use Rattle.rules.specs.Ledger.{order_places}
 use native.Mathlib.Omega.{arith}
 use mathlib.Core.Path.{refl, ap, ◌∙◌}
-use borrow.Author.Rules.{rules}
 use Rattle.submit.proofs.placing.rest_order.Goals as goal
 
 pub put_order-requires : goal.put_order-requires

@@ -2,7 +2,6 @@ use mathlib.Core.Path.{sym}
 use lib.Seq.{length-take-le}
 use native.Mathlib.Omega.{arith}
 use Rattle.submit.proofs.OrderBooked.{deals_head, room_left, deals_members, rest_members, bookable, booked_is}
-use borrow.Author.Rules.{rules}
 use Rattle.submit.proofs.placing.trade.Goals as goal
 
 pub slice_bounds-settle-end : goal.slice_bounds-settle-end

@@ -1,6 +1,5 @@
 use native.Mathlib.Omega.{arith}
 use lib.ListN.{length-set}
-use borrow.Author.Rules.{rules}
 use Rattle.submit.proofs.trade.add_dealt.Goals as goal
 
 pub bounds-prices-at-4 : goal.bounds-prices-at-4

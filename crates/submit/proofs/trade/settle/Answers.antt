@@ -1,6 +1,5 @@
 use native.Mathlib.Omega.{arith}
 use Rattle.submit.proofs.Trading.{matchable, ended, left_most, deals_fit, traded}
-use borrow.Author.Rules.{rules}
 use Rattle.submit.proofs.trade.settle.Goals as goal
 
 pub match_orders-m-requires : goal.match_orders-m-requires

@@ -1,12 +1,7 @@
-use Prim.Native.Nat.{ℕ}
-use mathlib.Core.Path.{◌≡◌, sym, ◌∙◌}
-use lib.ListN.{drop}
-use borrow.Author.Tests.{lt-ltb, le-ltb, le-leb, lt-leb, eq-eqb, ne_eqb, not-true, not-false}
-use Rattle.rules.specs.Answers.{Outcome, decide}
-use Rattle.rules.specs.Ledger.{Tables, with_head, with_prices, is_open}
+use mathlib.Core.Path.{sym, ◌∙◌}
+use borrow.Author.Tests.{lt-ltb, le-ltb, le-leb, lt-leb, eq-eqb, ne_eqb}
+use Rattle.rules.specs.Ledger.{with_prices}
 use Rattle.rules.specs.Matching.{submits_at}
-use Rattle.submit_causes.specs.Causes.{first_causes}
-use borrow.Author.Rules.{rules}
 use Rattle.submit_causes.proofs.causes.first_cause.Goals as goal
 
 pub returns-then-time-head : goal.returns-then-time-head

@@ -1,16 +1,12 @@
 use Prim.Native.Nat.{ℕ, ◌+◌}
 use mathlib.Core.Path.{◌≡◌, sym, ap, ◌∙◌}
 use mathlib.Core.Bool.{Bool}
-use lib.ListN.{drop}
 use native.Mathlib.Omega.{arith}
 use lib.IntN.{ℤ, pos, ◌+ℤ◌}
 use lib.Signed.{lt_z}
-use Rattle.rules.specs.Answers.{Outcome, decide}
 use Rattle.rules.specs.Ledger.{Tables, with_head, with_rows, limit, lots_at}
 use Rattle.rules.specs.Matching.{mirrored}
 use Rattle.rules.specs.declared.event.Submission.{Submission}
-use Rattle.submit_causes.specs.Causes.{measured_causes}
-use borrow.Author.Rules.{rules}
 use Rattle.submit_causes.proofs.causes.measured_cause.Goals as goal
 
 -- Whether the limit is passed, as the rules say it and as the code tests it.

@@ -1,6 +1,5 @@
 use Rattle.rules.specs.Matching.{submits_at}
 use borrow.Author.Tests.{lt-ltb, le-ltb}
-use borrow.Author.Rules.{rules}
 use Rattle.submit_causes.proofs.causes.submits_at.Goals as goal
 
 pub returns-then-head-time : goal.returns-then-head-time

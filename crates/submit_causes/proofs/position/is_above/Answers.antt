@@ -2,7 +2,6 @@ use Rattle.submit_causes.proofs.Signs.{sum_is}
 use lib.IntN.{pos}
 use native.Mathlib.Omega.{arith}
 use Rattle.arith.proofs.Signed.{rd_pos, back, add_ok}
-use borrow.Author.Rules.{rules}
 use Rattle.submit_causes.proofs.position.is_above.Goals as goal
 
 pub overflow_add-result : goal.overflow_add-result

@@ -6,7 +6,6 @@ use mathlib.Core.Path.{refl}
 use Prim.Native.Nat.{◌+◌, ◌*◌}
 use native.Mathlib.Omega.{arith}
 use Rattle.submit_causes.proofs.Signs.{opposite_ok, opposite_is}
-use borrow.Author.Rules.{rules}
 use Rattle.arith.proofs.Sizes.{abs_neg}
 use Rattle.submit_causes.proofs.position.position.Goals as goal
 

@@ -1,9 +1,6 @@
-use mathlib.Core.Path.{◌≡◌, refl, ◌∙◌}
+use mathlib.Core.Path.{◌≡◌}
 use Prim.Native.Nat.{◌-◌, ◌≤◌}
-use lib.ListN.{length, take, drop, replicate, length-set}
-use Rattle.arith.proofs.Writes.{fill_next, fill_end}
-use borrow.Author.Rules.{rules}
-use native.Mathlib.Omega.{arith}
+use lib.ListN.{length, take, drop, replicate}
 use mathlib.Core.List.{◌++◌}
 use Rattle.tables.proofs.clearing.clear.Given as goal
 

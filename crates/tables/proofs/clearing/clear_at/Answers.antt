@@ -1,5 +1,4 @@
 use Rattle.arith.proofs.Writes.{filled}
-use borrow.Author.Rules.{rules}
 use Rattle.tables.proofs.clearing.clear_at.Goals as goal
 
 pub returns : goal.returns

@@ -3,7 +3,6 @@ use mathlib.Core.Path.{◌≡◌}
 use Prim.Native.Nat.{◌+◌, ◌-◌}
 use lib.ListN.{get_or}
 use Rattle.rules.specs.Ledger.{is_open}
-use borrow.Author.Rules.{rules}
 use Rattle.tables.proofs.head.is_contract_open.Goals as goal
 
 pub returns : goal.returns

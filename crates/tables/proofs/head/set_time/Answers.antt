@@ -2,7 +2,6 @@ use borrow.Author.Tests.{lt-ltb, le-ltb}
 use lib.ListN.{get_or}
 use Rattle.rules.specs.Ledger.{time_place}
 use Rattle.rules.specs.Ledger.{timed, without_submits}
-use borrow.Author.Rules.{rules}
 use Rattle.tables.proofs.head.set_time.Goals as goal
 
 pub returns-then-time-head : goal.returns-then-time-head

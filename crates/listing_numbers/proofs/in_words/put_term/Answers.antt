@@ -2,8 +2,7 @@ use mathlib.Core.Path.{refl}
 use native.Mathlib.Omega.{arith}
 use Rattle.listing_numbers.proofs.Writers.{next, digits, decimal_room, within_room}
 use Rattle.listing_numbers.specs.Numbers.{term_name}
-use borrow.Author.Rules.{rules}
-use Rattle.listing_numbers.proofs.numbers.put_term.Goals as goal
+use Rattle.listing_numbers.proofs.in_words.put_term.Goals as goal
 
 pub put_decimal-requires : goal.put_decimal-requires
 put_decimal-requires c = decimal_room _ _ _ (omega arith) (omega arith)

@@ -3,8 +3,7 @@ use native.Mathlib.Omega.{arith}
 use Rattle.listing_numbers.proofs.Writers.{next, exactly, number, within_room}
 use mathlib.Core.List.{append_assoc}
 use Rattle.listing_numbers.specs.Numbers.{price_text}
-use borrow.Author.Rules.{rules}
-use Rattle.listing_numbers.proofs.numbers.put_price.Goals as goal
+use Rattle.listing_numbers.proofs.in_words.put_price.Goals as goal
 
 pub returns : goal.returns
 unfolding price_text

@@ -2,8 +2,7 @@ use mathlib.Core.Path.{refl}
 use native.Mathlib.Omega.{arith}
 use Rattle.listing_numbers.proofs.Writers.{next, exactly, within_room}
 use Rattle.listing_numbers.specs.Numbers.{month_text}
-use borrow.Author.Rules.{rules}
-use Rattle.listing_numbers.proofs.numbers.put_month.Goals as goal
+use Rattle.listing_numbers.proofs.in_words.put_month.Goals as goal
 
 pub returns : goal.returns
 unfolding month_text

@@ -2,8 +2,7 @@ use mathlib.Core.Path.{refl}
 use native.Mathlib.Omega.{arith}
 use Rattle.listing_numbers.proofs.Writers.{next, exactly, within_room}
 use Rattle.listing_numbers.specs.Numbers.{two_digits}
-use borrow.Author.Rules.{rules}
-use Rattle.listing_numbers.proofs.numbers.put_two_digits.Goals as goal
+use Rattle.listing_numbers.proofs.in_words.put_two_digits.Goals as goal
 
 pub returns : goal.returns
 unfolding two_digits

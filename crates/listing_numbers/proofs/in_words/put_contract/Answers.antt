@@ -6,8 +6,7 @@ use Rattle.rules.specs.Ranges.{term_count}
 use Rattle.rules.specs.ContractTerms.{term_of}
 use Rattle.listing_numbers.specs.Numbers.{contract_text}
 use Rattle.listing_numbers.proofs.Writers.{next, exactly, number, term_small, within_room}
-use borrow.Author.Rules.{rules}
-use Rattle.listing_numbers.proofs.numbers.put_contract.Goals as goal
+use Rattle.listing_numbers.proofs.in_words.put_contract.Goals as goal
 
 pub returns-then-contract-ge-TERM_COUNT : goal.returns-then-contract-ge-TERM_COUNT
 unfolding contract_text
