@@ -1,17 +1,10 @@
 // The arguments, as bytes, and what is said of one that does not fit.
-ghost use Rattle.std.specs.Prelude.{◌≤◌};
-
+use crate::statuses::WRONG_CALL;
 use std::env::{Env, FillError};
 use std::io::Print;
 
 // As long as a path may be.
 pub const LONGEST: usize = 4096;
-
-// Buffers and tables of the programs lie on the stack.
-pub const STACK_KIB: u64 = 512;
-
-// A wrong call, or too little stack.
-pub const WRONG_CALL: u8 = 1;
 
 // What stands at a place of the call.
 pub enum Argument<'a> {

@@ -2,14 +2,11 @@
 use crate::argument::{Argument, LONGEST, is_option, read_argument, too_long, wrong};
 use crate::help::{print_help, print_version, print_word};
 use crate::input::{Source, run_on};
+use crate::statuses::status_byte;
 use crate::word::Word;
 use std::io;
 use std::io::IsTerminal;
-use streams::fail;
-
-const ENDED: u8 = 0;
-
-const NOT_WRITTEN: u8 = 5;
+use streams::{Ending, fail};
 
 // What stands behind a word.
 #[derive(Clone, Copy)]
@@ -61,13 +58,10 @@ fn run_option(rt: &HostRuntime, text: &[u8]) -> u8 {
 
 // The status after help was printed.
 fn status_of_printing(rt: &HostRuntime, printed: io::Result<()>) -> u8 {
-    match printed {
-        Ok(()) => ENDED,
-        Err(error) => {
-            fail(rt, "standard output", error);
-            NOT_WRITTEN
-        }
-    }
+    status_byte(match printed {
+        Ok(()) => Ending::ReadToEnd,
+        Err(error) => fail(rt, "standard output", error, Ending::WriteFailed),
+    })
 }
 
 fn run_word(rt: &HostRuntime, word: Word) -> u8 {

@@ -1,5 +1,5 @@
 // What the options print.
-use crate::argument::STACK_KIB;
+use crate::system::STACK_KIB;
 use crate::word::{WORDS, Word};
 use std::io;
 use std::io::Print;

@@ -1,19 +1,18 @@
 // A program on the file of a call, or on standard input.
-use crate::argument::{
-    Argument, LONGEST, STACK_KIB, WRONG_CALL, read_argument, tell, too_long, wrong,
-};
-use crate::system::{input_size, stack_limit};
+ghost use Rattle.std.specs.Prelude.{◌≡◌, pos};
+ghost use Rattle.streams.specs.declared.ending.Ending.{Ending};
+ghost use Rattle.streams.specs.Windows.{status_of};
+
+use crate::argument::{Argument, LONGEST, read_argument, tell, too_long, wrong};
+use crate::statuses::{WRONG_CALL, status_byte};
+use crate::system::{STACK_KIB, has_stack, input_size};
 use crate::word::Word;
 use journal_program::journal_run;
 use listing_program::listing_run;
 use std::fs::File;
 use std::io::{Eprint, Read};
 use std::{fs, io};
-use streams::fail;
-
-const NOT_READ: u8 = 4;
-
-const BYTES_OF_KIB: u64 = 1024;
+use streams::{Ending, fail};
 
 // What the system says where a folder is read.
 const IS_A_FOLDER: i32 = 21;
@@ -49,13 +48,6 @@ pub fn run_on(rt: &HostRuntime, word: Word, source: Source, is_said: bool) -> u8
     }
 }
 
-fn has_stack(rt: &HostRuntime) -> bool {
-    match stack_limit(rt) {
-        Some(bytes) => bytes >= STACK_KIB * BYTES_OF_KIB,
-        None => true,
-    }
-}
-
 fn run_on_file(rt: &HostRuntime, word: Word, name: &[u8], is_said: bool) -> u8 {
     match str::from_utf8(name) {
         Ok(path) => match open(rt, path) {
@@ -63,15 +55,12 @@ fn run_on_file(rt: &HostRuntime, word: Word, name: &[u8], is_said: bool) -> u8 {
                 let size = file_size(&file);
                 run_on_reader(rt, word, &mut file, is_said, size)
             }
-            Err(error) => {
-                fail(rt, path, error);
-                NOT_READ
-            }
+            Err(error) => status_byte(fail(rt, path, error, Ending::ReadFailed)),
         },
         Err(_) => {
             // std's paths are text.
             tell(rt, "", name, ": the name is not UTF-8");
-            NOT_READ
+            status_byte(Ending::ReadFailed)
         }
     }
 }
@@ -105,7 +94,9 @@ fn run_on_reader(
     reader: &mut impl Read,
     is_said: bool,
     size: u64,
-) -> u8 {
+) -> u8
+    ensures { (ending : Ending) × (pos result ≡ status_of ending) }
+{
     match word {
         Word::Journal => journal_run(rt, reader, is_said, size) as u8,
         Word::Listing => listing_run(rt, reader, is_said, size) as u8,

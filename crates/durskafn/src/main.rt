@@ -6,6 +6,7 @@ mod argument;
 mod call;
 mod help;
 mod input;
+mod statuses;
 mod system;
 mod word;
 

@@ -3,6 +3,11 @@ use std::fs;
 use std::io::Read;
 use std::rt::Files;
 
+// Buffers and tables of the programs lie on the stack.
+pub const STACK_KIB: u64 = 512;
+
+const BYTES_OF_KIB: u64 = 1024;
+
 // The number behind a name.
 fn number_behind(text: &str, name: &str) -> Option<u64> {
     let (_, behind) = text.split_once(name)?;
@@ -17,9 +22,12 @@ fn number_in(rt: &impl Files, path: &str, name: &str) -> Option<u64> {
     number_behind(str::from_utf8(&bytes[..length]).ok()?, name)
 }
 
-// How many bytes of stack there may be, if there is such a limit.
-pub fn stack_limit(rt: &impl Files) -> Option<u64> {
-    number_in(rt, "/proc/self/limits", "Max stack size")
+// Whether the stack may become as large. Where no number stands, no limit is known.
+pub fn has_stack(rt: &impl Files) -> bool {
+    match number_in(rt, "/proc/self/limits", "Max stack size") {
+        Some(bytes) => bytes >= STACK_KIB * BYTES_OF_KIB,
+        None => true,
+    }
 }
 
 // How many bytes standard input still has, or 0 where that is not known.

@@ -1,4 +1,7 @@
 // What is said on standard error of a read or a write that failed.
+ghost use Rattle.std.specs.Prelude.{◌≡◌};
+
+use crate::ending::Ending;
 use std::fmt::{Display, Formatter};
 use std::io::{Eprint, Write};
 use std::{fmt, io};
@@ -33,7 +36,15 @@ impl Display for Reason {
 }
 
 // The line `durskafn: what: reason`. Where it cannot be written either, nothing is left to say it on.
-pub fn fail(rt: &impl Eprint, what: &str, error: io::Error) {
+pub fn say_why(rt: &impl Eprint, what: &str, error: io::Error) {
     let reason = Reason(error);
     let _ = eprintln!(rt; "durskafn: {what}: {reason}");
+}
+
+// The same, and the program ends so.
+pub fn fail(rt: &impl Eprint, what: &str, error: io::Error, ending: Ending) -> Ending
+    ensures { result ≡ ending }
+{
+    say_why(rt, what, error);
+    ending
 }

@@ -3,7 +3,7 @@ ghost use Rattle.std.specs.Prelude.{◌≡◌, ◌≤◌, false, length, take};
 ghost use Rattle.streams.specs.Windows.{Within, filled_to, read_more, wrote_out, finished};
 
 use crate::ending::Ending;
-use crate::failure::fail;
+use crate::failure::say_why;
 use crate::progress::{Progress, read_on, say};
 use std::io::{Eprint, ErrorKind, Print, Read};
 use std::time::Clock;
@@ -48,7 +48,7 @@ fn fill(rt: &impl Eprint, reader: &mut impl Read, input: &mut [u8], end: usize) 
             if error.kind() == ErrorKind::Interrupted {
                 return Filled::Until(end);
             }
-            fail(rt, "standard input", error);
+            say_why(rt, "standard input", error);
             Filled::Failed
         }
     }
@@ -61,7 +61,7 @@ fn flush(rt: &(impl Print + Eprint), output: &[u8], filled: usize) -> bool
     match rt.write_all(&output[..filled]) {
         Ok(()) => true,
         Err(error) => {
-            fail(rt, "standard output", error);
+            say_why(rt, "standard output", error);
             false
         }
     }
