@@ -242,6 +242,9 @@ def called_from_outside():
 
 
 def is_slipped(crate, function):
+    # A crate of C entries has its slips where the functions are that they call.
+    if crate.endswith("_c") and (ROOT / "crates" / crate[:-2]).is_dir():
+        crate = crate[:-2]
     edits = (edit.read_text(encoding="utf-8") for edit in ROOT.glob(f"crates/{crate}/must-fail/*.edit"))
     return any(f"`{function}`" in text or re.search(rf"^# refused: .*\b{function}\b", text, re.M) for text in edits)
 
