@@ -2,16 +2,11 @@
 """drop_imports.py CRATE..: drops from a crate's proof files the names of `use` lines that stand nowhere else in the file."""
 import os, re, sys
 
-WORD = re.compile(r"[\w'⁰-₟-]+|[^\s\w]")
-
-
-def used(name, body, words):
+def used(name, code):
     # an operator is used by its parts, as `◌+◌` by `+`
     if "◌" in name:
-        return all(p in body for p in name.split("◌") if p)
-    if re.fullmatch(r"[^\w]+", name):
-        return name in body
-    return name in words
+        return all(p in code for p in name.split("◌") if p)
+    return re.search(r"(?<![\w'-])" + re.escape(name) + r"(?![\w'-])", code) is not None if re.match(r"\w", name) else name in code
 
 
 def dropped(text):
@@ -21,13 +16,12 @@ def dropped(text):
         (uses if m else lines).append(line)
     body = "\n".join(l for l in lines if not l.startswith("use "))
     code = re.sub(r"--[^\n]*", "", body)
-    words = set(re.findall(r"[^\s(){}\[\],;.:λ→↦|]+", code)) | set(WORD.findall(code))
     out = []
     for line in text.split("\n"):
         m = re.match(r"^use ([\w.'+-]+)\.\{([^}]*)\}$", line)
         if m:
             names = [n.strip() for n in m.group(2).split(",")]
-            kept = [n for n in names if used(n.split(" as ")[-1].strip(), code, words)]
+            kept = [n for n in names if used(n.split(" as ")[-1].strip(), code)]
             if not kept:
                 continue
             line = f"use {m.group(1)}.{{{', '.join(kept)}}}"
