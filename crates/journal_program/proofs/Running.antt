@@ -3,7 +3,6 @@ use Prim.Native.Nat.{ℕ, ◌+◌, ◌-◌, ◌≤◌}
 use mathlib.Core.Bool.{Bool, true, false}
 use mathlib.Core.List.{List, [], ◌++◌, append_assoc, append-nil}
 use mathlib.Core.Path.{◌≡◌, refl, sym, ap, ◌∙◌}
-use native.Mathlib.Omega.{arith}
 use lib.ListN.{length, take, drop, replicate, length-replicate, replicate-append-replicate}
 use lib.Seq.{take_at, drop_at}
 use lib.IntN.{ℤ}
@@ -24,7 +23,7 @@ use Rattle.journal_program.specs.declared.shell.Next.{Next}
 use Rattle.journal_program.specs.declared.shell.Next.TheVariants.{Going, Ended}
 use Rattle.journal_program.specs.declared.shell.Place.{Place}
 use Rattle.journal_program.proofs.Ending.{wants_bytes}
-use Rattle.journal_program.specs.Runs.{Ends, read_to_end, header_unsound, record_unsound, not_written, not_read, Moves, stays, wrote, read, Follows, place_after, Turned, calls, Reached, TurnsEnd, with_last, too_many, RanTurns, WholeText, FirstText, prints_as, JournalRan}
+use Rattle.journal_program.specs.Runs.{Ends, read_to_end, header_unsound, record_unsound, not_written, not_read, Moves, stays, wrote, read, place_after, Turned, calls, Reached, TurnsEnd, with_last, too_many, RanTurns, WholeText, FirstText, prints_as, JournalRan}
 
 -- Told by an equal text.
 told_printed : {t₀ t : Tables} {last : Bool} {came printed printed' left : List ℕ} {stage : Stage} {count : ℕ} → printed' ≡ printed
