@@ -227,12 +227,6 @@ def is_named_in(crate, function, source):
     return bool(re.search(rf"\b{crate}::(?:\w+::)*{function}\b", source) or re.search(rf"\b{function}\b", several))
 
 
-def can_promise(function, source):
-    """Whether the function answers or changes something. One that only prints has no promise, and so no slip of it is refused."""
-    before_body = re.search(rf"\bpub fn {function}\b([^{{]*)", source)[1]
-    return bool(re.search(r"->|&mut|\b(?:requires|ensures)\b", before_body))
-
-
 def called_from_outside():
     """The functions of each crate that another crate calls, or a host."""
     sources = {}
@@ -243,7 +237,7 @@ def called_from_outside():
         others = "".join(text for other, text in sources.items() if other != crate)
         entries = set(re.findall(r'pub extern "C" fn (\w+)', source))
         for function in sorted(set(re.findall(r"\bpub fn (\w+)", source)) | entries):
-            if function in entries or is_named_in(crate, function, others) and can_promise(function, source):
+            if function in entries or is_named_in(crate, function, others):
                 yield crate, function
 
 
@@ -269,9 +263,9 @@ def said_of(edit, slip=None):
     return log_of(edit, slip).read_text(encoding="utf-8").rpartition(FOLLOWS)[2]
 
 
-def try_edits(edits):
+def try_edits(edits, is_whole_run):
     """Has the prover try each edit that was not tried yet as it stands; what it said goes into the edit's log, below a sum of what it read.
-    A slip that waits for a callee is tried by itself too."""
+    A slip that waits for a callee is tried by itself too. A whole run proves every crate first, and says which is not proved."""
     crates, kit = prover.dependencies(), prover.version()
     of_crate = {}
     for edit in edits:
@@ -303,7 +297,10 @@ def try_edits(edits):
         return all(is_tried(edit, told) and all(is_tried(edit, told, slip) for slip in slips_that_wait(edit, said_of(edit))) for edit, told in of_crate[crate])
 
     # Those with the most edits first, so that no lane ends long after the others.
-    prover.in_copies(try_crate, sorted((crate for crate in of_crate if not is_whole(crate)), key=lambda crate: -len(of_crate[crate])))
+    left = sorted((crate for crate in of_crate if not is_whole(crate)), key=lambda crate: -len(of_crate[crate]))
+    failed = prover.prove_all() if is_whole_run and left else []
+    prover.in_copies(try_crate, left)
+    return failed
 
 
 def main():
@@ -312,7 +309,7 @@ def main():
     complaints = []
     edits = [edit for edit in sorted(ROOT.glob("crates/*/must-fail/*.edit")) if not names or crate_of(edit) in names]
     slips = {path.stem: [] for path in CONTROLS.glob("*.control") if not names or path.stem in names}
-    try_edits(edits)
+    complaints += try_edits(edits, not names)
     for edit in edits:
         crate = crate_of(edit)
         complain = lambda text, at=f"{crate}/{edit.stem}": complaints.append(f"{at}: {text}")

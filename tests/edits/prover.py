@@ -57,6 +57,12 @@ def sum_of(crate, crates, edit, kit):
     return told.hexdigest()
 
 
+def prove_all():
+    """Proves every crate where it stands, so that each copy begins with what is proved, and says what failed."""
+    done = subprocess.run(["rt", "all", "check", "--jobs", str(lanes())], cwd=ROOT, stdin=subprocess.DEVNULL, stdout=subprocess.PIPE, stderr=subprocess.STDOUT, check=False)
+    return [line for line in done.stdout.decode(errors="replace").splitlines()[-200:] if re.match(r"\w+: (?!ok$)", line)] if done.returncode else []
+
+
 class Copy:
     """A copy of the repository in which crates are changed."""
 
