@@ -1,4 +1,4 @@
-//! With the feature `c_engine`: the proved library that `rt staticlib host` builds.
+//! With the feature `c_engine`: the proved library that `tests/library.sh host` builds.
 fn main() {
     println!("cargo:rerun-if-changed=build.rs");
     if std::env::var_os("CARGO_FEATURE_C_ENGINE").is_some() {

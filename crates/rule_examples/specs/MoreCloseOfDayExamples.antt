@@ -100,7 +100,7 @@ unfolding computed
 orders_that_close = refl
 
 -- A closing contract is open that day: its orders quote before they go.
-closing-is-priced :
+closing_is_priced :
     ggf
     (apply_spec
     (with_orders (order 0 0 2 Buy 26000 20 452 0 ∷ order 1 0 2 Sell 26100 20 452 0 ∷ []) (in_head (with_accepted_submits 2) (made 2021 453 [] (1000 ∷ []))))
@@ -109,7 +109,7 @@ closing-is-priced :
     2
     ≡ 26050
 unfolding computed
-closing-is-priced = refl
+closing_is_priced = refl
 
 -- Rows of members past the count are surplus: of two members the first's rows cascade, and the third's stay.
 surplus_rows : Each

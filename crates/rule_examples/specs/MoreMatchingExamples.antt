@@ -156,9 +156,9 @@ unfolding computed
 day_limits_lem = refl
 
 -- A deal prints two lines of four numbers; what is past them stays.
-lines-past-the-count :
+lines_past_the_count :
     (let l = (apply_spec (with_lines (replicate lines_length (pos 9)) (tables_after monday (sell 0 17 26000 1 ∷ []))) (buy 1 17 26000 1)).after.lines in
     map (λ i. get_or l i (pos 0)) (0 ∷ 4 ∷ 7 ∷ 8 ∷ []))
     ≡ pos 1 ∷ pos 0 ∷ pos 26000 ∷ pos 9 ∷ []
 unfolding computed
-lines-past-the-count = refl
+lines_past_the_count = refl

@@ -1,4 +1,4 @@
--- A contract that has rows but no term: what the rules say of every number from termCount on. Document 01 has no such contract.
+-- A contract that has rows but no term: what the rules say of every number from term_count on. Document 01 has no such contract.
 use Rattle.std.specs.Prelude.{ℕ, ◌≤◌, ◌≡◌, refl, false, List, [], ℤ}
 use Rattle.std.proofs.Common.{le-ltb}
 use Rattle.rules.specs.Ranges.{term_count}
