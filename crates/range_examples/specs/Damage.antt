@@ -116,8 +116,8 @@ damage_of_lots_lem : map (λ i. map (λ z. damaged (with_rows (set lent.lots i z
 unfolding computed lent sound_lots damage_of_lots
 damage_of_lots_lem = refl
 
-damage_of_value :
+damage_of_value_lem :
     map (λ i. map (λ z. damaged (with_rows lent.lots (set lent.value i z) lent)) (sound_value ++ damage_of_value)) (544 ∷ 3234 ∷ 3235 ∷ [])
     ≡ (false ∷ false ∷ true ∷ true ∷ []) ∷ (false ∷ false ∷ true ∷ true ∷ []) ∷ (false ∷ false ∷ false ∷ false ∷ []) ∷ []
 unfolding computed lent sound_value damage_of_value
-damage_of_value = refl
+damage_of_value_lem = refl
