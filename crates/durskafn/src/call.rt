@@ -78,7 +78,11 @@ fn run_word(rt: &HostRuntime, word: Word) -> u8 {
                 Err(what) => return wrong(rt, what, text),
             },
             Argument::Missing => break,
-            Argument::TooLong => return too_long(rt),
+            // No option is as long.
+            Argument::TooLong => match take_source(call, Source::File(place)) {
+                Ok(more) => call = more,
+                Err(what) => return wrong(rt, what, b""),
+            },
         }
     }
     if call.wants_help {
@@ -110,14 +114,19 @@ fn take(call: Call, place: usize, text: &[u8]) -> Result<Call, &'static str> {
     if is_option(text) {
         return Err("unknown option ");
     }
-    if call.source.is_some() {
-        return Err("surplus argument ");
-    }
     let source = if text == b"-".as_slice() {
         Source::Standard
     } else {
         Source::File(place)
     };
+    take_source(call, source)
+}
+
+// A second one is surplus.
+fn take_source(call: Call, source: Source) -> Result<Call, &'static str> {
+    if call.source.is_some() {
+        return Err("surplus argument ");
+    }
     Ok(Call {
         source: Some(source),
         ..call

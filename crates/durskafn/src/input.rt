@@ -3,7 +3,7 @@ ghost use Rattle.std.specs.Prelude.{◌≡◌, pos};
 ghost use Rattle.streams.specs.declared.ending.Ending.{Ending};
 ghost use Rattle.streams.specs.Windows.{status_of};
 
-use crate::argument::{Argument, LONGEST, read_argument, tell, too_long, wrong};
+use crate::argument::{Argument, LONGEST, read_argument, tell, wrong};
 use crate::statuses::{WRONG_CALL, status_byte};
 use crate::system::{STACK_KIB, has_stack, input_size};
 use crate::word::Word;
@@ -14,8 +14,10 @@ use std::io::{Eprint, Read};
 use std::{fs, io};
 use streams::{Ending, fail};
 
-// What the system says where a folder is read.
+// What the system says where a folder is read, and of a name that is longer than any path.
 const IS_A_FOLDER: i32 = 21;
+
+const NAME_IS_TOO_LONG: i32 = 36;
 
 // Where the journal comes from.
 #[derive(Clone, Copy)]
@@ -42,7 +44,10 @@ pub fn run_on(rt: &HostRuntime, word: Word, source: Source, is_said: bool) -> u8
             match read_argument(rt, place, &mut buffer) {
                 Argument::Text(name) => run_on_file(rt, word, name, is_said),
                 Argument::Missing => wrong(rt, "the file's name is gone", b""),
-                Argument::TooLong => too_long(rt),
+                Argument::TooLong => {
+                    let error = io::Error::from_raw_os_error(NAME_IS_TOO_LONG);
+                    status_byte(fail(rt, "an argument", error, Ending::ReadFailed))
+                }
             }
         }
     }
