@@ -6,10 +6,11 @@ Here every slip must be refused by itself. Each name on its line `# refused:` is
 - a function of which a fact does not hold (not only a function that calls one which is refused);
 - a law or an example that does not hold.
 No other function may be refused by itself, and none because its proof names a goal that the edited code lacks: then the
-text changed and not a fact. Rattle names the goals of a branch by its condition (`then-n-eq0`), so where a slip changes a
-condition, the names in the function's proof follow it, and the edit is tried again. So a slip of code has the shape of what it stands for: values and comparisons differ, and
-nothing else. A slip of another shape has a control, a change of the same shape that is no slip, in controls/CRATE.control;
-controls.py asks whether it is proved. Every function that another crate or a host calls is named by a slip of its crate.
+text changed and not a fact. Rattle names the goals of a branch by its condition (`then-n-eq0`), and the goal of an index by
+the index. So where a slip changes one of these, the names in the function's proof follow it, and the edit is tried again.
+A slip of code has the shape of what it stands for: values and comparisons differ, and nothing else. A slip of another
+shape has a control, a change of the same shape that is no slip, in controls/CRATE.control; controls.py asks whether it is
+proved. Every function that another crate or a host calls is named by a slip of its crate.
 With --forms, which the gate does not ask, no proof may be refused for its form at all: for a path to a step that is not
 there, or for a step that takes another number of things.
 What the prover said of an edit is kept in target/must-fail/CRATE/EDIT.log, and read again where nothing changed since.
@@ -40,8 +41,10 @@ RESTS_ON_REFUSED = re.compile(r"which was (?:rejected|not admitted), w(?:as|ere)
 # What is said of a proof that names a goal that is not there, with the goals that there are.
 LOST_GOAL = re.compile(r"has no `([^`]*)` that can be named from here|is not in scope")
 ASKED = re.compile(r"^help: `Goals` has no `([^`]*)`; rattle asks for (.*?);", re.M)
-# A goal's name, up to its condition, the condition, and what of the clause.
+# A goal's name, up to its condition or its index, this, and what of the clause.
+INDEX = re.compile(r"(.*-)(\w+)()$")
 CONDITION = re.compile(r"(.*-(?:then|else|in)-)(.+?)((?:-clause-\w+|-raw)*)$")
+ANSWERED = re.compile(r"^pub ([^\s:]+) :", re.M)
 FOLLOWS = "---- the names of the goals follow the code"
 # What is said where a text names what is not there.
 LOST = re.compile(r"is not in scope|has no field|is no name|has no `|operand is missing|expected the end|cannot continue")
@@ -150,19 +153,59 @@ class Refusals:
         return any(is_called(function, name) for function in self.waiting)
 
 
-def renames_of(crate, said):
-    """For each goal that the edited code lacks the one that stands for it: its condition, in the function's proof."""
+def constants():
+    """The terms of the constants of all crates, by their names."""
+    sources = "".join(path.read_text(encoding="utf-8") for path in sorted(ROOT.glob("crates/*/src/**/*.rt")))
+    return dict(re.findall(r"\bconst ([A-Z]\w*): \w+ = ([\w+* ]+);", sources))
+
+
+def number_of(name, terms):
+    """The number that a constant stands for, as text, or its name where its term is more than sums and products of constants."""
+    term = name
+    for _ in range(8):
+        term = re.sub(r"\b[A-Z]\w*", lambda m: f"({terms.get(m[0], m[0])})", term)
+    term = re.sub(r" as \w+", "", term)
+    return str(eval(term)) if re.fullmatch(r"[\d ()+*]+", term) else name
+
+
+def new_values(changes):
+    """The words that a change brings in, and the numbers that the constants among them stand for."""
+    words = {word for _, old, new in changes for word in set(re.findall(r"\w+", new)) - set(re.findall(r"\w+", old))}
+    terms = constants()
+    return words | {number_of(word, terms) for word in words if word in terms}
+
+
+def folders_of(crate, function):
+    """The folders of the function's proof, below the crate."""
+    top = ROOT / "crates" / crate
+    folders = (path.parent.relative_to(top) for path in sorted(top.glob("proofs/**/Answers.antt")))
+    return [folder for folder in folders if function_of(folder.as_posix()) == function]
+
+
+def successor(goal, asked, answered, changes):
+    """What the goal's name goes on with up to its condition or index, this, and the same of the goal that stands for it, or None."""
+    old = CONDITION.match(goal) or INDEX.match(goal)
+    found = [old.re.match(name) for name in asked if name not in answered] if old else []
+    found = [new for new in found if new and (new[1], new[3]) == (old[1], old[3])]
+    if len(found) > 1:
+        values = new_values(changes)
+        found = [new for new in found if new[2] in values]
+    return (old, found[0][2]) if len(found) == 1 else None
+
+
+def renames_of(crate, said, changes):
+    """For each goal that the edited code lacks the one that stands for it: its condition, or its index, in the function's proof."""
     asked = {goal: re.findall(r"`([^`]*)`", goals) for goal, goals in ASKED.findall(said)}
     renames = []
     for function, goal in sorted(Refusals(said, lambda _: None).lost):
-        folders = [path.parent for path in (ROOT / "crates" / crate / "proofs").rglob("Answers.antt") if function_of(path.parent.relative_to(ROOT / "crates" / crate).as_posix()) == function]
-        old = CONDITION.match(goal)
-        for folder in folders:
-            answered = set(re.findall(r"^pub ([^\s:]+) :", (folder / "Answers.antt").read_text(encoding="utf-8"), re.M))
-            new = [found for found in map(CONDITION.match, asked.get(goal, ())) if found and found[0] not in answered and old and found[1] == old[1] and found[3] == old[3]]
-            if len(new) == 1:
-                pattern = rf"\b([Tt]hen|[Ee]lse|[Ii]f|[Ii]n)-{re.escape(old[2])}(?![\w'])"
-                renames.append((folder.relative_to(ROOT / "crates" / crate), pattern, rf"\g<1>-{new[0][2]}"))
+        for folder in folders_of(crate, function):
+            answered = ANSWERED.findall((ROOT / "crates" / crate / folder / "Answers.antt").read_text(encoding="utf-8"))
+            found = successor(goal, asked.get(goal, ()), answered, changes)
+            if found:
+                old, new = found
+                # A condition is named by the branch's other steps too.
+                before = "[Tt]hen-|[Ee]lse-|[Ii]f-|[Ii]n-" if old.re == CONDITION else re.escape(old[1])
+                renames.append((folder, rf"(?<![\w-])((?:[\w-]+-)?(?:{before})){re.escape(old[2])}(?![\w'])", rf"\g<1>{new}"))
     return renames
 
 
@@ -280,7 +323,7 @@ def try_edits(edits, is_whole_run):
             return
         changes = [change for it in slips for change in it.changes]
         said, status = copy.check(crate_of(edit), changes)
-        renames = renames_of(crate_of(edit), said)
+        renames = renames_of(crate_of(edit), said, changes)
         if renames:
             followed, status = copy.check(crate_of(edit), changes, renames)
             said += f"{FOLLOWS}\n{followed}"
