@@ -6,8 +6,9 @@ Here every slip must be refused by itself. Each name on its line `# refused:` is
 - a function of which a fact does not hold (not only a function that calls one which is refused);
 - a law or an example that does not hold.
 No other function may be refused by itself, and none because its proof names a goal that the edited code lacks: then the
-text changed and not a fact. Rattle names the goals of a branch by its condition (`then-n-eq0`), and the goal of an index by
-the index. So where a slip changes one of these, the names in the function's proof follow it, and the edit is tried again.
+text changed and not a fact. Rattle names the goals of a branch by its condition (`then-n-eq0`), the goal of an index by the
+index, and what is known after a call by the callee. So where a slip changes one of these, the names in the function's proof
+follow it, and the edit is tried again.
 A slip of code has the shape of what it stands for: values and comparisons differ, and nothing else. A slip of another
 shape has a control, a change of the same shape that is no slip, in controls/CRATE.control; controls.py asks whether it is
 proved. Every function that another crate or a host calls is named by a slip of its crate.
@@ -39,6 +40,7 @@ WAITS_FOR_CALLEE = re.compile(r"\bit calls .*not proved$")
 # What is said of whatever rests on something that was refused.
 RESTS_ON_REFUSED = re.compile(r"which was (?:rejected|not admitted), w(?:as|ere) not checked|was not admitted \(")
 # What is said of a proof that names a goal that is not there, with the goals that there are.
+LOST_FIELD = re.compile(r"has no field `([^`]*)`(?: \(nearest: \.([\w-]+))?")
 LOST_GOAL = re.compile(r"has no `([^`]*)` that can be named from here|is not in scope")
 ASKED = re.compile(r"^help: `Goals` has no `([^`]*)`; rattle asks for (.*?);", re.M)
 # A goal's name, up to its condition or its index, this, and what of the clause.
@@ -118,16 +120,23 @@ class Refusals:
 
     def __init__(self, said, complain):
         self.functions, self.laws, self.waiting = set(), set(), set()
+        # The functions of which a fact is refused, and not only a name.
+        self.of_facts = set()
         # The function and the goal's name, of each answer to a goal that is not there.
         self.lost = set()
+        # The function, the goal, the name of a step that is not there, and the nearest that is.
+        self.lost_fields = set()
         self.read_errors(said, complain)
         for function, words in VERDICT.findall(said):
             if WAITS_FOR_CALLEE.search(words):
                 self.waiting.add(function)
             elif words.startswith("no proof: "):
                 self.functions.add(function)
+                self.of_facts.add(function)
         for function, goal in sorted(self.lost):
             complain(f"the proof of {function} names a goal that the edited code lacks: {goal}")
+        for function in sorted(self.functions - self.of_facts):
+            complain(f"the proof of {function} is refused only for the names of steps that the edited code lacks")
 
     def read_errors(self, said, complain):
         for path, error in ERROR.findall(said):
@@ -138,9 +147,13 @@ class Refusals:
             words = error[named.end() :] if named else error
             if name in OF_A_FUNCTION and folder != "specs":
                 self.functions.add(function_of(folder))
-                lost = LOST_GOAL.search(words)
+                lost, field = LOST_GOAL.search(words), LOST_FIELD.search(words)
                 if lost:
                     self.lost.add((function_of(folder), lost[1] or words))
+                elif field:
+                    self.lost_fields.add((function_of(folder), named[1] if named else "", field[1], field[2]))
+                else:
+                    self.of_facts.add(function_of(folder))
             else:
                 self.laws.add(named[1] if named else error)
                 if not named or LOST.search(words):
@@ -194,10 +207,12 @@ def successor(goal, asked, answered, changes):
 
 
 def renames_of(crate, said, changes):
-    """For each goal that the edited code lacks the one that stands for it: its condition, or its index, in the function's proof."""
+    """For each goal that the edited code lacks the one that stands for it: its condition, or its index, in the function's proof.
+    For each other step that it lacks the nearest one, in the answer that names it."""
+    refusals = Refusals(said, lambda _: None)
     asked = {goal: re.findall(r"`([^`]*)`", goals) for goal, goals in ASKED.findall(said)}
     renames = []
-    for function, goal in sorted(Refusals(said, lambda _: None).lost):
+    for function, goal in sorted(refusals.lost):
         for folder in folders_of(crate, function):
             answered = ANSWERED.findall((ROOT / "crates" / crate / folder / "Answers.antt").read_text(encoding="utf-8"))
             found = successor(goal, asked.get(goal, ()), answered, changes)
@@ -205,7 +220,10 @@ def renames_of(crate, said, changes):
                 old, new = found
                 # A condition is named by the branch's other steps too.
                 before = "[Tt]hen-|[Ee]lse-|[Ii]f-|[Ii]n-" if old.re == CONDITION else re.escape(old[1])
-                renames.append((folder, rf"(?<![\w-])((?:[\w-]+-)?(?:{before})){re.escape(old[2])}(?![\w'])", rf"\g<1>{new}"))
+                renames.append((folder, None, rf"(?<![\w-])((?:[\w-]+-)?(?:{before})){re.escape(old[2])}(?![\w'])", rf"\g<1>{new}"))
+    for function, goal, field, nearest in sorted(refusals.lost_fields, key=str):
+        if nearest:
+            renames += [(folder, goal, rf"\.{re.escape(field)}(?![\w'-])", f".{nearest}") for folder in folders_of(crate, function)]
     return renames
 
 

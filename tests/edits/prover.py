@@ -77,14 +77,17 @@ class Copy:
 
     def check(self, crate, changes, renames=()):
         """What rt says of the crate with these changes, each a file, the text that stands there once and the new one, and its status.
-        A rename is of a pattern in all files of a folder."""
+        A rename is of a pattern in all files of a folder, or there in the answer to one goal alone."""
         folder, before = self.folder / "crates" / crate, {}
         try:
-            for inside, pattern, new in renames:
+            for inside, goal, pattern, new in renames:
                 for path in sorted((folder / inside).glob("*.antt")):
                     text = path.read_text(encoding="utf-8")
                     before.setdefault(path, text)
-                    path.write_text(re.sub(pattern, new, text), encoding="utf-8")
+                    # An answer goes on up to the next one.
+                    answers = re.split(r"(?m)^(?=(?:abbrev )?pub )", text)
+                    renamed = [re.sub(pattern, new, answer) if goal is None or answer.startswith(f"pub {goal} :") else answer for answer in answers]
+                    path.write_text("".join(renamed), encoding="utf-8")
             for file, old, new in changes:
                 path = folder / file
                 text = path.read_text(encoding="utf-8")
