@@ -16,6 +16,7 @@ Form, of docs/ and examples/:
 - READING.md has a section for each refusal number of the rules, in rising order, each with the lines that it needs.
 """
 import collections
+import os
 import pathlib
 import re
 import sys
@@ -77,10 +78,17 @@ def defined(path):
     return {match[match.lastindex or 0] for match in found}
 
 
+def below(place):
+    """The files and folders below a place, but for what rt makes in out/, which comes and goes."""
+    for folder, folders, files in os.walk(place):
+        folders[:] = sorted(name for name in folders if name != "out")
+        yield from (pathlib.Path(folder) / name for name in (*folders, *files))
+
+
 def known_names():
     """What is defined anywhere, what the specifications use of the kit, and the names of files and folders."""
     names = set()
-    for path in (path for place in PLACES for path in (ROOT / place).rglob("*")):
+    for path in (path for place in PLACES for path in below(ROOT / place)):
         names.add(path.name)
         if path.suffix in {".antt", ".rt", ".h"}:
             names |= defined(path)
