@@ -9,6 +9,7 @@ use lib.ListN.{length, get_or, set, replicate, length-replicate}
 use lib.Seq.{get_or-set_other, get_or-set_same}
 use lib.IntN.{pos, ◌+ℤ◌}
 use borrow.Author.Tests.{leb-true, ltb-true, lt-ltb, le-leb, lt-leb, eqb-true, eq-eqb, not-false}
+use Rattle.std.specs.Prelude.{Option, Some, None}
 use Rattle.arith.specs.Lists.{All, every, any, kept, over, from}
 use Rattle.arith.proofs.Alls.{every_all, all_map, all_kept}
 use Rattle.arith.proofs.Among.{by_among, every_from}
@@ -19,8 +20,6 @@ use Rattle.rules.specs.Ledger.{head_length, row_width, rows_length}
 use Rattle.rules.specs.Ranges.{contract_count, term_count, contracts_in_year, last_quarter, first_quarter, january, most_members, quarters_in_year, months_in_quarter}
 use Rattle.rules.specs.declared.contract.ContractKind.TheVariants.{Year, Quarter, Month}
 use Rattle.rules.specs.declared.order.Order.{Order}
-use Rattle.rules.specs.declared.units.Day.{Day}
-use Rattle.rules.specs.declared.units.Day.TheVariants.{On, NoDay}
 use Rattle.rules.specs.declared.units.DayNo.{DayNo}
 use Rattle.rules.specs.Days.{Calendar, next_business_day}
 use Rattle.rules.specs.ContractTerms.{has_term, is_parent, term_of, contracts_of, children_of, term_closing_day, closes_on, closes_before, not_before, is_on, is_before, still_to_close, has_cascaded}
@@ -59,13 +58,13 @@ holds_fewer : (h : Header) (R : Rows) (log : List Line) (K K' : ℕ → Bool) �
 holds_fewer h R log K K' f a = record { same = a.same; zero = a.zero; empty = λ x c m l b t. a.empty x c m l b (f c l t) }
 
 -- ---- which contracts have closed by the evening of day d
-on_closed : (d : ℕ) (z : Day) → is_on z d ≡ true → not_before z (suc d) ≡ false
-on_closed d (On x) e = lt-leb (suc d) x.0 (omega (arith, eqb-true x.0 d e))
-on_closed d NoDay e = refl
+on_closed : (d : ℕ) (z : Option DayNo) → is_on z d ≡ true → not_before z (suc d) ≡ false
+on_closed d (Some x) e = lt-leb (suc d) x.0 (omega (arith, eqb-true x.0 d e))
+on_closed d None e = refl
 
-before_closed : (d : ℕ) (z : Day) → is_before z d ≡ true → not_before z (suc d) ≡ false
-before_closed d (On x) e = lt-leb (suc d) x.0 (omega (arith, ltb-true x.0 d e))
-before_closed d NoDay e = refl
+before_closed : (d : ℕ) (z : Option DayNo) → is_before z d ≡ true → not_before z (suc d) ≡ false
+before_closed d (Some x) e = lt-leb (suc d) x.0 (omega (arith, ltb-true x.0 d e))
+before_closed d None e = refl
 
 module _ (k : Calendar) (d : ℕ) where
   -- only years and quarters that have closed are emptied
@@ -298,7 +297,7 @@ module _ (h : Header) (d : ℕ) (t : Tables) (r : Runs h d t) (s : Sound t) (n :
       as_before lots c m = refl
       as_before value c m = refl
 
-  module _ (x : DayNo) (next : next_business_day (calendar_of h) d ≡ On x) where
+  module _ (x : DayNo) (next : next_business_day (calendar_of h) d ≡ Some x) where
     next_here : next_day t ≡ x.0
     unfolding next_day
     next_here = rw (ap (λ k. next_business_day k (day t)) (runs_calendar r) ∙ ap (next_business_day (calendar_of h)) r.today ∙ next, next_day)
@@ -350,13 +349,13 @@ module _ (h : Header) (d : ℕ) (t : Tables) (r : Runs h d t) (s : Sound t) (n :
         }
 
 -- the list's day is then the next business day
-no_next : (h : Header) (d : ℕ) (t : Tables) → Runs h d t → next_business_day (calendar_of h) d ≡ NoDay → has_next_day t ≡ false
+no_next : (h : Header) (d : ℕ) (t : Tables) → Runs h d t → next_business_day (calendar_of h) d ≡ None → has_next_day t ≡ false
 unfolding has_next_day
 no_next h d t r e = rw (ap (λ k. next_business_day k (day t)) (runs_calendar r) ∙ ap (next_business_day (calendar_of h)) r.today ∙ e, has_next_day)
 
 pub close_shows : (t : Tables) → Sound t → (n : ℕ) → has_next_day t ≡ true → (h : Header) (d : ℕ) → Runs h d t → Does h d (day_reached d (next_business_day (calendar_of h) d)) t (close_booked t n)
 close_shows t s n q h d r = go (next_business_day (calendar_of h) d) refl
   where
-    go : (z : Day) → next_business_day (calendar_of h) d ≡ z → Does h d (day_reached d (next_business_day (calendar_of h) d)) t (close_booked t n)
-    go (On x) e = rw e (close_does h d t r s n x e)
-    go NoDay e = never (sym q ∙ no_next h d t r e)
+    go : (z : Option DayNo) → next_business_day (calendar_of h) d ≡ z → Does h d (day_reached d (next_business_day (calendar_of h) d)) t (close_booked t n)
+    go (Some x) e = rw e (close_does h d t r s n x e)
+    go None e = never (sym q ∙ no_next h d t r e)

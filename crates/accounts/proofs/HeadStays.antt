@@ -8,6 +8,7 @@ use lib.Dec.{eqb, leb, ltb}
 use lib.ListN.{length, get_or, set, take, drop, replicate, length-append, length-replicate, get_or-replicate}
 use lib.Seq.{get_or-set_same, get_or-set_other, set_out}
 use borrow.Author.Tests.{leb-true, leb-false, ltb-false, le-leb, lt-ltb, le-ltb, not-false}
+use Rattle.std.specs.Prelude.{Option, Some, None}
 use Rattle.arith.specs.Lists.{All, kept, total, over}
 use Rattle.arith.proofs.Alls.{all_hold, hold_all, all_place}
 use Rattle.arith.proofs.Among.{every_from, from_every}
@@ -19,8 +20,6 @@ use Rattle.rules.specs.declared.event.CloseOutTerms.{CloseOutTerms}
 use Rattle.rules.specs.declared.event.Leg.{Leg}
 use Rattle.rules.specs.declared.event.Submission.{Submission}
 use Rattle.rules.specs.declared.order.Order.{Order}
-use Rattle.rules.specs.declared.units.Day.{Day}
-use Rattle.rules.specs.declared.units.Day.TheVariants.{On, NoDay}
 use Rattle.rules.specs.Days.{business_day, span_start, day_after_span, in_span, next_business_day}
 use Rattle.rules.proofs.CalendarLaws.{next_business}
 use Rattle.rules.specs.Header.{Header, calendar_of, calendar_sound, members_sound, day_sound}
@@ -38,6 +37,7 @@ use Rattle.accounts.proofs.Remains.{Remain, remain_length, kept_remain, legs_rem
 use Rattle.accounts.proofs.Books.{orders_count}
 use Rattle.accounts.proofs.Closes.{day_is}
 use Rattle.accounts.proofs.Fresh.{counts_of, holiday_count_of, limit_of, mark_of, submits_of, fresh_runs}
+use Rattle.rules.specs.declared.units.DayNo.{DayNo}
 
 -- ---- the places that records change, and the most that may stand at each
 pub data Place (n i : ℕ) : Type 0 where
@@ -345,11 +345,11 @@ module _ (t : Tables) (sound : head_sound t ≡ true) (long : head_length ≤ le
           let span = leb (span_start (calendar t)) (day t) && ltb (day t) (day_after_span (calendar t)) in
           leb-true _ _ (and_left (leb (span_start (calendar t)) (day t)) (ltb (day t) (day_after_span (calendar t))) (and_left span (business_day (calendar t) (day t)) (all_hold _ sound).1.1.1.0))
 
-      go : (z : Day) → next_business_day (calendar t) (day t) ≡ z → day_sound (calendar t) (next_day t) ≡ true
-      go (On x) e =
+      go : (z : Option DayNo) → next_business_day (calendar t) (day t) ≡ z → day_sound (calendar t) (next_day t) ≡ true
+      go (Some x) e =
           let w = next_business (calendar t) (day t) x e in
           rw (e, next_day, le-leb (span_start (calendar t)) x.0 (omega (arith, first, w.0)), lt-ltb x.0 (day_after_span (calendar t)) w.2, w.1)
-      go NoDay e = never (sym h ∙ rw (e, has_next_day))
+      go None e = never (sym h ∙ rw (e, has_next_day))
 
   pub close_stays : (n : ℕ) → Stays day_place (members t) t.head (close_booked t n).after.head
   unfolding close_booked priced

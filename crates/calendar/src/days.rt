@@ -5,7 +5,7 @@ ghost use Rattle.rules.specs.Days.{business_day, first_business_day, next_busine
 ghost use Rattle.months.specs.Bounds.{FirstYear};
 
 use months::span_of;
-use rules::{Day, DayNo};
+use rules::DayNo;
 
 // The days of a week are counted from Wednesday, which day 0 is.
 pub const DAYS_IN_WEEK: u64 = 7;
@@ -42,21 +42,21 @@ pub fn is_business_day(holidays: &[u64], day: DayNo) -> bool
 }
 
 // The first business day from `from` up to but not including `end`.
-fn first_business_day(holidays: &[u64], from: DayNo, end: DayNo) -> Day
+fn first_business_day(holidays: &[u64], from: DayNo, end: DayNo) -> Option<DayNo>
     ensures { (y : ℕ) → result ≡ first_business_day (record { first_year = y; holidays = holidays.now }) (end.0 - from.0) from.0 }
 {
     let mut x = from.0;
     while x < end.0 {
         if is_business_day(holidays, DayNo(x)) {
-            return Day::On(DayNo(x));
+            return Some(DayNo(x));
         }
         x += 1;
     }
-    Day::NoDay
+    None
 }
 
 // The nth business day before a day.
-pub fn business_day_before(holidays: &[u64], n: u64, day: DayNo) -> Day
+pub fn business_day_before(holidays: &[u64], n: u64, day: DayNo) -> Option<DayNo>
     ensures { (y : ℕ) → result ≡ business_day_before (record { first_year = y; holidays = holidays.now }) n day.0 }
 {
     let mut x = day.0;
@@ -65,21 +65,21 @@ pub fn business_day_before(holidays: &[u64], n: u64, day: DayNo) -> Day
         x -= 1;
         if is_business_day(holidays, DayNo(x)) {
             if to_count <= 1 {
-                return Day::On(DayNo(x));
+                return Some(DayNo(x));
             }
             to_count -= 1;
         }
     }
-    Day::NoDay
+    None
 }
 
-pub fn next_business_day(first_year: u64, holidays: &[u64], day: DayNo) -> Day
+pub fn next_business_day(first_year: u64, holidays: &[u64], day: DayNo) -> Option<DayNo>
     requires { FirstYear first_year }
     ensures { result ≡ next_business_day (record { first_year = first_year; holidays = holidays.now }) day.0 }
 {
     let span = span_of(first_year);
     if span.end.0 <= day.0 {
-        return Day::NoDay;
+        return None;
     }
     first_business_day(holidays, DayNo(day.0 + 1), span.end)
 }

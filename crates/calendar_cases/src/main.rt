@@ -5,7 +5,7 @@ ghost use Rattle.std.specs.Prelude.{◌≡◌, ◌<◌};
 ghost use Rattle.rules.specs.Answers.{reply_of_next_day};
 
 use rules::layout::TERMS;
-use rules::{Day, DayNo};
+use rules::DayNo;
 use std::io;
 use std::io::Print;
 
@@ -18,20 +18,20 @@ const FEASTS: [u64; 14] = [
     366, 478, 486, 498, 499, 500, 504, 561, 566, 567, 568, 569, 607, 667,
 ];
 
-fn print_day(rt: &impl Print, day: Day) -> io::Result<()> {
+fn print_day(rt: &impl Print, day: Option<DayNo>) -> io::Result<()> {
     match day {
-        Day::On(x) => rt.println(x.0),
-        Day::NoDay => rt.println("none"),
+        Some(x) => rt.println(x.0),
+        None => rt.println("none"),
     }
 }
 
 // The paper's number for the next business day.
-fn next_day_number(day: Day) -> u64
+fn next_day_number(day: Option<DayNo>) -> u64
     ensures { result ≡ (reply_of_next_day day).number }
 {
     match day {
-        Day::On(_) => 0,
-        Day::NoDay => 18,
+        Some(_) => 0,
+        None => 18,
     }
 }
 
@@ -44,11 +44,11 @@ fn print_next(rt: &impl Print, holidays: &[u64], day: DayNo) -> io::Result<()> {
 
 // The last day up to 700 on which a contract of a ledger that begins in 2020 is open: its closing day.
 fn print_closing(rt: &impl Print, holidays: &[u64], contract: u64) -> io::Result<()> {
-    let mut last = Day::NoDay;
+    let mut last = None;
     let mut day: u64 = 0;
     while day <= 700 {
         if contracts::is_open(2020, holidays, DayNo(day), contract) {
-            last = Day::On(DayNo(day));
+            last = Some(DayNo(day));
         }
         day += 1;
     }

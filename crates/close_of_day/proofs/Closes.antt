@@ -7,6 +7,7 @@ use native.Mathlib.Omega.{arith}
 use lib.ListN.{length, get_or, take}
 use borrow.Author.Tests.{le-ltb}
 use lib.IntN.{ℤ}
+use Rattle.std.specs.Prelude.{Some, None}
 use Rattle.arith.specs.Lists.{All, kept}
 use Rattle.arith.proofs.Alls.{all_map, all_append, all_kept}
 use Rattle.rules.specs.Ledger.{prices_length}
@@ -16,7 +17,6 @@ use Rattle.rules.specs.declared.contract.ContractKind.TheVariants.{Year, Quarter
 use Rattle.rules.specs.declared.order.Side.TheVariants.{Buy, Sell}
 use Rattle.rules.specs.declared.answer.Answer.TheVariants.{Accepted, NoLaterDay}
 use Rattle.rules.specs.declared.units.DayNo.{DayNo}
-use Rattle.rules.specs.declared.units.Day.TheVariants.{On, NoDay}
 use Rattle.rules.specs.Days.{next_business_day}
 use Rattle.rules.specs.ContractTerms.{open_count, contracts_of}
 use Rattle.rules.specs.Ledger.{Tables, with_prices, with_rows, members, day, time, calendar, order_count, orders, with_orders, order_at}
@@ -97,22 +97,22 @@ closed_is u s d prices lots value ep el ev =
 
 -- ---- the causes
 module _ (t : Tables) where
-  no_next : next_business_day (calendar t) (day t) ≡ NoDay → has_next_day t ≡ false
+  no_next : next_business_day (calendar t) (day t) ≡ None → has_next_day t ≡ false
   unfolding has_next_day
-  no_next e = ap (λ z. elim z [ On d ↦ true | NoDay ↦ false ]) e
+  no_next e = ap (λ z. elim z [ Some d ↦ true | None ↦ false ]) e
 
-  has_next : (d : DayNo) → next_business_day (calendar t) (day t) ≡ On d → has_next_day t ≡ true
+  has_next : (d : DayNo) → next_business_day (calendar t) (day t) ≡ Some d → has_next_day t ≡ true
   unfolding has_next_day
-  has_next d e = ap (λ z. elim z [ On x ↦ true | NoDay ↦ false ]) e
+  has_next d e = ap (λ z. elim z [ Some x ↦ true | None ↦ false ]) e
 
-  next_is : (d : DayNo) → next_business_day (calendar t) (day t) ≡ On d → next_day t ≡ d.0
+  next_is : (d : DayNo) → next_business_day (calendar t) (day t) ≡ Some d → next_day t ≡ d.0
   unfolding next_day
-  next_is d e = ap (λ z. elim z [ On x ↦ x.0 | NoDay ↦ day t ]) e
+  next_is d e = ap (λ z. elim z [ Some x ↦ x.0 | None ↦ day t ]) e
 
-  pub close_last : (s : ℕ) → time t ≤ s → next_business_day (calendar t) (day t) ≡ NoDay → close_spec t s ≡ record { answer = NoLaterDay; after = t }
+  pub close_last : (s : ℕ) → time t ≤ s → next_business_day (calendar t) (day t) ≡ None → close_spec t s ≡ record { answer = NoLaterDay; after = t }
   unfolding close_spec
   close_last s h e = rw (le-ltb s (time t) h, no_next e)
 
-  pub close_next : (s : ℕ) (d : DayNo) → time t ≤ s → next_business_day (calendar t) (day t) ≡ On d → close_spec t s ≡ record { answer = Accepted 0; after = closed s d.0 t }
+  pub close_next : (s : ℕ) (d : DayNo) → time t ≤ s → next_business_day (calendar t) (day t) ≡ Some d → close_spec t s ≡ record { answer = Accepted 0; after = closed s d.0 t }
   unfolding close_spec close_booked closed
   close_next s d h e = rw (le-ltb s (time t) h, has_next d e, next_is d e)

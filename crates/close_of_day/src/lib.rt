@@ -15,7 +15,7 @@ ghost use Rattle.close_of_day.specs.Closed.{closed};
 use rules::layout::{
     CONTRACTS, DAY, FIRST_YEAR, HOLIDAY_COUNT, HOLIDAYS, MEMBERS, ORDER_COUNT, SUBMITS, TERMS, TIME,
 };
-use rules::{Answer, Day, DayNo, Side};
+use rules::{Answer, DayNo, Side};
 
 // The phase, on the ledger's day, of each contract that has a term.
 fn write_phases(head: &[u64], column: &mut [u64])
@@ -106,10 +106,10 @@ pub fn apply(
     }
     let end = HOLIDAYS + head[HOLIDAY_COUNT] as usize;
     match calendar::next_business_day(head[FIRST_YEAR], &head[HOLIDAYS..end], DayNo(head[DAY])) {
-        Day::On(next) => {
+        Some(next) => {
             close(head, prices, lots, value, book, time, next);
             Answer::Accepted(0)
         }
-        Day::NoDay => Answer::NoLaterDay,
+        None => Answer::NoLaterDay,
     }
 }

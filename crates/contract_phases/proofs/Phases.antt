@@ -8,6 +8,7 @@ use native.Mathlib.Nat.{zero-add}
 use lib.Dec.{eqb, ltb}
 use lib.ListN.{length, get_or, length-map, get_or-eq_default}
 use borrow.Author.Tests.{lt-ltb, le-ltb, le-leb, lt-leb, eq-eqb, ne_eqb}
+use Rattle.std.specs.Prelude.{Option, Some, None}
 use Rattle.arith.specs.Lists.{All, any, from, kept}
 use Rattle.arith.proofs.Alls.{all_map, all_append, all_kept}
 use Rattle.arith.proofs.Among.{by_among}
@@ -16,8 +17,6 @@ use Rattle.arith.proofs.Appends.{map_at, from_at, from_length}
 use Rattle.rules.specs.declared.contract.ContractKind.{ContractKind}
 use Rattle.rules.specs.declared.contract.ContractKind.TheVariants.{Year, Quarter, Month}
 use Rattle.rules.specs.declared.contract.Term.{Term}
-use Rattle.rules.specs.declared.units.Day.{Day}
-use Rattle.rules.specs.declared.units.Day.TheVariants.{On, NoDay}
 use Rattle.rules.specs.Ranges.{term_count}
 use Rattle.rules.specs.Days.{Calendar, business_day_before}
 use Rattle.rules.specs.ContractTerms.{has_term, kind_of, term_of, same_kind, contracts_of, months_in, closing_distance, term_first_day, term_closing_day}
@@ -28,16 +27,17 @@ use Rattle.contracts.specs.InLedger.{InLedger}
 use Rattle.contract_phases.specs.Least.{IsLeast}
 use Rattle.contract_phases.proofs.Least.{first_read, in_span_lem}
 use Rattle.contract_phases.specs.Phases.{phase_of, phase_from, term_phase, phases, closes, waits, open_in, all_open_in, closing}
+use Rattle.rules.specs.declared.units.DayNo.{DayNo}
 
 -- ---- one contract
 -- A contract's phase by its first delivery day, beside the least ones still to close on the day and on the day after.
-by_days : (z : Day) (d : ℕ) → cond (not_before z d) (cond (not_before z (d + 1)) 2 1) 0 ≡ phase_of z d
-by_days (On x) d =
+by_days : (z : Option DayNo) (d : ℕ) → cond (not_before z d) (cond (not_before z (d + 1)) 2 1) 0 ≡ phase_of z d
+by_days (Some x) d =
     le_or_lt d x.0
     (λ l. same_or x.0 d (λ e. rw (le-leb d x.0 l, lt-leb (d + 1) x.0 (omega arith), le-ltb x.0 d l, eq-eqb x.0 d e))
     (λ e. rw (le-leb d x.0 l, le-leb (d + 1) x.0 (omega arith), le-ltb x.0 d l, ne_eqb x.0 d e)))
     (λ l. rw (lt-leb d x.0 l, lt-ltb x.0 d l))
-by_days NoDay d = refl
+by_days None d = refl
 
 pub phase_by_first : (k : Calendar) (d : ℕ) (t : Term) → InLedger t → (least later : ℕ) → IsLeast k d (closing_distance t.kind) least → IsLeast k (d + 1) (closing_distance t.kind) later
     → phase_from (get_or (starts_of k) (months_in t.kind * t.index) 0) least later ≡ term_phase k d t
@@ -51,17 +51,17 @@ number_below Year i h = omega arith
 number_below Quarter i h = omega arith
 number_below Month i h = omega arith
 
-phase_closes : (z : Day) (d : ℕ) → eqb (phase_of z d) 1 ≡ is_on z d
-phase_closes (On x) d =
+phase_closes : (z : Option DayNo) (d : ℕ) → eqb (phase_of z d) 1 ≡ is_on z d
+phase_closes (Some x) d =
     same_or x.0 d (λ e. rw (eq-eqb x.0 d e, le-ltb x.0 d (omega arith)))
     (λ e. le_or_lt d x.0 (λ l. rw (ne_eqb x.0 d e, le-ltb x.0 d l)) (λ l. rw (ne_eqb x.0 d e, lt-ltb x.0 d l)))
-phase_closes NoDay d = refl
+phase_closes None d = refl
 
-phase_waits : (z : Day) (d : ℕ) → ltb 0 (phase_of z d) ≡ not_before z d
-phase_waits (On x) d =
+phase_waits : (z : Option DayNo) (d : ℕ) → ltb 0 (phase_of z d) ≡ not_before z d
+phase_waits (Some x) d =
     same_or x.0 d (λ e. rw (eq-eqb x.0 d e, le-ltb x.0 d (omega arith), le-leb d x.0 (omega arith)))
     (λ e. le_or_lt d x.0 (λ l. rw (ne_eqb x.0 d e, le-ltb x.0 d l, le-leb d x.0 l)) (λ l. rw (lt-ltb x.0 d l, lt-leb d x.0 l)))
-phase_waits NoDay d = refl
+phase_waits None d = refl
 
 module _ (k : Calendar) (d : ℕ) where
   pub phases_length : length (phases k d) ≡ term_count

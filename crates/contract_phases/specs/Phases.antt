@@ -1,14 +1,13 @@
 -- The phase, at the close of a day, of each contract that has a term: one number for each.
-use Rattle.std.specs.Prelude.{ℕ, Bool, cond, List, ◌++◌, map, eqb, leb, ltb, get_or, take}
+use Rattle.std.specs.Prelude.{ℕ, Bool, cond, List, ◌++◌, map, eqb, leb, ltb, get_or, take, Option, Some, None}
 use Rattle.arith.specs.Lists.{from, kept}
 use Rattle.rules.specs.declared.contract.ContractKind.{ContractKind}
 use Rattle.rules.specs.declared.contract.ContractKind.TheVariants.{Year, Quarter, Month}
 use Rattle.rules.specs.declared.contract.Term.{Term}
-use Rattle.rules.specs.declared.units.Day.{Day}
-use Rattle.rules.specs.declared.units.Day.TheVariants.{On, NoDay}
 use Rattle.rules.specs.Ranges.{term_count}
 use Rattle.rules.specs.Days.{Calendar}
 use Rattle.rules.specs.ContractTerms.{term_of, term_closing_day, contracts_of, open_count}
+use Rattle.rules.specs.declared.units.DayNo.{DayNo}
 
 -- A contract closed before the day, closes on it, or closes later.
 abbrev pub closed_phase : ℕ
@@ -20,9 +19,9 @@ closing_phase = 1
 abbrev pub later_phase : ℕ
 later_phase = 2
 
-abbrev pub phase_of : Day → ℕ → ℕ
-phase_of (On x) d = cond (ltb x.0 d) closed_phase (cond (eqb x.0 d) closing_phase later_phase)
-phase_of NoDay d = closed_phase
+abbrev pub phase_of : Option DayNo → ℕ → ℕ
+phase_of (Some x) d = cond (ltb x.0 d) closed_phase (cond (eqb x.0 d) closing_phase later_phase)
+phase_of None d = closed_phase
 
 -- The phase by a contract's first delivery day f: from `least` on it is still to close on the day, from `later` on also on the next
 -- day.

@@ -9,7 +9,7 @@ use crate::terms::{months_in, term_of};
 use calendar::business_day_before;
 use months::{first_month, month_start};
 use rules::ranges::TERM_COUNT;
-use rules::{Day, DayNo, Term};
+use rules::{DayNo, Term};
 
 // The first delivery day, whatever the holidays.
 fn term_first_day(first_year: u64, t: Term) -> DayNo
@@ -20,7 +20,7 @@ fn term_first_day(first_year: u64, t: Term) -> DayNo
     month_start(first_month(first_year) + months_in(kind) * t.index)
 }
 
-fn term_closing_day(first_year: u64, holidays: &[u64], t: Term) -> Day
+fn term_closing_day(first_year: u64, holidays: &[u64], t: Term) -> Option<DayNo>
     requires { FirstYear first_year × InLedger t }
     ensures { result ≡ term_closing_day (record { first_year = first_year; holidays = holidays.now }) t }
 {
@@ -38,8 +38,8 @@ fn still_to_close(first_year: u64, holidays: &[u64], day: DayNo, t: Term) -> boo
     ensures { result ≡ still_to_close (record { first_year = first_year; holidays = holidays.now }) day.0 t }
 {
     match term_closing_day(first_year, holidays, t) {
-        Day::On(x) => day.0 <= x.0,
-        Day::NoDay => false,
+        Some(x) => day.0 <= x.0,
+        None => false,
     }
 }
 

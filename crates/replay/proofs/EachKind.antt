@@ -7,6 +7,7 @@ use native.Mathlib.Omega.{arith}
 use lib.Dec.{eqb, ltb}
 use lib.ListN.{length}
 use lib.IntN.{nat_abs}
+use Rattle.std.specs.Prelude.{Some, None}
 use Rattle.arith.specs.Lists.{All, every, kept, total, from}
 use Rattle.arith.proofs.Alls.{all_map}
 use Rattle.rules.specs.declared.answer.Answer.TheVariants.{Accepted}
@@ -19,7 +20,6 @@ use Rattle.rules.specs.declared.order.Side.{Side}
 use Rattle.rules.specs.declared.order.Side.TheVariants.{Buy, Sell}
 use Rattle.rules.specs.Answers.{Outcome}
 use Rattle.rules.specs.Ranges.{contract_count, term_count, most_members}
-use Rattle.rules.specs.declared.units.Day.TheVariants.{On, NoDay}
 use Rattle.rules.specs.Days.{next_business_day}
 use Rattle.rules.specs.ContractTerms.{days_of, open_contracts}
 use Rattle.rules.specs.Ledger.{Tables, Line, members, holiday_count, order_count, is_open, day, calendar, defaulted, lots_at, orders, booked, first_lines}
@@ -204,11 +204,11 @@ module _ (t u : Tables) (s : SameButSurplus t u) (a : Undamaged t) (l : Long u) 
   -- ---- close of day
   same_next : has_next_day t ≡ has_next_day u
   unfolding has_next_day
-  same_next = λ r. elim (next_business_day (calendars r) (same_day t u s r)) [ On d ↦ true | NoDay ↦ false ]
+  same_next = λ r. elim (next_business_day (calendars r) (same_day t u s r)) [ Some d ↦ true | None ↦ false ]
 
   same_next_day : next_day t ≡ next_day u
   unfolding next_day
-  same_next_day = λ r. elim (next_business_day (calendars r) (same_day t u s r)) [ On d ↦ d.0 | NoDay ↦ same_day t u s r ]
+  same_next_day = λ r. elim (next_business_day (calendars r) (same_day t u s r)) [ Some d ↦ d.0 | None ↦ same_day t u s r ]
 
   same_closing : closing_contracts t ≡ closing_contracts u
   unfolding closing_contracts

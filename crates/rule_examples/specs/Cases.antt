@@ -1,13 +1,11 @@
 -- Document 01, "Cases from the slides and ours": the cases marked *, proved together as one list of inputs and results.
-use Rattle.std.specs.Prelude.{ℕ, ◌*◌, ◌≡◌, refl, List, [], ◌∷◌, ◌++◌, map, ℤ, pos}
+use Rattle.std.specs.Prelude.{ℕ, ◌*◌, ◌≡◌, refl, List, [], ◌∷◌, ◌++◌, map, ℤ, pos, Some, None}
 use Rattle.std.proofs.Math.Option.{Option, none, some}
 use Rattle.arith.specs.Lists.{total, from}
 use Rattle.rules.specs.declared.contract.ContractKind.TheVariants.{Month}
 use Rattle.rules.specs.declared.order.Order.{Order}
 use Rattle.rules.specs.declared.order.Side.{Side}
 use Rattle.rules.specs.declared.order.Side.TheVariants.{Buy, Sell}
-use Rattle.rules.specs.declared.units.Day.{Day}
-use Rattle.rules.specs.declared.units.Day.TheVariants.{On, NoDay}
 use Rattle.rules.specs.Answers.{reply_of}
 use Rattle.rules.specs.ContractTerms.{threshold_of, term_of, term_closing_day}
 use Rattle.rules.specs.Ledger.{Tables, lots_at, value_at}
@@ -34,10 +32,6 @@ data Input : Type 0 where
   received : ℕ → List ℕ → Input
 
 -- ---- how it is computed
-day_number : Day → ℕ
-day_number (On d) = d.0
-day_number NoDay = 0
-
 quote : Side → ℕ → Option Order
 quote side p = some (order 0 0 5 side p 50 0 0)
 
@@ -62,7 +56,7 @@ proposal_number a b c d =
     ).number
 
 result : Input → List ℤ
-result (closing y c) = pos (day_number (term_closing_day (record { first_year = y; holidays = [] }) (term_of c))) ∷ []
+result (closing y c) = pos (elim (term_closing_day (record { first_year = y; holidays = [] }) (term_of c)) [ Some d ↦ d.0 | None ↦ 0 ]) ∷ []
 result (ggf_of_deals deals) = pos (day_price deals none none) ∷ []
 result (ggf_with_quotes deals b s) = pos (day_price deals (quote Buy b) (quote Sell s)) ∷ []
 result (cascade n c) = let t = cascade_after n in lots_at t c 0 ∷ value_at t c 0 ∷ []
@@ -102,11 +96,11 @@ cases =
     ∷ []
 
 starred_cases : map (λ x. result x.0) cases ≡ map (λ x. x.1) cases
-unfolding computed result cases day_number quote day_price after cascade_after proposal_number
+unfolding computed result cases quote day_price after cascade_after proposal_number
 starred_cases = refl
 
 -- ---- the slide of cascades has the same days, and two more: 28 June and 28 September 2021 for the third and the fourth quarter
 slide_of_cascades : map result (closing 2020 17 ∷ closing 2020 18 ∷ closing 2020 19 ∷ closing 2020 20 ∷ closing 2020 21 ∷ [])
     ≡ (pos 359 ∷ []) ∷ (pos 363 ∷ []) ∷ (pos 453 ∷ []) ∷ (pos 544 ∷ []) ∷ (pos 636 ∷ []) ∷ []
-unfolding computed result day_number
+unfolding computed result
 slide_of_cascades = refl

@@ -1,9 +1,8 @@
 -- Document 01, "Close of day": more of what a close prices and leaves, computed.
-use Rattle.std.specs.Prelude.{ℕ, ◌≡◌, refl, List, [], ◌∷◌, ◌++◌, map, ℤ, pos, negsuc}
+use Rattle.std.specs.Prelude.{ℕ, ◌≡◌, refl, List, [], ◌∷◌, ◌++◌, map, ℤ, pos, negsuc, Some}
 use Rattle.arith.specs.Lists.{from}
 use Rattle.rules.specs.declared.event.OrderKind.TheVariants.{Resting}
 use Rattle.rules.specs.declared.order.Side.TheVariants.{Buy, Sell}
-use Rattle.rules.specs.declared.units.Day.TheVariants.{On}
 use Rattle.rules.specs.ContractTerms.{term_of, term_closing_day}
 use Rattle.rules.specs.Ledger.{Tables, calendar, with_accepted_submits, with_lots_run, with_orders, day, time, submits_this_second, order_count, ggf, day_lots, day_value, lots_at, value_at, order_at}
 use Rattle.rules.specs.Refusals.{apply_spec}
@@ -82,7 +81,7 @@ days_figures = refl
 
 -- ---- closing contracts
 -- Outside the span only weekends are no business days: in a ledger from 2021 on the year 2021 closed on Friday 25 December 2020.
-closed_before_the_span : term_closing_day (calendar monday) (term_of 0) ≡ On (record { 0 = 359 })
+closed_before_the_span : term_closing_day (calendar monday) (term_of 0) ≡ Some (record { 0 = 359 })
 unfolding computed
 closed_before_the_span = refl
 

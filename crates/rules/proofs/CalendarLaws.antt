@@ -7,6 +7,7 @@ use native.Mathlib.Omega.{arith}
 use native.Mathlib.Nat.{mul-le-mul_left, add-zero, zero-add, add-suc, suc-add, mul-suc}
 use lib.Dec.{eqb, leb, ltb}
 use borrow.Author.Tests.{leb-true, le-leb, lt-leb, lt-ltb, le-ltb, ltb-true, eqb-true, eq-eqb, ne_eqb}
+use Rattle.std.specs.Prelude.{Option, Some, None}
 use Rattle.arith.specs.Lists.{any, kept, count, from, how_many, total}
 use Rattle.arith.proofs.Tests.{never, by_leb, true_or, le_or_lt, same_or, same_ltb, and_left, and_right, and_true, and_false, or_false, any_append}
 use Rattle.arith.proofs.Counts.{count_imp, one_most, count_most, count_none, count_up, rank}
@@ -14,8 +15,6 @@ use Rattle.arith.proofs.Ranges.{total_more, picked}
 use Rattle.rules.specs.declared.contract.ContractKind.{ContractKind}
 use Rattle.rules.specs.declared.contract.ContractKind.TheVariants.{Year, Quarter, Month}
 use Rattle.rules.specs.declared.contract.Term.{Term}
-use Rattle.rules.specs.declared.units.Day.{Day}
-use Rattle.rules.specs.declared.units.Day.TheVariants.{On, NoDay}
 use Rattle.rules.specs.declared.units.DayNo.{DayNo}
 use Rattle.rules.specs.Ranges.{term_count}
 use Rattle.rules.specs.Days.{Calendar, leap_year, month_days, year_start, month_length, month_start, business_day, day_after_span, first_business_day, next_business_day, business_day_before}
@@ -71,26 +70,26 @@ unfolding month_start year_start leap_year total from
 last_month_lem = refl
 
 -- ---- a day that was looked for
-on_day_lem : (x : DayNo) (n : ℕ) → On (record { 0 = n }) ≡ On x → n ≡ x.0
+on_day_lem : (x : DayNo) (n : ℕ) → Some (record { 0 = n }) ≡ Some x → n ≡ x.0
 on_day_lem x n e = let z : ◌≡◌ {A = DayNo} (record { 0 = n }) x = cc in ap (λ (w : DayNo). w.0) z
 
-no_day : {P : Type 0} {x : DayNo} → NoDay ≡ On x → P
+no_day : {P : Type 0} {x : DayNo} → None ≡ Some x → P
 no_day e = absurd (let z : ◌≡◌ {A = ℕ} 0 1 = cc in omega arith)
 
 -- A day that was looked for is earlier than d exactly if it is not d or later.
-pub before_or_not : (d : ℕ) (z : Day) → is_before z d ≡ not (not_before z d)
-before_or_not d (On x) = by_leb (λ b. ltb x.0 d ≡ not b) d x.0 (λ l. le-ltb _ _ l) (λ l. lt-ltb _ _ l)
-before_or_not d NoDay = refl
+pub before_or_not : (d : ℕ) (z : Option DayNo) → is_before z d ≡ not (not_before z d)
+before_or_not d (Some x) = by_leb (λ b. ltb x.0 d ≡ not b) d x.0 (λ l. le-ltb _ _ l) (λ l. lt-ltb _ _ l)
+before_or_not d None = refl
 
 -- What is on day d is not before it.
-pub on_not_before : (d : ℕ) (z : Day) → is_on z d ≡ true → not_before z d ≡ true
-on_not_before d (On x) e = le-leb d x.0 (omega (arith, eqb-true x.0 d e))
-on_not_before d NoDay e = e
+pub on_not_before : (d : ℕ) (z : Option DayNo) → is_on z d ≡ true → not_before z d ≡ true
+on_not_before d (Some x) e = le-leb d x.0 (omega (arith, eqb-true x.0 d e))
+on_not_before d None e = e
 
 -- What is not before a day is not before an earlier one.
-not_before_down : (d e : ℕ) (z : Day) → d ≤ e → not_before z e ≡ true → not_before z d ≡ true
-not_before_down d e (On x) l h = le-leb d x.0 (omega (arith, leb-true e x.0 h))
-not_before_down d e NoDay l h = h
+not_before_down : (d e : ℕ) (z : Option DayNo) → d ≤ e → not_before z e ≡ true → not_before z d ≡ true
+not_before_down d e (Some x) l h = le-leb d x.0 (omega (arith, leb-true e x.0 h))
+not_before_down d e None l h = h
 
 -- ---- kinds
 distance_pos : (s : ContractKind) → 0 < closing_distance s
@@ -216,7 +215,7 @@ module _ (k : Calendar) where
       (λ e. rw (e, between_idle d x e) (closes_by_count d n x p))
 
   -- The nth business day before f is a business day, and before f.
-  pub before_business : (n f : ℕ) (x : DayNo) → business_day_before k n f ≡ On x → (business_day k x.0 ≡ true) × (x.0 < f)
+  pub before_business : (n f : ℕ) (x : DayNo) → business_day_before k n f ≡ Some x → (business_day k x.0 ≡ true) × (x.0 < f)
   unfolding business_day_before
   before_business n zero x = λ e. no_day e
   before_business n (suc y) x =
@@ -227,7 +226,7 @@ module _ (k : Calendar) where
 
   -- ---- the next business day
   -- The first business day of the n from a on.
-  first_business : (n a : ℕ) (x : DayNo) → first_business_day k n a ≡ On x
+  first_business : (n a : ℕ) (x : DayNo) → first_business_day k n a ≡ Some x
       → (a ≤ x.0) × (business_day k x.0 ≡ true) × (x.0 < a + n) × ((y : ℕ) → a ≤ y → y < x.0 → business_day k y ≡ false)
   unfolding first_business_day
   first_business zero a x = λ e. no_day e
@@ -236,7 +235,7 @@ module _ (k : Calendar) where
       (λ b. rw b (λ e. let w = first_business n (suc a) x e in
       (omega arith, w.1, omega arith, λ y l h. le_or_lt (suc a) y (λ m. w.3 y m h) (λ m. let z : y ≡ a = omega arith in rw z b))))
 
-  first_none : (n a : ℕ) → first_business_day k n a ≡ NoDay → (y : ℕ) → a ≤ y → y < a + n → business_day k y ≡ false
+  first_none : (n a : ℕ) → first_business_day k n a ≡ None → (y : ℕ) → a ≤ y → y < a + n → business_day k y ≡ false
   unfolding first_business_day
   first_none zero a e y l h = absurd (omega arith)
   first_none (suc n) a e y l h =
@@ -244,19 +243,19 @@ module _ (k : Calendar) where
       (λ b. le_or_lt (suc a) y (λ m. first_none n (suc a) (rw b at e) y m (omega arith)) (λ m. let z : y ≡ a = omega arith in rw z b))
 
   -- It is the first after day d, in the span.
-  pub next_business : (d : ℕ) (x : DayNo) → next_business_day k d ≡ On x
+  pub next_business : (d : ℕ) (x : DayNo) → next_business_day k d ≡ Some x
       → (d < x.0) × (business_day k x.0 ≡ true) × (x.0 < day_after_span k) × ((y : ℕ) → d < y → y < x.0 → business_day k y ≡ false)
   unfolding next_business_day
   next_business d x e = let w = first_business (day_after_span k - suc d) (suc d) x e in (w.0, w.1, omega arith, w.3)
 
   -- Where there is none, no day of the span after d is a business day.
-  pub next_none : (d : ℕ) → next_business_day k d ≡ NoDay → (y : ℕ) → d < y → y < day_after_span k → business_day k y ≡ false
+  pub next_none : (d : ℕ) → next_business_day k d ≡ None → (y : ℕ) → d < y → y < day_after_span k → business_day k y ≡ false
   unfolding next_business_day
   next_none d e y l h = first_none (day_after_span k - suc d) (suc d) e y l (omega arith)
 
   -- ---- closing
   -- A closing day is a business day, before the first delivery day.
-  pub closing_business : (t : Term) (x : DayNo) → term_closing_day k t ≡ On x → (business_day k x.0 ≡ true) × (x.0 < term_first_day k t)
+  pub closing_business : (t : Term) (x : DayNo) → term_closing_day k t ≡ Some x → (business_day k x.0 ≡ true) × (x.0 < term_first_day k t)
   unfolding term_closing_day
   closing_business t x e = before_business (closing_distance t.kind) (term_first_day k t) x e
 
@@ -282,12 +281,12 @@ module _ (k : Calendar) where
   to_close_down d e t l h = not_before_down d e (term_closing_day k t) l h
 
   -- What has closed before the next business day closed before this day or on it.
-  pub closed_by_next : (d : ℕ) (x : DayNo) (t : Term) → next_business_day k d ≡ On x → is_before (term_closing_day k t) x.0 ≡ is_before (term_closing_day k t) d || is_on (term_closing_day k t) d
+  pub closed_by_next : (d : ℕ) (x : DayNo) (t : Term) → next_business_day k d ≡ Some x → is_before (term_closing_day k t) x.0 ≡ is_before (term_closing_day k t) d || is_on (term_closing_day k t) d
   closed_by_next d x t n = go (term_closing_day k t) refl (next_business d x n).0
     where
-      go : (z : Day) → term_closing_day k t ≡ z → d < x.0 → is_before z x.0 ≡ is_before z d || is_on z d
-      go NoDay e h = refl
-      go (On z) e h =
+      go : (z : Option DayNo) → term_closing_day k t ≡ z → d < x.0 → is_before z x.0 ≡ is_before z d || is_on z d
+      go None e h = refl
+      go (Some z) e h =
           le_or_lt x.0 z.0 (λ l. rw (le-ltb z.0 x.0 l, le-ltb z.0 d (omega arith), ne_eqb z.0 d (λ q. omega arith)))
           (λ l. rw (lt-ltb z.0 x.0 l)
           (le_or_lt d z.0

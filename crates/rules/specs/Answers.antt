@@ -1,11 +1,10 @@
 -- Document 01, "Why a record is turned back": the numbers. What an outcome is, and how causes decide.
-use Rattle.std.specs.Prelude.{ℕ, suc, Bool, true, false, cond, List, [], ◌∷◌, map, ◌≡◌, refl, eqb}
+use Rattle.std.specs.Prelude.{ℕ, suc, Bool, true, false, cond, List, [], ◌∷◌, map, ◌≡◌, refl, eqb, Option, Some, None}
 use Rattle.rules.specs.declared.answer.Answer.{Answer}
 use Rattle.rules.specs.declared.answer.Answer.TheVariants.{Accepted, TableUnsound, HeaderUnsound, RecordUnsound, TimeBelowLedger, MemberDefaulted, ContractNotOpen}
 use Rattle.rules.specs.declared.answer.Answer.TheVariants.{PriceOutsideLimits, SixthSubmit, AboveLimit, CannotMatchInFull, BookFull, NoSuchOrder, NotAcceptable}
 use Rattle.rules.specs.declared.answer.Answer.TheVariants.{NoReferencePrice, NoDefaultedLots, NoTaker, TotalPassed, NoLaterDay}
-use Rattle.rules.specs.declared.units.Day.{Day}
-use Rattle.rules.specs.declared.units.Day.TheVariants.{On, NoDay}
+use Rattle.rules.specs.declared.units.DayNo.{DayNo}
 
 -- An answer as the paper gives it: the number of the cause and, with 5, the member, with 6, the contract.
 -- An accepted record has number 0 and returns its line count.
@@ -35,12 +34,12 @@ reply_of TotalPassed = record { number = 17; detail = 0 }
 reply_of NoLaterDay = record { number = 18; detail = 0 }
 
 -- The paper's number for the next business day, with the day: that there is no later one in the span is 18.
-abbrev pub reply_of_next_day : Day → Reply
-reply_of_next_day (On d) = record { number = 0; detail = d.0 }
-reply_of_next_day NoDay = reply_of NoLaterDay
+abbrev pub reply_of_next_day : Option DayNo → Reply
+reply_of_next_day (Some d) = record { number = 0; detail = d.0 }
+reply_of_next_day None = reply_of NoLaterDay
 
 -- The next business day is 371; there is no later one.
-next_days : map reply_of_next_day (On (record { 0 = 371 }) ∷ NoDay ∷ []) ≡ record { number = 0; detail = 371 } ∷ record { number = 18; detail = 0 } ∷ []
+next_days : map reply_of_next_day (Some (record { 0 = 371 }) ∷ None ∷ []) ≡ record { number = 0; detail = 371 } ∷ record { number = 18; detail = 0 } ∷ []
 next_days = refl
 
 -- What a call answers, and what it leaves.

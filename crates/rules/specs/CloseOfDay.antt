@@ -1,5 +1,5 @@
 -- Document 01, "Close of day".
-use Rattle.std.specs.Prelude.{ℕ, ◌+◌, ◌*◌, ◌/◌, Bool, true, false, cond, not, ◌&&◌, ◌||◌, eqb, leb, ltb, take, drop, replicate, ℤ, pos, ◌+ℤ◌}
+use Rattle.std.specs.Prelude.{ℕ, ◌+◌, ◌*◌, ◌/◌, Bool, true, false, cond, not, ◌&&◌, ◌||◌, eqb, leb, ltb, take, drop, replicate, ℤ, pos, ◌+ℤ◌, Some, None}
 use mathlib.Core.List.{List, [], ◌∷◌, ◌++◌, zip_with}
 use Rattle.std.proofs.Math.Option.{Option, none, some}
 use Rattle.arith.specs.Lists.{any, kept, over, in_each_block}
@@ -8,7 +8,6 @@ use Rattle.rules.specs.declared.contract.ContractKind.TheVariants.{Year, Quarter
 use Rattle.rules.specs.declared.order.Order.{Order}
 use Rattle.rules.specs.declared.order.Side.{Side}
 use Rattle.rules.specs.declared.order.Side.TheVariants.{Buy, Sell}
-use Rattle.rules.specs.declared.units.Day.TheVariants.{On, NoDay}
 use Rattle.rules.specs.Answers.{Outcome}
 use Rattle.rules.specs.Ranges.{contract_count, seconds_to_quote}
 use Rattle.rules.specs.Days.{next_business_day}
@@ -102,10 +101,10 @@ with_closed cs t =
 
 -- ---- the new day
 unfoldable pub has_next_day : Tables → Bool
-has_next_day t = elim (next_business_day (calendar t) (day t)) [ On d ↦ true | NoDay ↦ false ]
+has_next_day t = elim (next_business_day (calendar t) (day t)) [ Some d ↦ true | None ↦ false ]
 
 unfoldable pub next_day : Tables → ℕ
-next_day t = elim (next_business_day (calendar t) (day t)) [ On d ↦ d.0 | NoDay ↦ day t ]
+next_day t = elim (next_business_day (calendar t) (day t)) [ Some d ↦ d.0 | None ↦ day t ]
 
 -- The second's counts and time become 0, day the next business day.
 unfoldable pub on_day : ℕ → Tables → Tables

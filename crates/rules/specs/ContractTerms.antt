@@ -1,13 +1,12 @@
 -- Document 01, "Days and contracts": contracts.
-use Rattle.std.specs.Prelude.{ℕ, ◌+◌, ◌*◌, ◌-◌, ◌/◌, ◌%◌, Bool, true, false, cond, ◌&&◌, List, [], ◌++◌, eqb, leb, ltb, take}
+use Rattle.std.specs.Prelude.{ℕ, ◌+◌, ◌*◌, ◌-◌, ◌/◌, ◌%◌, Bool, true, false, cond, ◌&&◌, List, [], ◌++◌, eqb, leb, ltb, take, Option, Some, None}
 use Rattle.arith.specs.Lists.{from, kept, any}
 use Rattle.rules.specs.declared.contract.ContractKind.{ContractKind}
 use Rattle.rules.specs.declared.contract.ContractKind.TheVariants.{Year, Quarter, Month}
 use Rattle.rules.specs.declared.contract.Term.{Term}
-use Rattle.rules.specs.declared.units.Day.{Day}
-use Rattle.rules.specs.declared.units.Day.TheVariants.{On, NoDay}
 use Rattle.rules.specs.Ranges.{term_count, contracts_in_year, quarters_in_year, months_in_year, months_in_quarter, first_quarter, last_quarter, january}
 use Rattle.rules.specs.Days.{Calendar, month_start, first_month, business_day_before}
+use Rattle.rules.specs.declared.units.DayNo.{DayNo}
 
 -- ---- kinds
 -- The GGF threshold: 10, 20, 50 lots.
@@ -103,26 +102,26 @@ unfoldable pub holds_hour : Calendar → ℕ → ℕ → Bool
 holds_hour k c h = holds_day k c (h / 24)
 
 -- ---- closing and open
-unfoldable pub term_closing_day : Calendar → Term → Day
+unfoldable pub term_closing_day : Calendar → Term → Option DayNo
 term_closing_day k t = business_day_before k (closing_distance t.kind) (term_first_day k t)
 
--- A day that is looked for is day d or later; NoDay lies before day 0.
-abbrev pub not_before : Day → ℕ → Bool
-not_before (On x) d = leb d x.0
-not_before NoDay d = false
+-- A day that is looked for is day d or later; None lies before day 0.
+abbrev pub not_before : Option DayNo → ℕ → Bool
+not_before (Some x) d = leb d x.0
+not_before None d = false
 
 -- A day that is looked for is day d.
-abbrev pub is_on : Day → ℕ → Bool
-is_on (On x) d = eqb x.0 d
-is_on NoDay d = false
+abbrev pub is_on : Option DayNo → ℕ → Bool
+is_on (Some x) d = eqb x.0 d
+is_on None d = false
 
 -- A day that is looked for is earlier than day d.
-abbrev pub is_before : Day → ℕ → Bool
-is_before (On x) d = ltb x.0 d
-is_before NoDay d = true
+abbrev pub is_before : Option DayNo → ℕ → Bool
+is_before (Some x) d = ltb x.0 d
+is_before None d = true
 
 -- The closing day of a contract by its number, if it has a term, and whether it is on a day or before it.
-abbrev pub closing_day : Calendar → ℕ → Day
+abbrev pub closing_day : Calendar → ℕ → Option DayNo
 closing_day k c = term_closing_day k (term_of c)
 
 abbrev pub closes_on : Calendar → ℕ → ℕ → Bool

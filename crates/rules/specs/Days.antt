@@ -1,9 +1,8 @@
 -- Document 01, "Days and contracts": days.
-use Rattle.std.specs.Prelude.{ℕ, zero, suc, ◌+◌, ◌*◌, ◌-◌, ◌/◌, ◌%◌, Bool, not, cond, ◌&&◌, ◌||◌, List, eqb, leb, ltb}
+use Rattle.std.specs.Prelude.{ℕ, zero, suc, ◌+◌, ◌*◌, ◌-◌, ◌/◌, ◌%◌, Bool, not, cond, ◌&&◌, ◌||◌, List, eqb, leb, ltb, Option, Some, None}
 use Rattle.arith.specs.Lists.{any, total, from}
-use Rattle.rules.specs.declared.units.Day.{Day}
-use Rattle.rules.specs.declared.units.Day.TheVariants.{On, NoDay}
 use Rattle.rules.specs.Ranges.{year_of_day_zero, months_in_span, months_in_year}
+use Rattle.rules.specs.declared.units.DayNo.{DayNo}
 
 -- What a ledger knows of days: its first year and its holiday list.
 pub record Calendar : Type 0 where
@@ -55,19 +54,19 @@ unfoldable pub in_span : Calendar → ℕ → Bool
 in_span k d = leb (span_start k) d && ltb d (day_after_span k)
 
 -- The first business day of the n days from x on.
-unfoldable pub first_business_day : Calendar → ℕ → ℕ → Day
-first_business_day k zero x = NoDay
-first_business_day k (suc n) x = let later = first_business_day k n (suc x) in cond (business_day k x) (On (record { 0 = x })) later
+unfoldable pub first_business_day : Calendar → ℕ → ℕ → Option DayNo
+first_business_day k zero x = None
+first_business_day k (suc n) x = let later = first_business_day k n (suc x) in cond (business_day k x) (Some (record { 0 = x })) later
 
 -- The next business day after day d in the span.
-unfoldable pub next_business_day : Calendar → ℕ → Day
+unfoldable pub next_business_day : Calendar → ℕ → Option DayNo
 next_business_day k d = first_business_day k (day_after_span k - suc d) (suc d)
 
--- The nth business day before day d, n at least 1; NoDay where it lies before day 0.
+-- The nth business day before day d, n at least 1; None where it lies before day 0.
 -- Day d itself is not counted: the search begins on the day before it.
-unfoldable pub business_day_before : Calendar → ℕ → ℕ → Day
-business_day_before k n zero = NoDay
+unfoldable pub business_day_before : Calendar → ℕ → ℕ → Option DayNo
+business_day_before k n zero = None
 business_day_before k n (suc x) =
     let found = business_day_before k (n - 1) x in
     let idle = business_day_before k n x in
-    cond (business_day k x) (cond (leb n 1) (On (record { 0 = x })) found) idle
+    cond (business_day k x) (cond (leb n 1) (Some (record { 0 = x })) found) idle

@@ -18,4 +18,4 @@ pub use event::{
 };
 pub use field::Field;
 pub use order::{Order, Side};
-pub use units::{Day, DayNo, Kurus, Lots, SignedLots, Value, Worth};
+pub use units::{DayNo, Kurus, Lots, SignedLots, Value, Worth};

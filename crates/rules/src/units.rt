@@ -26,13 +26,6 @@ pub struct Value(pub i64);
 #[derive(Clone, Copy)]
 pub struct DayNo(pub u64);
 
-// A day that is looked for: a closing day may lie before day 0, and a span has a last business day.
-#[derive(Clone, Copy)]
-pub enum Day {
-    On(DayNo),
-    NoDay,
-}
-
 impl Lots {
     pub fn times(self, price: Kurus) -> Worth
         requires { self.0 * price.0 < 2 ^ 64 }

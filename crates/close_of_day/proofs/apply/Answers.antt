@@ -13,22 +13,22 @@ pub returns-then-time-head : goal.returns-then-time-head
 unfolding close_spec
 returns-then-time-head c = λ t. rw (lt-ltb c.args.time (get_or c.args.head.now time_place 0) c.if-time-head.true)
 
-pub returns-in-On : goal.returns-in-On
-returns-in-On c =
+pub returns-in-Some : goal.returns-in-Some
+returns-in-Some c =
     let a = c.args in
     let h = a.head.now in
     let cut : 8 + get_or h 2 0 - 8 ≡ get_or h 2 0 = omega arith in
-    let found = rw cut at (sym c.next_business_day.ensures ∙ c.in-On.is) in
+    let found = rw cut at (sym c.next_business_day.ensures ∙ c.in-Some.is) in
     λ t.
     let u = with_head h (with_prices a.prices.now (with_rows a.lots.now a.value.now (with_book a.book.now t))) in
     rw (c.close.ensures t) (sym (close_next u a.time _ c.if-time-head.false found))
 
-pub returns-in-NoDay : goal.returns-in-NoDay
-returns-in-NoDay c =
+pub returns-in-None : goal.returns-in-None
+returns-in-None c =
     let a = c.args in
     let h = a.head.now in
     let cut : 8 + get_or h 2 0 - 8 ≡ get_or h 2 0 = omega arith in
-    let none = rw cut at (sym c.next_business_day.ensures ∙ c.in-NoDay.is) in
+    let none = rw cut at (sym c.next_business_day.ensures ∙ c.in-None.is) in
     λ t.
     let u = with_head h (with_prices a.prices.now (with_rows a.lots.now a.value.now (with_book a.book.now t))) in
     sym (close_last u a.time c.if-time-head.false none)
