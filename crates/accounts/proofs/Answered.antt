@@ -6,14 +6,13 @@ use mathlib.Core.List.Memᴰ
 use mathlib.Core.List.{List, [], ◌∷◌, ◌++◌, append-nil}
 use native.Mathlib.Omega.{arith}
 use borrow.Author.Tests.{ne_eqb}
+use Rattle.std.specs.Prelude.{Option, Some, None}
 use Rattle.arith.proofs.Alls.{all_map, all_member}
 use Rattle.arith.proofs.Tests.{never}
 use Rattle.rules.specs.declared.answer.Answer.{Answer}
 use Rattle.rules.specs.declared.answer.Answer.TheVariants.{TableUnsound, RecordUnsound}
 use Rattle.rules.specs.declared.event.Event.{Event}
 use Rattle.rules.specs.declared.event.Leg.{Leg}
-use Rattle.rules.specs.declared.event.Reading.{Reading}
-use Rattle.rules.specs.declared.event.Reading.TheVariants.{Sound, Unsound}
 use Rattle.rules.specs.Answers.{Outcome, reply_of, ranking, place_from, rank_of, rank, Cause, decide}
 use Rattle.rules.specs.Ledger.{Tables, members}
 use Rattle.rules.specs.Records.{legs_of, read_of}
@@ -56,15 +55,15 @@ event_exact t e legs =
     rw (append-nil (kind_causes t e legs)) at
     (decide_exact (rank RecordUnsound) (kind_causes t e legs) [] t (kind_booked t e legs) (rw (append-nil (kind_causes t e legs)) k.in_order_holds) (booked_exact _ k.accepted))
 
-reading_rising : (t : Tables) (x : Reading) (legs : List Leg) → Rising (rank TableUnsound) (reading_causes t x legs)
+reading_rising : (t : Tables) (x : Option Event) (legs : List Leg) → Rising (rank TableUnsound) (reading_causes t x legs)
 unfolding rank_of ranking place_from
-reading_rising t (Sound e) legs = rising_cons (rank TableUnsound) (rank RecordUnsound) _ ∙ (kind_decides t e legs).in_order_holds
-reading_rising t Unsound legs = rising_cons (rank TableUnsound) (rank RecordUnsound) [] ∙ rising_short (rank RecordUnsound ∷ []) (omega arith)
+reading_rising t (Some e) legs = rising_cons (rank TableUnsound) (rank RecordUnsound) _ ∙ (kind_decides t e legs).in_order_holds
+reading_rising t None legs = rising_cons (rank TableUnsound) (rank RecordUnsound) [] ∙ rising_short (rank RecordUnsound ∷ []) (omega arith)
 
-reading_exact : (t : Tables) (x : Reading) (legs : List Leg) → Exact (reading_causes t x legs) (reading_spec t x legs).answer
+reading_exact : (t : Tables) (x : Option Event) (legs : List Leg) → Exact (reading_causes t x legs) (reading_spec t x legs).answer
 unfolding reading_spec
-reading_exact t (Sound e) legs = exact_next (kind_causes t e legs) _ RecordUnsound (event_exact t e legs)
-reading_exact t Unsound legs = record { holds = λ _. Memᴰ.head refl; lowest = (λ h. absurd (omega arith), tt); none_holds = λ e. never (sym e) }
+reading_exact t (Some e) legs = exact_next (kind_causes t e legs) _ RecordUnsound (event_exact t e legs)
+reading_exact t None legs = record { holds = λ _. Memᴰ.head refl; lowest = (λ h. absurd (omega arith), tt); none_holds = λ e. never (sym e) }
 
 pub answers_exactly : AnswersExactly
 unfolding apply_spec rank_of ranking place_from

@@ -6,6 +6,7 @@ use Prim.Native.Nat.{ℕ, ◌<◌}
 use native.Mathlib.Omega.{arith}
 use lib.Dec.{ltb}
 use borrow.Author.Tests.{ltb-true, ne_eqb}
+use Rattle.std.specs.Prelude.{Option, Some, None}
 use Rattle.arith.specs.Lists.{All, every}
 use Rattle.arith.proofs.Alls.{all_map}
 use Rattle.arith.proofs.Tests.{never, by_bool, and_left, and_right}
@@ -14,8 +15,6 @@ use Rattle.rules.specs.declared.answer.Answer.TheVariants.{TableUnsound, RecordU
 use Rattle.rules.specs.declared.event.Event.{Event}
 use Rattle.rules.specs.declared.event.Event.TheVariants.{Submit, Cancel, DayLimits, Proposal, Default, CloseOut, CloseOfDay}
 use Rattle.rules.specs.declared.event.Leg.{Leg}
-use Rattle.rules.specs.declared.event.Reading.{Reading}
-use Rattle.rules.specs.declared.event.Reading.TheVariants.{Sound, Unsound}
 use Rattle.rules.specs.Answers.{Outcome, reply_of, ranking, place_from, rank_of, rank, Cause, decide}
 use Rattle.rules.specs.Header.{members_sound, rising}
 use Rattle.rules.specs.Ledger.{Tables, members, booked}
@@ -48,17 +47,17 @@ decided_accepted ((true, x) ∷ causes) t o r a = never (sym a ∙ r.0)
 decided_accepted ((false, x) ∷ causes) t o r a = let d = decided_accepted causes t o r.1 a in ((refl, d.0), d.1)
 
 -- ---- what a reader answers is sound
-pub read_sound : (n : ℕ) (bytes : List ℕ) (e : Event) → read_of n bytes ≡ Sound e → event_sound n e (legs_of bytes) ≡ true
+pub read_sound : (n : ℕ) (bytes : List ℕ) (e : Event) → read_of n bytes ≡ Some e → event_sound n e (legs_of bytes) ≡ true
 unfolding read_of
 read_sound n bytes e =
-    by_bool (λ b. cond b (if_sound n (legs_of bytes) (fields_of bytes)) Unsound ≡ Sound e → event_sound n e (legs_of bytes) ≡ true) (members_sound n) (λ _. go (fields_of bytes))
+    by_bool (λ b. cond b (if_sound n (legs_of bytes) (fields_of bytes)) None ≡ Some e → event_sound n e (legs_of bytes) ≡ true) (members_sound n) (λ _. go (fields_of bytes))
     (λ _ q. absurd (let z : ◌≡◌ {A = ℕ} 0 1 = cc in omega arith))
   where
-    go : (f : Reading) → if_sound n (legs_of bytes) f ≡ Sound e → event_sound n e (legs_of bytes) ≡ true
-    go (Sound x) =
-        by_bool (λ b. cond b (Sound x) Unsound ≡ Sound e → event_sound n e (legs_of bytes) ≡ true) (event_sound n x (legs_of bytes))
+    go : (f : Option Event) → if_sound n (legs_of bytes) f ≡ Some e → event_sound n e (legs_of bytes) ≡ true
+    go (Some x) =
+        by_bool (λ b. cond b (Some x) None ≡ Some e → event_sound n e (legs_of bytes) ≡ true) (event_sound n x (legs_of bytes))
         (λ f q. let same : x ≡ e = cc in rw (← same) f) (λ _ q. absurd (let z : ◌≡◌ {A = ℕ} 0 1 = cc in omega arith))
-    go Unsound = λ q. absurd (let z : ◌≡◌ {A = ℕ} 0 1 = cc in omega arith)
+    go None = λ q. absurd (let z : ◌≡◌ {A = ℕ} 0 1 = cc in omega arith)
 
 -- ---- the kinds of record
 abbrev ranks : List Cause → List ℕ
@@ -122,7 +121,7 @@ pub record AcceptedCall (t : Tables) (bytes : List ℕ) (e : Event) : Type 0 whe
   pub no_cause : NoCause t e (legs_of bytes)
   pub leads : apply_spec t bytes ≡ kind_booked t e (legs_of bytes)
 
-pub accepted_call : (t : Tables) (bytes : List ℕ) (e : Event) → read_of (members t) bytes ≡ Sound e → is_accepted (apply_spec t bytes).answer ≡ true → AcceptedCall t bytes e
+pub accepted_call : (t : Tables) (bytes : List ℕ) (e : Event) → read_of (members t) bytes ≡ Some e → is_accepted (apply_spec t bytes).answer ≡ true → AcceptedCall t bytes e
 unfolding apply_spec reading_spec event_spec
 accepted_call t bytes e r a =
     let legs = legs_of bytes in
@@ -132,14 +131,14 @@ accepted_call t bytes e r a =
     record { tables = undamaged t reply_of.0.0; event = read_sound (members t) bytes e r; no_cause = kind.0; leads = reply_of.1 ∙ is ∙ kind.1 }
 
 -- ---- every call, with what its bytes say
-module _ (P : Reading → Tables → Outcome Tables → Type 0) (refused : (x : Reading) (t : Tables) (a : Answer) → is_accepted a ≡ false → P x t (record { answer = a; after = t }))
-    (shows : (e : Event) (t : Tables) (legs : List Leg) → Undamaged t → event_sound (members t) e legs ≡ true → NoCause t e legs → P (Sound e) t (kind_booked t e legs)) where
-  reading_shows : (t : Tables) (x : Reading) (bytes : List ℕ) → read_of (members t) bytes ≡ x → Undamaged t → P x t (reading_spec t x (legs_of bytes))
+module _ (P : Option Event → Tables → Outcome Tables → Type 0) (refused : (x : Option Event) (t : Tables) (a : Answer) → is_accepted a ≡ false → P x t (record { answer = a; after = t }))
+    (shows : (e : Event) (t : Tables) (legs : List Leg) → Undamaged t → event_sound (members t) e legs ≡ true → NoCause t e legs → P (Some e) t (kind_booked t e legs)) where
+  reading_shows : (t : Tables) (x : Option Event) (bytes : List ℕ) → read_of (members t) bytes ≡ x → Undamaged t → P x t (reading_spec t x (legs_of bytes))
   unfolding reading_spec event_spec
-  reading_shows t (Sound e) bytes q u =
-      decide_shows (P (Sound e) t) t (kind_booked t e (legs_of bytes)) (kind_causes t e (legs_of bytes)) (refused (Sound e) t) (causes_refuse t e (legs_of bytes))
+  reading_shows t (Some e) bytes q u =
+      decide_shows (P (Some e) t) t (kind_booked t e (legs_of bytes)) (kind_causes t e (legs_of bytes)) (refused (Some e) t) (causes_refuse t e (legs_of bytes))
       (λ none. shows e t (legs_of bytes) u (read_sound (members t) bytes e q) none)
-  reading_shows t Unsound bytes q u = refused Unsound t RecordUnsound refl
+  reading_shows t None bytes q u = refused None t RecordUnsound refl
 
   pub every_reading : (t : Tables) (bytes : List ℕ) → P (read_of (members t) bytes) t (apply_spec t bytes)
   unfolding apply_spec

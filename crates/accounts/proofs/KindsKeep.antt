@@ -7,13 +7,13 @@ use Prim.Native.Nat.{ℕ, ◌≤◌}
 use native.Mathlib.Omega.{arith}
 use lib.ListN.{length, length-set}
 use borrow.Author.Tests.{not-false}
+use Rattle.std.specs.Prelude.{Some}
 use Rattle.arith.specs.Lists.{from}
 use Rattle.arith.proofs.Alls.{all_every}
 use Rattle.arith.proofs.Tests.{and_left}
 use Rattle.rules.specs.declared.event.Event.{Event}
 use Rattle.rules.specs.declared.event.Event.TheVariants.{Submit, Cancel, DayLimits, Proposal, Default, CloseOut, CloseOfDay}
 use Rattle.rules.specs.declared.event.Leg.{Leg}
-use Rattle.rules.specs.declared.event.Reading.TheVariants.{Sound}
 use Rattle.rules.specs.declared.order.Order.{Order}
 use Rattle.rules.specs.Answers.{Outcome}
 use Rattle.rules.specs.Days.{in_span, business_day}
@@ -77,7 +77,7 @@ pub record Keeps (e : Event) (t : Tables) (o : Outcome Tables) : Type 0 where
   pub uncrossed : Uncrossed (orders t) → Uncrossed (orders o.after)
   pub rising : RisingNumbers (orders t) → RisingNumbers (orders o.after)
   -- what demand 3 asks
-  pub does : (h : Header) (d : ℕ) → Runs h d t → Does h d (day_after_event (calendar_of h) d (Sound e)) t o
+  pub does : (h : Header) (d : ℕ) → Runs h d t → Does h d (day_after_event (calendar_of h) d (Some e)) t o
 
 close_cascades : (t : Tables) → Undamaged t → (n : ℕ) → Cascades t (close_booked t n)
 unfolding close_booked first_lines from

@@ -1,21 +1,20 @@
 -- What an answer means: the causes of a call in the order of their ranks, and that the answer names the lowest that holds.
-use Rattle.std.specs.Prelude.{ℕ, ◌<◌, ◌≡◌, true, false}
+use Rattle.std.specs.Prelude.{ℕ, ◌<◌, ◌≡◌, true, false, Option, Some, None}
 use mathlib.Core.List.{List, [], ◌∷◌, Memᴰ}
 use Rattle.arith.specs.Lists.{All}
 use Rattle.rules.specs.declared.answer.Answer.{Answer}
 use Rattle.rules.specs.declared.answer.Answer.TheVariants.{TableUnsound, RecordUnsound}
 use Rattle.rules.specs.declared.event.Leg.{Leg}
-use Rattle.rules.specs.declared.event.Reading.{Reading}
-use Rattle.rules.specs.declared.event.Reading.TheVariants.{Sound, Unsound}
 use Rattle.rules.specs.Answers.{Cause, rank}
 use Rattle.rules.specs.Ledger.{Tables, members}
 use Rattle.rules.specs.Records.{legs_of, read_of}
 use Rattle.rules.specs.Refusals.{unsound, kind_causes, apply_spec}
 use Rattle.rules.specs.Accounts.{is_accepted}
+use Rattle.rules.specs.declared.event.Event.{Event}
 
-abbrev pub reading_causes : Tables → Reading → List Leg → List Cause
-reading_causes t (Sound e) legs = (false, RecordUnsound) ∷ kind_causes t e legs
-reading_causes t Unsound legs = (true, RecordUnsound) ∷ []
+abbrev pub reading_causes : Tables → Option Event → List Leg → List Cause
+reading_causes t (Some e) legs = (false, RecordUnsound) ∷ kind_causes t e legs
+reading_causes t None legs = (true, RecordUnsound) ∷ []
 
 -- All causes of a call: 1, then 3, then those of the kind that its bytes say.
 abbrev pub call_causes : Tables → List ℕ → List Cause

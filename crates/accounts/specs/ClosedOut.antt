@@ -1,8 +1,7 @@
 -- What a close-out is for: after it no defaulted member has lots in the contract.
-use Rattle.std.specs.Prelude.{ℕ, ◌<◌, ◌≡◌, true, List, pos}
+use Rattle.std.specs.Prelude.{ℕ, ◌<◌, ◌≡◌, true, List, pos, Some}
 use Rattle.rules.specs.declared.event.CloseOutTerms.{CloseOutTerms}
 use Rattle.rules.specs.declared.event.Event.TheVariants.{CloseOut}
-use Rattle.rules.specs.declared.event.Reading.TheVariants.{Sound}
 use Rattle.rules.specs.Answers.{Outcome}
 use Rattle.rules.specs.Ledger.{Tables, members, defaulted, lots_at}
 use Rattle.rules.specs.Records.{read_of}
@@ -12,7 +11,7 @@ use Rattle.rules.specs.Accounts.{is_accepted}
 abbrev pub NoLotsOfDefaulted : Tables → List ℕ → Outcome Tables → Type 0
 NoLotsOfDefaulted t bytes o =
     (e : CloseOutTerms)
-    → read_of (members t) bytes ≡ Sound (CloseOut e)
+    → read_of (members t) bytes ≡ Some (CloseOut e)
     → is_accepted o.answer ≡ true
     → let u = o.after in
     (m : ℕ) → m < members u → defaulted u m ≡ true → lots_at u e.contract m ≡ pos 0

@@ -1,8 +1,7 @@
 -- Matching is complete, and it keeps to priority.
-use Rattle.std.specs.Prelude.{ℕ, ◌⊎◌, ◌≡◌, true, false, ◌&&◌, List}
+use Rattle.std.specs.Prelude.{ℕ, ◌⊎◌, ◌≡◌, true, false, ◌&&◌, List, Some}
 use Rattle.arith.specs.Lists.{All}
 use Rattle.rules.specs.declared.event.Event.TheVariants.{Submit}
-use Rattle.rules.specs.declared.event.Reading.TheVariants.{Sound}
 use Rattle.rules.specs.declared.event.Submission.{Submission}
 use Rattle.rules.specs.Answers.{Outcome}
 use Rattle.rules.specs.Ledger.{Tables, members, resting}
@@ -13,7 +12,7 @@ use Rattle.rules.specs.Accounts.{is_accepted}
 
 -- The bytes are a submit, and it is accepted.
 abbrev pub AcceptedSubmit : Tables → List ℕ → Outcome Tables → Submission → Type 0
-AcceptedSubmit t bytes o e = (read_of (members t) bytes ≡ Sound (Submit e)) × (is_accepted o.answer ≡ true)
+AcceptedSubmit t bytes o e = (read_of (members t) bytes ≡ Some (Submit e)) × (is_accepted o.answer ≡ true)
 
 -- After an accepted submit nothing of the order is left, or no resting order that opposes it meets its price.
 abbrev pub MatchedInFull : Tables → List ℕ → Outcome Tables → Type 0

@@ -7,11 +7,10 @@ use native.Mathlib.Omega.{arith}
 use borrow.Author.Tests.{eq-eqb, ne_eqb}
 use lib.ListN.{length, get_or, take, drop}
 use lib.Seq.{take_all}
+use Rattle.std.specs.Prelude.{Option, Some, None}
 use Rattle.arith.specs.Columns.{padded}
 use Rattle.arith.proofs.Tests.{by_eqb}
 use Rattle.rules.specs.declared.event.Event.{Event}
-use Rattle.rules.specs.declared.event.Reading.TheVariants.{Sound, Unsound}
-use Rattle.rules.specs.declared.event.Reading.{Reading}
 use Rattle.rules.specs.declared.field.Field.{Field}
 use Rattle.rules.specs.Fields.{has_legs, widths, kind_fields, numbers_at}
 use Rattle.rules.specs.Header.{u16_at, u32_at, members_sound}
@@ -48,7 +47,7 @@ length_legless k a b h = rw (ne_eqb k 4 h) refl
 
 -- ---- by the kind and the length, as they were read
 module _ (s : List ℕ) {k second n : ℕ} (kind : k ≡ get_or s 0 0) (next : second ≡ get_or s 1 0) (sized : n ≡ record_length k second) where
-  pub fields_cut : (length s ≡ n → ⊥) → Unsound ≡ fields_of s
+  pub fields_cut : (length s ≡ n → ⊥) → None ≡ fields_of s
   unfolding fields_of
   fields_cut l = rw (← kind, ← next, ← sized, ne_eqb (length s) n l) refl
 
@@ -89,10 +88,10 @@ pub record Says (s : List ℕ) (e : Event) : Type 0 where
   pub numbers : event_numbers e ≡ numbers_at s 1 (kind_fields (kind_number e))
   pub sized : length s ≡ record_length (kind_number e) (get_or s 1 0)
 
-whole : (s : List ℕ) (e : Event) → fields_of s ≡ Sound e → (length s ≡ front_length s) × (fields_by_kind (get_or s 0 0) s ≡ Sound e)
+whole : (s : List ℕ) (e : Event) → fields_of s ≡ Some e → (length s ≡ front_length s) × (fields_by_kind (get_or s 0 0) s ≡ Some e)
 unfolding fields_of
 whole s e =
-    by_eqb (λ b. cond b (fields_by_kind (get_or s 0 0) s) Unsound ≡ Sound e → (length s ≡ front_length s) × (fields_by_kind (get_or s 0 0) s ≡ Sound e)) (length s) (front_length s)
+    by_eqb (λ b. cond b (fields_by_kind (get_or s 0 0) s) None ≡ Some e → (length s ≡ front_length s) × (fields_by_kind (get_or s 0 0) s ≡ Some e)) (length s) (front_length s)
     (λ l h. (l, h)) (λ _ h. nothing h)
 
 after_kind : (k : ℕ) (s : List ℕ) → drop 1 (record_numbers k s) ≡ numbers_at s 1 (kind_fields k)
@@ -103,7 +102,7 @@ count_numbers : (k : ℕ) (s : List ℕ) → length (record_numbers k s) ≡ 1 +
 unfolding record_numbers
 count_numbers k s = omega (arith, length_numbers s 1 (kind_fields k))
 
-pub says : (s : List ℕ) (e : Event) → fields_of s ≡ Sound e → Says s e
+pub says : (s : List ℕ) (e : Event) → fields_of s ≡ Some e → Says s e
 says s e h =
     let k = get_or s 0 0 in
     let f = record_numbers k s in
@@ -116,31 +115,31 @@ says s e h =
 
 -- ---- reading by what the fields say
 module _ (n : ℕ) (s : List ℕ) where
-  pub read_none : members_sound n ≡ false → Unsound ≡ read_of n s
+  pub read_none : members_sound n ≡ false → None ≡ read_of n s
   unfolding read_of
   read_none m = rw m refl
 
-  module _ {r : Reading} (m : members_sound n ≡ true) (f : r ≡ fields_of s) where
+  module _ {r : Option Event} (m : members_sound n ≡ true) (f : r ≡ fields_of s) where
     read_by : read_of n s ≡ if_sound n (legs_of s) r
     unfolding read_of
     read_by = rw (m, ← f) refl
 
-    pub read_unsound : r ≡ Unsound → Unsound ≡ read_of n s
+    pub read_unsound : r ≡ None → None ≡ read_of n s
     read_unsound u = sym (read_by ∙ rw u refl)
 
-    pub read_judged : {e : Event} {b v : Bool} → r ≡ Sound e → b ≡ event_sound n e (legs_of s) → b ≡ v → cond v (Sound e) Unsound ≡ read_of n s
+    pub read_judged : {e : Event} {b v : Bool} → r ≡ Some e → b ≡ event_sound n e (legs_of s) → b ≡ v → cond v (Some e) None ≡ read_of n s
     read_judged {e} {b} {v} g j t = sym (read_by ∙ rw (g, ← j, t) refl)
 
-  pub said : {e : Event} → read_of n s ≡ Sound e → (members_sound n ≡ true) × (fields_of s ≡ Sound e) × (event_sound n e (legs_of s) ≡ true)
+  pub said : {e : Event} → read_of n s ≡ Some e → (members_sound n ≡ true) × (fields_of s ≡ Some e) × (event_sound n e (legs_of s) ≡ true)
   unfolding read_of
   said {e} h =
       let members = if_true (members_sound n) (if_sound n (legs_of s) (fields_of s)) e h in
       go (fields_of s) (λ f. f) members.0 members.1
     where
-      go : (r : Reading) → (r ≡ Sound e → fields_of s ≡ Sound e) → members_sound n ≡ true → if_sound n (legs_of s) r ≡ Sound e → (members_sound n ≡ true) × (fields_of s ≡ Sound e)
+      go : (r : Option Event) → (r ≡ Some e → fields_of s ≡ Some e) → members_sound n ≡ true → if_sound n (legs_of s) r ≡ Some e → (members_sound n ≡ true) × (fields_of s ≡ Some e)
           × (event_sound n e (legs_of s) ≡ true)
-      go (Sound x) f m g =
-          let ranges = if_true (event_sound n x (legs_of s)) (Sound x) e g in
+      go (Some x) f m g =
+          let ranges = if_true (event_sound n x (legs_of s)) (Some x) e g in
           let same : x ≡ e = let w = ranges.1 in cc in
           (m, f ranges.1, rw same at ranges.0)
-      go Unsound f m g = nothing g
+      go None f m g = nothing g

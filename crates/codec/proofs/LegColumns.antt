@@ -7,6 +7,7 @@ use native.Mathlib.Omega.{arith}
 use borrow.Author.Tests.{le-leb, lt-leb, eq-eqb, ne_eqb}
 use lib.Dec.{eqb, leb}
 use lib.ListN.{length, get_or}
+use Rattle.std.specs.Prelude.{Some}
 use Rattle.arith.proofs.Padded.{column_at}
 use Rattle.arith.specs.Lists.{from, every}
 use Rattle.arith.proofs.Runs.{length_run, run_of}
@@ -14,7 +15,6 @@ use Rattle.arith.proofs.Tests.{never, le_or_lt, same_or, and_false}
 use Rattle.rules.specs.declared.event.Event.TheVariants.{Proposal}
 use Rattle.rules.specs.declared.event.Event.{Event}
 use Rattle.rules.specs.declared.event.Leg.{Leg}
-use Rattle.rules.specs.declared.event.Reading.TheVariants.{Sound}
 use Rattle.rules.specs.Ranges.{least_legs, most_legs}
 use Rattle.rules.specs.Fields.{numbers_at}
 use Rattle.rules.specs.Records.{leg_place, record_length, leg_at, legs_of, leg_sound, event_sound, kind_number, event_numbers, event_by_kind, fields_of}
@@ -113,7 +113,7 @@ pub is_proposal : (e : Event) → kind_number e ≡ 4 → e ≡ Proposal (leg_co
 unfolding event_by_kind
 is_proposal e h =
     let f : List ℕ = kind_number e ∷ event_numbers e ++ [] in
-    let back : event_by_kind 4 f ≡ Sound e = ap (λ k. event_by_kind k f) (sym h) ∙ (described e).back [] in
+    let back : event_by_kind 4 f ≡ Some e = ap (λ k. event_by_kind k f) (sym h) ∙ (described e).back [] in
     let count : leg_count e ≡ get_or (event_numbers e) 0 0 = rw (eq-eqb (kind_number e) 4 h) refl in
     let same : Proposal (get_or (event_numbers e ++ []) 0 0) ≡ e = cc in
     sym same ∙ ap Proposal (ap (λ x. get_or x 0 0) (append-nil (event_numbers e)) ∙ sym count)
@@ -165,14 +165,14 @@ module _ (n : ℕ) (s : List ℕ) where
       same_or (kind_number e) 4 (λ h. let p = says_proposal s e y h in subst Rows (sym p.2) (proposed p.0 p.1))
       (λ h. let none : leg_rows (leg_count e) columns ≡ legs_of s = sym (is_legless e columns h) ∙ sym (says_legless s e y h) in (ap (event_sound n e) none, λ _. none))
 
-  pub rows_judged : (e : Event) → fields_of s ≡ Sound e → event_sound n e (leg_rows (leg_count e) columns) ≡ event_sound n e (legs_of s)
+  pub rows_judged : (e : Event) → fields_of s ≡ Some e → event_sound n e (leg_rows (leg_count e) columns) ≡ event_sound n e (legs_of s)
   rows_judged e h = (rows e (says s e h)).0
 
-  pub rows_said : (e : Event) → fields_of s ≡ Sound e → event_sound n e (legs_of s) ≡ true → leg_rows (leg_count e) columns ≡ legs_of s
+  pub rows_said : (e : Event) → fields_of s ≡ Some e → event_sound n e (legs_of s) ≡ true → leg_rows (leg_count e) columns ≡ legs_of s
   rows_said e h t = (rows e (says s e h)).1 t
 
   -- The columns that read_legs fills of a sound proposal hold its legs.
-  pub legs_said : (k : ℕ) → fields_of s ≡ Sound (Proposal k) → event_sound n (Proposal k) (legs_of s) ≡ true → held_legs s ≡ legs_of s
+  pub legs_said : (k : ℕ) → fields_of s ≡ Some (Proposal k) → event_sound n (Proposal k) (legs_of s) ≡ true → held_legs s ≡ legs_of s
   legs_said k h t =
       let p = says_proposal s (Proposal k) (says s (Proposal k) h) refl in
       let count : k ≡ get_or s 1 0 = let q = p.2 in cc in

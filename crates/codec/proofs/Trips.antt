@@ -7,6 +7,7 @@ use native.Mathlib.Omega.{arith}
 use borrow.Author.Tests.{lt-leb, le-leb, le-ltb, ne_eqb}
 use lib.Dec.{T, eqb, leb, ltb}
 use lib.ListN.{length, get_or, take, drop, length-append, get_or-append}
+use Rattle.std.specs.Prelude.{Some}
 use Rattle.arith.specs.Lists.{All, every, over}
 use Rattle.arith.proofs.Alls.{every_all}
 use Rattle.arith.proofs.Beside.{take_over}
@@ -15,7 +16,6 @@ use Rattle.rules.specs.declared.answer.Answer.TheVariants.{RecordUnsound}
 use Rattle.rules.specs.declared.event.Event.TheVariants.{Proposal}
 use Rattle.rules.specs.declared.event.Event.{Event}
 use Rattle.rules.specs.declared.event.Leg.{Leg}
-use Rattle.rules.specs.declared.event.Reading.TheVariants.{Sound}
 use Rattle.rules.specs.Ranges.{most_price, most_lots, least_legs, most_legs}
 use Rattle.rules.specs.Fields.{has_legs, widths, kind_fields, leg_fields, numbers_at, bytes_by}
 use Rattle.rules.specs.Header.{members_sound}
@@ -52,7 +52,7 @@ numbers_written : (e : Event) (legs : List Leg) → EventFits e → record_numbe
 unfolding record_numbers bytes_of field_bytes
 numbers_written e legs f = ap (λ x. kind_number e ∷ x) (numbers_back (kind_fields (kind_number e)) (event_numbers e) (kind_number e ∷ []) (cond (has_legs (kind_number e)) (flat_map leg_bytes legs) []) 1 f refl)
 
-fields_back : (e : Event) (legs : List Leg) → EventFits e → length legs ≡ leg_count e → fields_of (bytes_of e legs) ≡ Sound e
+fields_back : (e : Event) (legs : List Leg) → EventFits e → length legs ≡ leg_count e → fields_of (bytes_of e legs) ≡ Some e
 fields_back e legs f l =
     let s = bytes_of e legs in
     let sized : length s ≡ record_length (kind_number e) (get_or s 1 0) = length_record e legs l ∙ second_byte e legs in
@@ -93,7 +93,7 @@ legs_back n e legs t l =
     (λ h. sym (no_legs_written e legs h) ∙ none legs (l ∙ none_beside e h))
 
 -- A sound event's record says the event.
-read_written : (n : ℕ) (e : Event) (legs : List Leg) → members_sound n ≡ true → event_sound n e legs ≡ true → read_of n (bytes_of e legs) ≡ Sound e
+read_written : (n : ℕ) (e : Event) (legs : List Leg) → members_sound n ≡ true → event_sound n e legs ≡ true → read_of n (bytes_of e legs) ≡ Some e
 unfolding read_of
 read_written n e legs m t =
     let known = sound_event n m legs e t in
@@ -133,7 +133,7 @@ module _ (s : List ℕ) (small : (i : ℕ) → get_or s i 0 < 256) where
       rw (y.numbers, legs_again e y) (kind_again k (sym y.kind) inside)
 
 -- A record that says an event is the event's record.
-written_again : (n : ℕ) (s : List ℕ) (e : Event) → T (every (λ b. ltb b 256) s) → read_of n s ≡ Sound e → bytes_of e (legs_of s) ≡ s
+written_again : (n : ℕ) (s : List ℕ) (e : Event) → T (every (λ b. ltb b 256) s) → read_of n s ≡ Some e → bytes_of e (legs_of s) ≡ s
 written_again n s e b h = record_again s (bytes_small s b) e (says s e (said n s h).1)
 
 -- ---- the promises

@@ -1,7 +1,6 @@
 // Reading a record.
-ghost use Rattle.std.specs.Prelude.{◌≡◌, ◌-◌, ◌≤◌, length, get_or};
+ghost use Rattle.std.specs.Prelude.{◌≡◌, ◌-◌, ◌≤◌, length, get_or, Some};
 ghost use Rattle.arith.specs.Columns.{padded};
-ghost use Rattle.rules.specs.declared.event.Reading.TheVariants.{Sound};
 ghost use Rattle.rules.specs.Fields.{widths, kind_fields};
 ghost use Rattle.rules.specs.Records.{kind_byte, record_numbers, fields_of, legs_of, event_sound, read_of};
 ghost use Rattle.record_kinds.specs.Numbers.{most_numbers};
@@ -17,7 +16,7 @@ use record_kinds::{
     event_of, field_count, field_of, kind_number, leg_count, record_length, width_of,
 };
 use rules::kinds::PROPOSAL;
-use rules::{Event, Reading};
+use rules::Event;
 
 // The numbers of a record that has all its fields, its kind first, and 0 in the places past them.
 fn record_numbers(kind: u64, bytes: &[u8]) -> [u64; MOST_NUMBERS]
@@ -39,13 +38,13 @@ fn record_numbers(kind: u64, bytes: &[u8]) -> [u64; MOST_NUMBERS]
 }
 
 // What the fields say, in range or not.
-fn fields_of(bytes: &[u8]) -> Reading
+fn fields_of(bytes: &[u8]) -> Option<Event>
     ensures { result ≡ fields_of bytes.now }
 {
     let kind = u8_or_zero(bytes, KIND_BYTE);
     let legs = u8_or_zero(bytes, PROPOSAL_LEGS_BYTE);
     if bytes.len() as u64 != record_length(kind, legs) {
-        return Reading::Unsound;
+        return None;
     }
     let numbers = record_numbers(kind, bytes);
     event_of(&numbers)
@@ -53,7 +52,7 @@ fn fields_of(bytes: &[u8]) -> Reading
 
 // The ranges of what was read; only a proposal has legs to read.
 fn is_sound_as_read(members: u64, event: Event, bytes: &[u8]) -> bool
-    requires { fields_of bytes.now ≡ Sound event }
+    requires { fields_of bytes.now ≡ Some event }
     ensures { result ≡ event_sound members event (legs_of bytes.now) }
 {
     if kind_number(event) == PROPOSAL {
@@ -63,20 +62,16 @@ fn is_sound_as_read(members: u64, event: Event, bytes: &[u8]) -> bool
 }
 
 // What a record says in a ledger of that many members. A proposal's legs are read by read_legs.
-pub fn read_record(members: u64, bytes: &[u8]) -> Reading
+pub fn read_record(members: u64, bytes: &[u8]) -> Option<Event>
     ensures { result ≡ read_of members bytes.now }
 {
     if !is_member_count_sound(members) {
-        return Reading::Unsound;
+        return None;
     }
-    match fields_of(bytes) {
-        Reading::Sound(event) => {
-            if is_sound_as_read(members, event, bytes) {
-                Reading::Sound(event)
-            } else {
-                Reading::Unsound
-            }
-        }
-        Reading::Unsound => Reading::Unsound,
+    let event = fields_of(bytes)?;
+    if is_sound_as_read(members, event, bytes) {
+        Some(event)
+    } else {
+        None
     }
 }

@@ -8,7 +8,7 @@ ghost use Rattle.rules.specs.Records.{reply_of_reading, reply_of_front};
 use codec::Legs;
 use header::JournalHeader;
 use record_kinds::places::MOST_NUMBERS;
-use rules::{Answer, Event, Front, Reading};
+use rules::{Answer, Event, Front};
 use std::io;
 use std::io::Print;
 
@@ -31,12 +31,12 @@ fn show_answer(rt: &impl Print, answer: Answer) -> io::Result<()> {
 }
 
 // The paper's number for what a reader answers.
-fn reading_number(reading: Reading) -> u64
+fn reading_number(reading: Option<Event>) -> u64
     ensures { result ≡ (reply_of_reading reading).number }
 {
     match reading {
-        Reading::Sound(_) => 0,
-        Reading::Unsound => 3,
+        Some(_) => 0,
+        None => 3,
     }
 }
 
@@ -84,7 +84,7 @@ fn show_again(rt: &impl Print, out: &[u8], bytes: &[u8]) -> io::Result<()> {
 fn record(rt: &impl Print, members: u64, bytes: &[u8]) -> io::Result<()> {
     let reading = codec::read_record(members, bytes);
     match reading {
-        Reading::Sound(event) => {
+        Some(event) => {
             let legs = codec::read_legs(bytes);
             show_event(rt, event)?;
             show_last_leg(rt, legs)?;
@@ -92,7 +92,7 @@ fn record(rt: &impl Print, members: u64, bytes: &[u8]) -> io::Result<()> {
             show_answer(rt, codec::write_record(members, event, legs, &mut out))?;
             show_again(rt, &out, bytes)?;
         }
-        Reading::Unsound => number(rt, reading_number(reading))?,
+        None => number(rt, reading_number(reading))?,
     }
     rt.println("")
 }

@@ -7,13 +7,13 @@ use native.Mathlib.Omega.{arith}
 use lib.Dec.{eqb, leb}
 use lib.ListN.{length, take, length-map}
 use borrow.Author.Tests.{leb-true}
+use Rattle.std.specs.Prelude.{Some}
 use Rattle.arith.specs.Columns.{padded}
 use Rattle.arith.proofs.Tests.{and_left, and_right}
 use Rattle.rules.specs.declared.event.CloseOutTerms.{CloseOutTerms}
 use Rattle.rules.specs.declared.event.Event.TheVariants.{Submit, DayLimits, Proposal, Default, CloseOut}
 use Rattle.rules.specs.declared.event.Leg.{Leg}
 use Rattle.rules.specs.declared.event.NewDayLimits.{NewDayLimits}
-use Rattle.rules.specs.declared.event.Reading.TheVariants.{Sound}
 use Rattle.rules.specs.declared.event.Submission.{Submission}
 use Rattle.rules.specs.Ranges.{contract_count, most_legs, most_ratio, most_lots_run}
 use Rattle.rules.specs.Records.{contract_sound, legs_of, event_sound, read_of}
@@ -30,7 +30,7 @@ use Rattle.proposal_check.proofs.LegColumns.{order_of, lots_of, price_of, counte
 use Rattle.header.proofs.Columns.{column, room}
 
 module _ (head s : List ℕ) where
-  pub submission_fits : (e : Submission) → read_of (members_in head) s ≡ Sound (Submit e) → SubmissionFit head e
+  pub submission_fits : (e : Submission) → read_of (members_in head) s ≡ Some (Submit e) → SubmissionFit head e
   submission_fits e r =
       let f = submission (members_in head) e (legs_of s) (said (members_in head) s r).2 in
       record {
@@ -41,16 +41,16 @@ module _ (head s : List ℕ) where
         most_lots_holds = f.lots.to;
       }
 
-  pub limits_contract : (e : NewDayLimits) → read_of (members_in head) s ≡ Sound (DayLimits e) → e.contract < contract_count
+  pub limits_contract : (e : NewDayLimits) → read_of (members_in head) s ≡ Some (DayLimits e) → e.contract < contract_count
   limits_contract e r = (new_day_limits (members_in head) e (legs_of s) (said (members_in head) s r).2).contract<
 
-  pub member_below : (m : ℕ) → read_of (members_in head) s ≡ Sound (Default m) → m < members_in head
+  pub member_below : (m : ℕ) → read_of (members_in head) s ≡ Some (Default m) → m < members_in head
   member_below m r = default_member (members_in head) m (legs_of s) (said (members_in head) s r).2
 
-  pub close_out_contract_below : (e : CloseOutTerms) → read_of (members_in head) s ≡ Sound (CloseOut e) → e.contract < contract_count
+  pub close_out_contract_below : (e : CloseOutTerms) → read_of (members_in head) s ≡ Some (CloseOut e) → e.contract < contract_count
   close_out_contract_below e r = close_out_contract (members_in head) e (legs_of s) (said (members_in head) s r).2
 
-  pub close_out_ratio : (e : CloseOutTerms) → read_of (members_in head) s ≡ Sound (CloseOut e) → e.ratio ≤ most_ratio
+  pub close_out_ratio : (e : CloseOutTerms) → read_of (members_in head) s ≡ Some (CloseOut e) → e.ratio ≤ most_ratio
   unfolding event_sound
   close_out_ratio e r =
       let ranges = contract_sound e.contract && leb 1 e.ratio in
@@ -63,7 +63,7 @@ most_run_left t f = omega (arith, f.head_fit.most_run)
 
 -- ---- the legs of a proposal, as columns
 -- What the columns that were read of a sound proposal give: l is what `read_legs` promises.
-module _ (n k : ℕ) (s : List ℕ) (l : Legs) (e : l ≡ leg_columns (held_legs s)) (r : read_of n s ≡ Sound (Proposal k)) where
+module _ (n k : ℕ) (s : List ℕ) (l : Legs) (e : l ≡ leg_columns (held_legs s)) (r : read_of n s ≡ Some (Proposal k)) where
   sized : length (legs_of s) ≡ k
   sized = (counted n k (legs_of s) (said n s r).2).1
 

@@ -4,7 +4,7 @@ ghost use Rattle.engine.specs.Runs.{Applies};
 
 use crate::event::apply_event;
 use rules::layout::MEMBERS;
-use rules::{Answer, Reading};
+use rules::Answer;
 
 // One record applied, whatever the tables hold and whatever its bytes. The tables are tested before the record is read.
 pub fn apply(
@@ -23,7 +23,7 @@ pub fn apply(
         return Answer::TableUnsound;
     }
     match codec::read_record(head[MEMBERS], bytes) {
-        Reading::Sound(event) => apply_event(head, prices, lots, value, book, lines, event, bytes),
-        Reading::Unsound => Answer::RecordUnsound,
+        Some(event) => apply_event(head, prices, lots, value, book, lines, event, bytes),
+        None => Answer::RecordUnsound,
     }
 }

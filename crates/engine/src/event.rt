@@ -1,6 +1,5 @@
 // A record that was read, handed to the code of its kind.
-ghost use Rattle.std.specs.Prelude.{◌≡◌};
-ghost use Rattle.rules.specs.declared.event.Reading.TheVariants.{Sound};
+ghost use Rattle.std.specs.Prelude.{◌≡◌, Some};
 ghost use Rattle.rules.specs.Ledger.{lent};
 ghost use Rattle.rules.specs.Records.{legs_of, read_of};
 ghost use Rattle.rules.specs.Refusals.{event_spec};
@@ -20,7 +19,7 @@ pub fn apply_event(
     event: Event,
     bytes: &[u8],
 ) -> Answer
-    requires { Fits (lent head.old prices.old lots.old value.old book.old lines.old) × (read_of (members_in head.old) bytes.now ≡ Sound event) }
+    requires { Fits (lent head.old prices.old lots.old value.old book.old lines.old) × (read_of (members_in head.old) bytes.now ≡ Some event) }
     ensures { record { answer = result; after = lent head.new prices.new lots.new value.new book.new lines.new }
         ≡ event_spec (lent head.old prices.old lots.old value.old book.old lines.old) event (legs_of bytes.now) }
 {

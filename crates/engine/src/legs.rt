@@ -1,7 +1,6 @@
 // A proposal's legs, read from the record's bytes into columns and handed to the proposal's code.
-ghost use Rattle.std.specs.Prelude.{◌≡◌};
+ghost use Rattle.std.specs.Prelude.{◌≡◌, Some};
 ghost use Rattle.rules.specs.declared.event.Event.TheVariants.{Proposal};
-ghost use Rattle.rules.specs.declared.event.Reading.TheVariants.{Sound};
 ghost use Rattle.rules.specs.Ledger.{lent};
 ghost use Rattle.rules.specs.Records.{legs_of, read_of};
 ghost use Rattle.rules.specs.Refusals.{proposal_spec};
@@ -19,7 +18,7 @@ pub fn apply_legs(
     count: u64,
     bytes: &[u8],
 ) -> Answer
-    requires { Fits (lent head.old prices.now lots.old value.old book.old lines.old) × (read_of (members_in head.old) bytes.now ≡ Sound (Proposal count)) }
+    requires { Fits (lent head.old prices.now lots.old value.old book.old lines.old) × (read_of (members_in head.old) bytes.now ≡ Some (Proposal count)) }
     ensures { record { answer = result; after = lent head.new prices.now lots.new value.new book.new lines.new }
         ≡ proposal_spec (lent head.old prices.now lots.old value.old book.old lines.old) (legs_of bytes.now) }
 {

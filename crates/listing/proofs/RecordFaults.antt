@@ -8,14 +8,13 @@ use native.Mathlib.Omega.{arith}
 use borrow.Author.Tests.{eq-eqb, ne_eqb, le-leb, lt-leb, le-ltb, leb-true, lt-ltb}
 use lib.Dec.{eqb, leb, ltb}
 use lib.ListN.{length, get_or}
+use Rattle.std.specs.Prelude.{Option, Some, None}
 use Rattle.arith.specs.Lists.{from, every}
 use Rattle.arith.proofs.Columns.{mapped_length}
 use Rattle.arith.proofs.Tests.{same_or, le_or_lt, true_or, and_false, and_true, and_left}
 use Rattle.rules.specs.declared.event.Event.{Event}
 use Rattle.rules.specs.declared.event.Event.TheVariants.{Submit, Cancel, DayLimits, Proposal, Default, CloseOut, CloseOfDay}
 use Rattle.rules.specs.declared.event.Leg.{Leg}
-use Rattle.rules.specs.declared.event.Reading.{Reading}
-use Rattle.rules.specs.declared.event.Reading.TheVariants.{Sound, Unsound}
 use Rattle.rules.specs.Ranges.{most_members, most_price, least_legs, most_legs}
 use Rattle.rules.specs.Header.{u16_at, u32_at, members_sound}
 use Rattle.rules.specs.Records.{record_length, front_length, time_sound, contract_sound, side_sound, order_kind_sound, price_sound, lots_sound, day_limits_sound, number_sound, leg_sound, leg_at}
@@ -30,12 +29,12 @@ use Rattle.listing_words.specs.Fields.{fields_in, range, within, record_shape, i
 use Rattle.listing.proofs.Faults.{in_ranges, none_is, from_zero, last_before}
 
 -- ---- tests in another order
-sound_event : (n : ℕ) (legs : List Leg) (e : Event) → is_sound (if_sound n legs (Sound e)) ≡ event_sound n e legs
+sound_event : (n : ℕ) (legs : List Leg) (e : Event) → is_sound (if_sound n legs (Some e)) ≡ event_sound n e legs
 sound_event n legs e = true_or (event_sound n e legs) (λ h. rw h refl) (λ h. rw h refl)
 
 -- A record of a kind, whose length is m.
-of_length : (len m : ℕ) (n : ℕ) (legs : List Leg) (r : Reading) (ranges : Bool) → is_sound (if_sound n legs r) ≡ ranges
-    → is_sound (if_sound n legs (cond (eqb len m) r Unsound)) ≡ leb m len && ranges && leb len m
+of_length : (len m : ℕ) (n : ℕ) (legs : List Leg) (r : Option Event) (ranges : Bool) → is_sound (if_sound n legs r) ≡ ranges
+    → is_sound (if_sound n legs (cond (eqb len m) r None)) ≡ leb m len && ranges && leb len m
 of_length len m n legs r ranges h =
     same_or len m (λ e. rw (e, eq-eqb m m refl, le-leb m m (omega arith)) (h ∙ sym (and_true ranges)))
     (λ e. rw (ne_eqb len m e)
@@ -55,7 +54,7 @@ submit_order true true false d o p l = and_false (d && o)
 submit_order true false c d o p l = and_false (d && o)
 submit_order false m c d o p l = and_false (d && o)
 
-gated : (g : Bool) (n : ℕ) (legs : List Leg) (e : Event) → is_sound (if_sound n legs (cond g (Sound e) Unsound)) ≡ g && event_sound n e legs
+gated : (g : Bool) (n : ℕ) (legs : List Leg) (e : Event) → is_sound (if_sound n legs (cond g (Some e) None)) ≡ g && event_sound n e legs
 gated true n legs e = sound_event n legs e
 gated false n legs e = refl
 
@@ -159,7 +158,7 @@ module _ (n : ℕ) (s : List ℕ) (some : 1 ≤ n) where
         (of_length (length s) (front_length s) n (legs_of s) (fields_by_kind (get_or s 0 0) s) (in_ranges n s 0 (fields_in (record_shape s))) (ranges e))
 
     -- Of no kind: unsound, and the kind is out of its range.
-    unknown_exact : fields_by_kind (get_or s 0 0) s ≡ Unsound → within (range 1 7) (get_or s 0 0) ≡ false → Exact
+    unknown_exact : fields_by_kind (get_or s 0 0) s ≡ None → within (range 1 7) (get_or s 0 0) ≡ false → Exact
     unfolding Exact read_of read_fields fields_in in_ranges number_at
     unknown_exact reads out =
         rw (members, none_is n s 0 (fields_in (record_shape s)) (omega arith), out, reads, and_false (leb (0 + widths (fields_in (record_shape s))) (length s)))

@@ -9,11 +9,10 @@ use lib.Dec.{eqb, leb}
 use lib.ListN.{length, take, drop, take-append-drop, get_or-append}
 use lib.ListN.{get_or}
 use lib.Seq.{length-take-le, take_all}
+use Rattle.std.specs.Prelude.{Option, Some, None}
 use Rattle.arith.specs.Lists.{All}
 use Rattle.arith.proofs.Tests.{true_or, and_true}
 use Rattle.rules.specs.declared.event.Leg.{Leg}
-use Rattle.rules.specs.declared.event.Reading.{Reading}
-use Rattle.rules.specs.declared.event.Reading.TheVariants.{Sound, Unsound}
 use Rattle.rules.specs.declared.answer.Answer.TheVariants.{RecordUnsound}
 use Rattle.rules.specs.Accounts.{is_accepted}
 use Rattle.rules.specs.Answers.{Outcome, reply_of, rank_of, rank, Cause, decide}
@@ -28,6 +27,7 @@ use Rattle.journal.proofs.Fronts.{two_at_least}
 use Rattle.listing.specs.Exact.{is_sound}
 use Rattle.listing.proofs.RecordFaults.{kind_out, record_exact}
 use Rattle.listing_words.specs.Fields.{fields_in, range, within, verdict_of, fault_in, is_none, fault_of}
+use Rattle.rules.specs.declared.event.Event.{Event}
 
 -- ---- number 3 is for unsound records alone
 goes_on : (causes : List Cause) (t : Tables) (o : Outcome Tables) → All (λ cause. rank RecordUnsound < rank cause.1) causes → is_accepted o.answer ≡ true
@@ -36,10 +36,10 @@ goes_on [] t o h a = ne_eqb (reply_of o.answer).number 3 (λ z. omega (arith, eq
 goes_on ((true, x) ∷ causes) t o h a = ne_eqb (reply_of x).number 3 (λ z. absurd (omega (arith, h.0, ap rank_of z)))
 goes_on ((false, x) ∷ causes) t o h a = goes_on causes t o h.1 a
 
-stops_reading : (t : Tables) (x : Reading) (legs : List Leg) → stops (reading_spec t x legs).answer ≡ not (is_sound x)
+stops_reading : (t : Tables) (x : Option Event) (legs : List Leg) → stops (reading_spec t x legs).answer ≡ not (is_sound x)
 unfolding reading_spec event_spec
-stops_reading t Unsound legs = refl
-stops_reading t (Sound e) legs =
+stops_reading t None legs = refl
+stops_reading t (Some e) legs =
     let k = kind_decides t e legs in
     goes_on (kind_causes t e legs) t (kind_booked t e legs) (all_above (rank RecordUnsound) (kind_causes t e legs) k.in_order_holds) k.accepted
 

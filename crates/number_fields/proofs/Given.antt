@@ -8,9 +8,9 @@ use borrow.Author.Tests.{leb-true, eq-eqb}
 use lib.Dec.{leb}
 use lib.ListN.{length, get_or, take, drop}
 use lib.Seq.{get_or-take, get_or-drop}
+use Rattle.std.specs.Prelude.{Some}
 use Rattle.arith.specs.Lists.{from}
 use Rattle.rules.specs.declared.event.Event.{Event}
-use Rattle.rules.specs.declared.event.Reading.TheVariants.{Sound}
 use Rattle.rules.specs.Fields.{proposal_kind, has_legs, kind_fields}
 use Rattle.rules.specs.Ranges.{most_legs}
 use Rattle.rules.specs.Records.{kind_number, event_numbers, event_by_kind}
@@ -32,7 +32,7 @@ module _ (f : List ℕ) (e : Event) where
       let numbers : event_numbers e ≡ take 1 (drop 1 f) = n ∙ rw four refl in
       rw (eq-eqb (kind_number e) proposal_kind four, numbers) (get_or-take 1 (drop 1 f) 0 0 (omega arith) ∙ get_or-drop 1 f 0 0)
 
-  pub given : record_fields ≤ length f → event_in f ≡ Sound e → Given f e
+  pub given : record_fields ≤ length f → event_in f ≡ Some e → Given f e
   unfolding row_event
   given h w =
       let k = get_or f kind_field 0 in

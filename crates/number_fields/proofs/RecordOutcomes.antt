@@ -4,11 +4,10 @@ use mathlib.Core.List.{List}
 use mathlib.Core.Path.{◌≡◌, refl, sym, ap, ◌∙◌}
 use borrow.Author.Tests.{lt-ltb, le-ltb}
 use lib.ListN.{length}
+use Rattle.std.specs.Prelude.{Option, Some, None}
 use Rattle.arith.proofs.Runs.{length_run}
 use Rattle.rules.specs.declared.answer.Answer.TheVariants.{TableUnsound, RecordUnsound}
 use Rattle.rules.specs.declared.event.Event.{Event}
-use Rattle.rules.specs.declared.event.Reading.{Reading}
-use Rattle.rules.specs.declared.event.Reading.TheVariants.{Sound, Unsound}
 use Rattle.rules.specs.Answers.{Outcome}
 use Rattle.rules.specs.Ranges.{most_legs}
 use Rattle.rules.specs.Records.{leg_in, write_spec, legs_of, read_of}
@@ -31,17 +30,17 @@ module _ (n : ℕ) (s row : List ℕ) where
   unfolding read_fields
   read_short h = rw (lt-ltb (length row) record_fields h) refl
 
-  module _ {r : Reading} (q : r ≡ read_of n s) where
+  module _ {r : Option Event} (q : r ≡ read_of n s) where
     module _ (h : record_fields ≤ length row) where
       pub read_by : read_fields n s row ≡ with_reading r (legs_of s) row
       unfolding read_fields
       read_by = rw (le-ltb (length row) record_fields h, ← q) refl
 
-      pub read_unsound : r ≡ Unsound → record { answer = RecordUnsound; after = row } ≡ read_fields n s row
+      pub read_unsound : r ≡ None → record { answer = RecordUnsound; after = row } ≡ read_fields n s row
       read_unsound u = sym (read_by ∙ rw u refl)
 
-    module _ {e : Event} (u : r ≡ Sound e) where
-      read : read_of n s ≡ Sound e
+    module _ {e : Event} (u : r ≡ Some e) where
+      read : read_of n s ≡ Some e
       read = sym q ∙ u
 
       pub few_read : leg_count e ≤ most_legs
@@ -62,16 +61,16 @@ module _ (n : ℕ) (row out : List ℕ) where
   unfolding write_fields
   write_short h = rw (lt-ltb (length row) record_fields h) refl
 
-  module _ {r : Reading} (q : r ≡ event_in row) where
+  module _ {r : Option Event} (q : r ≡ event_in row) where
     module _ (h : record_fields ≤ length row) where
       pub write_by : write_fields n row out ≡ write_reading n r (legs_in row) out
       unfolding write_fields
       write_by = rw (le-ltb (length row) record_fields h, ← q) refl
 
-      pub write_none : r ≡ Unsound → record { answer = RecordUnsound; after = out } ≡ write_fields n row out
+      pub write_none : r ≡ None → record { answer = RecordUnsound; after = out } ≡ write_fields n row out
       write_none u = sym (write_by ∙ rw u refl)
 
-      module _ {e : Event} (u : r ≡ Sound e) where
+      module _ {e : Event} (u : r ≡ Some e) where
         pub few_in : leg_count e ≤ most_legs
         few_in = (given row e h (sym q ∙ u)).few
 

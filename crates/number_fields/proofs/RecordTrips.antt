@@ -10,6 +10,7 @@ use borrow.Author.Tests.{eq-eqb, le-leb}
 use lib.ListN.{length, get_or, take, drop, take-append-drop, get_or-append}
 use lib.Seq.{drop-cons, drop-drop, get_or-append-add, take-append_seam}
 use lib.Dec.{T, leb, ltb}
+use Rattle.std.specs.Prelude.{Option, Some, None}
 use Rattle.arith.specs.Lists.{from, every, over}
 use Rattle.arith.proofs.Alls.{all_always}
 use Rattle.arith.proofs.Overs.{over_length}
@@ -18,8 +19,6 @@ use Rattle.arith.proofs.Writes.{over_front}
 use Rattle.rules.specs.declared.answer.Answer.TheVariants.{Accepted}
 use Rattle.rules.specs.declared.event.Event.{Event}
 use Rattle.rules.specs.declared.event.Leg.{Leg}
-use Rattle.rules.specs.declared.event.Reading.{Reading}
-use Rattle.rules.specs.declared.event.Reading.TheVariants.{Sound, Unsound}
 use Rattle.rules.specs.Answers.{Outcome, reply_of}
 use Rattle.rules.specs.Fields.{proposal_kind, has_legs, kind_fields}
 use Rattle.rules.specs.Ranges.{most_legs}
@@ -63,10 +62,10 @@ module _ (e : Event) (few : leg_count e ≤ most_legs) (f rest : List ℕ) (shap
   row_count : kind_number e ≡ proposal_kind → length (event_numbers e) ≡ 1 → get_or f proposal_legs_field 0 ≡ leg_count e
   row_count four one = rw (shape, eq-eqb (kind_number e) proposal_kind four) (get_or-append (event_numbers e) rest 0 0 (omega (arith, one)))
 
-  row_gives : event_in f ≡ Sound e
+  row_gives : event_in f ≡ Some e
   unfolding row_event
   row_gives =
-      let event : event_by_kind (kind_number e) f ≡ Sound e = rw shape ((described e).back rest) in
+      let event : event_by_kind (kind_number e) f ≡ Some e = rw shape ((described e).back rest) in
       let test : not (has_legs (kind_number e)) || leb (get_or f proposal_legs_field 0) most_legs ≡ true =
       legs_or_none e (λ four one. rw (eq-eqb (kind_number e) proposal_kind four) (le-leb (get_or f proposal_legs_field 0) most_legs (rw (row_count four one) few))) (λ no none. rw no refl) in
       rw (row_kind, test) event
@@ -138,21 +137,21 @@ refused w differs = absurd (differs (ap (λ (z : Outcome (List ℕ)). (reply_of 
 record ReadTo (n : ℕ) (s row after : List ℕ) : Type 0 where
   event : Event
   long : record_fields ≤ length row
-  said : read_of n s ≡ Sound event
+  said : read_of n s ≡ Some event
   put : after ≡ over 0 (numbers_of event (legs_of s)) row
 
 read_to : (n : ℕ) (s row : List ℕ) (k : ℕ) (after : List ℕ) → record { answer = Accepted k; after = after } ≡ read_fields n s row → ReadTo n s row after
 read_to n s row k after w =
     le_or_lt record_fields (length row) (λ h. go h (read_of n s) refl) (λ h. refused (w ∙ sym (read_short n s row h)) (λ z. omega arith))
   where
-    go : record_fields ≤ length row → (r : Reading) → r ≡ read_of n s → ReadTo n s row after
-    go h (Sound e) q = record { event = e; long = h; said = sym q; put = ap (λ o. o.after) (w ∙ read_by n s row q h) }
-    go h Unsound q = refused (w ∙ read_by n s row q h) (λ z. omega arith)
+    go : record_fields ≤ length row → (r : Option Event) → r ≡ read_of n s → ReadTo n s row after
+    go h (Some e) q = record { event = e; long = h; said = sym q; put = ap (λ o. o.after) (w ∙ read_by n s row q h) }
+    go h None q = refused (w ∙ read_by n s row q h) (λ z. omega arith)
 
 record WrittenFrom (n : ℕ) (row out : List ℕ) (o : Outcome (List ℕ)) : Type 0 where
   event : Event
   long : record_fields ≤ length row
-  says : event_in row ≡ Sound event
+  says : event_in row ≡ Some event
   given : Given row event
   wrote : o ≡ write_spec n event (legs_in row) out
 
@@ -161,13 +160,13 @@ written_from : (n : ℕ) (row out : List ℕ) (k : ℕ) (after : List ℕ) → r
 written_from n row out k after w =
     le_or_lt record_fields (length row) (λ h. go h (event_in row) refl) (λ h. refused (w ∙ sym (write_short n row out h)) (λ z. omega arith))
   where
-    go : record_fields ≤ length row → (r : Reading) → r ≡ event_in row → WrittenFrom n row out (record { answer = Accepted k; after = after })
-    go h (Sound e) q = record { event = e; long = h; says = sym q; given = given row e h (sym q); wrote = w ∙ write_by n row out q h }
-    go h Unsound q = refused (w ∙ write_by n row out q h) (λ z. omega arith)
+    go : record_fields ≤ length row → (r : Option Event) → r ≡ event_in row → WrittenFrom n row out (record { answer = Accepted k; after = after })
+    go h (Some e) q = record { event = e; long = h; says = sym q; given = given row e h (sym q); wrote = w ∙ write_by n row out q h }
+    go h None q = refused (w ∙ write_by n row out q h) (λ z. omega arith)
 
 -- ---- the promises
 read_then_written : (n : ℕ) (s row out after : List ℕ) (e : Event) → T (every (λ b. ltb b 256) s) → length s ≤ length out → record_fields ≤ length row
-    → read_of n s ≡ Sound e → after ≡ over 0 (numbers_of e (legs_of s)) row → write_fields n after out ≡ record { answer = Accepted (length s); after = over 0 s out }
+    → read_of n s ≡ Some e → after ≡ over 0 (numbers_of e (legs_of s)) row → write_fields n after out ≡ record { answer = Accepted (length s); after = over 0 s out }
 read_then_written n s row out after e b h long said put =
     let legs = legs_of s in
     let few = few_read n s row refl said in

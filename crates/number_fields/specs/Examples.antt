@@ -1,8 +1,7 @@
 -- The examples of rules, Bytes, as numbers, written out by hand.
-use Rattle.std.specs.Prelude.{ℕ, ◌≡◌, refl, take, drop}
+use Rattle.std.specs.Prelude.{ℕ, ◌≡◌, refl, take, drop, Some, None}
 use mathlib.Core.List.{List, [], ◌∷◌, map, flat_map}
 use Rattle.arith.specs.Lists.{from, over}
-use Rattle.rules.specs.declared.event.Reading.TheVariants.{Sound, Unsound}
 use Rattle.rules.specs.Bytes.{examples}
 use Rattle.rules.specs.Bytes as Bytes
 use Rattle.number_fields.specs.HeaderFields.{with_header}
@@ -26,7 +25,7 @@ pub examples_in_numbers : map (λ x. numbers_of x.event x.legs) examples ≡ num
 unfolding numbers_of flat_map
 examples_in_numbers = refl
 
-pub events_of_numbers : map event_in numbers ≡ map (λ x. Sound x.event) examples
+pub events_of_numbers : map event_in numbers ≡ map (λ x. Some x.event) examples
 unfolding row_event
 events_of_numbers = refl
 
@@ -38,7 +37,7 @@ pub no_events : map event_in
     ∷ (1 ∷ 66051 ∷ 2 ∷ 17 ∷ 1 ∷ 3 ∷ 258000 ∷ 100 ∷ [])
     ∷ (4 ∷ 13 ∷ [])
     ∷ [])
-    ≡ Unsound ∷ Unsound ∷ Unsound ∷ Unsound ∷ Unsound ∷ []
+    ≡ None ∷ None ∷ None ∷ None ∷ None ∷ []
 unfolding row_event
 no_events = refl
 

@@ -1,11 +1,9 @@
 -- A record as a row of numbers, for a host: its kind, then its fields in the order in which the record has them.
-use Rattle.std.specs.Prelude.{ℕ, ◌+◌, ◌*◌, cond, not, ◌||◌, List, [], ◌∷◌, map, leb, ltb, length, get_or}
+use Rattle.std.specs.Prelude.{ℕ, ◌+◌, ◌*◌, cond, not, ◌||◌, List, [], ◌∷◌, map, leb, ltb, length, get_or, Option, Some, None}
 use Rattle.arith.specs.Lists.{from, over}
 use Rattle.rules.specs.declared.answer.Answer.TheVariants.{Accepted, TableUnsound, RecordUnsound}
 use Rattle.rules.specs.declared.event.Event.{Event}
 use Rattle.rules.specs.declared.event.Leg.{Leg}
-use Rattle.rules.specs.declared.event.Reading.{Reading}
-use Rattle.rules.specs.declared.event.Reading.TheVariants.{Sound, Unsound}
 use Rattle.rules.specs.Answers.{Outcome, decide}
 use Rattle.rules.specs.Fields.{proposal_fields, leg_fields, has_legs}
 use Rattle.rules.specs.Ranges.{most_legs}
@@ -33,11 +31,11 @@ record_fields = leg_field most_legs
 
 -- ---- the event of a row, its fields in range or not
 -- A proposal of more than 12 legs is no event: a row has room for 12.
-unfoldable pub row_event : ℕ → List ℕ → Reading
+unfoldable pub row_event : ℕ → List ℕ → Option Event
 unfolding event_by_kind
-row_event kind f = cond (not (has_legs kind) || leb (get_or f proposal_legs_field 0) most_legs) (event_by_kind kind f) Unsound
+row_event kind f = cond (not (has_legs kind) || leb (get_or f proposal_legs_field 0) most_legs) (event_by_kind kind f) None
 
-abbrev pub event_in : List ℕ → Reading
+abbrev pub event_in : List ℕ → Option Event
 event_in f = row_event (get_or f kind_field 0) f
 
 -- The first n legs.
@@ -53,17 +51,17 @@ legs_in f = cond (has_legs (get_or f kind_field 0)) (first_legs f (get_or f prop
 abbrev pub with_numbers : Event → List Leg → List ℕ → Outcome (List ℕ)
 with_numbers e legs row = record { answer = Accepted (length (numbers_of e legs)); after = over 0 (numbers_of e legs) row }
 
-abbrev pub with_reading : Reading → List Leg → List ℕ → Outcome (List ℕ)
-with_reading (Sound e) legs row = with_numbers e legs row
-with_reading Unsound legs row = record { answer = RecordUnsound; after = row }
+abbrev pub with_reading : Option Event → List Leg → List ℕ → Outcome (List ℕ)
+with_reading (Some e) legs row = with_numbers e legs row
+with_reading None legs row = record { answer = RecordUnsound; after = row }
 
 -- A short row is 1; then an unsound record is 3.
 unfoldable pub read_fields : ℕ → List ℕ → List ℕ → Outcome (List ℕ)
 read_fields n s row = decide ((ltb (length row) record_fields, TableUnsound) ∷ []) row (with_reading (read_of n s) (legs_of s) row)
 
-abbrev pub write_reading : ℕ → Reading → List Leg → List ℕ → Outcome (List ℕ)
-write_reading n (Sound e) legs out = write_spec n e legs out
-write_reading n Unsound legs out = record { answer = RecordUnsound; after = out }
+abbrev pub write_reading : ℕ → Option Event → List Leg → List ℕ → Outcome (List ℕ)
+write_reading n (Some e) legs out = write_spec n e legs out
+write_reading n None legs out = record { answer = RecordUnsound; after = out }
 
 -- A short row is 1; then a row that says no event is 3, as an event out of its ranges is; then a short output is 1.
 unfoldable pub write_fields : ℕ → List ℕ → List ℕ → Outcome (List ℕ)

@@ -1,10 +1,9 @@
 -- Events and headers to numbers and back, and the round trips that the functions promise.
-use Rattle.std.specs.Prelude.{ℕ, ◌≤◌, List, ◌++◌, ◌≡◌, T, ltb, length, take, get_or}
+use Rattle.std.specs.Prelude.{ℕ, ◌≤◌, List, ◌++◌, ◌≡◌, T, ltb, length, take, get_or, Some}
 use Rattle.arith.specs.Lists.{every, over}
 use Rattle.rules.specs.declared.answer.Answer.TheVariants.{Accepted}
 use Rattle.rules.specs.declared.event.Event.{Event}
 use Rattle.rules.specs.declared.event.Leg.{Leg}
-use Rattle.rules.specs.declared.event.Reading.TheVariants.{Sound}
 use Rattle.rules.specs.Ranges.{most_holidays, most_legs, most_members}
 use Rattle.rules.specs.Header.{Header}
 use Rattle.record_kinds.specs.Numbers.{leg_count}
@@ -17,12 +16,12 @@ use Rattle.number_fields.specs.RecordFields.{record_fields, event_in, legs_in, r
 abbrev pub NumbersGiveEvent : Type 0
 NumbersGiveEvent =
     (e : Event) (legs : List Leg) (rest : List ℕ) → length legs ≡ leg_count e → leg_count e ≤ most_legs
-    → (event_in (numbers_of e legs ++ rest) ≡ Sound e) × (legs_in (numbers_of e legs ++ rest) ≡ legs)
+    → (event_in (numbers_of e legs ++ rest) ≡ Some e) × (legs_in (numbers_of e legs ++ rest) ≡ legs)
 
 -- A row that gives an event begins with its numbers.
 abbrev pub EventGivesNumbers : Type 0
 EventGivesNumbers =
-    (e : Event) (row : List ℕ) → record_fields ≤ length row → event_in row ≡ Sound e
+    (e : Event) (row : List ℕ) → record_fields ≤ length row → event_in row ≡ Some e
     → take (length (numbers_of e (legs_in row))) row ≡ numbers_of e (legs_in row)
 
 -- ---- a header and a row
@@ -50,7 +49,7 @@ abbrev pub WrittenIsRead : Type 0
 WrittenIsRead =
     (n : ℕ) (row out other : List ℕ) (k : ℕ) (after : List ℕ) → record_fields ≤ length other → record { answer = Accepted k; after = after } ≡ write_fields n row out
     → (e : Event)
-    × ((event_in row ≡ Sound e)
+    × ((event_in row ≡ Some e)
     × ((take (length (numbers_of e (legs_in row))) row ≡ numbers_of e (legs_in row))
     × (read_fields n (take k after) other ≡ record { answer = Accepted (length (numbers_of e (legs_in row))); after = over 0 (numbers_of e (legs_in row)) other })))
 

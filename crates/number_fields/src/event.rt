@@ -12,19 +12,20 @@ use record_kinds::{LEG_FIELDS, event_of};
 use rules::kinds::PROPOSAL;
 use rules::layout::LEG_PLACES;
 use rules::ranges::MOST_LEGS;
-use rules::{Kurus, Leg, Lots, Reading};
+use rules::{Event, Kurus, Leg, Lots};
 
 // A row has room for the legs of a proposal of 12.
-pub fn event_in(row: &[u64]) -> Reading
+pub fn event_in(row: &[u64]) -> Option<Event>
     requires { record_fields ≤ length row.now }
     ensures { result ≡ event_in row.now }
 {
     let kind = row[KIND_NUMBER];
     let legs = row[PROPOSAL_LEGS];
     if (kind != PROPOSAL) | (legs <= MOST_LEGS) {
-        return event_of(row);
+        event_of(row)
+    } else {
+        None
     }
-    Reading::Unsound
 }
 
 fn leg_in(row: &[u64], at: usize) -> Leg

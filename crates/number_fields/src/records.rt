@@ -7,7 +7,7 @@ use crate::numbers::put_event;
 use crate::places::RECORD_FIELDS;
 use codec::{read_legs, read_record, write_record};
 use record_kinds::leg_count;
-use rules::{Answer, Reading};
+use rules::Answer;
 
 // Reads a record of a ledger of that many members: TableUnsound for a short row before RecordUnsound, and nothing
 // written on either; Accepted with how many numbers were written.
@@ -18,8 +18,8 @@ pub fn read_record_fields(members: u64, bytes: &[u8], row: &mut [u64]) -> Answer
         return Answer::TableUnsound;
     }
     match read_record(members, bytes) {
-        Reading::Sound(event) => Answer::Accepted(put_event(row, event, read_legs(bytes))),
-        Reading::Unsound => Answer::RecordUnsound,
+        Some(event) => Answer::Accepted(put_event(row, event, read_legs(bytes))),
+        None => Answer::RecordUnsound,
     }
 }
 
@@ -32,10 +32,10 @@ pub fn write_record_fields(members: u64, row: &[u64], out: &mut [u8]) -> Answer
         return Answer::TableUnsound;
     }
     match event_in(row) {
-        Reading::Sound(event) => {
+        Some(event) => {
             let legs = legs_in(row, leg_count(event) as usize);
             write_record(members, event, legs, out)
         }
-        Reading::Unsound => Answer::RecordUnsound,
+        None => Answer::RecordUnsound,
     }
 }

@@ -1,21 +1,20 @@
 -- Document 01, "Records": every field of every kind of record, with numbers that are sound there and numbers that are out of range.
-use Rattle.std.specs.Prelude.{ℕ, ◌-◌, ◌≡◌, refl, Bool, true, false, length, take, set}
+use Rattle.std.specs.Prelude.{ℕ, ◌-◌, ◌≡◌, refl, Bool, true, false, length, take, set, Option, Some, None}
 use mathlib.Core.List.{List, [], ◌∷◌, ◌++◌, map, flat_map}
 use Rattle.arith.specs.Lists.{from}
-use Rattle.rules.specs.declared.event.Reading.{Reading}
-use Rattle.rules.specs.declared.event.Reading.TheVariants.{Sound, Unsound}
 use Rattle.rules.specs.declared.field.Field.TheVariants.{Kind}
 use Rattle.rules.specs.Fields.{times_over, fields_of_kind, bytes_by}
 use Rattle.rules.specs.Records.{read_of}
 use Rattle.rules.specs.Computed.{computed}
+use Rattle.rules.specs.declared.event.Event.{Event}
 
 -- The bytes of a record of a kind with so many legs, by its numbers, kind first.
 bytes : ℕ → ℕ → List ℕ → List ℕ
 bytes kind legs numbers = bytes_by (Kind ∷ fields_of_kind kind legs) numbers
 
-is_sound : Reading → Bool
-is_sound (Sound e) = true
-is_sound Unsound = false
+is_sound : Option Event → Bool
+is_sound (Some e) = true
+is_sound None = false
 
 -- ---- sound records of a ledger of three members
 submit : List ℕ

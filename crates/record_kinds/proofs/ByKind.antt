@@ -10,8 +10,8 @@ use borrow.Author.Tests.{lt-leb, ne_eqb}
 use lib.Dec.{eqb, leb}
 use lib.ListN.{length, get_or, drop, drop_of_length-le}
 use lib.Seq.{drop-cons}
+use Rattle.std.specs.Prelude.{None}
 use Rattle.arith.proofs.Tests.{and_false}
-use Rattle.rules.specs.declared.event.Reading.TheVariants.{Unsound}
 use Rattle.rules.specs.declared.field.Field.{Field}
 use Rattle.rules.specs.declared.field.Field.TheVariants.{Kind, Time}
 use Rattle.rules.specs.Fields.{close_of_day_kind, close_of_day_fields, has_legs, width_of, widths, kind_fields}
@@ -75,12 +75,12 @@ module _ (f : List ℕ) where
   pub by_kind : (k : ℕ) → get_or f 0 0 ≡ k → event_by_kind k f ≡ event_by_kind (get_or f 0 0) f
   by_kind k e = ap (λ x. event_by_kind x f) (sym e)
 
-  pub no_kind : (k : ℕ) → (k ≡ 1 → ⊥) → (k ≡ 2 → ⊥) → (k ≡ 3 → ⊥) → (k ≡ 4 → ⊥) → (k ≡ 5 → ⊥) → (k ≡ 6 → ⊥) → (k ≡ 7 → ⊥) → Unsound ≡ event_by_kind k f
+  pub no_kind : (k : ℕ) → (k ≡ 1 → ⊥) → (k ≡ 2 → ⊥) → (k ≡ 3 → ⊥) → (k ≡ 4 → ⊥) → (k ≡ 5 → ⊥) → (k ≡ 6 → ⊥) → (k ≡ 7 → ⊥) → None ≡ event_by_kind k f
   unfolding event_by_kind
   no_kind k n₁ n₂ n₃ n₄ n₅ n₆ n₇ = simp (ne_eqb k 1 n₁, ne_eqb k 2 n₂, ne_eqb k 3 n₃, ne_eqb k 4 n₄, ne_eqb k 5 n₅, ne_eqb k 6 n₆, ne_eqb k 7 n₇)
 
-  pub no_side : 1 < get_or f 4 0 → Unsound ≡ submit_of f
+  pub no_side : 1 < get_or f 4 0 → None ≡ submit_of f
   no_side h = rw (lt-leb (get_or f 4 0) 1 h) refl
 
-  pub no_order_kind : 2 < get_or f 5 0 → Unsound ≡ submit_of f
+  pub no_order_kind : 2 < get_or f 5 0 → None ≡ submit_of f
   no_order_kind h = rw (lt-leb (get_or f 5 0) 2 h, and_false (leb (get_or f 4 0) 1)) refl

@@ -7,6 +7,7 @@ use native.Mathlib.Omega.{arith}
 use borrow.Author.Tests.{leb-true, ne_eqb}
 use lib.ListN.{length, get_or, take, drop}
 use lib.Seq.{length-take-le, get_or-take}
+use Rattle.std.specs.Prelude.{Option, Some, None}
 use Rattle.arith.specs.Lists.{from}
 use Rattle.arith.proofs.Runs.{run_of}
 use Rattle.arith.proofs.Tests.{same_or, and_left, and_right}
@@ -14,8 +15,6 @@ use Rattle.rules.specs.declared.event.Event.TheVariants.{Submit, Cancel, DayLimi
 use Rattle.rules.specs.declared.event.Event.{Event}
 use Rattle.rules.specs.declared.event.OrderKind.TheVariants.{Resting, Oeye, Teye}
 use Rattle.rules.specs.declared.event.OrderKind.{OrderKind}
-use Rattle.rules.specs.declared.event.Reading.TheVariants.{Sound, Unsound}
-use Rattle.rules.specs.declared.event.Reading.{Reading}
 use Rattle.rules.specs.declared.order.Side.TheVariants.{Buy, Sell}
 use Rattle.rules.specs.declared.order.Side.{Side}
 use Rattle.rules.specs.Fields.{proposal_kind, has_legs, kind_fields}
@@ -43,7 +42,7 @@ pub record Described (e : Event) : Type 0 where
   pub counted : length (event_numbers e) ≡ length (kind_fields (kind_number e))
   pub some : 0 < length (kind_fields (kind_number e))
   pub few : length (kind_fields (kind_number e)) ≤ most_fields
-  pub back : (rest : List ℕ) → event_by_kind (kind_number e) (kind_number e ∷ event_numbers e ++ rest) ≡ Sound e
+  pub back : (rest : List ℕ) → event_by_kind (kind_number e) (kind_number e ∷ event_numbers e ++ rest) ≡ Some e
 
 pub described : (e : Event) → Described e
 unfolding kind_fields event_by_kind
@@ -72,10 +71,10 @@ legs_or_none e some none =
     (λ n. let no = ne_eqb (kind_number e) proposal_kind n in none no (rw no refl))
 
 -- ---- numbers that give an event are the event's
-pub nothing : {P : Type 0} {e : Event} → Unsound ≡ Sound e → P
+pub nothing : {P : Type 0} {e : Event} → None ≡ Some e → P
 nothing h = absurd (let z : ◌≡◌ {A = ℕ} 0 1 = cc in omega arith)
 
-pub if_true : (b : Bool) (r : Reading) (e : Event) → cond b r Unsound ≡ Sound e → (b ≡ true) × (r ≡ Sound e)
+pub if_true : (b : Bool) (r : Option Event) (e : Event) → cond b r None ≡ Some e → (b ≡ true) × (r ≡ Some e)
 if_true true r e h = (refl, h)
 if_true false r e h = nothing h
 
@@ -90,7 +89,7 @@ after_first n (x ∷ f) h =
 abbrev Numbered : ℕ → List ℕ → Event → Type 0
 Numbered k f e = (kind_number e ≡ k) × (event_numbers e ≡ take (length (kind_fields k)) (drop 1 f))
 
-pub numbers_of_event : (k : ℕ) (f : List ℕ) (e : Event) → event_by_kind k f ≡ Sound e → length (kind_fields k) < length f → Numbered k f e
+pub numbers_of_event : (k : ℕ) (f : List ℕ) (e : Event) → event_by_kind k f ≡ Some e → length (kind_fields k) < length f → Numbered k f e
 unfolding event_by_kind kind_fields from
 numbers_of_event k f e h l =
     same_or k 1 (λ g. of g (submit (rw g at h) (rw g at l)))
@@ -105,14 +104,14 @@ numbers_of_event k f e h l =
     of : {j : ℕ} → k ≡ j → Numbered j f e → Numbered k f e
     of g x = rw g x
 
-    is : {j : ℕ} {x : Event} → Sound x ≡ Sound e → Numbered j f x → Numbered j f e
+    is : {j : ℕ} {x : Event} → Some x ≡ Some e → Numbered j f x → Numbered j f e
     is {j} {x} w y = let same : x ≡ e = cc in rw same at y
 
-    submit : submit_of f ≡ Sound e → 7 < length f → Numbered 1 f e
+    submit : submit_of f ≡ Some e → 7 < length f → Numbered 1 f e
     submit w l =
         let side = side_sound (get_or f 4 0) in
         let order = order_kind_sound (get_or f 5 0) in
-        let both = if_true (side && order) (Sound (Submit (submission_of f))) e w in
+        let both = if_true (side && order) (Some (Submit (submission_of f))) e w in
         let one = side_again (get_or f 4 0) (leb-true (get_or f 4 0) 1 (and_left side order both.0)) in
         let two = order_kind_again (get_or f 5 0) (leb-true (get_or f 5 0) 2 (and_right side order both.0)) in
         is {j = 1} both.1 (refl, rw (one, two) (after_first 7 f l))

@@ -15,7 +15,7 @@ use crate::places::{
 };
 use rules::kinds::{CANCEL, CLOSE_OF_DAY, CLOSE_OUT, DAY_LIMITS, DEFAULT, PROPOSAL, SUBMIT};
 use rules::ranges::{LAST_ORDER_KIND, LAST_SIDE};
-use rules::{Cancellation, CloseOutTerms, Event, Kurus, Lots, NewDayLimits, Reading, Submission};
+use rules::{Cancellation, CloseOutTerms, Event, Kurus, Lots, NewDayLimits, Submission};
 use sides::{side_number, side_of};
 
 // The number of an event's kind of record, which fits a byte.
@@ -49,19 +49,19 @@ pub fn leg_count(event: Event) -> u64
 }
 
 // ---- the event of numbers, its fields in range or not
-fn submit_of(numbers: &[u64]) -> Reading
+fn submit_of(numbers: &[u64]) -> Option<Event>
     requires { most_numbers ≤ length numbers.now }
     ensures { result ≡ submit_of numbers.now }
 {
     let side = numbers[SUBMIT_SIDE];
     let kind = numbers[SUBMIT_ORDER_KIND];
     if LAST_SIDE < side {
-        return Reading::Unsound;
+        return None;
     }
     if LAST_ORDER_KIND < kind {
-        return Reading::Unsound;
+        return None;
     }
-    Reading::Sound(Event::Submit(Submission {
+    Some(Event::Submit(Submission {
         time: numbers[SUBMIT_TIME],
         member: numbers[SUBMIT_MEMBER],
         contract: numbers[SUBMIT_CONTRACT],
@@ -104,20 +104,20 @@ fn close_out_of(numbers: &[u64]) -> CloseOutTerms
     }
 }
 
-pub fn event_of(numbers: &[u64]) -> Reading
+pub fn event_of(numbers: &[u64]) -> Option<Event>
     requires { most_numbers ≤ length numbers.now }
     ensures { result ≡ event_by_kind (get_or numbers.now 0 0) numbers.now }
 {
     let kind = numbers[KIND_NUMBER];
     match kind {
         SUBMIT => submit_of(numbers),
-        CANCEL => Reading::Sound(Event::Cancel(cancellation_of(numbers))),
-        DAY_LIMITS => Reading::Sound(Event::DayLimits(new_day_limits_of(numbers))),
-        PROPOSAL => Reading::Sound(Event::Proposal(numbers[PROPOSAL_LEGS])),
-        DEFAULT => Reading::Sound(Event::Default(numbers[DEFAULT_MEMBER])),
-        CLOSE_OUT => Reading::Sound(Event::CloseOut(close_out_of(numbers))),
-        CLOSE_OF_DAY => Reading::Sound(Event::CloseOfDay(numbers[CLOSE_OF_DAY_TIME])),
-        _ => Reading::Unsound,
+        CANCEL => Some(Event::Cancel(cancellation_of(numbers))),
+        DAY_LIMITS => Some(Event::DayLimits(new_day_limits_of(numbers))),
+        PROPOSAL => Some(Event::Proposal(numbers[PROPOSAL_LEGS])),
+        DEFAULT => Some(Event::Default(numbers[DEFAULT_MEMBER])),
+        CLOSE_OUT => Some(Event::CloseOut(close_out_of(numbers))),
+        CLOSE_OF_DAY => Some(Event::CloseOfDay(numbers[CLOSE_OF_DAY_TIME])),
+        _ => None,
     }
 }
 

@@ -4,11 +4,10 @@ use mathlib.Core.Path.{◌≡◌, refl, sym, subst, ◌∙◌}
 use mathlib.Core.Bool.{true, false}
 use mathlib.Core.List.{List, [], ◌∷◌}
 use lib.IntN.{ℤ}
+use Rattle.std.specs.Prelude.{Option, Some, None}
 use Rattle.arith.proofs.Tests.{true_or}
 use Rattle.rules.specs.declared.answer.Answer.{Answer}
 use Rattle.rules.specs.declared.answer.Answer.TheVariants.{RecordUnsound}
-use Rattle.rules.specs.declared.event.Reading.{Reading}
-use Rattle.rules.specs.declared.event.Reading.TheVariants.{Sound, Unsound}
 use Rattle.rules.specs.Answers.{Outcome, Cause, decide}
 use Rattle.rules.specs.Ledger.{Tables, members, holiday_count, order_count, with_lines, ledger_short, lines_short}
 use Rattle.rules.specs.Records.{legs_of, read_of}
@@ -26,6 +25,7 @@ use Rattle.replay.proofs.Damage.{same_unsound}
 use Rattle.replay.proofs.Alike.{Alike, alike_of, same_of}
 use Rattle.replay.proofs.EachKind.{OutcomesAlike}
 use Rattle.replay.proofs.KindsReplay.{kind_replays}
+use Rattle.rules.specs.declared.event.Event.{Event}
 
 -- ---- one record
 module _ {n k q : ℕ} {t u : Tables} (a : Alike n k q t u) where
@@ -41,14 +41,14 @@ module _ (t u : Tables) (s : SameButSurplus t u) (a : Undamaged t) (l : Long u) 
   start : Alike (members t) (holiday_count t) (order_count t) t u
   start = alike_of t u s a.long l
 
-  reading_alike : (x : Reading) (bytes : List ℕ) → read_of (members t) bytes ≡ x → OutcomesAlike (members t) (holiday_count t) (reading_spec t x (legs_of bytes)) (reading_spec u x (legs_of bytes))
+  reading_alike : (x : Option Event) (bytes : List ℕ) → read_of (members t) bytes ≡ x → OutcomesAlike (members t) (holiday_count t) (reading_spec t x (legs_of bytes)) (reading_spec u x (legs_of bytes))
   unfolding reading_spec event_spec
-  reading_alike (Sound e) bytes r =
+  reading_alike (Some e) bytes r =
       let legs = legs_of bytes in
       let k = kind_replays e t legs a (read_sound (members t) bytes e r) in
       subst (λ causes. OutcomesAlike (members t) (holiday_count t) (decide (kind_causes t e legs) t (kind_booked t e legs)) (decide causes u (kind_booked u e legs))) (k.causes u s l)
       (decide_alike start (kind_causes t e legs) (kind_booked t e legs) (kind_booked u e legs) (causes_refuse t e legs) (k.alike u s l))
-  reading_alike Unsound bytes r = refused_alike start RecordUnsound refl
+  reading_alike None bytes r = refused_alike start RecordUnsound refl
 
 -- the same answer, the same lines, and ledgers that agree but for surplus
 pub record SameOutcome (o o' : Outcome Tables) : Type 0 where

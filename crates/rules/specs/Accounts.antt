@@ -2,8 +2,6 @@
 use Rattle.std.specs.Prelude.{ℕ, ◌*◌, ◌≤◌, ◌<◌, ◌≡◌, Bool, cond, not, List, [], ◌∷◌, ◌++◌, T, eqb, ℤ, pos, ◌+ℤ◌, Option, Some, None}
 use Rattle.arith.specs.Ints.{when, sum}
 use Rattle.rules.specs.declared.answer.Answer.{Answer}
-use Rattle.rules.specs.declared.event.Reading.{Reading}
-use Rattle.rules.specs.declared.event.Reading.TheVariants.{Sound, Unsound}
 use Rattle.rules.specs.Answers.{Outcome, reply_of}
 use Rattle.rules.specs.Ranges.{contract_count}
 use Rattle.rules.specs.Days.{Calendar, span_start, day_after_span, next_business_day}
@@ -12,6 +10,7 @@ use Rattle.rules.specs.Header.{Header, calendar_of, header_of, begins_with_heade
 use Rattle.rules.specs.Ledger.{Tables, Line, with_lines, lots_at, value_at, line_lots, line_value, first_lines, ledger_short}
 use Rattle.rules.specs.Records.{is_close_of_day, read_of}
 use Rattle.rules.specs.Refusals.{apply_spec, make_spec}
+use Rattle.rules.specs.declared.event.Event.{Event}
 use Rattle.rules.specs.declared.units.DayNo.{DayNo}
 
 -- ---- the list of calls
@@ -64,9 +63,9 @@ abbrev pub day_reached : ℕ → Option DayNo → ℕ
 day_reached d (Some x) = x.0
 day_reached d None = d
 
-abbrev pub day_after_event : Calendar → ℕ → Reading → ℕ
-day_after_event k d (Sound e) = cond (is_close_of_day e) (day_reached d (next_business_day k d)) d
-day_after_event k d Unsound = d
+abbrev pub day_after_event : Calendar → ℕ → Option Event → ℕ
+day_after_event k d (Some e) = cond (is_close_of_day e) (day_reached d (next_business_day k d)) d
+day_after_event k d None = d
 
 unfoldable pub lists_day : Header → ℕ → Tables → List Call → ℕ
 lists_day h d t [] = d

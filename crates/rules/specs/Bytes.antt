@@ -1,6 +1,6 @@
 -- A record of each kind and a header, written out by hand from document 01's field list. Their values change if their bytes are
 -- exchanged, so that a slip in both reader and writer is seen.
-use Rattle.std.specs.Prelude.{ℕ, ◌≡◌, refl, true, false, take}
+use Rattle.std.specs.Prelude.{ℕ, ◌≡◌, refl, true, false, take, Some, None}
 use mathlib.Core.List.{List, [], ◌∷◌, ◌++◌, map, flat_map}
 use Rattle.arith.specs.Lists.{from, every}
 use Rattle.rules.specs.declared.answer.Answer.TheVariants.{RecordUnsound}
@@ -8,7 +8,6 @@ use Rattle.rules.specs.declared.event.Event.{Event}
 use Rattle.rules.specs.declared.event.Event.TheVariants.{Submit, Cancel, DayLimits, Proposal, Default, CloseOut, CloseOfDay}
 use Rattle.rules.specs.declared.event.Leg.{Leg}
 use Rattle.rules.specs.declared.event.OrderKind.TheVariants.{Resting, Oeye, Teye}
-use Rattle.rules.specs.declared.event.Reading.TheVariants.{Sound, Unsound}
 use Rattle.rules.specs.declared.order.Side.TheVariants.{Buy, Sell}
 use Rattle.rules.specs.Header.{u16_at, u32_at, u16_bytes, u32_bytes, u16s_at, u32s_at, Header, header_of, header_bytes, begins_with_header}
 use Rattle.rules.specs.Computed.{computed}
@@ -84,7 +83,7 @@ examples =
     ∷ []
 
 -- Reading the bytes gives the event and its legs, and writing them gives the bytes.
-pub examples_read : map (λ x. read_of 3 x.bytes) examples ≡ map (λ x. Sound x.event) examples
+pub examples_read : map (λ x. read_of 3 x.bytes) examples ≡ map (λ x. Some x.event) examples
 unfolding read_of fields_of fields_by_kind record_length legs_of event_sound u16_at u32_at from every
 examples_read = refl
 
@@ -97,11 +96,11 @@ unfolding bytes_of field_bytes u16_bytes u32_bytes flat_map
 examples_written = refl
 
 -- The third of them with side 2, and with order kind 3: neither is a record.
-no_third_side : read_of 3 (1 ∷ 0 ∷ 0 ∷ 18 ∷ 52 ∷ 1 ∷ 34 ∷ 2 ∷ 0 ∷ 0 ∷ 1 ∷ 2 ∷ 3 ∷ 0 ∷ 7 ∷ []) ≡ Unsound
+no_third_side : read_of 3 (1 ∷ 0 ∷ 0 ∷ 18 ∷ 52 ∷ 1 ∷ 34 ∷ 2 ∷ 0 ∷ 0 ∷ 1 ∷ 2 ∷ 3 ∷ 0 ∷ 7 ∷ []) ≡ None
 unfolding computed
 no_third_side = refl
 
-no_fourth_order_kind : read_of 3 (1 ∷ 0 ∷ 0 ∷ 18 ∷ 52 ∷ 1 ∷ 34 ∷ 0 ∷ 3 ∷ 0 ∷ 1 ∷ 2 ∷ 3 ∷ 0 ∷ 7 ∷ []) ≡ Unsound
+no_fourth_order_kind : read_of 3 (1 ∷ 0 ∷ 0 ∷ 18 ∷ 52 ∷ 1 ∷ 34 ∷ 0 ∷ 3 ∷ 0 ∷ 1 ∷ 2 ∷ 3 ∷ 0 ∷ 7 ∷ []) ≡ None
 unfolding computed
 no_fourth_order_kind = refl
 

@@ -1,5 +1,5 @@
 -- Document 01, "Records": what the bytes of a record say, which are sound, and what is written for an event.
-use Rattle.std.specs.Prelude.{ℕ, ◌+◌, ◌*◌, ◌-◌, Bool, cond, not, ◌&&◌, ◌≡◌, refl, eqb, leb, ltb, length, get_or}
+use Rattle.std.specs.Prelude.{ℕ, ◌+◌, ◌*◌, ◌-◌, Bool, cond, not, ◌&&◌, ◌≡◌, refl, eqb, leb, ltb, length, get_or, Option, Some, None}
 use mathlib.Core.List.{List, [], ◌∷◌, ◌++◌, map, flat_map}
 use Rattle.arith.specs.Lists.{from, every, over}
 use Rattle.rules.specs.declared.answer.Answer.TheVariants.{Accepted, TableUnsound, RecordUnsound}
@@ -13,8 +13,6 @@ use Rattle.rules.specs.declared.event.Leg.{Leg}
 use Rattle.rules.specs.declared.event.NewDayLimits.{NewDayLimits}
 use Rattle.rules.specs.declared.event.OrderKind.{OrderKind}
 use Rattle.rules.specs.declared.event.OrderKind.TheVariants.{Resting, Oeye, Teye}
-use Rattle.rules.specs.declared.event.Reading.{Reading}
-use Rattle.rules.specs.declared.event.Reading.TheVariants.{Sound, Unsound}
 use Rattle.rules.specs.declared.event.Submission.{Submission}
 use Rattle.rules.specs.declared.field.Field.{Field}
 use Rattle.rules.specs.declared.field.Field.TheVariants.{Kind}
@@ -168,8 +166,8 @@ submission_of f =
     }
 
 -- A side or an order kind that no number stands for is out of range.
-abbrev pub submit_of : List ℕ → Reading
-submit_of f = cond (side_sound (get_or f 4 0) && order_kind_sound (get_or f 5 0)) (Sound (Submit (submission_of f))) Unsound
+abbrev pub submit_of : List ℕ → Option Event
+submit_of f = cond (side_sound (get_or f 4 0) && order_kind_sound (get_or f 5 0)) (Some (Submit (submission_of f))) None
 
 abbrev pub cancellation_of : List ℕ → Cancellation
 cancellation_of f = record { time = get_or f 1 0; member = get_or f 2 0; order = get_or f 3 0 }
@@ -180,16 +178,16 @@ new_day_limits_of f = record { contract = get_or f 1 0; low = record { 0 = get_o
 abbrev pub close_out_of : List ℕ → CloseOutTerms
 close_out_of f = record { contract = get_or f 1 0; ratio = get_or f 2 0 }
 
-unfoldable pub event_by_kind : ℕ → List ℕ → Reading
+unfoldable pub event_by_kind : ℕ → List ℕ → Option Event
 event_by_kind kind f =
     cond (eqb kind submit_kind) (submit_of f)
-    (cond (eqb kind cancel_kind) (Sound (Cancel (cancellation_of f)))
-    (cond (eqb kind day_limits_kind) (Sound (DayLimits (new_day_limits_of f)))
-    (cond (eqb kind proposal_kind) (Sound (Proposal (get_or f 1 0)))
-    (cond (eqb kind default_kind) (Sound (Default (get_or f 1 0)))
-    (cond (eqb kind close_out_kind) (Sound (CloseOut (close_out_of f)))
-    (cond (eqb kind close_of_day_kind) (Sound (CloseOfDay (get_or f 1 0)))
-    Unsound))))))
+    (cond (eqb kind cancel_kind) (Some (Cancel (cancellation_of f)))
+    (cond (eqb kind day_limits_kind) (Some (DayLimits (new_day_limits_of f)))
+    (cond (eqb kind proposal_kind) (Some (Proposal (get_or f 1 0)))
+    (cond (eqb kind default_kind) (Some (Default (get_or f 1 0)))
+    (cond (eqb kind close_out_kind) (Some (CloseOut (close_out_of f)))
+    (cond (eqb kind close_of_day_kind) (Some (CloseOfDay (get_or f 1 0)))
+    None))))))
 
 -- A leg whose numbers begin at a place of some.
 abbrev pub leg_in : List ℕ → ℕ → Leg
@@ -222,13 +220,13 @@ unfoldable pub record_numbers : ℕ → List ℕ → List ℕ
 unfolding kind_fields numbers_at
 record_numbers kind s = numbers_at s kind_byte (Kind ∷ kind_fields kind)
 
-unfoldable pub fields_by_kind : ℕ → List ℕ → Reading
+unfoldable pub fields_by_kind : ℕ → List ℕ → Option Event
 unfolding event_by_kind record_numbers
 fields_by_kind kind s = event_by_kind kind (record_numbers kind s)
 
 -- A record cut or with surplus bytes is unsound; the ranges of its fields are tested after.
-unfoldable pub fields_of : List ℕ → Reading
-fields_of s = cond (eqb (length s) (front_length s)) (fields_by_kind (get_or s kind_byte 0) s) Unsound
+unfoldable pub fields_of : List ℕ → Option Event
+fields_of s = cond (eqb (length s) (front_length s)) (fields_by_kind (get_or s kind_byte 0) s) None
 
 abbrev pub leg_at : List ℕ → ℕ → Leg
 leg_at s i = leg_in (numbers_at s i leg_fields) 0
@@ -239,20 +237,20 @@ unfolding numbers_at
 legs_of s = cond (eqb (get_or s kind_byte 0) proposal_kind) (map (λ j. leg_at s (leg_place j)) (from 0 (get_or s proposal_legs_byte 0))) []
 
 -- An event whose fields are in their ranges.
-abbrev pub if_sound : ℕ → List Leg → Reading → Reading
-if_sound n legs (Sound e) = cond (event_sound n e legs) (Sound e) Unsound
-if_sound n legs Unsound = Unsound
+abbrev pub if_sound : ℕ → List Leg → Option Event → Option Event
+if_sound n legs (Some e) = cond (event_sound n e legs) (Some e) None
+if_sound n legs None = None
 
 -- What a record says in a ledger of n members, 1 to 32; reader and writer are given that count.
-unfoldable pub read_of : ℕ → List ℕ → Reading
-read_of n s = cond (members_sound n) (if_sound n (legs_of s) (fields_of s)) Unsound
+unfoldable pub read_of : ℕ → List ℕ → Option Event
+read_of n s = cond (members_sound n) (if_sound n (legs_of s) (fields_of s)) None
 
 -- The paper's number for what a reader answers: a record that is unsound is 3.
-abbrev pub reply_of_reading : Reading → Reply
-reply_of_reading (Sound e) = record { number = 0; detail = 0 }
-reply_of_reading Unsound = reply_of RecordUnsound
+abbrev pub reply_of_reading : Option Event → Reply
+reply_of_reading (Some e) = record { number = 0; detail = 0 }
+reply_of_reading None = reply_of RecordUnsound
 
-reading_replies : map reply_of_reading (Sound (Default 2) ∷ Unsound ∷ []) ≡ record { number = 0; detail = 0 } ∷ record { number = 3; detail = 0 } ∷ []
+reading_replies : map reply_of_reading (Some (Default 2) ∷ None ∷ []) ≡ record { number = 0; detail = 0 } ∷ record { number = 3; detail = 0 } ∷ []
 reading_replies = refl
 
 -- ---- records one after the other

@@ -1,5 +1,5 @@
 -- Document 01, "Why a record is turned back": damage, the causes of each kind of record in the order of their ranks, and one call.
-use Rattle.std.specs.Prelude.{ℕ, ◌+◌, ◌*◌, Bool, true, not, ◌&&◌, ◌||◌, List, [], ◌∷◌, map, eqb, leb, ltb, length, take, get_or, ℤ, nat_abs}
+use Rattle.std.specs.Prelude.{ℕ, ◌+◌, ◌*◌, Bool, true, not, ◌&&◌, ◌||◌, List, [], ◌∷◌, map, eqb, leb, ltb, length, take, get_or, ℤ, nat_abs, Option, Some, None}
 use Rattle.arith.specs.Lists.{every, any, kept, from, every_block, all_of}
 use Rattle.rules.specs.declared.answer.Answer.TheVariants.{Accepted, TableUnsound, HeaderUnsound, RecordUnsound, TimeBelowLedger, MemberDefaulted, ContractNotOpen}
 use Rattle.rules.specs.declared.answer.Answer.TheVariants.{PriceOutsideLimits, SixthSubmit, AboveLimit, CannotMatchInFull, BookFull, NoSuchOrder, NotAcceptable}
@@ -10,8 +10,6 @@ use Rattle.rules.specs.declared.event.Event.{Event}
 use Rattle.rules.specs.declared.event.Event.TheVariants.{Submit, Cancel, DayLimits, Proposal, Default, CloseOut, CloseOfDay}
 use Rattle.rules.specs.declared.event.Leg.{Leg}
 use Rattle.rules.specs.declared.event.NewDayLimits.{NewDayLimits}
-use Rattle.rules.specs.declared.event.Reading.{Reading}
-use Rattle.rules.specs.declared.event.Reading.TheVariants.{Sound, Unsound}
 use Rattle.rules.specs.declared.event.Submission.{Submission}
 use Rattle.rules.specs.declared.order.Order.{Order}
 use Rattle.rules.specs.Answers.{Outcome, Cause, decide}
@@ -209,9 +207,9 @@ unfoldable pub close_spec : Tables → ℕ → Outcome Tables
 close_spec t s = decide (close_causes t s) t (close_booked t s)
 
 -- ---- a call
-unfoldable pub reading_spec : Tables → Reading → List Leg → Outcome Tables
-reading_spec t (Sound e) legs = event_spec t e legs
-reading_spec t Unsound legs = record { answer = RecordUnsound; after = t }
+unfoldable pub reading_spec : Tables → Option Event → List Leg → Outcome Tables
+reading_spec t (Some e) legs = event_spec t e legs
+reading_spec t None legs = record { answer = RecordUnsound; after = t }
 
 -- One record applied to the lent tables, whatever they hold and whatever its bytes.
 unfoldable pub apply_spec : Tables → List ℕ → Outcome Tables

@@ -3,7 +3,7 @@ ghost use Rattle.rules.specs.ContractTerms.{threshold_of, open_count, closing_di
 
 use crate::units::Lots;
 
-#[derive(Clone, Copy)]
+#[derive(Clone, Copy, PartialEq, Eq)]
 pub enum ContractKind {
     Year,
     Quarter,

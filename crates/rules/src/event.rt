@@ -1,7 +1,7 @@
 use crate::order::Side;
 use crate::units::{Kurus, Lots};
 
-#[derive(Clone, Copy)]
+#[derive(Clone, Copy, PartialEq, Eq)]
 pub enum OrderKind {
     // Matches what is there and rests with what is left.
     Resting,
@@ -68,14 +68,7 @@ pub enum Event {
     CloseOfDay(u64),
 }
 
-// What the bytes of a record say.
-#[derive(Clone, Copy)]
-pub enum Reading {
-    Sound(Event),
-    Unsound,
-}
-
-// What stands at the front of a stream of records.
+// What stands at the front of a stream of records: three outcomes that callers tell apart, none an error of the others.
 #[derive(Clone, Copy)]
 pub enum Front {
     // A whole record, with its length in bytes.

@@ -1,5 +1,5 @@
 // The fields of a header and of a record.
-#[derive(Clone, Copy)]
+#[derive(Clone, Copy, PartialEq, Eq)]
 pub enum Field {
     // Of a header.
     LetterV,

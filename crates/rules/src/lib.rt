@@ -14,7 +14,7 @@ mod units;
 pub use answer::Answer;
 pub use contract::{ContractKind, Term};
 pub use event::{
-    Cancellation, CloseOutTerms, Event, Front, Leg, NewDayLimits, OrderKind, Reading, Submission,
+    Cancellation, CloseOutTerms, Event, Front, Leg, NewDayLimits, OrderKind, Submission,
 };
 pub use field::Field;
 pub use order::{Order, Side};

@@ -1,6 +1,6 @@
 use crate::units::{DayNo, Kurus, Lots};
 
-#[derive(Clone, Copy)]
+#[derive(Clone, Copy, PartialEq, Eq)]
 pub enum Side {
     Buy,
     Sell,

@@ -3,27 +3,27 @@ ghost use Rattle.std.specs.Prelude.{◌≡◌, ◌*◌, ◌^◌, ◌≤◌, ◌<
 ghost use Rattle.rules.specs.Ranges.{most_price, most_lots_run};
 
 // A number of lots: of an order, a leg or a deal, and M. One lot is 0.1 MWh in every hour of a contract's period.
-#[derive(Clone, Copy)]
+#[derive(Clone, Copy, PartialEq, Eq)]
 pub struct Lots(pub u64);
 
 // Lots with the sign of their side, above 0 for a buy: the lots of a row and of a deal line.
-#[derive(Clone, Copy)]
+#[derive(Clone, Copy, PartialEq, Eq)]
 pub struct SignedLots(pub i64);
 
 // A price, in kuruş per MWh: of an order, a leg, a deal or a line, the GGF, low and high.
-#[derive(Clone, Copy)]
+#[derive(Clone, Copy, PartialEq, Eq)]
 pub struct Kurus(pub u64);
 
 // Lots times price, in tenths of a kuruş for each delivery hour: V.
-#[derive(Clone, Copy)]
+#[derive(Clone, Copy, PartialEq, Eq)]
 pub struct Worth(pub u64);
 
 // Signed lots times price, in the same unit: the value of a row.
-#[derive(Clone, Copy)]
+#[derive(Clone, Copy, PartialEq, Eq)]
 pub struct Value(pub i64);
 
 // A day, counted from day 0, 1 January 2020.
-#[derive(Clone, Copy)]
+#[derive(Clone, Copy, PartialEq, Eq)]
 pub struct DayNo(pub u64);
 
 impl Lots {

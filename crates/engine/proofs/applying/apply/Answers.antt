@@ -19,15 +19,15 @@ apply_event-requires c =
     let a = c.args in (
       fits (lent a.head.now a.prices.now a.lots.now a.value.now a.book.now a.lines.now) (sym c.is_unsound.ensures ∙ c.if-is_unsound.false),
       sym c.read_record.ensures
-          ∙ c.in-Sound.is,
+          ∙ c.in-Some.is,
     )
 
-pub returns-in-Sound : goal.returns-in-Sound
+pub returns-in-Some : goal.returns-in-Some
 unfolding apply_spec reading_spec
-returns-in-Sound c =
-    rw (sym c.is_unsound.ensures ∙ c.if-is_unsound.false, sym c.read_record.ensures ∙ c.in-Sound.is) c.apply_event.ensures
+returns-in-Some c =
+    rw (sym c.is_unsound.ensures ∙ c.if-is_unsound.false, sym c.read_record.ensures ∙ c.in-Some.is) c.apply_event.ensures
 
-pub returns-in-Unsound : goal.returns-in-Unsound
+pub returns-in-None : goal.returns-in-None
 unfolding apply_spec reading_spec
-returns-in-Unsound c =
-    rw (sym c.is_unsound.ensures ∙ c.if-is_unsound.false, sym c.read_record.ensures ∙ c.in-Unsound.is)
+returns-in-None c =
+    rw (sym c.is_unsound.ensures ∙ c.if-is_unsound.false, sym c.read_record.ensures ∙ c.in-None.is)

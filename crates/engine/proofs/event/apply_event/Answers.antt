@@ -1,5 +1,5 @@
 use mathlib.Core.Path.{ap, ◌∙◌}
-use Rattle.rules.specs.declared.event.Reading.TheVariants.{Sound}
+use Rattle.std.specs.Prelude.{Some}
 use Rattle.rules.specs.Ledger.{lent}
 use Rattle.rules.specs.Refusals.{event_spec, submit_spec, cancel_spec, day_limits_spec, proposal_spec, default_spec, close_out_spec, close_spec}
 use Rattle.engine.proofs.Events.{submission_fits, limits_contract, member_below, close_out_contract_below, close_out_ratio, most_run_left}
@@ -10,7 +10,7 @@ apply-requires c =
     let pre = c.requires in
     let a = c.args in
     let f = pre.0 in
-    let e = submission_fits a.head.now a.bytes.now _ (pre.1 ∙ ap Sound c.in-Submit.is) in
+    let e = submission_fits a.head.now a.bytes.now _ (pre.1 ∙ ap Some c.in-Submit.is) in
     record { head_fit = (f.head_fit, f.prices_fit, f.book_fit, e, f.lines_long); rows_fit = (f.lots_fit, f.value_fit) }
 
 pub apply-requires-in-DayLimits : goal.apply-requires-in-DayLimits
@@ -18,19 +18,19 @@ apply-requires-in-DayLimits c =
     let pre = c.requires in
     let a = c.args in
     let f = pre.0 in
-    (f.head_fit, f.prices_fit.long, limits_contract a.head.now a.bytes.now _ (pre.1 ∙ ap Sound c.in-DayLimits.is))
+    (f.head_fit, f.prices_fit.long, limits_contract a.head.now a.bytes.now _ (pre.1 ∙ ap Some c.in-DayLimits.is))
 
 pub apply_legs-requires : goal.apply_legs-requires
 apply_legs-requires c =
     let pre = c.requires in
-    (pre.0, pre.1 ∙ ap Sound c.in-Proposal.is)
+    (pre.0, pre.1 ∙ ap Some c.in-Proposal.is)
 
 pub apply-requires-in-Default : goal.apply-requires-in-Default
 apply-requires-in-Default c =
     let pre = c.requires in
     let a = c.args in
     let f = pre.0 in
-    (f.head_fit, f.book_fit, member_below a.head.now a.bytes.now _ (pre.1 ∙ ap Sound c.in-Default.is))
+    (f.head_fit, f.book_fit, member_below a.head.now a.bytes.now _ (pre.1 ∙ ap Some c.in-Default.is))
 
 pub apply-requires-in-CloseOut : goal.apply-requires-in-CloseOut
 apply-requires-in-CloseOut c =
@@ -38,7 +38,7 @@ apply-requires-in-CloseOut c =
     let a = c.args in
     let f = pre.0 in
     let h = f.head_fit in
-    let r = pre.1 ∙ ap Sound c.in-CloseOut.is in
+    let r = pre.1 ∙ ap Some c.in-CloseOut.is in
     let run = most_run_left (lent a.head.now a.prices.now a.lots.now a.value.now a.book.now a.lines.now) f in record {
       head_fit = (
         h,

@@ -7,14 +7,14 @@ returns-then-row-lt-RECORD_FIELDS c = let a = c.args in read_short a.members a.b
 pub put_event-requires : goal.put_event-requires
 put_event-requires c =
     let a = c.args in
-    (c.if-row-lt-RECORD_FIELDS.false, few_read a.members a.bytes.now a.row.now c.read_record.ensures c.in-Sound.is)
+    (c.if-row-lt-RECORD_FIELDS.false, few_read a.members a.bytes.now a.row.now c.read_record.ensures c.in-Some.is)
 
-pub returns-in-Sound : goal.returns-in-Sound
-returns-in-Sound c =
+pub returns-in-Some : goal.returns-in-Some
+returns-in-Some c =
     let a = c.args in
-    read_sound a.members a.bytes.now a.row.now c.read_record.ensures c.in-Sound.is c.if-row-lt-RECORD_FIELDS.false c.read_legs.ensures c.put_event.ensures
+    read_sound a.members a.bytes.now a.row.now c.read_record.ensures c.in-Some.is c.if-row-lt-RECORD_FIELDS.false c.read_legs.ensures c.put_event.ensures
 
-pub returns-in-Unsound : goal.returns-in-Unsound
-returns-in-Unsound c =
+pub returns-in-None : goal.returns-in-None
+returns-in-None c =
     let a = c.args in
-    read_unsound a.members a.bytes.now a.row.now c.read_record.ensures c.if-row-lt-RECORD_FIELDS.false c.in-Unsound.is
+    read_unsound a.members a.bytes.now a.row.now c.read_record.ensures c.if-row-lt-RECORD_FIELDS.false c.in-None.is
