@@ -5,8 +5,8 @@ use mathlib.Core.List.{List, ◌++◌, append-nil}
 use Prim.Native.Nat.{ℕ, ◌≤◌, ◌<◌}
 use native.Mathlib.Omega.{arith}
 use lib.IntN.{◌+ℤ◌}
+use Rattle.std.specs.Prelude.{Result}
 use Rattle.arith.specs.Lists.{All}
-use Rattle.rules.specs.declared.answer.Answer.{Answer}
 use Rattle.rules.specs.Answers.{Outcome}
 use Rattle.rules.specs.ContractTerms.{has_cascaded}
 use Rattle.rules.specs.Header.{Header, calendar_of}
@@ -19,6 +19,7 @@ use Rattle.accounts.proofs.Rows.{posted_row}
 use Rattle.accounts.proofs.Written.{lines_printed}
 use Rattle.accounts.proofs.Holds.{Rows, Holds, Fair, holds_same, holds_posted}
 use Rattle.accounts.proofs.Runs.{InOpen, Runs, Sound, booked_runs}
+use Rattle.rules.specs.declared.refusal.Refusal.{Refusal}
 
 -- ---- a call
 abbrev pub rows_of : Tables → Rows
@@ -31,7 +32,7 @@ pub record Does (h : Header) (d e : ℕ) (t : Tables) (o : Outcome Tables) : Typ
       → Holds h (rows_of o.after) (log ++ lines_of o.answer o.after.lines) (has_cascaded (calendar_of h) (cond (is_accepted o.answer) e d))
 
 -- what is refused leaves all as it was
-pub refused_does : (h : Header) (d e : ℕ) (t : Tables) (a : Answer) → is_accepted a ≡ false → Runs h d t → Does h d e t (record { answer = a; after = t })
+pub refused_does : (h : Header) (d e : ℕ) (t : Tables) (a : Result ℕ Refusal) → is_accepted a ≡ false → Runs h d t → Does h d e t (record { answer = a; after = t })
 refused_does h d e t a q r = record { runs = rw q r; holds = λ log p. rw (q, append-nil log) p }
 
 -- ---- a record with lines

@@ -4,8 +4,9 @@ use mathlib.Core.Path.{refl, sym, ◌∙◌}
 use mathlib.Core.Bool.{not}
 use mathlib.Core.List.{List, [], ◌∷◌}
 use borrow.Author.Tests.{not-false}
+use Rattle.std.specs.Prelude.{Ok}
 use Rattle.arith.proofs.Tests.{never}
-use Rattle.rules.specs.declared.answer.Answer.TheVariants.{Accepted, TableUnsound, HeaderUnsound}
+use Rattle.rules.specs.declared.refusal.Refusal.TheVariants.{TableUnsound, HeaderUnsound}
 use Rattle.rules.specs.Header.{header_of, begins_with_header}
 use Rattle.rules.specs.Ledger.{Tables, fresh, ledger_short}
 use Rattle.rules.specs.Refusals.{apply_spec, make_spec}
@@ -29,7 +30,7 @@ at_most_200_lines t bytes = (apply_fits t bytes).few
 pub making_keeps_lengths : MakingKeepsLengths
 unfolding make_spec
 making_keeps_lengths t bytes =
-    decide_shows (λ o. SameLengths t o.after) t (record { answer = Accepted 0; after = fresh (header_of bytes) t })
+    decide_shows (λ o. SameLengths t o.after) t (record { answer = Ok 0; after = fresh (header_of bytes) t })
     ((ledger_short t, TableUnsound) ∷ (not (begins_with_header bytes), HeaderUnsound) ∷ [])
-    (λ a q. same_lengths t) (refl, (refl, tt))
+    (λ a q. same_lengths t)
     (λ none. fresh_lengths (header_of bytes) t (header_gives (header_of bytes) (begun bytes (not-false _ none.1.0))) (long_enough t none.0))

@@ -1,11 +1,11 @@
 -- The lots run grows by the lines of each call.
-use Prim.Native.Nat.{◌+◌}
+use Prim.Native.Nat.{ℕ, ◌+◌}
 use mathlib.Core.Path.{◌≡◌, refl}
 use mathlib.Core.Bool.{Bool, true, false}
 use mathlib.Core.List.{List, [], ◌∷◌}
 use native.Mathlib.Omega.{arith}
+use Rattle.std.specs.Prelude.{Result}
 use Rattle.arith.specs.Lists.{total}
-use Rattle.rules.specs.declared.answer.Answer.{Answer}
 use Rattle.rules.specs.declared.event.Event.{Event}
 use Rattle.rules.specs.declared.event.Leg.{Leg}
 use Rattle.rules.specs.Answers.{Outcome}
@@ -17,6 +17,7 @@ use Rattle.rules.proofs.SoundTables.{Undamaged}
 use Rattle.accounts.proofs.EachKind.{NoCause, every_call}
 use Rattle.accounts.proofs.KindsKeep.{RowsMove, kind_keeps}
 use Rattle.rules.proofs.LinesRun.{run_append}
+use Rattle.rules.specs.declared.refusal.Refusal.{Refusal}
 
 -- what a call on t adds to the lots run is what its lines run to
 abbrev Runs : Tables → Outcome Tables → Type 0
@@ -33,7 +34,7 @@ moved_runs true t o p = rw p.printed (omega (arith, p.run, no_run))
 kind_runs : (e : Event) (t : Tables) (legs : List Leg) → Undamaged t → event_sound (members t) e legs ≡ true → NoCause t e legs → Runs t (kind_booked t e legs)
 kind_runs e t legs u q n = moved_runs (is_close_of_day e) t (kind_booked t e legs) (kind_keeps e t legs u q n).rows
 
-refused_runs : (t : Tables) (a : Answer) → is_accepted a ≡ false → Runs t (record { answer = a; after = t })
+refused_runs : (t : Tables) (a : Result ℕ Refusal) → is_accepted a ≡ false → Runs t (record { answer = a; after = t })
 refused_runs t a q = rw q (omega (arith, no_run))
 
 pub run_after : (calls : List Call) (t : Tables) → lots_run (after t calls) ≡ lots_run t + line_run (log t calls)

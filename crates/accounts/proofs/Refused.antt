@@ -3,8 +3,9 @@ use mathlib.Core.Path.{◌≡◌, refl, sym, ap, subst, ◌∙◌}
 use mathlib.Core.Bool.{false, not, cond}
 use mathlib.Core.List.{List, [], ◌∷◌, ◌++◌}
 use lib.IntN.{ℤ}
+use Rattle.std.specs.Prelude.{Ok}
 use Rattle.arith.proofs.Tests.{never, by_bool}
-use Rattle.rules.specs.declared.answer.Answer.TheVariants.{Accepted, TableUnsound, HeaderUnsound}
+use Rattle.rules.specs.declared.refusal.Refusal.TheVariants.{TableUnsound, HeaderUnsound}
 use Rattle.rules.specs.Answers.{Outcome, reply_of}
 use Rattle.rules.specs.Header.{header_of, begins_with_header}
 use Rattle.rules.specs.Ledger.{Tables, with_lines, first_lines, ledger_short, fresh}
@@ -22,8 +23,8 @@ refused_changes_nothing = every_call Leaves (λ t a q _. refl) (λ e t legs u s 
 pub refused_makes_nothing : RefusedMakesNothing
 unfolding make_spec
 refused_makes_nothing t bytes =
-    decide_shows (Leaves t) t (record { answer = Accepted 0; after = fresh (header_of bytes) t }) ((ledger_short t, TableUnsound) ∷ (not (begins_with_header bytes), HeaderUnsound) ∷ [])
-    (λ a q _. refl) (refl, (refl, tt)) (λ _ q. never q)
+    decide_shows (Leaves t) t (record { answer = Ok 0; after = fresh (header_of bytes) t }) ((ledger_short t, TableUnsound) ∷ (not (begins_with_header bytes), HeaderUnsound) ∷ [])
+    (λ a q _. refl) (λ _ q. never q)
 
 -- ---- a list without its refused calls
 ledger_same : (t : Tables) → SameLedger t t

@@ -1,20 +1,20 @@
 -- Tables that are sound stay so, whatever they hold: no ledger fresh from a header is assumed. Only a close of day can change that,
 -- since a cascade adds rows to rows.
-use Rattle.std.specs.Prelude.{ℕ, ◌≡◌, Bool, false, not, ◌&&◌, List, Option, Some, None}
-use Rattle.rules.specs.declared.answer.Answer.{Answer}
+use Rattle.std.specs.Prelude.{ℕ, ◌≡◌, Bool, false, not, ◌&&◌, List, Option, Some, None, Result}
 use Rattle.rules.specs.Answers.{Outcome}
 use Rattle.rules.specs.Ledger.{Tables, members}
 use Rattle.rules.specs.Records.{is_close_of_day, read_of}
 use Rattle.rules.specs.Refusals.{rows_sound, unsound, apply_spec}
 use Rattle.rules.specs.Accounts.{is_accepted}
 use Rattle.rules.specs.declared.event.Event.{Event}
+use Rattle.rules.specs.declared.refusal.Refusal.{Refusal}
 
 abbrev pub is_close : Option Event → Bool
 is_close (Some e) = is_close_of_day e
 is_close None = false
 
 -- A record that was read as x and answered with a is an accepted close of day.
-abbrev pub closed_by : Option Event → Answer → Bool
+abbrev pub closed_by : Option Event → Result ℕ Refusal → Bool
 closed_by x a = is_accepted a && is_close x
 
 -- For all tables and bytes: after anything but an accepted close of day, sound tables are sound.

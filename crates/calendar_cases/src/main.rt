@@ -4,8 +4,8 @@
 ghost use Rattle.std.specs.Prelude.{◌≡◌, ◌<◌};
 ghost use Rattle.rules.specs.Answers.{reply_of_next_day};
 
-use rules::layout::TERMS;
 use rules::DayNo;
+use rules::layout::TERMS;
 use std::io;
 use std::io::Print;
 

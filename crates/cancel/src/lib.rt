@@ -8,17 +8,17 @@ ghost use Rattle.tables.specs.Fit.{HeadFit, BookFit};
 
 use order_book::Leaving;
 use rules::layout::{ORDER_COUNT, TIME};
-use rules::{Answer, Cancellation};
+use rules::{Cancellation, Refusal};
 
 // The order leaves the book, and the record's time is the ledger's.
-pub fn apply(head: &mut [u64], book: &mut [u64], e: Cancellation) -> Answer
+pub fn apply(head: &mut [u64], book: &mut [u64], e: Cancellation) -> Result<u64, Refusal>
     requires { HeadFit head.old × BookFit head.old book.old }
     ensures { (t : Tables) → record { answer = result; after = with_head head.new (with_book book.new t) }
         ≡ cancel_spec (with_head head.old (with_book book.old t)) e }
 {
     let time = e.time;
     if time < head[TIME] {
-        return Answer::TimeBelowLedger;
+        return Err(Refusal::TimeBelowLedger);
     }
     let count = head[ORDER_COUNT] as usize;
     let leaving = Leaving::Numbered {
@@ -26,9 +26,9 @@ pub fn apply(head: &mut [u64], book: &mut [u64], e: Cancellation) -> Answer
         member: e.member,
     };
     if !order_book::would_any_leave(&*book, count, leaving) {
-        return Answer::NoSuchOrder;
+        return Err(Refusal::NoSuchOrder);
     }
     tables::set_time(&mut *head, time);
     order_book::remove_orders(&mut *head, &mut *book, leaving);
-    Answer::Accepted(0)
+    Ok(0)
 }

@@ -7,7 +7,7 @@ use native.Mathlib.Omega.{arith}
 use lib.ListN.{length, get_or, take}
 use borrow.Author.Tests.{le-ltb}
 use lib.IntN.{ℤ}
-use Rattle.std.specs.Prelude.{Some, None}
+use Rattle.std.specs.Prelude.{Some, None, Ok, Err}
 use Rattle.arith.specs.Lists.{All, kept}
 use Rattle.arith.proofs.Alls.{all_map, all_append, all_kept}
 use Rattle.rules.specs.Ledger.{prices_length}
@@ -15,7 +15,7 @@ use Rattle.rules.specs.Ranges.{contract_count, term_count}
 use Rattle.rules.specs.declared.contract.ContractKind.{ContractKind}
 use Rattle.rules.specs.declared.contract.ContractKind.TheVariants.{Year, Quarter, Month}
 use Rattle.rules.specs.declared.order.Side.TheVariants.{Buy, Sell}
-use Rattle.rules.specs.declared.answer.Answer.TheVariants.{Accepted, NoLaterDay}
+use Rattle.rules.specs.declared.refusal.Refusal.TheVariants.{NoLaterDay}
 use Rattle.rules.specs.declared.units.DayNo.{DayNo}
 use Rattle.rules.specs.Days.{next_business_day}
 use Rattle.rules.specs.ContractTerms.{open_count, contracts_of}
@@ -109,10 +109,10 @@ module _ (t : Tables) where
   unfolding next_day
   next_is d e = ap (λ z. elim z [ Some x ↦ x.0 | None ↦ day t ]) e
 
-  pub close_last : (s : ℕ) → time t ≤ s → next_business_day (calendar t) (day t) ≡ None → close_spec t s ≡ record { answer = NoLaterDay; after = t }
+  pub close_last : (s : ℕ) → time t ≤ s → next_business_day (calendar t) (day t) ≡ None → close_spec t s ≡ record { answer = Err NoLaterDay; after = t }
   unfolding close_spec
   close_last s h e = rw (le-ltb s (time t) h, no_next e)
 
-  pub close_next : (s : ℕ) (d : DayNo) → time t ≤ s → next_business_day (calendar t) (day t) ≡ Some d → close_spec t s ≡ record { answer = Accepted 0; after = closed s d.0 t }
+  pub close_next : (s : ℕ) (d : DayNo) → time t ≤ s → next_business_day (calendar t) (day t) ≡ Some d → close_spec t s ≡ record { answer = Ok 0; after = closed s d.0 t }
   unfolding close_spec close_booked closed
   close_next s d h e = rw (le-ltb s (time t) h, has_next d e, next_is d e)

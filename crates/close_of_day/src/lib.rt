@@ -15,7 +15,7 @@ ghost use Rattle.close_of_day.specs.Closed.{closed};
 use rules::layout::{
     CONTRACTS, DAY, FIRST_YEAR, HOLIDAY_COUNT, HOLIDAYS, MEMBERS, ORDER_COUNT, SUBMITS, TERMS, TIME,
 };
-use rules::{Answer, DayNo, Side};
+use rules::{DayNo, Refusal, Side};
 
 // The phase, on the ledger's day, of each contract that has a term.
 fn write_phases(head: &[u64], column: &mut [u64])
@@ -91,7 +91,7 @@ pub fn apply(
     value: &mut [i64],
     book: &mut [u64],
     time: u64,
-) -> Answer
+) -> Result<u64, Refusal>
     requires head_fit { HeadFit head.old × PricesFit (lots_run_in head.old) prices.old × BookFit head.old book.old }
     requires rows_fit { RowsFit (members_in head.old) (lots_run_in head.old) lots.old × RowsFit (members_in head.old) (most_price * lots_run_in head.old) value.old }
     ensures { (t : Tables) → record {
@@ -102,14 +102,14 @@ pub fn apply(
         ≡ close_spec (with_head head.old (with_prices prices.old (with_rows lots.old value.old (with_book book.old t)))) time }
 {
     if time < head[TIME] {
-        return Answer::TimeBelowLedger;
+        return Err(Refusal::TimeBelowLedger);
     }
     let end = HOLIDAYS + head[HOLIDAY_COUNT] as usize;
     match calendar::next_business_day(head[FIRST_YEAR], &head[HOLIDAYS..end], DayNo(head[DAY])) {
         Some(next) => {
             close(head, prices, lots, value, book, time, next);
-            Answer::Accepted(0)
+            Ok(0)
         }
-        None => Answer::NoLaterDay,
+        None => Err(Refusal::NoLaterDay),
     }
 }

@@ -8,10 +8,11 @@ use lib.Dec.{eqb, ltb}
 use lib.IntN.{ℤ, pos, negsuc}
 use lib.ListN.{length, get_or}
 use borrow.Author.Tests.{eq-eqb, ne_eqb, lt-ltb, le-ltb}
+use Rattle.std.specs.Prelude.{Ok, Err}
 use Rattle.arith.specs.Ints.{up, dn}
 use Rattle.arith.specs.Lists.{from}
 use Rattle.arith.proofs.Tests.{le_or_lt, never}
-use Rattle.rules.specs.declared.answer.Answer.TheVariants.{Accepted, ContractNotOpen, NoReferencePrice, NoDefaultedLots, NoTaker, TotalPassed}
+use Rattle.rules.specs.declared.refusal.Refusal.TheVariants.{ContractNotOpen, NoReferencePrice, NoDefaultedLots, NoTaker, TotalPassed}
 use Rattle.rules.specs.declared.event.CloseOutTerms.{CloseOutTerms}
 use Rattle.rules.specs.Default.{sum_of, given_up, less, defaulted_longs, defaulted_shorts, smaller_total, netted_longs, netted_shorts, netting_changes, longs_remaining, shorts_remaining, lots_remaining}
 use Rattle.rules.specs.Default.{weights, taken, defaulted_changes, taker_changes, close_out_lines, close_out_booked}
@@ -204,7 +205,7 @@ module _ (head : List ℕ) (lots value lines : List ℤ) (f : Bookable 0 head lo
     no_price : eqb (ggf lent c) 0 ≡ false
     no_price = rw priced (ne_eqb price 0 (λ z. omega arith))
 
-    pub no_lots : q + l ≡ 0 → record { answer = NoDefaultedLots; after = lent } ≡ close_out_spec lent e
+    pub no_lots : q + l ≡ 0 → record { answer = Err NoDefaultedLots; after = lent } ≡ close_out_spec lent e
     unfolding close_out_spec
     no_lots h = rw (opened, no_price, longs_here, shorts_here, eq-eqb (sum_of longs + sum_of shorts) 0 (omega (arith, all_lots)))
 
@@ -220,7 +221,7 @@ module _ (head : List ℕ) (lots value lines : List ℤ) (f : Bookable 0 head lo
       lines_are : close_out_lines lent e ≡ step_lines c price q l longs shorts ws
       lines_are = spec_lines lent e ∙ rw (priced, d.netted (with_lines lines t) value, remaining_here, longs_here, shorts_here, weights_here)
 
-      pub no_taker : ltb 0 l && eqb sum 0 ≡ true → record { answer = NoTaker; after = lent } ≡ close_out_spec lent e
+      pub no_taker : ltb 0 l && eqb sum 0 ≡ true → record { answer = Err NoTaker; after = lent } ≡ close_out_spec lent e
       unfolding close_out_spec
       no_taker h = rw (opened, no_price, longs_here, shorts_here, some_lots, remaining_here, weights_here, ← summed, h)
 
@@ -235,22 +236,22 @@ module _ (head : List ℕ) (lots value lines : List ℤ) (f : Bookable 0 head lo
             rw lines_are
             (omega (arith, run_append ns (fs ++ ts), run_append fs ts, netting_run price, defaulted_run price, takers_run c price long l ws (takers_there ws sum summed taker)))
 
-        pub passed : most_lots_run < lots_run lent + ((q + q) + (l + l)) → record { answer = TotalPassed; after = lent } ≡ close_out_spec lent e
+        pub passed : most_lots_run < lots_run lent + ((q + q) + (l + l)) → record { answer = Err TotalPassed; after = lent } ≡ close_out_spec lent e
         unfolding close_out_spec
         passed k = rw (opened, no_price, longs_here, shorts_here, some_lots, remaining_here, weights_here, ← summed, taker, run_is, lt-ltb most_lots_run (lots_run lent + ((q + q) + (l + l))) k)
 
         pub booked_so : lots_run lent + ((q + q) + (l + l)) ≤ most_lots_run → (n : ℕ) (t' : Tables) → n ≡ length (step_lines c price q l longs shorts ws)
-            → t' ≡ with_each 0 (step_lines c price q l longs shorts ws) lent → record { answer = Accepted n; after = t' } ≡ close_out_spec lent e
+            → t' ≡ with_each 0 (step_lines c price q l longs shorts ws) lent → record { answer = Ok n; after = t' } ≡ close_out_spec lent e
         unfolding close_out_spec close_out_booked booked
         booked_so k n t' en et =
             rw (en, et, each_booked (step_lines c price q l longs shorts ws) lent (omega (arith, f.long)), ← lines_are)
             (rw (opened, no_price, longs_here, shorts_here, some_lots, remaining_here, weights_here, ← summed, taker, run_is, le-ltb most_lots_run (lots_run lent + ((q + q) + (l + l))) k))
 
 -- ---- the causes that need no lots
-pub not_open : (t : Tables) (e : CloseOutTerms) → is_open t e.contract ≡ false → record { answer = ContractNotOpen e.contract; after = t } ≡ close_out_spec t e
+pub not_open : (t : Tables) (e : CloseOutTerms) → is_open t e.contract ≡ false → record { answer = Err (ContractNotOpen e.contract); after = t } ≡ close_out_spec t e
 unfolding close_out_spec
 not_open t e h = rw h
 
-pub no_reference : (t : Tables) (e : CloseOutTerms) → is_open t e.contract ≡ true → ggf t e.contract ≡ 0 → record { answer = NoReferencePrice; after = t } ≡ close_out_spec t e
+pub no_reference : (t : Tables) (e : CloseOutTerms) → is_open t e.contract ≡ true → ggf t e.contract ≡ 0 → record { answer = Err NoReferencePrice; after = t } ≡ close_out_spec t e
 unfolding close_out_spec
 no_reference t e h z = rw (h, eq-eqb (ggf t e.contract) 0 z)

@@ -20,7 +20,7 @@ use dealing::sum_of;
 use defaulted::find_defaulted;
 use rules::layout::{GGF, LOTS_RUN, MEMBERS, PRICE_WIDTH, ROW_WIDTH};
 use rules::ranges::MOST_LOTS_RUN;
-use rules::{Answer, CloseOutTerms, Kurus};
+use rules::{CloseOutTerms, Kurus, Refusal};
 use steps::book_steps;
 use weights::find_weights;
 
@@ -35,7 +35,7 @@ fn close_out_lots(
     longs: &mut [u64],
     shorts: &mut [u64],
     weights: &mut [u64],
-) -> Answer
+) -> Result<u64, Refusal>
     requires head_fit { HeadFit head.old × Bookable 0 head.old lots.old value.old lines.old }
     requires contract_lt_contract_count { (e.contract < contract_count) × (e.ratio ≤ most_ratio) × (price.0 ≤ most_price) × (0 < price.0) }
     requires longs_len { (length longs.old ≡ members_in head.old) × (length shorts.old ≡ members_in head.old) × (length weights.old ≡ members_in head.old) }
@@ -49,14 +49,14 @@ fn close_out_lots(
     let netted = found.netted;
     let remaining = found.remaining;
     if netted + remaining == 0 {
-        return Answer::NoDefaultedLots;
+        return Err(Refusal::NoDefaultedLots);
     }
     find_weights(&head[..], &lots[..], e, remaining, &mut *weights);
     if (0 < remaining) & (sum_of(&weights[..]) == 0) {
-        return Answer::NoTaker;
+        return Err(Refusal::NoTaker);
     }
     if MOST_LOTS_RUN < head[LOTS_RUN] + ((netted + netted) + (remaining + remaining)) {
-        return Answer::TotalPassed;
+        return Err(Refusal::TotalPassed);
     }
     let count = book_steps(
         head,
@@ -71,7 +71,7 @@ fn close_out_lots(
         shorts,
         &weights[..],
     );
-    Answer::Accepted(count as u64)
+    Ok(count as u64)
 }
 
 pub fn apply(
@@ -81,7 +81,7 @@ pub fn apply(
     value: &mut [i64],
     lines: &mut [i64],
     e: CloseOutTerms,
-) -> Answer
+) -> Result<u64, Refusal>
     requires head_fit { HeadFit head.old × Bookable 0 head.old lots.old value.old lines.old × PricesFit (lots_run_in head.old) prices.now }
     requires contract_lt_contract_count { (e.contract < contract_count) × (e.ratio ≤ most_ratio) }
     ensures { (t : Tables) → record {
@@ -93,11 +93,11 @@ pub fn apply(
 {
     let contract = e.contract;
     if !tables::is_contract_open(&head[..], contract) {
-        return Answer::ContractNotOpen(contract);
+        return Err(Refusal::ContractNotOpen(contract));
     }
     let price = prices[contract as usize * PRICE_WIDTH + GGF];
     if price == 0 {
-        return Answer::NoReferencePrice;
+        return Err(Refusal::NoReferencePrice);
     }
     let members = head[MEMBERS] as usize;
     let mut longs = [0u64; ROW_WIDTH];

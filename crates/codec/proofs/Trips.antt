@@ -12,7 +12,7 @@ use Rattle.arith.specs.Lists.{All, every, over}
 use Rattle.arith.proofs.Alls.{every_all}
 use Rattle.arith.proofs.Beside.{take_over}
 use Rattle.arith.proofs.Tests.{same_or, and_left, and_right, and_false}
-use Rattle.rules.specs.declared.answer.Answer.TheVariants.{RecordUnsound}
+use Rattle.rules.specs.declared.refusal.Refusal.TheVariants.{RecordUnsound}
 use Rattle.rules.specs.declared.event.Event.TheVariants.{Proposal}
 use Rattle.rules.specs.declared.event.Event.{Event}
 use Rattle.rules.specs.declared.event.Leg.{Leg}
@@ -21,7 +21,7 @@ use Rattle.rules.specs.Fields.{has_legs, widths, kind_fields, leg_fields, number
 use Rattle.rules.specs.Header.{members_sound}
 use Rattle.rules.specs.Records.{leg_place, record_length, front_length, leg_sound, event_sound, kind_number, event_numbers, leg_numbers, leg_in}
 use Rattle.rules.specs.Records.{leg_bytes, field_bytes, bytes_of, write_spec, record_numbers, fields_of, leg_at, legs_of, read_of, front_of}
-use Rattle.rules.proofs.Writing.{written, not_refused}
+use Rattle.rules.proofs.Writing.{written}
 use Rattle.big_endian.proofs.Numbers.{bytes_small, all_back, u8_first, none_past, all_again}
 use Rattle.record_kinds.specs.Numbers.{leg_count}
 use Rattle.record_kinds.proofs.EachKind.{described}
@@ -143,7 +143,7 @@ written_is_read n e l out k after w =
     let legs = leg_rows (leg_count e) l in
     let bytes = bytes_of e legs in
     let both = members_sound n && event_sound n e legs in
-    let reply_of = written RecordUnsound k (length bytes) out after (over 0 bytes out) (not_refused k) both (ltb (length out) (length bytes)) w in
+    let reply_of = written RecordUnsound k (length bytes) out after (over 0 bytes out) both (ltb (length out) (length bytes)) w in
     let few = and_left (members_sound n) (event_sound n e legs) reply_of.0 in
     let sound = and_right (members_sound n) (event_sound n e legs) reply_of.0 in
     let whole : take k after ≡ bytes = rw (reply_of.1, reply_of.2) (take_over bytes out) in

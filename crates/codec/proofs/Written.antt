@@ -8,11 +8,12 @@ use native.Mathlib.Omega.{arith}
 use borrow.Author.Tests.{lt-ltb, le-ltb, lt-leb, leb-true, eq-eqb, ne_eqb}
 use lib.Dec.{leb}
 use lib.ListN.{length, length-append}
+use Rattle.std.specs.Prelude.{Ok, Err}
 use Rattle.arith.proofs.Appends.{flat_length}
 use Rattle.arith.specs.Lists.{over}
 use Rattle.arith.proofs.Beside.{over_next, over_then}
 use Rattle.arith.proofs.Tests.{never, le_or_lt, same_or, and_right, and_false}
-use Rattle.rules.specs.declared.answer.Answer.TheVariants.{Accepted, TableUnsound, RecordUnsound}
+use Rattle.rules.specs.declared.refusal.Refusal.TheVariants.{TableUnsound, RecordUnsound}
 use Rattle.rules.specs.declared.event.Event.TheVariants.{Submit, Cancel, DayLimits, Proposal, Default, CloseOut, CloseOfDay}
 use Rattle.rules.specs.declared.event.Event.{Event}
 use Rattle.rules.specs.declared.event.Leg.{Leg}
@@ -214,21 +215,21 @@ record_put e legs out m k {kind} q a b h = rw (← q) (over_then 1 (kind ∷ [])
 
 -- ---- the outcome of a write
 module _ (n : ℕ) (e : Event) (legs : List Leg) (out : List ℕ) where
-  pub write_few : members_sound n ≡ false → record { answer = RecordUnsound; after = out } ≡ write_spec n e legs out
+  pub write_few : members_sound n ≡ false → record { answer = Err RecordUnsound; after = out } ≡ write_spec n e legs out
   unfolding write_spec
   write_few m = rw m refl
 
   module _ (m : members_sound n ≡ true) where
-    pub write_unsound : event_sound n e legs ≡ false → record { answer = RecordUnsound; after = out } ≡ write_spec n e legs out
+    pub write_unsound : event_sound n e legs ≡ false → record { answer = Err RecordUnsound; after = out } ≡ write_spec n e legs out
     unfolding write_spec
     write_unsound t = rw (m, t) refl
 
     module _ (t : event_sound n e legs ≡ true) where
-      pub write_short : length out < length (bytes_of e legs) → record { answer = TableUnsound; after = out } ≡ write_spec n e legs out
+      pub write_short : length out < length (bytes_of e legs) → record { answer = Err TableUnsound; after = out } ≡ write_spec n e legs out
       unfolding write_spec
       write_short h = rw (m, t, lt-ltb (length out) (length (bytes_of e legs)) h) refl
 
       pub write_whole : (k : ℕ) (after : List ℕ) → k ≡ length (bytes_of e legs) → length (bytes_of e legs) ≤ length out → after ≡ over 0 (bytes_of e legs) out
-          → record { answer = Accepted k; after = after } ≡ write_spec n e legs out
+          → record { answer = Ok k; after = after } ≡ write_spec n e legs out
       unfolding write_spec
       write_whole k after a h w = rw (m, t, le-ltb (length out) (length (bytes_of e legs)) h, a, w) refl

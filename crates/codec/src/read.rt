@@ -15,8 +15,8 @@ use record_kinds::places::{
 use record_kinds::{
     event_of, field_count, field_of, kind_number, leg_count, record_length, width_of,
 };
-use rules::kinds::PROPOSAL;
 use rules::Event;
+use rules::kinds::PROPOSAL;
 
 // The numbers of a record that has all its fields, its kind first, and 0 in the places past them.
 fn record_numbers(kind: u64, bytes: &[u8]) -> [u64; MOST_NUMBERS]

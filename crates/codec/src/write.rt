@@ -21,7 +21,7 @@ use record_kinds::{
     field_count, field_of, kind_number, leg_count, leg_place, put_numbers, record_length, width_of,
 };
 use rules::kinds::PROPOSAL;
-use rules::{Answer, Event, Leg};
+use rules::{Event, Leg, Refusal};
 
 // The fields of an event's kind, without legs.
 fn put_kind_fields(out: &mut [u8], event: Event)
@@ -73,21 +73,21 @@ fn put_fields(out: &mut [u8], event: Event, legs: Legs)
 }
 
 // The record of an event, with its legs in columns: RecordUnsound before TableUnsound, and nothing written on either.
-pub fn write_record(members: u64, event: Event, legs: Legs, out: &mut [u8]) -> Answer
+pub fn write_record(members: u64, event: Event, legs: Legs, out: &mut [u8]) -> Result<u64, Refusal>
     ensures { record { answer = result; after = out.new } ≡ write_spec members event (leg_rows (leg_count event) legs) out.old }
 {
     if !is_member_count_sound(members) {
-        return Answer::RecordUnsound;
+        return Err(Refusal::RecordUnsound);
     }
     if !is_event_sound(members, event, legs) {
-        return Answer::RecordUnsound;
+        return Err(Refusal::RecordUnsound);
     }
     let kind = kind_number(event);
     let n = record_length(kind, leg_count(event));
     if (out.len() as u64) < n {
-        return Answer::TableUnsound;
+        return Err(Refusal::TableUnsound);
     }
     put_u8(out, KIND_BYTE, kind);
     put_fields(out, event, legs);
-    Answer::Accepted(n)
+    Ok(n)
 }

@@ -8,7 +8,7 @@ ghost use Rattle.rules.specs.Records.{reply_of_reading, reply_of_front};
 use codec::Legs;
 use header::JournalHeader;
 use record_kinds::places::MOST_NUMBERS;
-use rules::{Answer, Event, Front};
+use rules::{Event, Front, Refusal};
 use std::io;
 use std::io::Print;
 
@@ -20,12 +20,12 @@ fn wide(b: u8) -> u64 {
     b as u64
 }
 
-fn show_answer(rt: &impl Print, answer: Answer) -> io::Result<()> {
+fn show_answer(rt: &impl Print, answer: Result<u64, Refusal>) -> io::Result<()> {
     match answer {
-        Answer::Accepted(n) => print!(rt; " wrote {n}"),
-        Answer::TableUnsound => number(rt, 1),
-        Answer::HeaderUnsound => number(rt, 2),
-        Answer::RecordUnsound => number(rt, 3),
+        Ok(n) => print!(rt; " wrote {n}"),
+        Err(Refusal::TableUnsound) => number(rt, 1),
+        Err(Refusal::HeaderUnsound) => number(rt, 2),
+        Err(Refusal::RecordUnsound) => number(rt, 3),
         _ => rt.print(" other"),
     }
 }
@@ -300,7 +300,7 @@ fn header(rt: &impl Print, bytes: &[u8]) -> io::Result<()> {
     let answer = r.answer;
     let h = r.header;
     match answer {
-        Answer::Accepted(n) => {
+        Ok(n) => {
             show_header(rt, h)?;
             number(rt, n)?;
             let mut out = [0u8; 64];

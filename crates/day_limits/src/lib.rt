@@ -8,20 +8,20 @@ ghost use Rattle.rules.specs.Refusals.{day_limits_spec};
 ghost use Rattle.tables.specs.Fit.{HeadFit};
 
 use rules::layout::{HIGH, LOW, PRICE_WIDTH};
-use rules::{Answer, NewDayLimits};
+use rules::{NewDayLimits, Refusal};
 
 // Writes low and high; orders already resting stay.
-pub fn apply(head: &[u64], prices: &mut [u64], e: NewDayLimits) -> Answer
+pub fn apply(head: &[u64], prices: &mut [u64], e: NewDayLimits) -> Result<u64, Refusal>
     requires { HeadFit head.now × (prices_length ≤ length prices.old) × (e.contract < contract_count) }
     ensures { (t : Tables) → record { answer = result; after = with_head head.now (with_prices prices.new t) }
         ≡ day_limits_spec (with_head head.now (with_prices prices.old t)) e }
 {
     let contract = e.contract;
     if !tables::is_contract_open(head, contract) {
-        return Answer::ContractNotOpen(contract);
+        return Err(Refusal::ContractNotOpen(contract));
     }
     let at = contract as usize * PRICE_WIDTH;
     prices[at + LOW] = e.low.0;
     prices[at + HIGH] = e.high.0;
-    Answer::Accepted(0)
+    Ok(0)
 }

@@ -7,20 +7,20 @@ ghost use Rattle.rules.specs.Refusals.{default_spec};
 ghost use Rattle.tables.specs.Fit.{HeadFit, BookFit, members_in};
 
 use order_book::Leaving;
-use rules::Answer;
+use rules::Refusal;
 use rules::layout::{DEFAULT_MARK, MARKS};
 
 // The member is marked and its orders leave the book.
-pub fn apply(head: &mut [u64], book: &mut [u64], member: u64) -> Answer
+pub fn apply(head: &mut [u64], book: &mut [u64], member: u64) -> Result<u64, Refusal>
     requires { HeadFit head.old × BookFit head.old book.old × (member < members_in head.old) }
     ensures { (t : Tables) → record { answer = result; after = with_head head.new (with_book book.new t) }
         ≡ default_spec (with_head head.old (with_book book.old t)) member }
 {
     let at = MARKS + member as usize;
     if head[at] == DEFAULT_MARK {
-        return Answer::MemberDefaulted(member);
+        return Err(Refusal::MemberDefaulted(member));
     }
     head[at] = DEFAULT_MARK;
     order_book::remove_orders(&mut *head, &mut *book, Leaving::OfMember(member));
-    Answer::Accepted(0)
+    Ok(0)
 }

@@ -3,8 +3,8 @@ ghost use Rattle.rules.specs.Ledger.{lent};
 ghost use Rattle.engine.specs.Runs.{Applies};
 
 use crate::event::apply_event;
+use rules::Refusal;
 use rules::layout::MEMBERS;
-use rules::Answer;
 
 // One record applied, whatever the tables hold and whatever its bytes. The tables are tested before the record is read.
 pub fn apply(
@@ -15,15 +15,15 @@ pub fn apply(
     book: &mut [u64],
     lines: &mut [i64],
     bytes: &[u8],
-) -> Answer
+) -> Result<u64, Refusal>
     ensures { Applies (lent head.old prices.old lots.old value.old book.old lines.old) bytes.now result
         (lent head.new prices.new lots.new value.new book.new lines.new) }
 {
     if damage::is_unsound(&*head, &*prices, &*lots, &*value, &*book, &*lines) {
-        return Answer::TableUnsound;
+        return Err(Refusal::TableUnsound);
     }
     match codec::read_record(head[MEMBERS], bytes) {
         Some(event) => apply_event(head, prices, lots, value, book, lines, event, bytes),
-        None => Answer::RecordUnsound,
+        None => Err(Refusal::RecordUnsound),
     }
 }

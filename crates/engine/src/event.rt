@@ -6,7 +6,7 @@ ghost use Rattle.rules.specs.Refusals.{event_spec};
 ghost use Rattle.tables.specs.Fit.{Fits, members_in};
 
 use crate::legs::apply_legs;
-use rules::{Answer, Event};
+use rules::{Event, Refusal};
 
 // Each kind is lent the tables that it touches, all of them long enough and not damaged.
 pub fn apply_event(
@@ -18,7 +18,7 @@ pub fn apply_event(
     lines: &mut [i64],
     event: Event,
     bytes: &[u8],
-) -> Answer
+) -> Result<u64, Refusal>
     requires { Fits (lent head.old prices.old lots.old value.old book.old lines.old) × (read_of (members_in head.old) bytes.now ≡ Some event) }
     ensures { record { answer = result; after = lent head.new prices.new lots.new value.new book.new lines.new }
         ≡ event_spec (lent head.old prices.old lots.old value.old book.old lines.old) event (legs_of bytes.now) }

@@ -6,7 +6,7 @@ ghost use Rattle.rules.specs.Records.{legs_of, read_of};
 ghost use Rattle.rules.specs.Refusals.{proposal_spec};
 ghost use Rattle.tables.specs.Fit.{Fits, members_in};
 
-use rules::Answer;
+use rules::Refusal;
 
 pub fn apply_legs(
     head: &mut [u64],
@@ -17,7 +17,7 @@ pub fn apply_legs(
     lines: &mut [i64],
     count: u64,
     bytes: &[u8],
-) -> Answer
+) -> Result<u64, Refusal>
     requires { Fits (lent head.old prices.now lots.old value.old book.old lines.old) × (read_of (members_in head.old) bytes.now ≡ Some (Proposal count)) }
     ensures { record { answer = result; after = lent head.new prices.now lots.new value.new book.new lines.new }
         ≡ proposal_spec (lent head.old prices.now lots.old value.old book.old lines.old) (legs_of bytes.now) }

@@ -3,7 +3,7 @@ ghost use Rattle.std.specs.Prelude.{List, ℤ};
 ghost use Rattle.rules.specs.Ledger.{lent};
 ghost use Rattle.engine.specs.Runs.{Makes};
 
-use rules::Answer;
+use rules::Refusal;
 
 // Makes a ledger. Of the tables only their length is tested. The book stays as it was: a fresh ledger has no orders.
 pub fn make(
@@ -13,18 +13,18 @@ pub fn make(
     value: &mut [i64],
     book: &[u64],
     bytes: &[u8],
-) -> Answer
+) -> Result<u64, Refusal>
     ensures { (n : List ℤ) → Makes (lent head.old prices.old lots.old value.old book.now n) bytes.now result
         (lent head.new prices.new lots.new value.new book.now n) }
 {
     if tables::is_ledger_short(&*head, &*prices, &*lots, &*value, book) {
-        return Answer::TableUnsound;
+        return Err(Refusal::TableUnsound);
     }
     let reading = header::read_header(bytes);
     let header = reading.header;
     // An unsound header comes back as zeros; a sound one has at least one member.
     if header.members == 0 {
-        return Answer::HeaderUnsound;
+        return Err(Refusal::HeaderUnsound);
     }
     let holidays = header.holidays;
     let limits = header.limits;
@@ -40,5 +40,5 @@ pub fn make(
         &holidays[..days],
         &limits[..members],
     );
-    Answer::Accepted(0)
+    Ok(0)
 }

@@ -8,9 +8,10 @@ use borrow.Author.Tests.{lt-ltb, le-ltb, le-leb, lt-leb, eq-eqb, eqb-true}
 use lib.Dec.{eqb, leb}
 use lib.ListN.{length, get_or, take, length-append}
 use lib.Seq.{length-take-le, get_or-take}
+use Rattle.std.specs.Prelude.{Ok, Err}
 use Rattle.arith.specs.Lists.{every, over}
 use Rattle.arith.proofs.Tests.{never, le_or_lt, same_test, and_left, and_right, and_false, and_true}
-use Rattle.rules.specs.declared.answer.Answer.TheVariants.{Accepted, TableUnsound, HeaderUnsound}
+use Rattle.rules.specs.declared.refusal.Refusal.TheVariants.{TableUnsound, HeaderUnsound}
 use Rattle.rules.specs.Header.{Header, u16_at, u32_at, u16_bytes, u32_bytes, u16s_at, u32s_at, letters_and_version, same_bytes, header_of, header_length, begins_with_header, calendar_of}
 use Rattle.rules.specs.Header.{calendar_sound, members_sound, limit_sound, day_sound, header_sound, header_bytes, write_header_spec}
 use Rattle.arith.specs.Columns.{padded}
@@ -127,11 +128,11 @@ module _ (s : List ℕ) where
       let columns : header_from h ≡ header_of s = ap header_from f ∙ columns_read in
       sym (begins_judged x y z) ∙ (ap header_sound (sym columns) ∙ (sym t ∙ e))
 
-  pub reading_unsound : begins_with_header s ≡ false → record { answer = HeaderUnsound; header = blank_header } ≡ header_reading s
+  pub reading_unsound : begins_with_header s ≡ false → record { answer = Err HeaderUnsound; header = blank_header } ≡ header_reading s
   unfolding header_reading
   reading_unsound e = rw e refl
 
-  pub reading_sound : (n : ℕ) → begins_with_header s ≡ true → n ≡ header_length s → record { answer = Accepted n; header = header_columns (header_of s) } ≡ header_reading s
+  pub reading_sound : (n : ℕ) → begins_with_header s ≡ true → n ≡ header_length s → record { answer = Ok n; header = header_columns (header_of s) } ≡ header_reading s
   unfolding header_reading
   reading_sound n e l = rw (e, l) refl
 
@@ -158,15 +159,15 @@ module _ (h : JournalHeader) (t : header_sound (header_from h) ≡ true) where
   holidays_fit = le_or_lt h.holiday_count 120 (λ l. l) (λ l. never (sym t ∙ holidays_many (header_from h) (rw (length_firsts h.holiday_count h.holidays) l)))
 
 module _ (h : Header) (out : List ℕ) where
-  pub write_header_unsound : header_sound h ≡ false → record { answer = HeaderUnsound; after = out } ≡ write_header_spec h out
+  pub write_header_unsound : header_sound h ≡ false → record { answer = Err HeaderUnsound; after = out } ≡ write_header_spec h out
   unfolding write_header_spec
   write_header_unsound t = rw t refl
 
-  pub write_header_short : header_sound h ≡ true → length out < length (header_bytes h) → record { answer = TableUnsound; after = out } ≡ write_header_spec h out
+  pub write_header_short : header_sound h ≡ true → length out < length (header_bytes h) → record { answer = Err TableUnsound; after = out } ≡ write_header_spec h out
   unfolding write_header_spec
   write_header_short t l = rw (t, lt-ltb (length out) (length (header_bytes h)) l) refl
 
   pub write_header_whole : header_sound h ≡ true → (k : ℕ) (after : List ℕ) → k ≡ length (header_bytes h) → length (header_bytes h) ≤ length out → after ≡ over 0 (header_bytes h) out
-      → record { answer = Accepted k; after = after } ≡ write_header_spec h out
+      → record { answer = Ok k; after = after } ≡ write_header_spec h out
   unfolding write_header_spec
   write_header_whole t k after a l w = rw (t, le-ltb (length out) (length (header_bytes h)) l, a, w) refl

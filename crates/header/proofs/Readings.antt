@@ -7,9 +7,9 @@ use native.Mathlib.Omega.{arith}
 use lib.Dec.{eqb, leb}
 use lib.ListN.{length, take, get_or, length-map}
 use borrow.Author.Tests.{leb-true}
+use Rattle.std.specs.Prelude.{Ok}
 use Rattle.arith.specs.Lists.{every, from}
 use Rattle.arith.proofs.Tests.{true_or, and_left, and_right}
-use Rattle.rules.specs.declared.answer.Answer.TheVariants.{Accepted}
 use Rattle.rules.specs.Days.{in_span}
 use Rattle.rules.specs.Header.{Header, u32_at, u32s_at, header_length, header_of, rising, calendar_of, calendar_sound, members_sound, limit_sound, day_sound, header_sound, begins_with_header}
 use Rattle.header.specs.declared.reader.HeaderReading.{HeaderReading}
@@ -41,7 +41,7 @@ counts h e =
 
 -- ---- a reading
 module _ (s : List ℕ) (r : HeaderReading) (e : r ≡ header_reading s) where
-  pub as_read : begins_with_header s ≡ true → r ≡ record { answer = Accepted (header_length s); header = header_columns (header_of s) }
+  pub as_read : begins_with_header s ≡ true → r ≡ record { answer = Ok (header_length s); header = header_columns (header_of s) }
   unfolding header_reading
   as_read b = e ∙ rw b
 

@@ -8,6 +8,7 @@ use borrow.Author.Tests.{le-leb, leb-true, ltb-true, eqb-true}
 use lib.Dec.{eqb, leb, ltb}
 use lib.Seq.{take_at}
 use lib.ListN.{length, get_or, take, drop, length-append, take-append-drop}
+use Rattle.std.specs.Prelude.{Ok, Err}
 use Rattle.arith.specs.Lists.{All, from, every, total, over}
 use Rattle.arith.proofs.Alls.{every_all, all_map}
 use Rattle.arith.proofs.Writes.{over_front}
@@ -16,8 +17,8 @@ use Rattle.rules.specs.Ranges.{most_first_year, most_limit}
 use Rattle.rules.specs.Days.{Calendar, leap_year, year_start, month_start, span_start, day_after_span, in_span}
 use Rattle.rules.specs.Header.{Header, u16_at, u32_at, u16_bytes, u32_bytes, u16s_at, u32s_at, letters_and_version, same_bytes, header_length, header_of, header_bytes, calendar_of}
 use Rattle.rules.specs.Header.{calendar_sound, limit_sound, day_sound, header_sound, begins_with_header, write_header_spec}
-use Rattle.rules.proofs.Writing.{written, not_header_refused}
-use Rattle.rules.specs.declared.answer.Answer.TheVariants.{Accepted, HeaderUnsound}
+use Rattle.rules.proofs.Writing.{written}
+use Rattle.rules.specs.declared.refusal.Refusal.TheVariants.{HeaderUnsound}
 use Rattle.header.proofs.Headers.{same_true, length_u16s, columns_read, reading_sound, write_header_whole}
 use Rattle.header.specs.Journal.{header_from, header_columns, blank_header, header_reading}
 use Rattle.header.specs.Trips.{WrittenIsRead, ReadIsWritten}
@@ -185,25 +186,25 @@ written_is_read h out k after w =
     let x = header_from h in
     let bytes = header_bytes x in
     let rest = drop (length bytes) out in
-    let reply_of = written HeaderUnsound k (length bytes) out after (over 0 bytes out) (not_header_refused k) (header_sound x) (ltb (length out) (length bytes)) w in
+    let reply_of = written HeaderUnsound k (length bytes) out after (over 0 bytes out) (header_sound x) (ltb (length out) (length bytes)) w in
     let held = holds x reply_of.0 in
     let begins = begins_back x held rest reply_of.0 in
     rw (reply_of.1, reply_of.2 ∙ over_front bytes out)
     (sym (rw (fields_back x held rest) at (reading_sound (bytes ++ rest) (length bytes) begins (sym (length_read x held rest)))))
 
 abbrev sound_reading : List ℕ → HeaderReading
-sound_reading s = record { answer = Accepted (header_length s); header = header_columns (header_of s) }
+sound_reading s = record { answer = Ok (header_length s); header = header_columns (header_of s) }
 
 -- what a reading says that gives a header
-pub given : (s : List ℕ) (k : ℕ) (h : JournalHeader) → header_reading s ≡ record { answer = Accepted k; header = h } → (begins_with_header s ≡ true) × (k ≡ header_length s)
+pub given : (s : List ℕ) (k : ℕ) (h : JournalHeader) → header_reading s ≡ record { answer = Ok k; header = h } → (begins_with_header s ≡ true) × (k ≡ header_length s)
     × (h ≡ header_columns (header_of s))
 unfolding header_reading
 given s k h r = go (begins_with_header s) r
   where
-    go : (b : Bool) → cond b (sound_reading s) (record { answer = HeaderUnsound; header = blank_header }) ≡ record { answer = Accepted k; header = h }
+    go : (b : Bool) → cond b (sound_reading s) (record { answer = Err HeaderUnsound; header = blank_header }) ≡ record { answer = Ok k; header = h }
         → (b ≡ true) × (k ≡ header_length s) × (h ≡ header_columns (header_of s))
-    go true e = let x : Accepted (header_length s) ≡ Accepted k = ap (λ o. o.answer) e in (refl, cc, sym (ap (λ o. o.header) e))
-    go false e = let x : HeaderUnsound ≡ Accepted k = ap (λ o. o.answer) e in absurd (let z : ◌≡◌ {A = ℕ} 0 1 = cc in omega arith)
+    go true e = let x : Ok (header_length s) ≡ Ok k = ap (λ o. o.answer) e in (refl, cc, sym (ap (λ o. o.header) e))
+    go false e = let x : Err HeaderUnsound ≡ Ok k = ap (λ o. o.answer) e in absurd (let z : ◌≡◌ {A = ℕ} 0 1 = cc in omega arith)
 
 pub read_is_written : ReadIsWritten
 read_is_written s out k h b r room =

@@ -1,7 +1,7 @@
 -- A journal's header with its lists in columns, and what reading one answers.
-use Rattle.std.specs.Prelude.{ℕ, Bool, cond, ◌&&◌, List, map, length, get_or, replicate}
+use Rattle.std.specs.Prelude.{ℕ, Bool, cond, ◌&&◌, List, map, length, get_or, replicate, Ok, Err}
 use Rattle.arith.specs.Lists.{from}
-use Rattle.rules.specs.declared.answer.Answer.TheVariants.{Accepted, HeaderUnsound}
+use Rattle.rules.specs.declared.refusal.Refusal.TheVariants.{HeaderUnsound}
 use Rattle.rules.specs.Ranges.{most_members, most_holidays}
 use Rattle.rules.specs.Days.{Calendar}
 use Rattle.rules.specs.Header.{Header, calendar_sound, day_sound, header_of, header_length, begins_with_header}
@@ -41,5 +41,5 @@ blank_header = record { first_year = 0; start_day = record { 0 = 0 }; members = 
 -- What reading answers: the header and its length if the bytes begin with a sound one.
 unfoldable pub header_reading : List ℕ → HeaderReading
 header_reading s =
-    cond (begins_with_header s) (record { answer = Accepted (header_length s); header = header_columns (header_of s) })
-    (record { answer = HeaderUnsound; header = blank_header })
+    cond (begins_with_header s) (record { answer = Ok (header_length s); header = header_columns (header_of s) })
+    (record { answer = Err HeaderUnsound; header = blank_header })

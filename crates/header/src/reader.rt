@@ -1,9 +1,9 @@
 // Reading the header of a journal.
-ghost use Rattle.std.specs.Prelude.{◌≡◌, ◌+◌, ◌*◌, ◌<◌, ◌≤◌, length, get_or, take};
+ghost use Rattle.std.specs.Prelude.{◌≡◌, ◌+◌, ◌*◌, ◌<◌, ◌≤◌, length, get_or, take, Err};
 ghost use Rattle.rules.specs.Ranges.{most_members, most_holidays};
 ghost use Rattle.rules.specs.Header.{u16s_at, u32s_at, same_bytes, letters_and_version, header_of, header_length};
 ghost use Rattle.rules.specs.Header.{first_year_byte, members_byte, holiday_count_byte, first_holiday_byte, first_limit_byte, limit_length};
-ghost use Rattle.rules.specs.declared.answer.Answer.TheVariants.{HeaderUnsound};
+ghost use Rattle.rules.specs.declared.refusal.Refusal.TheVariants.{HeaderUnsound};
 ghost use Rattle.arith.specs.Columns.{padded};
 ghost use Rattle.header.specs.Journal.{header_columns, blank_header, header_reading};
 
@@ -15,12 +15,12 @@ use crate::journal::{
 use big_endian::{u8_at, u16_at, u32_at};
 use rules::layout::{HOLIDAY_PLACES, MEMBER_PLACES};
 use rules::ranges::{MOST_HOLIDAYS, MOST_MEMBERS};
-use rules::{Answer, DayNo};
+use rules::{DayNo, Refusal};
 
-// Accepted with the header's length in bytes, or HeaderUnsound with a header of zeros.
+// Ok with the header's length in bytes, or HeaderUnsound with a header of zeros.
 #[derive(Clone, Copy)]
 pub struct HeaderReading {
-    pub answer: Answer,
+    pub answer: Result<u64, Refusal>,
     pub header: JournalHeader,
 }
 
@@ -84,10 +84,10 @@ fn begins_with_letters(bytes: &[u8]) -> bool
 }
 
 fn unsound() -> HeaderReading
-    ensures { result ≡ record { answer = HeaderUnsound; header = blank_header } }
+    ensures { result ≡ record { answer = Err HeaderUnsound; header = blank_header } }
 {
     HeaderReading {
-        answer: Answer::HeaderUnsound,
+        answer: Err(Refusal::HeaderUnsound),
         header: JournalHeader {
             first_year: 0,
             start_day: DayNo(0),
@@ -126,7 +126,7 @@ pub fn read_header(bytes: &[u8]) -> HeaderReading
         return unsound();
     }
     HeaderReading {
-        answer: Answer::Accepted(n),
+        answer: Ok(n),
         header: header,
     }
 }

@@ -13,7 +13,7 @@ use crate::journal::{
     is_header_sound,
 };
 use big_endian::{put_u8, put_u16, put_u32, wide};
-use rules::Answer;
+use rules::Refusal;
 use rules::layout::{HOLIDAY_PLACES, MEMBER_PLACES};
 
 fn put_letters(out: &mut [u8])
@@ -71,17 +71,17 @@ fn put_header(out: &mut [u8], h: JournalHeader)
     );
 }
 
-// A header: HeaderUnsound before TableUnsound, and nothing written on either; Accepted with the bytes written.
-pub fn write_header(h: JournalHeader, out: &mut [u8]) -> Answer
+// A header: HeaderUnsound before TableUnsound, and nothing written on either; Ok with the bytes written.
+pub fn write_header(h: JournalHeader, out: &mut [u8]) -> Result<u64, Refusal>
     ensures { record { answer = result; after = out.new } ≡ write_header_spec (header_from h) out.old }
 {
     if !is_header_sound(h) {
-        return Answer::HeaderUnsound;
+        return Err(Refusal::HeaderUnsound);
     }
     let n = header_length(h.members, h.holiday_count);
     if (out.len() as u64) < n {
-        return Answer::TableUnsound;
+        return Err(Refusal::TableUnsound);
     }
     put_header(out, h);
-    Answer::Accepted(n)
+    Ok(n)
 }

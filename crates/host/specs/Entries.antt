@@ -1,6 +1,5 @@
 -- The promises of `ledger_make` and `ledger_apply`, and what holds of every call of them and after every run of such calls.
-use Rattle.std.specs.Prelude.{ℕ, ◌≡◌, true, false, List, length, ℤ}
-use Rattle.rules.specs.declared.answer.Answer.{Answer}
+use Rattle.std.specs.Prelude.{ℕ, ◌≡◌, true, false, List, length, ℤ, Result}
 use Rattle.rules.specs.Answers.{Outcome, Reply, reply_of}
 use Rattle.rules.specs.Header.{Header, header_of}
 use Rattle.rules.specs.Ledger.{Tables, Line, day, lots_run, line_run, orders, resting, with_lines, lines_short}
@@ -18,6 +17,7 @@ use Rattle.accounts.specs.StaysSound.{SoundAfter, SoundButRows}
 use Rattle.replay.specs.Surplus.{SurplusUntouched, LinesUntouched, BookUntouched}
 use Rattle.replay.specs.Replay.{RunsAlike, RunsRecover, RunsLeaveSurplus}
 use Rattle.host.specs.Sent.{sent, damage_number}
+use Rattle.rules.specs.declared.refusal.Refusal.{Refusal}
 
 -- ---- the promises
 -- On these tables and this header `ledger_make` answered this number and left these tables.
@@ -31,7 +31,7 @@ Applies before bytes number detail after = record { number = number; detail = de
 -- ---- every call
 -- An outcome that a host got as this number and detail, with what it left, has the property Q.
 pub record GotAs (Q : Outcome Tables → Type 0) (number detail : ℕ) (after : Tables) : Type 0 where
-  pub answer : Answer
+  pub answer : Result ℕ Refusal
   pub number_is : (reply_of answer).number ≡ number
   pub detail_is : (reply_of answer).detail ≡ detail
   pub holds : Q (record { answer = answer; after = after })

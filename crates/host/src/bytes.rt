@@ -6,7 +6,7 @@ ghost use Rattle.number_fields.specs.RecordFields.{read_fields, write_fields};
 ghost use Rattle.host.specs.Sent.{sent};
 
 use reply::{Reply, numbered, reply_of};
-use rules::{Answer, Front};
+use rules::{Front, Refusal};
 
 // Reads a record of a ledger of that many members to the fields: 0 with how many numbers were written, or 1 (fewer
 // fields than a record may have) or 3, and then the fields are as they were.
@@ -67,8 +67,8 @@ fn reply_of_front(front: Front) -> Reply
 {
     match front {
         Front::Whole(length) => numbered(0, length),
-        Front::Cut => reply_of(Answer::RecordUnsound),
-        Front::UnknownKind => reply_of(Answer::RecordUnsound),
+        Front::Cut => reply_of(Err(Refusal::RecordUnsound)),
+        Front::UnknownKind => reply_of(Err(Refusal::RecordUnsound)),
     }
 }
 

@@ -6,7 +6,7 @@ use mathlib.Core.Path.{◌≡◌, refl, sym, ap, ◌∙◌}
 use native.Mathlib.Omega.{arith}
 use borrow.Author.Tests.{eq-eqb, ne_eqb}
 use lib.Dec.{eqb}
-use Rattle.rules.specs.declared.answer.Answer.{Answer}
+use Rattle.std.specs.Prelude.{Result}
 use Rattle.rules.specs.Answers.{Outcome, reply_of}
 use Rattle.rules.specs.Journal.{deal_text, refusal_text, answer_text}
 use Rattle.rules.specs.Ledger.{Tables, first_lines}
@@ -16,18 +16,19 @@ use Rattle.accounts.proofs.LengthsStay.{at_most_200_lines}
 use Rattle.text.specs.Wrote.{Wrote}
 use Rattle.printing.specs.Room.{line_room}
 use Rattle.journal.specs.Stages.{RanOne}
+use Rattle.rules.specs.declared.refusal.Refusal.{Refusal}
 
 -- An accepted record has at most 200 lines.
-pub few_lines : (t after : Tables) (bytes : List ℕ) (a : Answer) (number detail : ℕ) → record { answer = a; after = after } ≡ apply_spec t bytes
+pub few_lines : (t after : Tables) (bytes : List ℕ) (a : Result ℕ Refusal) (number detail : ℕ) → record { answer = a; after = after } ≡ apply_spec t bytes
     → number ≡ (reply_of a).number → detail ≡ (reply_of a).detail → number ≡ 0 → detail ≤ least_lines
 few_lines t after bytes a number detail e f g z =
     let same : a ≡ (apply_spec t bytes).answer = ap (λ (o : Outcome Tables). o.answer) e in
-    let accepted : eqb (reply_of (apply_spec t bytes).answer).number 0 ≡ true = ap (λ (x : Answer). eqb (reply_of x).number 0) (sym same) ∙ eq-eqb (reply_of a).number 0 (sym f ∙ z) in
+    let accepted : eqb (reply_of (apply_spec t bytes).answer).number 0 ≡ true = ap (λ (x : Result ℕ Refusal). eqb (reply_of x).number 0) (sym same) ∙ eq-eqb (reply_of a).number 0 (sym f ∙ z) in
     let few = at_most_200_lines t bytes accepted in
-    let is : detail ≡ (reply_of (apply_spec t bytes).answer).detail = g ∙ ap (λ (x : Answer). (reply_of x).detail) same in
+    let is : detail ≡ (reply_of (apply_spec t bytes).answer).detail = g ∙ ap (λ (x : Result ℕ Refusal). (reply_of x).detail) same in
     omega arith
 
-module _ (o : Outcome Tables) (after : Tables) (a : Answer) (number detail record-number place end : ℕ) (entry exit : List ℕ)
+module _ (o : Outcome Tables) (after : Tables) (a : Result ℕ Refusal) (number detail record-number place end : ℕ) (entry exit : List ℕ)
     (is : record { answer = a; after = after } ≡ o) (number_is : number ≡ (reply_of a).number) (detail_is : detail ≡ (reply_of a).detail) where
   pub printed_lines : number ≡ 0 → detail ≤ least_lines → Wrote place (flat_map deal_text (first_lines detail after.lines)) entry exit end × (end ≤ place + line_room * detail)
       → RanOne record-number place o entry exit after (record { end = end; accepted = 1; is_unsound = false })

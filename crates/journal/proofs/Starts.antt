@@ -7,8 +7,8 @@ use native.Mathlib.Omega.{arith}
 use borrow.Author.Tests.{ltb-true, ne_eqb, not-true}
 use lib.Dec.{ltb}
 use lib.ListN.{length, drop}
+use Rattle.std.specs.Prelude.{Result}
 use Rattle.arith.proofs.Tests.{and_left, and_right}
-use Rattle.rules.specs.declared.answer.Answer.{Answer}
 use Rattle.rules.specs.Answers.{Outcome, reply_of}
 use Rattle.rules.specs.Header.{header_length}
 use Rattle.rules.specs.Journal.{head_text, refusal_text, records_text, journal_text_on}
@@ -23,6 +23,7 @@ use Rattle.journal.specs.declared.stage.Wants.{Wants}
 use Rattle.journal.specs.declared.stage.Wants.TheVariants.{Nothing, Bytes}
 use Rattle.journal.specs.Stages.{remaining, records_end, journal_end_on, end_from, Rest, after_header, after_records, counted_at, after_stage, Counts, Asks, Advanced}
 use Rattle.journal.proofs.Headers.{same_made, same_length, made_inside}
+use Rattle.rules.specs.declared.refusal.Refusal.{Refusal}
 
 -- A stage that stays has nothing run.
 stays : (stage : Stage) (x : Rest) → after_stage stage stage x ≡ x
@@ -79,7 +80,7 @@ rest_refused : (t : Tables) (s : List ℕ) (o : Outcome Tables) → make_spec t 
 unfolding after_header
 rest_refused t s o e z = rw (e, ne_eqb (reply_of o.answer).number 0 z) refl
 
-module _ (t after : Tables) (bytes : List ℕ) (last : Bool) (filled : ℕ) (entry exit : List ℕ) (a : Answer) (made : record { answer = a; after = after } ≡ make_spec t bytes)
+module _ (t after : Tables) (bytes : List ℕ) (last : Bool) (filled : ℕ) (entry exit : List ℕ) (a : Result ℕ Refusal) (made : record { answer = a; after = after } ≡ make_spec t bytes)
     (whole : not last && ltb (length bytes) (header_length bytes) ≡ false) (number end : ℕ) (is-told : number ≡ (reply_of a).number) (room : filled + line_room ≤ length entry) where
   abbrev o : Outcome Tables
   o = record { answer = a; after = after }

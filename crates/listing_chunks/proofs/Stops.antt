@@ -9,11 +9,11 @@ use lib.Dec.{eqb, leb}
 use lib.ListN.{length, take, drop, take-append-drop, get_or-append}
 use lib.ListN.{get_or}
 use lib.Seq.{length-take-le, take_all}
-use Rattle.std.specs.Prelude.{Option, Some, None}
+use Rattle.std.specs.Prelude.{Option, Some, None, Err}
 use Rattle.arith.specs.Lists.{All}
 use Rattle.arith.proofs.Tests.{true_or, and_true}
 use Rattle.rules.specs.declared.event.Leg.{Leg}
-use Rattle.rules.specs.declared.answer.Answer.TheVariants.{RecordUnsound}
+use Rattle.rules.specs.declared.refusal.Refusal.TheVariants.{RecordUnsound}
 use Rattle.rules.specs.Accounts.{is_accepted}
 use Rattle.rules.specs.Answers.{Outcome, reply_of, rank_of, rank, Cause, decide}
 use Rattle.rules.specs.Fields.{kind_fields, widths, number_at}
@@ -30,10 +30,10 @@ use Rattle.listing_words.specs.Fields.{fields_in, range, within, verdict_of, fau
 use Rattle.rules.specs.declared.event.Event.{Event}
 
 -- ---- number 3 is for unsound records alone
-goes_on : (causes : List Cause) (t : Tables) (o : Outcome Tables) → All (λ cause. rank RecordUnsound < rank cause.1) causes → is_accepted o.answer ≡ true
+goes_on : (causes : List Cause) (t : Tables) (o : Outcome Tables) → All (λ cause. rank (Err RecordUnsound) < rank (Err cause.1)) causes → is_accepted o.answer ≡ true
     → stops (decide causes t o).answer ≡ false
 goes_on [] t o h a = ne_eqb (reply_of o.answer).number 3 (λ z. omega (arith, eqb-true (reply_of o.answer).number 0 a))
-goes_on ((true, x) ∷ causes) t o h a = ne_eqb (reply_of x).number 3 (λ z. absurd (omega (arith, h.0, ap rank_of z)))
+goes_on ((true, x) ∷ causes) t o h a = ne_eqb (reply_of (Err x)).number 3 (λ z. absurd (omega (arith, h.0, ap rank_of z)))
 goes_on ((false, x) ∷ causes) t o h a = goes_on causes t o h.1 a
 
 stops_reading : (t : Tables) (x : Option Event) (legs : List Leg) → stops (reading_spec t x legs).answer ≡ not (is_sound x)
@@ -41,7 +41,7 @@ unfolding reading_spec event_spec
 stops_reading t None legs = refl
 stops_reading t (Some e) legs =
     let k = kind_decides t e legs in
-    goes_on (kind_causes t e legs) t (kind_booked t e legs) (all_above (rank RecordUnsound) (kind_causes t e legs) k.in_order_holds) k.accepted
+    goes_on (kind_causes t e legs) t (kind_booked t e legs) (all_above (rank (Err RecordUnsound)) (kind_causes t e legs) k.in_order_holds) k.accepted
 
 stops_exactly : (t : Tables) (bytes : List ℕ) → unsound t ≡ false → stops (apply_spec t bytes).answer ≡ not (is_sound (read_of (members t) bytes))
 unfolding apply_spec

@@ -7,13 +7,13 @@ use native.Mathlib.Omega.{arith}
 use borrow.Author.Tests.{lt-ltb, le-ltb, lt-leb}
 use lib.Dec.{leb}
 use lib.ListN.{length, get_or, set}
+use Rattle.std.specs.Prelude.{Result, Ok, Err}
 use Rattle.arith.specs.Lists.{over}
 use Rattle.arith.proofs.Beside.{over_then}
 use Rattle.arith.proofs.Runs.{length_run}
 use Rattle.arith.proofs.Tests.{and_false}
 use Rattle.arith.proofs.Writes.{stored}
-use Rattle.rules.specs.declared.answer.Answer.TheVariants.{Accepted, TableUnsound, HeaderUnsound}
-use Rattle.rules.specs.declared.answer.Answer.{Answer}
+use Rattle.rules.specs.declared.refusal.Refusal.TheVariants.{TableUnsound, HeaderUnsound}
 use Rattle.rules.specs.Answers.{Outcome}
 use Rattle.rules.specs.Ranges.{most_holidays, most_members}
 use Rattle.rules.specs.Header.{Header, header_length, header_of, header_sound, begins_with_header, write_header_spec}
@@ -21,6 +21,7 @@ use Rattle.header.specs.Journal.{header_from, header_columns}
 use Rattle.header.specs.declared.journal.JournalHeader.{JournalHeader}
 use Rattle.header.proofs.Headers.{holidays_many, members_wrong, columns_back, write_header_unsound}
 use Rattle.number_fields.specs.HeaderFields.{header_fields, members_field, holiday_count_field, limits_field, with_header, numbers_at, header_in, read_header_fields, write_header_fields}
+use Rattle.rules.specs.declared.refusal.Refusal.{Refusal}
 
 pub length_numbers : (f : List ℕ) (i n : ℕ) → length (numbers_at f i n) ≡ n
 unfolding numbers_at
@@ -39,23 +40,23 @@ header_put h row a b l e d =
 
 -- ---- reading
 module _ (s row : List ℕ) where
-  pub read_header_short : length row < header_fields → record { answer = TableUnsound; after = row } ≡ read_header_fields s row
+  pub read_header_short : length row < header_fields → record { answer = Err TableUnsound; after = row } ≡ read_header_fields s row
   unfolding read_header_fields
   read_header_short h = rw (lt-ltb (length row) header_fields h) refl
 
   module _ (h : header_fields ≤ length row) where
-    pub read_header_none : begins_with_header s ≡ false → record { answer = HeaderUnsound; after = row } ≡ read_header_fields s row
+    pub read_header_none : begins_with_header s ≡ false → record { answer = Err HeaderUnsound; after = row } ≡ read_header_fields s row
     unfolding read_header_fields
     read_header_none b = rw (le-ltb (length row) header_fields h, b) refl
 
-    pub read_header_whole : begins_with_header s ≡ true → (a : Answer) (after : List ℕ) → a ≡ Accepted (header_length s) → after ≡ with_header (header_of s) row
+    pub read_header_whole : begins_with_header s ≡ true → (a : Result ℕ Refusal) (after : List ℕ) → a ≡ Ok (header_length s) → after ≡ with_header (header_of s) row
         → record { answer = a; after = after } ≡ read_header_fields s row
     unfolding read_header_fields
     read_header_whole b a after c d = rw (le-ltb (length row) header_fields h, b, c, d) refl
 
 -- ---- writing
 module _ (row out : List ℕ) where
-  pub write_header_row_short : length row < header_fields → record { answer = TableUnsound; after = out } ≡ write_header_fields row out
+  pub write_header_row_short : length row < header_fields → record { answer = Err TableUnsound; after = out } ≡ write_header_fields row out
   unfolding write_header_fields
   write_header_row_short h = rw (lt-ltb (length row) header_fields h) refl
 
@@ -64,13 +65,13 @@ module _ (row out : List ℕ) where
     unfolding write_header_fields
     write_header_by = rw (le-ltb (length row) header_fields h) refl
 
-    unsound : header_sound (header_in row) ≡ false → record { answer = HeaderUnsound; after = out } ≡ write_header_fields row out
+    unsound : header_sound (header_in row) ≡ false → record { answer = Err HeaderUnsound; after = out } ≡ write_header_fields row out
     unsound e = write_header_unsound (header_in row) out e ∙ sym write_header_by
 
-    pub write_many_members : most_members < get_or row members_field 0 → record { answer = HeaderUnsound; after = out } ≡ write_header_fields row out
+    pub write_many_members : most_members < get_or row members_field 0 → record { answer = Err HeaderUnsound; after = out } ≡ write_header_fields row out
     write_many_members m = unsound (members_wrong (header_in row) (rw (lt-leb (get_or row members_field 0) most_members m, and_false (leb 1 (get_or row members_field 0))) refl))
 
-    pub write_many_holidays : most_holidays < get_or row holiday_count_field 0 → record { answer = HeaderUnsound; after = out } ≡ write_header_fields row out
+    pub write_many_holidays : most_holidays < get_or row holiday_count_field 0 → record { answer = Err HeaderUnsound; after = out } ≡ write_header_fields row out
     write_many_holidays m = unsound (holidays_many (header_in row) (rw (length_numbers row 4 (get_or row holiday_count_field 0)) m))
 
     pub columns_in : header_from (header_columns (header_in row)) ≡ header_in row

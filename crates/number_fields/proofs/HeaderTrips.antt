@@ -6,12 +6,12 @@ use mathlib.Core.Path.{◌≡◌, refl, sym, ap, ◌∙◌}
 use native.Mathlib.Omega.{arith}
 use lib.ListN.{length, get_or, take, drop, length-drop, take-append-drop, get_or-append}
 use lib.Seq.{length-take-le, get_or-append-add, get_or-take, get_or-drop, drop-drop}
+use Rattle.std.specs.Prelude.{Ok}
 use Rattle.arith.specs.Lists.{from, over}
 use Rattle.arith.proofs.Overs.{over_length, over_inside, over_outside}
 use Rattle.arith.proofs.Runs.{run_of}
 use Rattle.arith.proofs.Tests.{le_or_lt, true_or}
 use Rattle.arith.proofs.Writes.{over_front, over_more}
-use Rattle.rules.specs.declared.answer.Answer.TheVariants.{Accepted}
 use Rattle.rules.specs.Answers.{Outcome, reply_of}
 use Rattle.rules.specs.Ranges.{most_holidays, most_members}
 use Rattle.rules.specs.Header.{Header, header_length, header_of, header_sound, begins_with_header, write_header_spec}
@@ -114,7 +114,7 @@ record HeaderRead (s row : List ℕ) (k : ℕ) (after : List ℕ) : Type 0 where
   size : k ≡ header_length s
   put : after ≡ with_header (header_of s) row
 
-header_read : (s row : List ℕ) (k : ℕ) (after : List ℕ) → record { answer = Accepted k; after = after } ≡ read_header_fields s row → HeaderRead s row k after
+header_read : (s row : List ℕ) (k : ℕ) (after : List ℕ) → record { answer = Ok k; after = after } ≡ read_header_fields s row → HeaderRead s row k after
 header_read s row k after w =
     le_or_lt header_fields (length row)
     (λ h. true_or (begins_with_header s) (λ b. whole h b) (λ b. refused (w ∙ sym (read_header_none s row h b)) (λ z. omega arith)))
@@ -122,7 +122,7 @@ header_read s row k after w =
   where
     whole : header_fields ≤ length row → begins_with_header s ≡ true → HeaderRead s row k after
     whole h b =
-        let same = w ∙ sym (read_header_whole s row h b (Accepted (header_length s)) (with_header (header_of s) row) refl refl) in
+        let same = w ∙ sym (read_header_whole s row h b (Ok (header_length s)) (with_header (header_of s) row) refl refl) in
         record { long = h; begins = b; size = ap (λ (o : Outcome (List ℕ)). (reply_of o.answer).detail) same; put = ap (λ (o : Outcome (List ℕ)). o.after) same }
 
 -- ---- the promises
@@ -141,8 +141,8 @@ pub header_written_is_read : HeaderWrittenIsRead
 header_written_is_read row out other k after room w =
     le_or_lt header_fields (length row) (λ h. long h (w ∙ write_header_by row out h)) (λ h. refused (w ∙ sym (write_header_row_short row out h)) (λ z. omega arith))
   where
-    long : header_fields ≤ length row → record { answer = Accepted k; after = after } ≡ write_header_spec (header_in row) out
-        → (with_header (header_in row) row ≡ row) × (read_header_fields after other ≡ record { answer = Accepted k; after = with_header (header_in row) other })
+    long : header_fields ≤ length row → record { answer = Ok k; after = after } ≡ write_header_spec (header_in row) out
+        → (with_header (header_in row) row ≡ row) × (read_header_fields after other ≡ record { answer = Ok k; after = with_header (header_in row) other })
     long h x =
         let columns = header_columns (header_in row) in
         let same : header_from columns ≡ header_in row = columns_in row out h in
@@ -153,4 +153,4 @@ header_written_is_read row out other k after room w =
         let most = counts (header_in row) sound in
         let days : get_or row holiday_count_field 0 ≤ most_holidays = rw (length_numbers row holidays_field (get_or row holiday_count_field 0)) at most.2 in
         let put : with_header (header_of after) other ≡ with_header (header_in row) other = ap (λ y. with_header y other) back in
-        (header_gives_numbers row h days most.1, sym (read_header_whole after other room reply_of.0 (Accepted k) (with_header (header_in row) other) (ap Accepted reply_of.1) (sym put)))
+        (header_gives_numbers row h days most.1, sym (read_header_whole after other room reply_of.0 (Ok k) (with_header (header_in row) other) (ap Ok reply_of.1) (sym put)))

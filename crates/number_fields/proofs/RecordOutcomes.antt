@@ -4,9 +4,9 @@ use mathlib.Core.List.{List}
 use mathlib.Core.Path.{◌≡◌, refl, sym, ap, ◌∙◌}
 use borrow.Author.Tests.{lt-ltb, le-ltb}
 use lib.ListN.{length}
-use Rattle.std.specs.Prelude.{Option, Some, None}
+use Rattle.std.specs.Prelude.{Option, Some, None, Err}
 use Rattle.arith.proofs.Runs.{length_run}
-use Rattle.rules.specs.declared.answer.Answer.TheVariants.{TableUnsound, RecordUnsound}
+use Rattle.rules.specs.declared.refusal.Refusal.TheVariants.{TableUnsound, RecordUnsound}
 use Rattle.rules.specs.declared.event.Event.{Event}
 use Rattle.rules.specs.Answers.{Outcome}
 use Rattle.rules.specs.Ranges.{most_legs}
@@ -26,7 +26,7 @@ length_legs f n = length_run (λ j. leg_in f (leg_field j)) n
 
 -- ---- reading
 module _ (n : ℕ) (s row : List ℕ) where
-  pub read_short : length row < record_fields → record { answer = TableUnsound; after = row } ≡ read_fields n s row
+  pub read_short : length row < record_fields → record { answer = Err TableUnsound; after = row } ≡ read_fields n s row
   unfolding read_fields
   read_short h = rw (lt-ltb (length row) record_fields h) refl
 
@@ -36,7 +36,7 @@ module _ (n : ℕ) (s row : List ℕ) where
       unfolding read_fields
       read_by = rw (le-ltb (length row) record_fields h, ← q) refl
 
-      pub read_unsound : r ≡ None → record { answer = RecordUnsound; after = row } ≡ read_fields n s row
+      pub read_unsound : r ≡ None → record { answer = Err RecordUnsound; after = row } ≡ read_fields n s row
       read_unsound u = sym (read_by ∙ rw u refl)
 
     module _ {e : Event} (u : r ≡ Some e) where
@@ -57,7 +57,7 @@ module _ (n : ℕ) (s row : List ℕ) where
 
 -- ---- writing
 module _ (n : ℕ) (row out : List ℕ) where
-  pub write_short : length row < record_fields → record { answer = TableUnsound; after = out } ≡ write_fields n row out
+  pub write_short : length row < record_fields → record { answer = Err TableUnsound; after = out } ≡ write_fields n row out
   unfolding write_fields
   write_short h = rw (lt-ltb (length row) record_fields h) refl
 
@@ -67,7 +67,7 @@ module _ (n : ℕ) (row out : List ℕ) where
       unfolding write_fields
       write_by = rw (le-ltb (length row) record_fields h, ← q) refl
 
-      pub write_none : r ≡ None → record { answer = RecordUnsound; after = out } ≡ write_fields n row out
+      pub write_none : r ≡ None → record { answer = Err RecordUnsound; after = out } ≡ write_fields n row out
       write_none u = sym (write_by ∙ rw u refl)
 
       module _ {e : Event} (u : r ≡ Some e) where

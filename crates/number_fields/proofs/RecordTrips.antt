@@ -10,13 +10,12 @@ use borrow.Author.Tests.{eq-eqb, le-leb}
 use lib.ListN.{length, get_or, take, drop, take-append-drop, get_or-append}
 use lib.Seq.{drop-cons, drop-drop, get_or-append-add, take-append_seam}
 use lib.Dec.{T, leb, ltb}
-use Rattle.std.specs.Prelude.{Option, Some, None}
+use Rattle.std.specs.Prelude.{Option, Some, None, Ok}
 use Rattle.arith.specs.Lists.{from, every, over}
 use Rattle.arith.proofs.Alls.{all_always}
 use Rattle.arith.proofs.Overs.{over_length}
 use Rattle.arith.proofs.Tests.{le_or_lt}
 use Rattle.arith.proofs.Writes.{over_front}
-use Rattle.rules.specs.declared.answer.Answer.TheVariants.{Accepted}
 use Rattle.rules.specs.declared.event.Event.{Event}
 use Rattle.rules.specs.declared.event.Leg.{Leg}
 use Rattle.rules.specs.Answers.{Outcome, reply_of}
@@ -131,7 +130,7 @@ event_gives_numbers e row h g = again row e h (given row e h g)
 
 -- ---- what an accepted call tells
 -- An accepted outcome is not another.
-pub refused : {P : Type 0} {k : ℕ} {x : List ℕ} {o : Outcome (List ℕ)} → record { answer = Accepted k; after = x } ≡ o → (0 ≡ (reply_of o.answer).number → ⊥) → P
+pub refused : {P : Type 0} {k : ℕ} {x : List ℕ} {o : Outcome (List ℕ)} → record { answer = Ok k; after = x } ≡ o → (0 ≡ (reply_of o.answer).number → ⊥) → P
 refused w differs = absurd (differs (ap (λ (z : Outcome (List ℕ)). (reply_of z.answer).number) w))
 
 record ReadTo (n : ℕ) (s row after : List ℕ) : Type 0 where
@@ -140,7 +139,7 @@ record ReadTo (n : ℕ) (s row after : List ℕ) : Type 0 where
   said : read_of n s ≡ Some event
   put : after ≡ over 0 (numbers_of event (legs_of s)) row
 
-read_to : (n : ℕ) (s row : List ℕ) (k : ℕ) (after : List ℕ) → record { answer = Accepted k; after = after } ≡ read_fields n s row → ReadTo n s row after
+read_to : (n : ℕ) (s row : List ℕ) (k : ℕ) (after : List ℕ) → record { answer = Ok k; after = after } ≡ read_fields n s row → ReadTo n s row after
 read_to n s row k after w =
     le_or_lt record_fields (length row) (λ h. go h (read_of n s) refl) (λ h. refused (w ∙ sym (read_short n s row h)) (λ z. omega arith))
   where
@@ -155,18 +154,18 @@ record WrittenFrom (n : ℕ) (row out : List ℕ) (o : Outcome (List ℕ)) : Typ
   given : Given row event
   wrote : o ≡ write_spec n event (legs_in row) out
 
-written_from : (n : ℕ) (row out : List ℕ) (k : ℕ) (after : List ℕ) → record { answer = Accepted k; after = after } ≡ write_fields n row out
-    → WrittenFrom n row out (record { answer = Accepted k; after = after })
+written_from : (n : ℕ) (row out : List ℕ) (k : ℕ) (after : List ℕ) → record { answer = Ok k; after = after } ≡ write_fields n row out
+    → WrittenFrom n row out (record { answer = Ok k; after = after })
 written_from n row out k after w =
     le_or_lt record_fields (length row) (λ h. go h (event_in row) refl) (λ h. refused (w ∙ sym (write_short n row out h)) (λ z. omega arith))
   where
-    go : record_fields ≤ length row → (r : Option Event) → r ≡ event_in row → WrittenFrom n row out (record { answer = Accepted k; after = after })
+    go : record_fields ≤ length row → (r : Option Event) → r ≡ event_in row → WrittenFrom n row out (record { answer = Ok k; after = after })
     go h (Some e) q = record { event = e; long = h; says = sym q; given = given row e h (sym q); wrote = w ∙ write_by n row out q h }
     go h None q = refused (w ∙ write_by n row out q h) (λ z. omega arith)
 
 -- ---- the promises
 read_then_written : (n : ℕ) (s row out after : List ℕ) (e : Event) → T (every (λ b. ltb b 256) s) → length s ≤ length out → record_fields ≤ length row
-    → read_of n s ≡ Some e → after ≡ over 0 (numbers_of e (legs_of s)) row → write_fields n after out ≡ record { answer = Accepted (length s); after = over 0 s out }
+    → read_of n s ≡ Some e → after ≡ over 0 (numbers_of e (legs_of s)) row → write_fields n after out ≡ record { answer = Ok (length s); after = over 0 s out }
 read_then_written n s row out after e b h long said put =
     let legs = legs_of s in
     let few = few_read n s row refl said in

@@ -7,10 +7,10 @@ use native.Mathlib.Omega.{arith}
 use borrow.Author.Tests.{eq-eqb}
 use lib.ListN.{length, take, drop, length-append, take-append-drop}
 use lib.Seq.{paste, take-length}
+use Rattle.std.specs.Prelude.{Ok}
 use Rattle.arith.specs.Lists.{over}
 use Rattle.arith.proofs.Appends.{flat_length}
 use Rattle.arith.proofs.Beside.{over_then}
-use Rattle.rules.specs.declared.answer.Answer.TheVariants.{Accepted}
 use Rattle.rules.specs.declared.event.Event.{Event}
 use Rattle.rules.specs.declared.event.Leg.{Leg}
 use Rattle.rules.specs.Fields.{proposal_kind, kind_fields}
@@ -46,7 +46,7 @@ module _ (e : Event) (legs : List Leg) (counted : length legs ≡ leg_count e) w
 
   -- The event's own numbers, then its legs'.
   put_joined : (row put after : List ℕ) → record_fields ≤ length row → put ≡ over 0 (kind_number e ∷ event_numbers e) row
-      → after ≡ over first_leg_field (flat_map leg_numbers legs) put → record { answer = Accepted (1 + length (kind_fields (kind_number e)) + 3 * leg_count e); after = after } ≡ with_numbers e legs row
+      → after ≡ over first_leg_field (flat_map leg_numbers legs) put → record { answer = Ok (1 + length (kind_fields (kind_number e)) + 3 * leg_count e); after = after } ≡ with_numbers e legs row
   unfolding flat_map
   put_joined row put after h p q =
       let whole : after ≡ over 0 (numbers_of e legs) row =
@@ -62,7 +62,7 @@ module _ (e : Event) (legs : List Leg) (counted : length legs ≡ leg_count e) w
 -- The same of the numbers that calls answered.
 pub put_rows : {k n : ℕ} (e : Event) (l : Legs) (row put after : List ℕ) → k ≡ leg_count e → n ≡ length (kind_fields (kind_number e)) → record_fields ≤ length row
     → put ≡ over 0 (kind_number e ∷ event_numbers e) row → after ≡ over first_leg_field (flat_map leg_numbers (leg_rows k l)) put
-    → record { answer = Accepted (1 + n + 3 * k); after = after } ≡ with_numbers e (leg_rows (leg_count e) l) row
+    → record { answer = Ok (1 + n + 3 * k); after = after } ≡ with_numbers e (leg_rows (leg_count e) l) row
 put_rows e l row put after count fields h p q =
     rw (count, fields) (put_joined e (leg_rows (leg_count e) l) (length_rows (leg_count e) l) row put after h p (rw count at q))
 

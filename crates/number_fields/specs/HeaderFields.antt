@@ -1,7 +1,7 @@
 -- A header as a row of numbers, for a host.
-use Rattle.std.specs.Prelude.{ℕ, ◌+◌, not, List, [], ◌∷◌, map, ltb, length, get_or}
+use Rattle.std.specs.Prelude.{ℕ, ◌+◌, not, List, [], ◌∷◌, map, ltb, length, get_or, Ok}
 use Rattle.arith.specs.Lists.{from, over}
-use Rattle.rules.specs.declared.answer.Answer.TheVariants.{Accepted, TableUnsound, HeaderUnsound}
+use Rattle.rules.specs.declared.refusal.Refusal.TheVariants.{TableUnsound, HeaderUnsound}
 use Rattle.rules.specs.Answers.{Outcome, decide}
 use Rattle.rules.specs.Header.{Header, header_length, header_of, begins_with_header, write_header_spec}
 
@@ -52,7 +52,7 @@ header_in f =
 unfoldable pub read_header_fields : List ℕ → List ℕ → Outcome (List ℕ)
 read_header_fields s row =
     decide ((ltb (length row) header_fields, TableUnsound) ∷ (not (begins_with_header s), HeaderUnsound) ∷ []) row
-    (record { answer = Accepted (header_length s); after = with_header (header_of s) row })
+    (record { answer = Ok (header_length s); after = with_header (header_of s) row })
 
 -- A short row is 1; then an unsound header is 2; then a short output is 1.
 unfoldable pub write_header_fields : List ℕ → List ℕ → Outcome (List ℕ)

@@ -1,7 +1,7 @@
 -- A record as a row of numbers, for a host: its kind, then its fields in the order in which the record has them.
-use Rattle.std.specs.Prelude.{ℕ, ◌+◌, ◌*◌, cond, not, ◌||◌, List, [], ◌∷◌, map, leb, ltb, length, get_or, Option, Some, None}
+use Rattle.std.specs.Prelude.{ℕ, ◌+◌, ◌*◌, cond, not, ◌||◌, List, [], ◌∷◌, map, leb, ltb, length, get_or, Option, Some, None, Ok, Err}
 use Rattle.arith.specs.Lists.{from, over}
-use Rattle.rules.specs.declared.answer.Answer.TheVariants.{Accepted, TableUnsound, RecordUnsound}
+use Rattle.rules.specs.declared.refusal.Refusal.TheVariants.{TableUnsound, RecordUnsound}
 use Rattle.rules.specs.declared.event.Event.{Event}
 use Rattle.rules.specs.declared.event.Leg.{Leg}
 use Rattle.rules.specs.Answers.{Outcome, decide}
@@ -49,11 +49,11 @@ legs_in f = cond (has_legs (get_or f kind_field 0)) (first_legs f (get_or f prop
 -- ---- bytes read to a row, and written from one
 -- An event's numbers over the front of a row; the answer gives how many.
 abbrev pub with_numbers : Event → List Leg → List ℕ → Outcome (List ℕ)
-with_numbers e legs row = record { answer = Accepted (length (numbers_of e legs)); after = over 0 (numbers_of e legs) row }
+with_numbers e legs row = record { answer = Ok (length (numbers_of e legs)); after = over 0 (numbers_of e legs) row }
 
 abbrev pub with_reading : Option Event → List Leg → List ℕ → Outcome (List ℕ)
 with_reading (Some e) legs row = with_numbers e legs row
-with_reading None legs row = record { answer = RecordUnsound; after = row }
+with_reading None legs row = record { answer = Err RecordUnsound; after = row }
 
 -- A short row is 1; then an unsound record is 3.
 unfoldable pub read_fields : ℕ → List ℕ → List ℕ → Outcome (List ℕ)
@@ -61,7 +61,7 @@ read_fields n s row = decide ((ltb (length row) record_fields, TableUnsound) ∷
 
 abbrev pub write_reading : ℕ → Option Event → List Leg → List ℕ → Outcome (List ℕ)
 write_reading n (Some e) legs out = write_spec n e legs out
-write_reading n None legs out = record { answer = RecordUnsound; after = out }
+write_reading n None legs out = record { answer = Err RecordUnsound; after = out }
 
 -- A short row is 1; then a row that says no event is 3, as an event out of its ranges is; then a short output is 1.
 unfoldable pub write_fields : ℕ → List ℕ → List ℕ → Outcome (List ℕ)

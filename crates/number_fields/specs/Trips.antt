@@ -1,7 +1,6 @@
 -- Events and headers to numbers and back, and the round trips that the functions promise.
-use Rattle.std.specs.Prelude.{ℕ, ◌≤◌, List, ◌++◌, ◌≡◌, T, ltb, length, take, get_or, Some}
+use Rattle.std.specs.Prelude.{ℕ, ◌≤◌, List, ◌++◌, ◌≡◌, T, ltb, length, take, get_or, Some, Ok}
 use Rattle.arith.specs.Lists.{every, over}
-use Rattle.rules.specs.declared.answer.Answer.TheVariants.{Accepted}
 use Rattle.rules.specs.declared.event.Event.{Event}
 use Rattle.rules.specs.declared.event.Leg.{Leg}
 use Rattle.rules.specs.Ranges.{most_holidays, most_legs, most_members}
@@ -40,29 +39,29 @@ HeaderGivesNumbers =
 abbrev pub ReadIsWritten : Type 0
 ReadIsWritten =
     (n : ℕ) (s row out : List ℕ) (k : ℕ) (after : List ℕ) → T (every (λ b. ltb b 256) s) → length s ≤ length out
-    → record { answer = Accepted k; after = after } ≡ read_fields n s row
-    → write_fields n after out ≡ record { answer = Accepted (length s); after = over 0 s out }
+    → record { answer = Ok k; after = after } ≡ read_fields n s row
+    → write_fields n after out ≡ record { answer = Ok (length s); after = over 0 s out }
 
 -- What write_record_fields wrote from a row, read_record_fields reads into any row: the numbers of the event that the first row says,
 -- as they stood there, over the other's front. The answer is how many they are.
 abbrev pub WrittenIsRead : Type 0
 WrittenIsRead =
-    (n : ℕ) (row out other : List ℕ) (k : ℕ) (after : List ℕ) → record_fields ≤ length other → record { answer = Accepted k; after = after } ≡ write_fields n row out
+    (n : ℕ) (row out other : List ℕ) (k : ℕ) (after : List ℕ) → record_fields ≤ length other → record { answer = Ok k; after = after } ≡ write_fields n row out
     → (e : Event)
     × ((event_in row ≡ Some e)
     × ((take (length (numbers_of e (legs_in row))) row ≡ numbers_of e (legs_in row))
-    × (read_fields n (take k after) other ≡ record { answer = Accepted (length (numbers_of e (legs_in row))); after = over 0 (numbers_of e (legs_in row)) other })))
+    × (read_fields n (take k after) other ≡ record { answer = Ok (length (numbers_of e (legs_in row))); after = over 0 (numbers_of e (legs_in row)) other })))
 
 -- The same of a header.
 abbrev pub HeaderReadIsWritten : Type 0
 HeaderReadIsWritten =
     (s row out : List ℕ) (k : ℕ) (after : List ℕ) → T (every (λ b. ltb b 256) s) → k ≤ length out
-    → record { answer = Accepted k; after = after } ≡ read_header_fields s row
-    → write_header_fields after out ≡ record { answer = Accepted k; after = over 0 (take k s) out }
+    → record { answer = Ok k; after = after } ≡ read_header_fields s row
+    → write_header_fields after out ≡ record { answer = Ok k; after = over 0 (take k s) out }
 
 -- The numbers of a header that was written stand in the row in their places, and are read into the same places of any row.
 abbrev pub HeaderWrittenIsRead : Type 0
 HeaderWrittenIsRead =
-    (row out other : List ℕ) (k : ℕ) (after : List ℕ) → header_fields ≤ length other → record { answer = Accepted k; after = after } ≡ write_header_fields row out
+    (row out other : List ℕ) (k : ℕ) (after : List ℕ) → header_fields ≤ length other → record { answer = Ok k; after = after } ≡ write_header_fields row out
     → (with_header (header_in row) row ≡ row)
-    × (read_header_fields after other ≡ record { answer = Accepted k; after = with_header (header_in row) other })
+    × (read_header_fields after other ≡ record { answer = Ok k; after = with_header (header_in row) other })

@@ -13,7 +13,7 @@ use crate::places::{
 use header::{JournalHeader, read_header, write_header};
 use rules::layout::{HOLIDAY_PLACES, MEMBER_PLACES};
 use rules::ranges::{MOST_HOLIDAYS, MOST_MEMBERS};
-use rules::{Answer, DayNo};
+use rules::{DayNo, Refusal};
 
 // A list over a part of a row.
 fn put_list(row: &mut [u64], at: usize, list: &[u64])
@@ -43,18 +43,18 @@ fn put_header(row: &mut [u64], first_year: u64, start: DayNo, holidays: &[u64], 
 }
 
 // Reads the header that bytes begin with: TableUnsound for a short row before HeaderUnsound, and nothing written on
-// either; Accepted with the header's length in bytes, where the first record begins.
-pub fn read_header_fields(bytes: &[u8], row: &mut [u64]) -> Answer
+// either; Ok with the header's length in bytes, where the first record begins.
+pub fn read_header_fields(bytes: &[u8], row: &mut [u64]) -> Result<u64, Refusal>
     ensures { record { answer = result; after = row.new } ≡ read_header_fields bytes.now row.old }
 {
     if row.len() < HEADER_FIELDS {
-        return Answer::TableUnsound;
+        return Err(Refusal::TableUnsound);
     }
     let reading = read_header(bytes);
     let header = reading.header;
     // An unsound header comes back as zeros; a sound one has at least one member.
     if header.members == 0 {
-        return Answer::HeaderUnsound;
+        return Err(Refusal::HeaderUnsound);
     }
     let holidays = header.holidays;
     let limits = header.limits;
@@ -115,18 +115,18 @@ fn header_in(row: &[u64]) -> JournalHeader
 }
 
 // Writes the header of a row: TableUnsound for a short row, HeaderUnsound, then TableUnsound for a short output, and
-// nothing written on any; Accepted with the bytes written.
-pub fn write_header_fields(row: &[u64], out: &mut [u8]) -> Answer
+// nothing written on any; Ok with the bytes written.
+pub fn write_header_fields(row: &[u64], out: &mut [u8]) -> Result<u64, Refusal>
     ensures { record { answer = result; after = out.new } ≡ write_header_fields row.now out.old }
 {
     if row.len() < HEADER_FIELDS {
-        return Answer::TableUnsound;
+        return Err(Refusal::TableUnsound);
     }
     if MOST_MEMBERS < row[MEMBERS_FIELD] {
-        return Answer::HeaderUnsound;
+        return Err(Refusal::HeaderUnsound);
     }
     if MOST_HOLIDAYS < row[HOLIDAY_COUNT_FIELD] {
-        return Answer::HeaderUnsound;
+        return Err(Refusal::HeaderUnsound);
     }
     write_header(header_in(row), out)
 }

@@ -1,8 +1,7 @@
 // The numbers of an event, put in a row.
-ghost use Rattle.std.specs.Prelude.{◌≡◌, ◌+◌, ◌≤◌, length};
+ghost use Rattle.std.specs.Prelude.{◌≡◌, ◌+◌, ◌≤◌, length, Ok};
 ghost use mathlib.Core.List.{flat_map};
 ghost use Rattle.arith.specs.Lists.{over};
-ghost use Rattle.rules.specs.declared.answer.Answer.TheVariants.{Accepted};
 ghost use Rattle.rules.specs.Ranges.{most_legs};
 ghost use Rattle.rules.specs.Records.{leg_numbers};
 ghost use Rattle.record_kinds.specs.Numbers.{leg_count};
@@ -38,7 +37,7 @@ fn put_legs(row: &mut [u64], count: usize, legs: Legs)
 // Answers how many numbers it put: the kind, one for each of its fields, and the legs'.
 pub fn put_event(row: &mut [u64], event: Event, legs: Legs) -> u64
     requires { (record_fields ≤ length row.old) × (leg_count event ≤ most_legs) }
-    ensures { record { answer = Accepted result; after = row.new } ≡ with_numbers event (leg_rows (leg_count event) legs) row.old }
+    ensures { record { answer = Ok result; after = row.new } ≡ with_numbers event (leg_rows (leg_count event) legs) row.old }
 {
     let count = leg_count(event) as usize;
     put_numbers(row, event);

@@ -8,9 +8,9 @@ use lib.Dec.{ltb}
 use lib.ListN.{length, get_or}
 use lib.Seq.{get_or-set_other, set_comm}
 use borrow.Author.Tests.{lt-ltb, le-ltb}
+use Rattle.std.specs.Prelude.{Ok}
 use Rattle.arith.specs.Lists.{All, every, total, from}
 use Rattle.arith.proofs.Tests.{never, true_or}
-use Rattle.rules.specs.declared.answer.Answer.TheVariants.{Accepted}
 use Rattle.rules.specs.declared.order.Order.{Order}
 use Rattle.rules.specs.Ranges.{most_lots_run}
 use Rattle.rules.specs.Ledger.{Tables, Line, lots_run_place, order_count_place, lots_run, order_count, orders, with_orders, line_run, booked}
@@ -36,11 +36,11 @@ unfolding booked
 count_after_lines ls t = get_or-set_other t.head lots_run_place order_count_place (lots_run t + line_run ls) 0 (λ e. omega arith)
 
 pub all_booked : (ls : List Line) (os : List Order) (n : ℕ) (t u v : Tables) → n ≡ length ls → u ≡ (booked ls t).after → v ≡ with_orders os u
-    → record { answer = Accepted n; after = v } ≡ booked ls (with_orders os t)
+    → record { answer = Ok n; after = v } ≡ booked ls (with_orders os t)
 unfolding booked
 all_booked ls os n t u v many lines used =
-    ap (λ k. record { answer = Accepted k; after = v }) many
-    ∙ ap (λ x. record { answer = Accepted (length ls); after = x }) (used ∙ ap (with_orders os) lines ∙ orders_after_lines ls os t)
+    ap (λ k. record { answer = Ok k; after = v }) many
+    ∙ ap (λ x. record { answer = Ok (length ls); after = x }) (used ∙ ap (with_orders os) lines ∙ orders_after_lines ls os t)
 
 -- ---- the legs as columns
 -- Legs that name orders of the book: where these stand, the lines, the lots that run, what is left of the orders.

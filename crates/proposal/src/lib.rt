@@ -12,7 +12,7 @@ ghost use Rattle.proposal_check.specs.Columns.{LegsFit, column_legs, places_of};
 
 use crate::booking::{book_legs, total_lots, use_orders};
 use proposal_check::{is_acceptable, write_places};
-use rules::Answer;
+use rules::Refusal;
 use rules::layout::{LEG_PLACES, LOTS_RUN, ORDER_COUNT};
 use rules::ranges::MOST_LOTS_RUN;
 
@@ -28,7 +28,7 @@ fn apply_at(
     orders: &[u64],
     leg_lots: &[u64],
     leg_prices: &[u64],
-) -> Answer
+) -> Result<u64, Refusal>
     requires head_fit { HeadFit head.old × PricesFit (lots_run_in head.old) prices.now × BookFit head.old book.old × (lines_length ≤ length lines.old) }
     requires rows_fit { RowsFit (members_in head.old) (lots_run_in head.old) lots.old × RowsFit (members_in head.old) (most_price * lots_run_in head.old) value.old }
     requires legs_fit { LegsFit (length orders.now) leg_lots.now leg_prices.now × (places.now ≡ places_of (order_count_in head.old) book.old orders.now) }
@@ -41,11 +41,11 @@ fn apply_at(
         (column_legs orders.now leg_lots.now leg_prices.now) }
 {
     if !is_acceptable(&*head, prices, &*book, places, orders, leg_lots, leg_prices) {
-        return Answer::NotAcceptable;
+        return Err(Refusal::NotAcceptable);
     }
     let run = head[LOTS_RUN] + total_lots(leg_lots, leg_prices).0;
     if MOST_LOTS_RUN < run {
-        return Answer::TotalPassed;
+        return Err(Refusal::TotalPassed);
     }
     book_legs(
         &mut *head,
@@ -58,7 +58,7 @@ fn apply_at(
         leg_prices,
     );
     use_orders(&mut *head, &mut *book, places, leg_lots);
-    Answer::Accepted(orders.len() as u64)
+    Ok(orders.len() as u64)
 }
 
 // The legs are three columns: the number of each leg's order, its lots, its price.
@@ -72,7 +72,7 @@ pub fn apply(
     orders: &[u64],
     leg_lots: &[u64],
     leg_prices: &[u64],
-) -> Answer
+) -> Result<u64, Refusal>
     requires head_fit { HeadFit head.old × PricesFit (lots_run_in head.old) prices.now × BookFit head.old book.old × (lines_length ≤ length lines.old) }
     requires rows_fit { RowsFit (members_in head.old) (lots_run_in head.old) lots.old × RowsFit (members_in head.old) (most_price * lots_run_in head.old) value.old }
     requires legs_fit { LegsFit (length orders.now) leg_lots.now leg_prices.now }

@@ -7,10 +7,9 @@ use native.Mathlib.Omega.{arith}
 use lib.Dec.{eqb, ltb}
 use lib.ListN.{length}
 use lib.IntN.{nat_abs}
-use Rattle.std.specs.Prelude.{Some, None}
+use Rattle.std.specs.Prelude.{Some, None, Ok}
 use Rattle.arith.specs.Lists.{All, every, kept, total, from}
 use Rattle.arith.proofs.Alls.{all_map}
-use Rattle.rules.specs.declared.answer.Answer.TheVariants.{Accepted}
 use Rattle.rules.specs.declared.event.Cancellation.{Cancellation}
 use Rattle.rules.specs.declared.event.CloseOutTerms.{CloseOutTerms}
 use Rattle.rules.specs.declared.event.Leg.{Leg}
@@ -54,7 +53,7 @@ pub record OutcomesAlike (n k : ℕ) (o o' : Outcome Tables) : Type 0 where
 booked_alike : {n k q : ℕ} {t u : Tables} → Alike n k q t u → n ≤ most_members → (ls ls' : List Line) → ls ≡ ls' → All (Fits n) ls → OutcomesAlike n k (booked ls t) (booked ls' u)
 unfolding booked
 booked_alike {n} {k} {q} {t} {u} a few ls ls' e fit = record {
-  answer = ap (λ (x : List Line). Accepted (length x)) e;
+  answer = ap (λ (x : List Line). Ok (length x)) e;
   lines = lines_printed ls t.lines ∙ e ∙ sym (lines_printed ls' u.lines);
   count = q;
   ledger = subst (λ (x : List Line). Alike n k q (booked ls t).after (booked x u).after) e (with_booked a few ls fit);

@@ -4,10 +4,9 @@ use mathlib.Core.Path.{◌≡◌, refl, sym, subst, ◌∙◌}
 use mathlib.Core.Bool.{true, false}
 use mathlib.Core.List.{List, [], ◌∷◌}
 use lib.IntN.{ℤ}
-use Rattle.std.specs.Prelude.{Option, Some, None}
+use Rattle.std.specs.Prelude.{Option, Some, None, Result, Err}
 use Rattle.arith.proofs.Tests.{true_or}
-use Rattle.rules.specs.declared.answer.Answer.{Answer}
-use Rattle.rules.specs.declared.answer.Answer.TheVariants.{RecordUnsound}
+use Rattle.rules.specs.declared.refusal.Refusal.TheVariants.{RecordUnsound}
 use Rattle.rules.specs.Answers.{Outcome, Cause, decide}
 use Rattle.rules.specs.Ledger.{Tables, members, holiday_count, order_count, with_lines, ledger_short, lines_short}
 use Rattle.rules.specs.Records.{legs_of, read_of}
@@ -15,7 +14,7 @@ use Rattle.rules.specs.Refusals.{unsound, kind_causes, kind_booked, event_spec, 
 use Rattle.rules.specs.Accounts.{Column, lots, value, row, Call, call_spec, after, is_accepted, lines_of}
 use Rattle.rules.specs.Ranges.{contract_count}
 use Rattle.rules.proofs.SoundTables.{Long, Undamaged, undamaged}
-use Rattle.accounts.proofs.EachKind.{Refuses, causes_refuse, read_sound}
+use Rattle.accounts.proofs.EachKind.{never_accepted, read_sound}
 use Rattle.accounts.proofs.LengthsStay.{lengths_stay}
 use Rattle.accounts.proofs.SameLengths.{stays_long}
 use Rattle.replay.specs.Surplus.{SameButSurplus}
@@ -26,16 +25,17 @@ use Rattle.replay.proofs.Alike.{Alike, alike_of, same_of}
 use Rattle.replay.proofs.EachKind.{OutcomesAlike}
 use Rattle.replay.proofs.KindsReplay.{kind_replays}
 use Rattle.rules.specs.declared.event.Event.{Event}
+use Rattle.rules.specs.declared.refusal.Refusal.{Refusal}
 
 -- ---- one record
 module _ {n k q : ℕ} {t u : Tables} (a : Alike n k q t u) where
-  refused_alike : (x : Answer) → is_accepted x ≡ false → OutcomesAlike n k (record { answer = x; after = t }) (record { answer = x; after = u })
+  refused_alike : (x : Result ℕ Refusal) → is_accepted x ≡ false → OutcomesAlike n k (record { answer = x; after = t }) (record { answer = x; after = u })
   refused_alike x e = record { answer = refl; lines = rw e refl; count = q; ledger = a }
 
-  decide_alike : (causes : List Cause) (o o' : Outcome Tables) → Refuses causes → OutcomesAlike n k o o' → OutcomesAlike n k (decide causes t o) (decide causes u o')
-  decide_alike [] o o' r b = b
-  decide_alike ((true, x) ∷ causes) o o' r b = refused_alike x r.0
-  decide_alike ((false, x) ∷ causes) o o' r b = decide_alike causes o o' r.1 b
+  decide_alike : (causes : List Cause) (o o' : Outcome Tables) → OutcomesAlike n k o o' → OutcomesAlike n k (decide causes t o) (decide causes u o')
+  decide_alike [] o o' b = b
+  decide_alike ((true, x) ∷ causes) o o' b = refused_alike (Err x) (never_accepted x)
+  decide_alike ((false, x) ∷ causes) o o' b = decide_alike causes o o' b
 
 module _ (t u : Tables) (s : SameButSurplus t u) (a : Undamaged t) (l : Long u) where
   start : Alike (members t) (holiday_count t) (order_count t) t u
@@ -47,8 +47,8 @@ module _ (t u : Tables) (s : SameButSurplus t u) (a : Undamaged t) (l : Long u) 
       let legs = legs_of bytes in
       let k = kind_replays e t legs a (read_sound (members t) bytes e r) in
       subst (λ causes. OutcomesAlike (members t) (holiday_count t) (decide (kind_causes t e legs) t (kind_booked t e legs)) (decide causes u (kind_booked u e legs))) (k.causes u s l)
-      (decide_alike start (kind_causes t e legs) (kind_booked t e legs) (kind_booked u e legs) (causes_refuse t e legs) (k.alike u s l))
-  reading_alike None bytes r = refused_alike start RecordUnsound refl
+      (decide_alike start (kind_causes t e legs) (kind_booked t e legs) (kind_booked u e legs) (k.alike u s l))
+  reading_alike None bytes r = refused_alike start (Err RecordUnsound) refl
 
 -- the same answer, the same lines, and ledgers that agree but for surplus
 pub record SameOutcome (o o' : Outcome Tables) : Type 0 where

@@ -3,8 +3,8 @@ use Prim.Native.Nat.{ℕ}
 use mathlib.Core.Path.{◌≡◌, refl, sym, ap, subst, subst₂, ◌∙◌}
 use mathlib.Core.Bool.{not}
 use mathlib.Core.List.{List, [], ◌∷◌, map}
+use Rattle.std.specs.Prelude.{Result}
 use Rattle.arith.proofs.Tests.{passes}
-use Rattle.rules.specs.declared.answer.Answer.{Answer}
 use Rattle.rules.specs.Answers.{Reply, reply_of}
 use Rattle.rules.specs.Header.{header_of}
 use Rattle.rules.specs.Ledger.{Tables, Line, members, holiday_count}
@@ -16,9 +16,10 @@ use Rattle.replay.specs.Replay.{answered, Replayed, shown, SameRuns, RunsAlike, 
 use Rattle.replay.proofs.Making.{recovers}
 use Rattle.replay.proofs.EveryList.{replays_alike}
 use Rattle.replay.proofs.SurplusStays.{surplus_stays}
+use Rattle.rules.specs.declared.refusal.Refusal.{Refusal}
 
 -- an answer with its lines as it is seen
-abbrev seen : Answer × List Line → Reply × List Line
+abbrev seen : Result ℕ Refusal × List Line → Reply × List Line
 seen x = (reply_of x.0, x.1)
 
 module _ {A : Type 0} (reply : A → Reply) (Make Apply : Tables → List ℕ → A → Tables → Type 0) (makes : MakesByRules reply Make) (applies : AppliesByRules reply Apply) where

@@ -1,6 +1,5 @@
 -- What recovery from a journal rests on: the same records lead to the same answers, the same lines and the same ledger, surplus apart.
-use Rattle.std.specs.Prelude.{ℕ, ◌≡◌, not, List, [], ◌∷◌, T, ltb, length}
-use Rattle.rules.specs.declared.answer.Answer.{Answer}
+use Rattle.std.specs.Prelude.{ℕ, ◌≡◌, not, List, [], ◌∷◌, T, ltb, length, Result}
 use Rattle.rules.specs.Answers.{Reply}
 use Rattle.rules.specs.Header.{header_of, begins_with_header}
 use Rattle.rules.specs.Ledger.{Tables, Line, members, holiday_count, lines_length, ledger_short}
@@ -8,6 +7,7 @@ use Rattle.rules.specs.Refusals.{make_spec, apply_spec}
 use Rattle.rules.specs.Accounts.{Call, call_spec, after, lines_of}
 use Rattle.accounts.specs.EveryRun.{Applied, calls, standing, Kept, lines_of_reply}
 use Rattle.replay.specs.Surplus.{SameButSurplus, SurplusUntouched, LinesUntouched, BookUntouched}
+use Rattle.rules.specs.declared.refusal.Refusal.{Refusal}
 
 -- The same record; the line tables may differ in what they hold and in length, if both are long enough or both too short.
 abbrev pub SameRecord : Call → Call → Type 0
@@ -20,7 +20,7 @@ SameRecords (call ∷ calls) [] = ⊥
 SameRecords (call ∷ calls) (other ∷ others) = SameRecord call other × SameRecords calls others
 
 -- Each call's answer, with its lines.
-unfoldable pub answered : Tables → List Call → List (Answer × List Line)
+unfoldable pub answered : Tables → List Call → List (Result ℕ Refusal × List Line)
 answered t [] = []
 answered t (call ∷ calls) = let o = call_spec t call in (o.answer, lines_of o.answer o.after.lines) ∷ answered o.after calls
 

@@ -4,7 +4,7 @@
 ghost use Rattle.std.specs.Prelude.{◌≡◌};
 ghost use Rattle.rules.specs.Answers.{reply_of};
 
-use rules::Answer;
+use rules::Refusal;
 
 // An answer as a host gets it and as it is printed: the paper's number, and what goes with it.
 #[derive(Clone, Copy)]
@@ -23,28 +23,28 @@ pub fn numbered(number: u64, detail: u64) -> Reply
     }
 }
 
-pub fn reply_of(answer: Answer) -> Reply
+pub fn reply_of(answer: Result<u64, Refusal>) -> Reply
     ensures { (result.number ≡ (reply_of answer).number) × (result.detail ≡ (reply_of answer).detail) }
 {
     match answer {
-        Answer::Accepted(lines) => numbered(0, lines),
-        Answer::TableUnsound => numbered(1, 0),
-        Answer::HeaderUnsound => numbered(2, 0),
-        Answer::RecordUnsound => numbered(3, 0),
-        Answer::TimeBelowLedger => numbered(4, 0),
-        Answer::MemberDefaulted(member) => numbered(5, member),
-        Answer::ContractNotOpen(contract) => numbered(6, contract),
-        Answer::PriceOutsideLimits => numbered(7, 0),
-        Answer::SixthSubmit => numbered(8, 0),
-        Answer::AboveLimit => numbered(9, 0),
-        Answer::CannotMatchInFull => numbered(10, 0),
-        Answer::BookFull => numbered(11, 0),
-        Answer::NoSuchOrder => numbered(12, 0),
-        Answer::NotAcceptable => numbered(13, 0),
-        Answer::NoReferencePrice => numbered(14, 0),
-        Answer::NoDefaultedLots => numbered(15, 0),
-        Answer::NoTaker => numbered(16, 0),
-        Answer::TotalPassed => numbered(17, 0),
-        Answer::NoLaterDay => numbered(18, 0),
+        Ok(lines) => numbered(0, lines),
+        Err(Refusal::TableUnsound) => numbered(1, 0),
+        Err(Refusal::HeaderUnsound) => numbered(2, 0),
+        Err(Refusal::RecordUnsound) => numbered(3, 0),
+        Err(Refusal::TimeBelowLedger) => numbered(4, 0),
+        Err(Refusal::MemberDefaulted(member)) => numbered(5, member),
+        Err(Refusal::ContractNotOpen(contract)) => numbered(6, contract),
+        Err(Refusal::PriceOutsideLimits) => numbered(7, 0),
+        Err(Refusal::SixthSubmit) => numbered(8, 0),
+        Err(Refusal::AboveLimit) => numbered(9, 0),
+        Err(Refusal::CannotMatchInFull) => numbered(10, 0),
+        Err(Refusal::BookFull) => numbered(11, 0),
+        Err(Refusal::NoSuchOrder) => numbered(12, 0),
+        Err(Refusal::NotAcceptable) => numbered(13, 0),
+        Err(Refusal::NoReferencePrice) => numbered(14, 0),
+        Err(Refusal::NoDefaultedLots) => numbered(15, 0),
+        Err(Refusal::NoTaker) => numbered(16, 0),
+        Err(Refusal::TotalPassed) => numbered(17, 0),
+        Err(Refusal::NoLaterDay) => numbered(18, 0),
     }
 }

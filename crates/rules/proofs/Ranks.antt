@@ -2,10 +2,11 @@
 use mathlib.Core.Path.{◌≡◌, refl}
 use mathlib.Core.Bool.{true}
 use mathlib.Core.List.{[], ◌∷◌, map}
+use Rattle.std.specs.Prelude.{Ok, Err}
 use Rattle.arith.specs.Lists.{from, every, any}
-use Rattle.rules.specs.declared.answer.Answer.TheVariants.{Accepted, TableUnsound, HeaderUnsound, RecordUnsound, TimeBelowLedger, MemberDefaulted, ContractNotOpen}
-use Rattle.rules.specs.declared.answer.Answer.TheVariants.{PriceOutsideLimits, SixthSubmit, AboveLimit, CannotMatchInFull, BookFull, NoSuchOrder, NotAcceptable}
-use Rattle.rules.specs.declared.answer.Answer.TheVariants.{NoReferencePrice, NoDefaultedLots, NoTaker, TotalPassed, NoLaterDay}
+use Rattle.rules.specs.declared.refusal.Refusal.TheVariants.{TableUnsound, HeaderUnsound, RecordUnsound, TimeBelowLedger, MemberDefaulted, ContractNotOpen}
+use Rattle.rules.specs.declared.refusal.Refusal.TheVariants.{PriceOutsideLimits, SixthSubmit, AboveLimit, CannotMatchInFull, BookFull, NoSuchOrder, NotAcceptable}
+use Rattle.rules.specs.declared.refusal.Refusal.TheVariants.{NoReferencePrice, NoDefaultedLots, NoTaker, TotalPassed, NoLaterDay}
 use Rattle.rules.specs.Answers.{ranking, place_from, rank_of, rank}
 use Rattle.rules.specs.Header.{rising}
 use Rattle.rules.specs.Refusals.{distinct}
@@ -23,25 +24,25 @@ ranked_once = refl
 -- Each answer has the rank of its number, whatever goes with it.
 pub answers-ranked :
     map rank
-    (Accepted 200
-    ∷ TableUnsound
-    ∷ HeaderUnsound
-    ∷ RecordUnsound
-    ∷ TimeBelowLedger
-    ∷ MemberDefaulted 31
-    ∷ ContractNotOpen 17
-    ∷ PriceOutsideLimits
-    ∷ SixthSubmit
-    ∷ AboveLimit
-    ∷ CannotMatchInFull
-    ∷ BookFull
-    ∷ NoSuchOrder
-    ∷ NotAcceptable
-    ∷ NoReferencePrice
-    ∷ NoDefaultedLots
-    ∷ NoTaker
-    ∷ TotalPassed
-    ∷ NoLaterDay
+    (Ok 200
+    ∷ Err TableUnsound
+    ∷ Err HeaderUnsound
+    ∷ Err RecordUnsound
+    ∷ Err TimeBelowLedger
+    ∷ Err (MemberDefaulted 31)
+    ∷ Err (ContractNotOpen 17)
+    ∷ Err PriceOutsideLimits
+    ∷ Err SixthSubmit
+    ∷ Err AboveLimit
+    ∷ Err CannotMatchInFull
+    ∷ Err BookFull
+    ∷ Err NoSuchOrder
+    ∷ Err NotAcceptable
+    ∷ Err NoReferencePrice
+    ∷ Err NoDefaultedLots
+    ∷ Err NoTaker
+    ∷ Err TotalPassed
+    ∷ Err NoLaterDay
     ∷ [])
     ≡ from 0 19
 unfolding ranking place_from rank_of from

@@ -1,7 +1,6 @@
 -- Document 01, "The two accounts of demand 3": the two bookkeepers, and what is demanded of them.
-use Rattle.std.specs.Prelude.{ℕ, ◌*◌, ◌≤◌, ◌<◌, ◌≡◌, Bool, cond, not, List, [], ◌∷◌, ◌++◌, T, eqb, ℤ, pos, ◌+ℤ◌, Option, Some, None}
+use Rattle.std.specs.Prelude.{ℕ, ◌*◌, ◌≤◌, ◌<◌, ◌≡◌, Bool, cond, not, List, [], ◌∷◌, ◌++◌, T, eqb, ℤ, pos, ◌+ℤ◌, Option, Some, None, Result}
 use Rattle.arith.specs.Ints.{when, sum}
-use Rattle.rules.specs.declared.answer.Answer.{Answer}
 use Rattle.rules.specs.Answers.{Outcome, reply_of}
 use Rattle.rules.specs.Ranges.{contract_count}
 use Rattle.rules.specs.Days.{Calendar, span_start, day_after_span, next_business_day}
@@ -11,6 +10,7 @@ use Rattle.rules.specs.Ledger.{Tables, Line, with_lines, lots_at, value_at, line
 use Rattle.rules.specs.Records.{is_close_of_day, read_of}
 use Rattle.rules.specs.Refusals.{apply_spec, make_spec}
 use Rattle.rules.specs.declared.event.Event.{Event}
+use Rattle.rules.specs.declared.refusal.Refusal.{Refusal}
 use Rattle.rules.specs.declared.units.DayNo.{DayNo}
 
 -- ---- the list of calls
@@ -28,12 +28,12 @@ after t [] = t
 after t (call ∷ calls) = after (call_spec t call).after calls
 
 -- An accepted record has number 0.
-abbrev pub is_accepted : Answer → Bool
+abbrev pub is_accepted : Result ℕ Refusal → Bool
 is_accepted a = eqb (reply_of a).number 0
 
 -- The lines of an accepted record: the first places of the line table, as many as the answer says.
 -- A refused record gives nothing.
-abbrev pub lines_of : Answer → List ℤ → List Line
+abbrev pub lines_of : Result ℕ Refusal → List ℤ → List Line
 lines_of a l = cond (is_accepted a) (first_lines (reply_of a).detail l) []
 
 -- All lines of the list's accepted records, in printed order.

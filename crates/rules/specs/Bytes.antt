@@ -1,9 +1,9 @@
 -- A record of each kind and a header, written out by hand from document 01's field list. Their values change if their bytes are
 -- exchanged, so that a slip in both reader and writer is seen.
-use Rattle.std.specs.Prelude.{ℕ, ◌≡◌, refl, true, false, take, Some, None}
+use Rattle.std.specs.Prelude.{ℕ, ◌≡◌, refl, true, false, take, Some, None, Err}
 use mathlib.Core.List.{List, [], ◌∷◌, ◌++◌, map, flat_map}
 use Rattle.arith.specs.Lists.{from, every}
-use Rattle.rules.specs.declared.answer.Answer.TheVariants.{RecordUnsound}
+use Rattle.rules.specs.declared.refusal.Refusal.TheVariants.{RecordUnsound}
 use Rattle.rules.specs.declared.event.Event.{Event}
 use Rattle.rules.specs.declared.event.Event.TheVariants.{Submit, Cancel, DayLimits, Proposal, Default, CloseOut, CloseOfDay}
 use Rattle.rules.specs.declared.event.Leg.{Leg}
@@ -105,7 +105,7 @@ unfolding computed
 no_fourth_order_kind = refl
 
 -- A time of 86,400 s and no room for a byte: the writer answers 3, not 1.
-three_before_one : write_spec 3 (CloseOfDay 86400) [] [] ≡ record { answer = RecordUnsound; after = [] }
+three_before_one : write_spec 3 (CloseOfDay 86400) [] [] ≡ record { answer = Err RecordUnsound; after = [] }
 unfolding computed
 three_before_one = refl
 

@@ -1,9 +1,8 @@
 -- Document 01, "Close of day".
-use Rattle.std.specs.Prelude.{ℕ, ◌+◌, ◌*◌, ◌/◌, Bool, true, false, cond, not, ◌&&◌, ◌||◌, eqb, leb, ltb, take, drop, replicate, ℤ, pos, ◌+ℤ◌, Some, None}
+use Rattle.std.specs.Prelude.{ℕ, ◌+◌, ◌*◌, ◌/◌, Bool, true, false, cond, not, ◌&&◌, ◌||◌, eqb, leb, ltb, take, drop, replicate, ℤ, pos, ◌+ℤ◌, Some, None, Ok}
 use mathlib.Core.List.{List, [], ◌∷◌, ◌++◌, zip_with}
 use Rattle.std.proofs.Math.Option.{Option, none, some}
 use Rattle.arith.specs.Lists.{any, kept, over, in_each_block}
-use Rattle.rules.specs.declared.answer.Answer.TheVariants.{Accepted}
 use Rattle.rules.specs.declared.contract.ContractKind.TheVariants.{Year, Quarter, Month}
 use Rattle.rules.specs.declared.order.Order.{Order}
 use Rattle.rules.specs.declared.order.Side.{Side}
@@ -112,4 +111,4 @@ on_day d t = with_head (with_time 0 (with_day d (without_submits t).head)) t
 
 -- No deal lines.
 unfoldable pub close_booked : Tables → ℕ → Outcome Tables
-close_booked t s = record { answer = Accepted 0; after = on_day (next_day t) (with_closed (closing_contracts t) (priced s t)) }
+close_booked t s = record { answer = Ok 0; after = on_day (next_day t) (with_closed (closing_contracts t) (priced s t)) }

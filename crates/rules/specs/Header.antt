@@ -1,8 +1,8 @@
 -- Document 01, "Records": the header of a journal. All fields are big-endian.
-use Rattle.std.specs.Prelude.{ℕ, ◌+◌, ◌*◌, ◌/◌, ◌%◌, Bool, true, false, not, ◌&&◌, eqb, leb, ltb, length, take, get_or}
+use Rattle.std.specs.Prelude.{ℕ, ◌+◌, ◌*◌, ◌/◌, ◌%◌, Bool, true, false, not, ◌&&◌, eqb, leb, ltb, length, take, get_or, Ok}
 use mathlib.Core.List.{List, [], ◌∷◌, ◌++◌, map, flat_map}
 use Rattle.arith.specs.Lists.{from, every, over}
-use Rattle.rules.specs.declared.answer.Answer.TheVariants.{Accepted, TableUnsound, HeaderUnsound}
+use Rattle.rules.specs.declared.refusal.Refusal.TheVariants.{TableUnsound, HeaderUnsound}
 use Rattle.rules.specs.Ranges.{least_first_year, most_first_year, most_members, most_holidays, most_limit}
 use Rattle.rules.specs.Answers.{Outcome, decide}
 use Rattle.rules.specs.Days.{Calendar, business_day, in_span}
@@ -133,4 +133,4 @@ unfoldable pub write_header_spec : Header → List ℕ → Outcome (List ℕ)
 write_header_spec h out =
     let bytes = header_bytes h in
     decide ((not (header_sound h), HeaderUnsound) ∷ (ltb (length out) (length bytes), TableUnsound) ∷ []) out
-    (record { answer = Accepted (length bytes); after = over 0 bytes out })
+    (record { answer = Ok (length bytes); after = over 0 bytes out })

@@ -1,8 +1,7 @@
 -- Document 01, "Journal program": the whole output for the bytes of a journal.
-use Rattle.std.specs.Prelude.{ℕ, zero, suc, ◌+◌, ◌-◌, Bool, cond, eqb, length, take, drop}
+use Rattle.std.specs.Prelude.{ℕ, zero, suc, ◌+◌, ◌-◌, Bool, cond, eqb, length, take, drop, Result, Err}
 use mathlib.Core.List.{List, [], ◌∷◌, ◌++◌, flat_map}
-use Rattle.rules.specs.declared.answer.Answer.{Answer}
-use Rattle.rules.specs.declared.answer.Answer.TheVariants.{RecordUnsound}
+use Rattle.rules.specs.declared.refusal.Refusal.TheVariants.{RecordUnsound}
 use Rattle.rules.specs.declared.event.Front.{Front}
 use Rattle.rules.specs.declared.event.Front.TheVariants.{Whole, Cut, UnknownKind}
 use Rattle.rules.specs.Answers.{Outcome, reply_of}
@@ -12,6 +11,7 @@ use Rattle.rules.specs.Records.{front_of}
 use Rattle.rules.specs.Refusals.{apply_spec, make_spec}
 use Rattle.rules.specs.Accounts.{is_accepted, lines_of}
 use Rattle.rules.specs.Text.{decimal, signed_decimal, line_text}
+use Rattle.rules.specs.declared.refusal.Refusal.{Refusal}
 
 -- ---- the lines
 abbrev pub letter_h : ℕ
@@ -57,10 +57,10 @@ unfoldable pub answer_text : ℕ → Outcome Tables → List ℕ
 answer_text n o = cond (is_accepted o.answer) (flat_map deal_text (lines_of o.answer o.after.lines)) (refusal_text n (reply_of o.answer).number)
 
 -- After number 3 it stops reading.
-abbrev pub stops : Answer → Bool
-stops a = eqb (reply_of a).number (reply_of RecordUnsound).number
+abbrev pub stops : Result ℕ Refusal → Bool
+stops a = eqb (reply_of a).number (reply_of (Err RecordUnsound)).number
 
-abbrev pub accepted_by : Answer → ℕ
+abbrev pub accepted_by : Result ℕ Refusal → ℕ
 accepted_by a = cond (is_accepted a) 1 0
 
 -- ---- the records one after the other, and E

@@ -1,9 +1,8 @@
 -- Document 01, "What the ledger holds": the lent tables, every place in them, and what is read and written there.
 -- docs/LAYOUT.md has the same places for the author of a host.
-use Rattle.std.specs.Prelude.{ℕ, ◌+◌, ◌*◌, Bool, cond, ◌||◌, eqb, ltb, length, take, drop, get_or, set, replicate, ℤ, pos, nat_abs, ◌+ℤ◌, ◌*ℤ◌}
+use Rattle.std.specs.Prelude.{ℕ, ◌+◌, ◌*◌, Bool, cond, ◌||◌, eqb, ltb, length, take, drop, get_or, set, replicate, ℤ, pos, nat_abs, ◌+ℤ◌, ◌*ℤ◌, Ok}
 use mathlib.Core.List.{List, [], ◌∷◌, map, flat_map}
 use Rattle.arith.specs.Lists.{from, over, total, in_each_block}
-use Rattle.rules.specs.declared.answer.Answer.TheVariants.{Accepted}
 use Rattle.rules.specs.declared.order.Order.{Order}
 use Rattle.rules.specs.Answers.{Outcome}
 use Rattle.rules.specs.Ranges.{contract_count, most_members, most_holidays, most_orders, most_price, least_lines}
@@ -318,7 +317,7 @@ line_run ls = total (λ l. nat_abs l.lots) ls
 unfoldable pub booked : List Line → Tables → Outcome Tables
 booked ls t =
     record {
-      answer = Accepted (length ls);
+      answer = Ok (length ls);
       after =
           with_lines (over 0 (flat_map line_places ls) t.lines)
           (with_rows (posted line_lots ls t.lots) (posted line_value ls t.value) (with_head (with_lots_run (lots_run t + line_run ls) t.head) t));

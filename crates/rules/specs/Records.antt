@@ -1,8 +1,8 @@
 -- Document 01, "Records": what the bytes of a record say, which are sound, and what is written for an event.
-use Rattle.std.specs.Prelude.{ℕ, ◌+◌, ◌*◌, ◌-◌, Bool, cond, not, ◌&&◌, ◌≡◌, refl, eqb, leb, ltb, length, get_or, Option, Some, None}
+use Rattle.std.specs.Prelude.{ℕ, ◌+◌, ◌*◌, ◌-◌, Bool, cond, not, ◌&&◌, ◌≡◌, refl, eqb, leb, ltb, length, get_or, Option, Some, None, Ok, Err}
 use mathlib.Core.List.{List, [], ◌∷◌, ◌++◌, map, flat_map}
 use Rattle.arith.specs.Lists.{from, every, over}
-use Rattle.rules.specs.declared.answer.Answer.TheVariants.{Accepted, TableUnsound, RecordUnsound}
+use Rattle.rules.specs.declared.refusal.Refusal.TheVariants.{TableUnsound, RecordUnsound}
 use Rattle.rules.specs.declared.event.Cancellation.{Cancellation}
 use Rattle.rules.specs.declared.event.CloseOutTerms.{CloseOutTerms}
 use Rattle.rules.specs.declared.event.Event.{Event}
@@ -212,7 +212,7 @@ write_spec n e legs out =
     let bytes = bytes_of e legs in
     decide
     ((not (members_sound n && event_sound n e legs), RecordUnsound) ∷ (ltb (length out) (length bytes), TableUnsound) ∷ []) out
-    (record { answer = Accepted (length bytes); after = over 0 bytes out })
+    (record { answer = Ok (length bytes); after = over 0 bytes out })
 
 -- ---- reading
 -- The numbers of a record of a kind, which is the first; those of its legs aside.
@@ -248,7 +248,7 @@ read_of n s = cond (members_sound n) (if_sound n (legs_of s) (fields_of s)) None
 -- The paper's number for what a reader answers: a record that is unsound is 3.
 abbrev pub reply_of_reading : Option Event → Reply
 reply_of_reading (Some e) = record { number = 0; detail = 0 }
-reply_of_reading None = reply_of RecordUnsound
+reply_of_reading None = reply_of (Err RecordUnsound)
 
 reading_replies : map reply_of_reading (Some (Default 2) ∷ None ∷ []) ≡ record { number = 0; detail = 0 } ∷ record { number = 3; detail = 0 } ∷ []
 reading_replies = refl
@@ -264,8 +264,8 @@ front_of s =
 -- The paper's number for it, with a whole record's length: cut and of unknown kind are both 3.
 abbrev pub reply_of_front : Front → Reply
 reply_of_front (Whole n) = record { number = 0; detail = n }
-reply_of_front Cut = reply_of RecordUnsound
-reply_of_front UnknownKind = reply_of RecordUnsound
+reply_of_front Cut = reply_of (Err RecordUnsound)
+reply_of_front UnknownKind = reply_of (Err RecordUnsound)
 
 front_replies : map reply_of_front (Whole 15 ∷ Cut ∷ UnknownKind ∷ [])
     ≡ record { number = 0; detail = 15 } ∷ record { number = 3; detail = 0 } ∷ record { number = 3; detail = 0 } ∷ []

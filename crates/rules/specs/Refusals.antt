@@ -1,9 +1,9 @@
 -- Document 01, "Why a record is turned back": damage, the causes of each kind of record in the order of their ranks, and one call.
-use Rattle.std.specs.Prelude.{ℕ, ◌+◌, ◌*◌, Bool, true, not, ◌&&◌, ◌||◌, List, [], ◌∷◌, map, eqb, leb, ltb, length, take, get_or, ℤ, nat_abs, Option, Some, None}
+use Rattle.std.specs.Prelude.{ℕ, ◌+◌, ◌*◌, Bool, true, not, ◌&&◌, ◌||◌, List, [], ◌∷◌, map, eqb, leb, ltb, length, take, get_or, ℤ, nat_abs, Option, Some, None, Ok, Err}
 use Rattle.arith.specs.Lists.{every, any, kept, from, every_block, all_of}
-use Rattle.rules.specs.declared.answer.Answer.TheVariants.{Accepted, TableUnsound, HeaderUnsound, RecordUnsound, TimeBelowLedger, MemberDefaulted, ContractNotOpen}
-use Rattle.rules.specs.declared.answer.Answer.TheVariants.{PriceOutsideLimits, SixthSubmit, AboveLimit, CannotMatchInFull, BookFull, NoSuchOrder, NotAcceptable}
-use Rattle.rules.specs.declared.answer.Answer.TheVariants.{NoReferencePrice, NoDefaultedLots, NoTaker, TotalPassed, NoLaterDay}
+use Rattle.rules.specs.declared.refusal.Refusal.TheVariants.{TableUnsound, HeaderUnsound, RecordUnsound, TimeBelowLedger, MemberDefaulted, ContractNotOpen}
+use Rattle.rules.specs.declared.refusal.Refusal.TheVariants.{PriceOutsideLimits, SixthSubmit, AboveLimit, CannotMatchInFull, BookFull, NoSuchOrder, NotAcceptable}
+use Rattle.rules.specs.declared.refusal.Refusal.TheVariants.{NoReferencePrice, NoDefaultedLots, NoTaker, TotalPassed, NoLaterDay}
 use Rattle.rules.specs.declared.event.Cancellation.{Cancellation}
 use Rattle.rules.specs.declared.event.CloseOutTerms.{CloseOutTerms}
 use Rattle.rules.specs.declared.event.Event.{Event}
@@ -209,7 +209,7 @@ close_spec t s = decide (close_causes t s) t (close_booked t s)
 -- ---- a call
 unfoldable pub reading_spec : Tables → Option Event → List Leg → Outcome Tables
 reading_spec t (Some e) legs = event_spec t e legs
-reading_spec t None legs = record { answer = RecordUnsound; after = t }
+reading_spec t None legs = record { answer = Err RecordUnsound; after = t }
 
 -- One record applied to the lent tables, whatever they hold and whatever its bytes.
 unfoldable pub apply_spec : Tables → List ℕ → Outcome Tables
@@ -220,4 +220,4 @@ apply_spec t bytes =
 unfoldable pub make_spec : Tables → List ℕ → Outcome Tables
 make_spec t bytes =
     decide ((ledger_short t, TableUnsound) ∷ (not (begins_with_header bytes), HeaderUnsound) ∷ []) t
-    (record { answer = Accepted 0; after = fresh (header_of bytes) t })
+    (record { answer = Ok 0; after = fresh (header_of bytes) t })

@@ -3,8 +3,8 @@ use mathlib.Core.Path.{◌≡◌, sym, ap, subst, ◌∙◌}
 use Prim.Native.Nat.{ℕ, ◌<◌}
 use native.Mathlib.Omega.{arith}
 use lib.ListN.{length}
+use Rattle.std.specs.Prelude.{Result, Ok, Err, ⊤}
 use Rattle.arith.specs.Lists.{All}
-use Rattle.rules.specs.declared.answer.Answer.{Answer}
 use Rattle.rules.specs.declared.event.Submission.{Submission}
 use Rattle.rules.specs.declared.order.Order.{Order}
 use Rattle.rules.specs.Answers.{Outcome, decide}
@@ -15,17 +15,16 @@ use Rattle.tables.specs.Fit.{HeadFit, BookFit, order_count_in, orders_in}
 use Rattle.order_book.proofs.Left.{orders_length, all_orders}
 use Rattle.order_priority.specs.Priority.{Ranked}
 use Rattle.matching.specs.Crossing.{own_in, crossing_in}
-use Rattle.submit_causes.specs.declared.causes.Verdict.{Verdict}
-use Rattle.submit_causes.specs.declared.causes.Verdict.TheVariants.{Refused, Sound}
 use Rattle.submit_causes.specs.Fit.{SubmissionFit, Acceptable}
 use Rattle.submit_causes.specs.Causes.{outcome, first_causes, measured_causes}
 use Rattle.submit_causes.proofs.Judged.{judged_first, judged, acceptable}
 use Rattle.rules.proofs.Distinct.{Distinct, distinct_orders}
+use Rattle.rules.specs.declared.refusal.Refusal.{Refusal}
 
 -- What both verdicts on a submit tell, where so many lots cross.
-pub record Judged (t : Tables) (e : Submission) (first second : Verdict) (crossing : ℕ) : Type 0 where
+pub record Judged (t : Tables) (e : Submission) (first second : Result ⊤ Refusal) (crossing : ℕ) : Type 0 where
   pub verdict : (x : Outcome Tables) → outcome first t (outcome second t x) ≡ decide (submit_causes t e) t x
-  pub accepts : first ≡ Sound → second ≡ Sound → Acceptable t e crossing
+  pub accepts : first ≡ Ok tt → second ≡ Ok tt → Acceptable t e crossing
 
 module _ (t : Tables) (e : Submission) (h : HeadFit t.head) (b : BookFit t.head t.book) (f : SubmissionFit t.head e) where
   ranked : All Ranked (orders t)
@@ -44,15 +43,15 @@ module _ (t : Tables) (e : Submission) (h : HeadFit t.head) (b : BookFit t.head 
   unfolding orders
   many = orders_length t.book (order_count_in t.head)
 
-  pub refused_first : (first : Verdict) → ((x : Outcome Tables) → outcome first t x ≡ decide (first_causes t e) t x) → (a : Answer) → first ≡ Refused a
-      → record { answer = a; after = t } ≡ submit_spec t e
+  pub refused_first : (first : Result ⊤ Refusal) → ((x : Outcome Tables) → outcome first t x ≡ decide (first_causes t e) t x) → (a : Refusal) → first ≡ Err a
+      → record { answer = Err a; after = t } ≡ submit_spec t e
   unfolding submit_spec
   refused_first first k a s = rw s at (judged_first t e ranked numbers has_lots_holds f.least_lots many h.most_orders_holds first k (submit_booked t e))
 
   -- with what the book tells of the order
   module _ (o : Order) (same : o ≡ incoming t e) (own crossing : ℕ) (own_is : own ≡ own_in o (orders_in (order_count_in t.head) t.book))
       (crossing_is : crossing ≡ crossing_in o (orders_in (order_count_in t.head) t.book))
-      (first second : Verdict) (k : (x : Outcome Tables) → outcome first t x ≡ decide (first_causes t e) t x)
+      (first second : Result ⊤ Refusal) (k : (x : Outcome Tables) → outcome first t x ≡ decide (first_causes t e) t x)
       (l : (x : Outcome Tables) → outcome second t x ≡ decide (measured_causes own crossing t e) t x) where
     crossing_same : crossing ≡ crossing_in (incoming t e) (orders t)
     unfolding orders
@@ -72,11 +71,11 @@ module _ (t : Tables) (e : Submission) (h : HeadFit t.head) (b : BookFit t.head 
           accepts = λ s r. subst (Acceptable t e) (sym crossing_same) (acceptable t e ranked numbers has_lots_holds f.least_lots many h.most_orders_holds first second k reply_of s r);
         }
 
-module _ {t : Tables} {e : Submission} {first second : Verdict} {crossing : ℕ} (j : Judged t e first second crossing) (s : first ≡ Sound) where
-  pub refused_second : (a : Answer) → second ≡ Refused a → record { answer = a; after = t } ≡ submit_spec t e
+module _ {t : Tables} {e : Submission} {first second : Result ⊤ Refusal} {crossing : ℕ} (j : Judged t e first second crossing) (s : first ≡ Ok tt) where
+  pub refused_second : (a : Refusal) → second ≡ Err a → record { answer = Err a; after = t } ≡ submit_spec t e
   unfolding submit_spec
   refused_second a r = rw (s, r) at (j.verdict (submit_booked t e))
 
-  pub accepted : second ≡ Sound → submit_booked t e ≡ submit_spec t e
+  pub accepted : second ≡ Ok tt → submit_booked t e ≡ submit_spec t e
   unfolding submit_spec
   accepted r = rw (s, r) at (j.verdict (submit_booked t e))

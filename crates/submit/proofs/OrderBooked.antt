@@ -8,9 +8,9 @@ use lib.Dec.{ltb}
 use lib.IntN.{ℤ}
 use lib.ListN.{length, get_or, length-set}
 use lib.Seq.{get_or-set_same, get_or-set_other}
+use Rattle.std.specs.Prelude.{Ok}
 use Rattle.arith.specs.Lists.{from, over, total}
 use Rattle.arith.proofs.Tests.{by_bool}
-use Rattle.rules.specs.declared.answer.Answer.TheVariants.{Accepted}
 use Rattle.rules.specs.declared.event.OrderKind.{OrderKind}
 use Rattle.rules.specs.declared.order.Order.{Order}
 use Rattle.rules.specs.Ranges.{most_orders}
@@ -30,7 +30,7 @@ use Rattle.submit.proofs.Kept.{lines_length_lem}
 use Rattle.submit.proofs.Orders.{rest_written}
 use Rattle.submit.proofs.Trading.{untraded}
 
-whole : (ls : List Line) (u : Tables) → record { answer = Accepted (length ls); after = (booked ls u).after } ≡ booked ls u
+whole : (ls : List Line) (u : Tables) → record { answer = Ok (length ls); after = (booked ls u).after } ≡ booked ls u
 unfolding booked
 whole ls u = refl
 
@@ -118,12 +118,12 @@ module _ (head prices : List ℕ) (lots value : List ℤ) (book : List ℕ) (lin
           → ((u : Tables) → with_head head₄ (with_rows lots₄ value₄ (with_lines lines₄ u)) ≡ (booked (flat_map (lines_with o) (deals_in m.deals deals))
           (with_head head₃ (with_rows lots value (with_lines lines u)))).after)
           → (t : Tables)
-          → record { answer = Accepted (m.deals * 2); after = with_head head₄ (with_prices prices₂ (with_rows lots₄ value₄ (with_book book₃ (with_lines lines₄ t)))) } ≡ order_booked kind o (of t)
+          → record { answer = Ok (m.deals * 2); after = with_head head₄ (with_prices prices₂ (with_rows lots₄ value₄ (with_book book₃ (with_lines lines₄ t)))) } ≡ order_booked kind o (of t)
       unfolding order_booked orders
       booked_is head₄ lots₄ value₄ lines₄ b t =
           let ls = flat_map (lines_with o) (deals_in m.deals deals) in
-          ap (λ n. record { answer = Accepted n; after = with_head head₄ (with_prices prices₂ (with_rows lots₄ value₄ (with_book book₃ (with_lines lines₄ t)))) }) (sym (lines_length_lem deals o m.deals))
-          ∙ ap (λ u. record { answer = Accepted (length ls); after = u }) (b (with_prices prices₂ (with_book book₃ (of t))))
+          ap (λ n. record { answer = Ok n; after = with_head head₄ (with_prices prices₂ (with_rows lots₄ value₄ (with_book book₃ (with_lines lines₄ t)))) }) (sym (lines_length_lem deals o m.deals))
+          ∙ ap (λ u. record { answer = Ok (length ls); after = u }) (b (with_prices prices₂ (with_book book₃ (of t))))
           ∙ whole ls (with_head head₃ (with_book book₃ (with_prices prices₂ (of t))))
           ∙ ap (booked ls) (tables_is t)
           ∙ ap (λ l. booked l (with_orders
@@ -137,7 +137,7 @@ module _ (head prices : List ℕ) (lots value : List ℤ) (book : List ℕ) (lin
 
     pub rested : (head₃ book₃ : List ℕ) → head₃ ≡ cond (is_resting kind && ltb 0 o.lots.0) (with_order_count (order_count_in head + 1) head) head
         → book₃ ≡ cond (is_resting kind && ltb 0 o.lots.0) (over (order_count_in head * order_width) (order_places (with_lots o.lots.0 o)) book) book
-        → (t : Tables) → record { answer = Accepted 0; after = with_head head₃ (with_prices prices (with_rows lots value (with_book book₃ (with_lines lines t)))) } ≡ order_booked kind o (of t)
+        → (t : Tables) → record { answer = Ok 0; after = with_head head₃ (with_prices prices (with_rows lots value (with_book book₃ (with_lines lines t)))) } ≡ order_booked kind o (of t)
     unfolding deals_in from flat_map
     rested head₃ book₃ e f =
         booked_is (record { deals = 0; left = o.lots }) head prices book [] (untraded head prices book o p.tradable none []) head₃ book₃ e f head₃ lots value lines

@@ -8,7 +8,7 @@ ghost use Rattle.submit_causes.specs.Fit.{SubmissionFit, Acceptable};
 
 use crate::placing::place_order;
 use rules::layout::{ACCEPTED_SUBMITS, DAY, SUBMITS};
-use rules::{Answer, DayNo, Lots, Order, Submission};
+use rules::{DayNo, Lots, Order, Refusal, Submission};
 
 // The order that comes in; its number is the accepted submits before it.
 pub fn order_of(head: &[u64], e: Submission) -> Order
@@ -52,7 +52,7 @@ pub fn book_submit(
     lines: &mut [i64],
     e: Submission,
     crossing: Lots,
-) -> Answer
+) -> Result<u64, Refusal>
     requires head_fit { HeadFit head.old × PricesFit (lots_run_in head.old) prices.old × BookFit head.old book.old × SubmissionFit head.old e × (lines_length ≤ length lines.old) }
     requires rows_fit { RowsFit (members_in head.old) (lots_run_in head.old) lots.old × RowsFit (members_in head.old) (most_price * lots_run_in head.old) value.old }
     requires acceptable { (t : Tables) → Acceptable (with_head head.old (with_prices prices.old (with_rows lots.old value.old (with_book book.old (with_lines lines.old t))))) e crossing.0 }

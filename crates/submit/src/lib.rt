@@ -15,8 +15,8 @@ ghost use Rattle.submit_causes.specs.Fit.{SubmissionFit};
 
 use booking::{book_submit, order_of};
 use rules::layout::ORDER_COUNT;
-use rules::{Answer, Submission};
-use submit_causes::{Verdict, first_cause, measured_cause};
+use rules::{Refusal, Submission};
+use submit_causes::{first_cause, measured_cause};
 
 // What refuses a submit is known before anything is written.
 pub fn apply(
@@ -27,7 +27,7 @@ pub fn apply(
     book: &mut [u64],
     lines: &mut [i64],
     e: Submission,
-) -> Answer
+) -> Result<u64, Refusal>
     requires head_fit { HeadFit head.old × PricesFit (lots_run_in head.old) prices.old × BookFit head.old book.old × SubmissionFit head.old e × (lines_length ≤ length lines.old) }
     requires rows_fit { RowsFit (members_in head.old) (lots_run_in head.old) lots.old × RowsFit (members_in head.old) (most_price * lots_run_in head.old) value.old }
     ensures { (t : Tables) → record {
@@ -38,16 +38,10 @@ pub fn apply(
         ≡ submit_spec (with_head head.old (with_prices prices.old (with_rows lots.old value.old
         (with_book book.old (with_lines lines.old t))))) e }
 {
-    let first = first_cause(&*head, &*prices, e);
-    if let Verdict::Refused(answer) = first {
-        return answer;
-    }
+    first_cause(&*head, &*prices, e)?;
     let count = head[ORDER_COUNT] as usize;
     let found = matching::measure(&*book, count, order_of(&*head, e));
-    let second = measured_cause(&*head, &*lots, e, found);
-    if let Verdict::Refused(answer) = second {
-        return answer;
-    }
+    measured_cause(&*head, &*lots, e, found)?;
     book_submit(
         &mut *head,
         &mut *prices,

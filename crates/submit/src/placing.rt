@@ -13,7 +13,7 @@ use crate::trade::settle;
 use matching::DEAL_WIDTH;
 use rules::layout::{ORDER_COUNT, ORDERS};
 use rules::ranges::MOST_LOTS;
-use rules::{Answer, Lots, Order, OrderKind};
+use rules::{Lots, Order, OrderKind, Refusal};
 use submit_causes::is_resting;
 
 // Places for the deals of an order: each takes one lot at least.
@@ -43,7 +43,7 @@ fn trade(
     lines: &mut [i64],
     kind: OrderKind,
     o: Order,
-) -> Answer
+) -> Result<u64, Refusal>
     requires { Placeable head.old prices.old lots.old value.old book.old lines.old kind o }
     ensures { (t : Tables) → record {
       answer = result;
@@ -75,7 +75,7 @@ fn trade(
         &deals,
         count,
     );
-    Answer::Accepted(count as u64 * 2)
+    Ok(count as u64 * 2)
 }
 
 // Places an order of which so many lots cross.
@@ -89,7 +89,7 @@ pub fn place_order(
     kind: OrderKind,
     o: Order,
     crossing: Lots,
-) -> Answer
+) -> Result<u64, Refusal>
     requires { Placeable head.old prices.old lots.old value.old book.old lines.old kind o × (crossing.0 ≡ crossing_in o (orders_in (order_count_in head.old) book.old)) }
     ensures { (t : Tables) → record {
       answer = result;
@@ -101,7 +101,7 @@ pub fn place_order(
 {
     if crossing.0 == 0 {
         rest_order(&mut *head, &mut *book, kind, o, o.lots);
-        return Answer::Accepted(0);
+        return Ok(0);
     }
     trade(
         &mut *head,

@@ -9,10 +9,9 @@ use lib.ListN.{length, length-map}
 use lib.IntN.{pos, ◌+ℤ◌}
 use lib.Signed.{lt_z}
 use borrow.Author.Tests.{lt-ltb, lt-leb, ne_eqb, ltb-true, ltb-false, leb-false}
+use Rattle.std.specs.Prelude.{Result, Ok, Err, ⊤}
 use Rattle.arith.specs.Lists.{total, All}
 use Rattle.arith.proofs.Tests.{true_or, same_or, same_ltb, or_left, or_right}
-use Rattle.rules.specs.declared.answer.Answer.{Answer}
-use Rattle.rules.specs.declared.answer.Answer.TheVariants.{Accepted}
 use Rattle.rules.specs.declared.event.Submission.{Submission}
 use Rattle.rules.specs.declared.order.Order.{Order}
 use Rattle.rules.specs.Answers.{Outcome, decide}
@@ -28,14 +27,13 @@ use Rattle.matching.specs.Matching.{Ended}
 use Rattle.matching.proofs.Running.{Running, running_start, left_all, count_most}
 use Rattle.matching.proofs.Measures.{Measured, measured, untouched}
 use Rattle.matching.proofs.Totals.{dealt_and_left, lots_kept, lines_kept, run_of_lines, total_kept, crossing_all}
-use Rattle.submit_causes.specs.declared.causes.Verdict.{Verdict}
-use Rattle.submit_causes.specs.declared.causes.Verdict.TheVariants.{Sound}
 use Rattle.submit_causes.specs.Fit.{Acceptable}
 use Rattle.submit_causes.specs.Causes.{outcome, first_causes, measured_causes}
 use Rattle.rules.proofs.Distinct.{Distinct}
+use Rattle.rules.specs.declared.refusal.Refusal.{Refusal}
 
 -- ---- causes in two parts
-pub decide_both : (cs ds : List (Bool × Answer)) (t : Tables) (b : Outcome Tables) → decide (cs ++ ds) t b ≡ decide cs t (decide ds t b)
+pub decide_both : (cs ds : List (Bool × Refusal)) (t : Tables) (b : Outcome Tables) → decide (cs ++ ds) t b ≡ decide cs t (decide ds t b)
 decide_both [] ds t b = refl
 decide_both ((true, a) ∷ cs) ds t b = refl
 decide_both ((false, a) ∷ cs) ds t b = decide_both cs ds t b
@@ -75,15 +73,11 @@ module _ (o : Order) (os : List Order) (ranked : All Ranked os) (numbers : Disti
   run_is = run_of_lines o (map counterparty_of (matched o os).deals) ∙ ap (λ n. 2 * n) (sym (lots_kept (matched o os).deals) ∙ dealt_is)
 
 -- ---- verdicts
-pass_all : (cs : List (Bool × Answer)) (t : Tables) → ((b : Outcome Tables) → b ≡ decide cs t b) → All (λ c. c.0 ≡ false) cs
+pass_all : (cs : List (Bool × Refusal)) (t : Tables) → ((b : Outcome Tables) → b ≡ decide cs t b) → All (λ c. c.0 ≡ false) cs
 pass_all [] t h = tt
 pass_all ((true, a) ∷ cs) t h =
-    let one = h (record { answer = Accepted 0; after = t }) in
-    let two = h (record { answer = Accepted 1; after = t }) in
-    absurd (let z : ◌≡◌ {A = ℕ} 0 1 = accepted_same (ap (λ x. x.answer) (one ∙ sym two)) in omega arith)
-  where
-    accepted_same : {m n : ℕ} → Accepted m ≡ Accepted n → m ≡ n
-    accepted_same e = cc
+    let x : ◌≡◌ {A = Result ℕ Refusal} (Ok 0) (Err a) = ap (λ o. o.answer) (h (record { answer = Ok 0; after = t })) in
+    absurd (let z : ◌≡◌ {A = ℕ} 0 1 = cc in omega arith)
 pass_all ((false, a) ∷ cs) t h = (refl, pass_all cs t h)
 
 module _ (t : Tables) (e : Submission) (ranked : All Ranked (orders t)) (numbers : Distinct (orders t)) (has_lots_holds : All (λ r. 0 < r.lots.0) (orders t)) (some : 1 ≤ e.lots.0)
@@ -122,18 +116,18 @@ module _ (t : Tables) (e : Submission) (ranked : All Ranked (orders t)) (numbers
   causes_are = rw (above_is, teye_is, rest_is, total_is)
 
   -- the first part decides alone where it refuses
-  pub judged_first : (first : Verdict) → ((b : Outcome Tables) → outcome first t b ≡ decide (first_causes t e) t b) → (b : Outcome Tables)
+  pub judged_first : (first : Result ⊤ Refusal) → ((b : Outcome Tables) → outcome first t b ≡ decide (first_causes t e) t b) → (b : Outcome Tables)
       → outcome first t (decide (measured_causes (own_in o (orders t)) cross t e) t b) ≡ decide (submit_causes t e) t b
   judged_first first h b =
       h (decide (measured_causes (own_in o (orders t)) cross t e) t b)
       ∙ sym (decide_both (first_causes t e) (measured_causes (own_in o (orders t)) cross t e) t b) ∙ ap (λ cs. decide cs t b) (sym causes_are)
 
-  module _ (first second : Verdict) (h : (b : Outcome Tables) → outcome first t b ≡ decide (first_causes t e) t b)
+  module _ (first second : Result ⊤ Refusal) (h : (b : Outcome Tables) → outcome first t b ≡ decide (first_causes t e) t b)
       (k : (b : Outcome Tables) → outcome second t b ≡ decide (measured_causes (own_in o (orders t)) cross t e) t b) where
     pub judged : (b : Outcome Tables) → outcome first t (outcome second t b) ≡ decide (submit_causes t e) t b
     judged b = ap (outcome first t) (k b) ∙ judged_first first h b
 
-    pub acceptable : first ≡ Sound → second ≡ Sound → Acceptable t e cross
+    pub acceptable : first ≡ Ok tt → second ≡ Ok tt → Acceptable t e cross
     acceptable x y =
         let all = pass_all (submit_causes t e) t (λ b. rw (x, y) at (judged b)) in
         let last = all.1.1.1.1.1.1.1.1.0 in

@@ -16,13 +16,7 @@ use rules::layout::{
     SUBMITS, TIME,
 };
 use rules::ranges::{MOST_ACCEPTED_SUBMITS, MOST_LOTS_RUN, MOST_ORDERS, MOST_SUBMITS_IN_SECOND};
-use rules::{Answer, Kurus, Lots, OrderKind, Submission};
-
-#[derive(Clone, Copy)]
-pub enum Verdict {
-    Refused(Answer),
-    Sound,
-}
+use rules::{Kurus, Lots, OrderKind, Refusal, Submission};
 
 fn is_teye(kind: OrderKind) -> bool
     ensures { result ≡ is_teye kind }
@@ -64,7 +58,7 @@ fn submits_at(head: &[u64], time: u64, member: u64) -> u64
 }
 
 // The first that holds of the causes that follow from head and prices.
-pub fn first_cause(head: &[u64], prices: &[u64], e: Submission) -> Verdict
+pub fn first_cause(head: &[u64], prices: &[u64], e: Submission) -> Result<(), Refusal>
     requires { HeadFit head.now × (prices_length ≤ length prices.now) × SubmissionFit head.now e }
     ensures { (t : Tables) (b : Outcome Tables) → outcome result (with_head head.now (with_prices prices.now t)) b
         ≡ decide (first_causes (with_head head.now (with_prices prices.now t)) e) (with_head head.now (with_prices prices.now t)) b }
@@ -73,25 +67,30 @@ pub fn first_cause(head: &[u64], prices: &[u64], e: Submission) -> Verdict
     let member = e.member;
     let contract = e.contract;
     if time < head[TIME] {
-        return Verdict::Refused(Answer::TimeBelowLedger);
+        return Err(Refusal::TimeBelowLedger);
     }
     if head[MARKS + member as usize] == DEFAULT_MARK {
-        return Verdict::Refused(Answer::MemberDefaulted(member));
+        return Err(Refusal::MemberDefaulted(member));
     }
     if !tables::is_contract_open(head, contract) {
-        return Verdict::Refused(Answer::ContractNotOpen(contract));
+        return Err(Refusal::ContractNotOpen(contract));
     }
     if is_price_outside(prices, contract, e.price) {
-        return Verdict::Refused(Answer::PriceOutsideLimits);
+        return Err(Refusal::PriceOutsideLimits);
     }
     if MOST_SUBMITS_IN_SECOND <= submits_at(head, time, member) {
-        return Verdict::Refused(Answer::SixthSubmit);
+        return Err(Refusal::SixthSubmit);
     }
-    Verdict::Sound
+    Ok(())
 }
 
 // The first that holds of the causes that need the book: the member's own lots there and the lots that cross.
-pub fn measured_cause(head: &[u64], lots: &[i64], e: Submission, found: Crossing) -> Verdict
+pub fn measured_cause(
+    head: &[u64],
+    lots: &[i64],
+    e: Submission,
+    found: Crossing,
+) -> Result<(), Refusal>
     requires head_fit { HeadFit head.now × RowsFit (members_in head.now) (lots_run_in head.now) lots.now × SubmissionFit head.now e }
     requires own_bound { found.own.0 ≤ most_orders * most_lots }
     ensures { (t : Tables) (b : Outcome Tables) → outcome result (with_head head.now (with_rows lots.now t.value t)) b
@@ -108,17 +107,17 @@ pub fn measured_cause(head: &[u64], lots: &[i64], e: Submission, found: Crossing
         position(lots, e.contract, e.member, side),
         Lots(found.own.0 + wanted),
     ) {
-        return Verdict::Refused(Answer::AboveLimit);
+        return Err(Refusal::AboveLimit);
     }
     if is_teye(kind) & (crossing < wanted) {
-        return Verdict::Refused(Answer::CannotMatchInFull);
+        return Err(Refusal::CannotMatchInFull);
     }
     if is_resting(kind) & ((crossing == 0) & (MOST_ORDERS <= head[ORDER_COUNT])) {
-        return Verdict::Refused(Answer::BookFull);
+        return Err(Refusal::BookFull);
     }
     let run = head[LOTS_RUN] + 2 * smaller(wanted, crossing);
     if (MOST_LOTS_RUN < run) | (MOST_ACCEPTED_SUBMITS <= head[ACCEPTED_SUBMITS]) {
-        return Verdict::Refused(Answer::TotalPassed);
+        return Err(Refusal::TotalPassed);
     }
-    Verdict::Sound
+    Ok(())
 }

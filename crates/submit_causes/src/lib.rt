@@ -4,4 +4,4 @@
 mod causes;
 mod position;
 
-pub use causes::{Verdict, first_cause, is_resting, measured_cause};
+pub use causes::{first_cause, is_resting, measured_cause};

@@ -6,6 +6,6 @@ pub returns-then-kind-legs : goal.returns-then-kind-legs
 unfolding row_event
 returns-then-kind-legs c = c.event_of.ensures ∙ rw c.if-kind-legs.true refl
 
-pub returns : goal.returns
+pub returns-else-kind-legs : goal.returns-else-kind-legs
 unfolding row_event
-returns c = rw c.if-kind-legs.false refl
+returns-else-kind-legs c = rw c.if-kind-legs.false refl

@@ -1,8 +1,7 @@
-// The answer to a record or to a header: a case for each cause of document 01, in its order.
-#[derive(Clone, Copy)]
-pub enum Answer {
-    // With the number of deal lines or, from a writer, of bytes written.
-    Accepted(u64),
+// Why a record or a header is turned back: a case for each cause of document 01, in its order. An accepted one is answered with
+// Ok and the number of its deal lines or, by a writer, of the bytes written.
+#[derive(Clone, Copy, PartialEq, Eq)]
+pub enum Refusal {
     TableUnsound,
     HeaderUnsound,
     RecordUnsound,
