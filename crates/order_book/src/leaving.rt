@@ -33,14 +33,12 @@ pub fn would_any_leave(book: &[u64], count: usize, w: Leaving) -> bool
     requires { (count ≤ most_orders) × (book_length ≤ length book.now) }
     ensures { result ≡ any (leaves w) (orders_in count book.now) }
 {
-    let mut found = false;
-    let mut i: usize = 0;
-    while i < count {
-        let o = order_at(book, i);
-        found = found | does_leave(w, o);
-        i += 1;
+    for i in 0..count {
+        if does_leave(w, order_at(book, i)) {
+            return true;
+        }
     }
-    found
+    false
 }
 
 fn left_of(w: Leaving, o: Order) -> Lots
@@ -57,11 +55,8 @@ fn write_left(book: &[u64], left: &mut [u64], w: Leaving)
     requires { (length left.old ≤ most_orders) × (book_length ≤ length book.now) }
     ensures { left.new ≡ staying (leaves w) (orders_in (length left.old) book.now) }
 {
-    let mut i: usize = 0;
-    while i < left.len() {
-        let o = order_at(book, i);
-        left[i] = left_of(w, o).0;
-        i += 1;
+    for (i, lots) in left.iter_mut().enumerate() {
+        *lots = left_of(w, order_at(book, i)).0;
     }
 }
 
@@ -69,19 +64,7 @@ fn write_left(book: &[u64], left: &mut [u64], w: Leaving)
 pub fn with_lots(o: Order, left: Lots) -> Order
     ensures { result ≡ with_lots left.0 o }
 {
-    let side = o.side;
-    let price = o.price;
-    let day = o.day;
-    Order {
-        number: o.number,
-        member: o.member,
-        contract: o.contract,
-        side: side,
-        price: price,
-        lots: left,
-        day: day,
-        time: o.time,
-    }
+    Order { lots: left, ..o }
 }
 
 // Order i with what is left of it is written at the next free place, unless nothing is left; the answer is the next free
@@ -98,8 +81,8 @@ fn keep_order(book: &mut [u64], i: usize, free: usize, left: Lots) -> usize
         book[i * ORDER_WIDTH + ORDER_LOTS] = left.0;
         return free + 1;
     }
-    let o = order_at(&*book, i);
-    put_order(&mut *book, free, with_lots(o, left));
+    let o = order_at(book, i);
+    put_order(book, free, with_lots(o, left));
     free + 1
 }
 
@@ -110,10 +93,8 @@ fn write_staying(book: &mut [u64], left: &[u64], count: usize) -> usize
     ensures book_after { book.new ≡ over 0 (flat_map order_places (left_over left.now (orders_in count book.old))) book.old }
 {
     let mut free: usize = 0;
-    let mut i: usize = 0;
-    while i < count {
-        free = keep_order(&mut *book, i, free, Lots(left[i]));
-        i += 1;
+    for i in 0..count {
+        free = keep_order(book, i, free, Lots(left[i]));
     }
     free
 }
@@ -126,7 +107,7 @@ pub fn keep_orders(head: &mut [u64], book: &mut [u64], left: &[u64])
         ≡ with_orders (left_over left.now (orders_in (order_count_in head.old) book.old)) (with_head head.old (with_book book.old t)) }
 {
     let count = head[ORDER_COUNT] as usize;
-    let staying = write_staying(&mut *book, left, count);
+    let staying = write_staying(book, left, count);
     head[ORDER_COUNT] = staying as u64;
 }
 
@@ -138,6 +119,6 @@ pub fn remove_orders(head: &mut [u64], book: &mut [u64], w: Leaving)
 {
     let count = head[ORDER_COUNT] as usize;
     let mut left = [0u64; ORDERS];
-    write_left(&*book, &mut left[..count], w);
-    keep_orders(&mut *head, &mut *book, &left[..count]);
+    write_left(book, &mut left[..count], w);
+    keep_orders(head, book, &left[..count]);
 }

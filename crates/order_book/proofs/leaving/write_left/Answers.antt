@@ -1,9 +1,7 @@
 use mathlib.Core.Bool.{cond}
-use lib.ListN.{length-set}
 use Rattle.order_book.specs.Left.{leaves}
 use native.Mathlib.Omega.{arith}
 use mathlib.Core.Path.{◌≡◌, refl, sym, ap, ◌∙◌}
-use Prim.Native.Nat.{◌-◌}
 use lib.ListN.{length, get_or}
 use Rattle.tables.specs.Fit.{orders_in}
 use Rattle.order_book.specs.Left.{staying}
@@ -12,7 +10,7 @@ use Rattle.arith.proofs.Writes.{front_next, front_end}
 use Rattle.order_book.proofs.leaving.write_left.Goals as goal
 
 pub loop-i-init : goal.loop-i-init
-loop-i-init c = (refl, omega arith, refl)
+loop-i-init c = refl
 
 pub loop-i-preserved : goal.loop-i-preserved
 loop-i-preserved c =
@@ -20,15 +18,12 @@ loop-i-preserved c =
     let n = length a.left.now in
     let all = staying (leaves a.w) (orders_in n a.book.now) in
     let here : c.left_of.result.0 ≡ get_or all c.loop-i.i 0
-    = c.left_of.ensures ∙ ap (λ o. cond (leaves a.w o) 0 o.lots.0) c.order_at-o.ensures ∙ sym (staying_at (leaves a.w) n a.book.now c.loop-i.i (omega arith)) in (
-      length-set c.loop-i.left c.loop-i.i c.left_of.result.0 ∙ c.loop-i.invariant.0,
-      omega arith,
-      rw (here, c.loop-i.invariant.2)
-          (front_next c.loop-i.i all a.left.now 0 (omega (arith, staying_length (leaves a.w) n a.book.now)) (omega arith)),
-    )
+    = c.left_of.ensures ∙ ap (λ o. cond (leaves a.w o) 0 o.lots.0) c.order_at.ensures ∙ sym (staying_at (leaves a.w) n a.book.now c.loop-i.i (omega arith)) in
+    rw (here, c.loop-i.invariant)
+    (front_next c.loop-i.i all a.left.now 0 (omega (arith, staying_length (leaves a.w) n a.book.now)) (omega arith))
 
 pub returns : goal.returns
 returns c =
     let a = c.args in
     let n = length a.left.now in
-    c.loop-i.invariant.2 ∙ front_end c.loop-i.i (staying (leaves a.w) (orders_in n a.book.now)) a.left.now (omega (arith, staying_length (leaves a.w) n a.book.now)) (omega arith)
+    c.loop-i.invariant ∙ front_end c.loop-i.i (staying (leaves a.w) (orders_in n a.book.now)) a.left.now (omega (arith, staying_length (leaves a.w) n a.book.now)) (omega arith)
