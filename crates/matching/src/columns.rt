@@ -7,7 +7,6 @@ ghost use Rattle.rules.specs.Ledger.{book_length, order_at};
 ghost use Rattle.order_priority.specs.Priority.{Ranked};
 ghost use Rattle.matching.specs.Ranks.{no_rank, lots_of, rank_in, first_rank, placed_rank, Placed, LowestAmong, block_size, block_count, BlockLows, BestPlace};
 
-use numbers::smaller;
 use order_book::order_at;
 use order_priority::{does_oppose, rank_of};
 use rules::layout::ORDERS;
@@ -15,7 +14,7 @@ use rules::ranges::MOST_ORDERS;
 use rules::{Lots, Order};
 
 // The rank of an order that is not to be met.
-pub const NO_RANK: u64 = 18446744073709551615;
+pub const NO_RANK: u64 = u64::MAX;
 
 // How many places of the book make a block.
 const BLOCK: usize = 16;
@@ -40,12 +39,10 @@ pub fn write_columns(book: &[u64], o: Order, left: &mut [u64], ranks: &mut [u64]
     ensures left_after_holds { left.new ≡ map lots_of (orders_in (length left.old) book.now) }
     ensures placed { Placed (first_rank o (orders_in (length left.old) book.now)) ranks.new }
 {
-    let mut i: usize = 0;
-    while i < left.len() {
+    for i in 0..left.len() {
         let r = order_at(book, i);
         ranks[i] = rank_at(o, r, i);
         left[i] = r.lots.0;
-        i += 1;
     }
 }
 
@@ -53,10 +50,8 @@ fn lowest_of_four(ranks: &[u64], at: usize) -> u64
     requires { at + 4 ≤ length ranks.now }
     ensures { LowestAmong ranks.now at 4 result }
 {
-    smaller(
-        smaller(ranks[at], ranks[at + 1]),
-        smaller(ranks[at + 2], ranks[at + 3]),
-    )
+    let front = ranks[at].min(ranks[at + 1]);
+    front.min(ranks[at + 2].min(ranks[at + 3]))
 }
 
 // The lowest of a block, by fours: no comparison waits for all those before it.
@@ -68,7 +63,7 @@ fn lowest_of_block(ranks: &[u64], at: usize) -> u64
     let second = lowest_of_four(ranks, at + 4);
     let third = lowest_of_four(ranks, at + 8);
     let fourth = lowest_of_four(ranks, at + 12);
-    smaller(smaller(first, second), smaller(third, fourth))
+    first.min(second).min(third.min(fourth))
 }
 
 // The lowest rank of every block.
@@ -76,10 +71,8 @@ pub fn write_lows(ranks: &[u64], lows: &mut [u64])
     requires { (length ranks.now ≡ most_orders) × (length lows.old ≡ block_count) }
     ensures { BlockLows ranks.now lows.new }
 {
-    let mut b: usize = 0;
-    while b < lows.len() {
-        lows[b] = lowest_of_block(ranks, b * BLOCK);
-        b += 1;
+    for (b, low) in lows.iter_mut().enumerate() {
+        *low = lowest_of_block(ranks, b * BLOCK);
     }
 }
 
@@ -107,6 +100,6 @@ pub fn use_lots(left: &mut [u64], ranks: &mut [u64], lows: &mut [u64], i: usize,
     if rest == 0 {
         let b = i / BLOCK;
         ranks[i] = NO_RANK;
-        lows[b] = lowest_of_block(&*ranks, b * BLOCK);
+        lows[b] = lowest_of_block(ranks, b * BLOCK);
     }
 }

@@ -9,7 +9,6 @@ ghost use Rattle.matching.specs.Ranks.{lots_of, first_rank, Placed, BlockLows};
 
 use crate::columns::{BLOCKS, NO_RANK, best_place, use_lots, write_columns, write_lows};
 use crate::deals::{Counterparty, put_deal};
-use numbers::smaller;
 use order_book::order_at;
 use order_priority::does_meet;
 use rules::layout::ORDERS;
@@ -39,16 +38,15 @@ fn deal(
     ensures block_lows { BlockLows ranks.new lows.new }
 {
     let resting = order_at(book, i);
-    let price = resting.price;
-    let lots = Lots(smaller(wanted.0, left[i]));
-    use_lots(&mut *left, &mut *ranks, &mut *lows, i, lots);
+    let lots = Lots(wanted.0.min(left[i]));
+    use_lots(left, ranks, lows, i, lots);
     put_deal(
-        &mut *deals,
+        deals,
         k,
         Counterparty {
             member: resting.member,
-            price: price,
-            lots: lots,
+            price: resting.price,
+            lots,
         },
     );
     Lots(wanted.0 - lots.0)
@@ -81,7 +79,7 @@ fn match_levels(
     let count = left.len();
     let mut wanted = o.lots.0;
     let mut k: usize = 0;
-    let mut best = best_place(&*lows, count);
+    let mut best = best_place(lows, count);
     'levels: while best < count {
         let first = order_at(book, best);
         if !does_meet(o, first) {
@@ -89,22 +87,12 @@ fn match_levels(
         }
         let level = first.price;
         'orders: loop {
-            wanted = deal(
-                book,
-                &mut *left,
-                &mut *ranks,
-                &mut *lows,
-                &mut *deals,
-                k,
-                best,
-                Lots(wanted),
-            )
-            .0;
+            wanted = deal(book, left, ranks, lows, deals, k, best, Lots(wanted)).0;
             k += 1;
             if wanted == 0 {
                 break 'levels;
             }
-            best = best_place(&*lows, count);
+            best = best_place(lows, count);
             if !is_at(book, count, best, level) {
                 break 'orders;
             }
@@ -123,7 +111,7 @@ pub fn match_orders(book: &[u64], o: Order, left: &mut [u64], deals: &mut [u64])
 {
     let mut ranks = [NO_RANK; ORDERS];
     let mut lows = [NO_RANK; BLOCKS];
-    write_columns(book, o, &mut *left, &mut ranks);
+    write_columns(book, o, left, &mut ranks);
     write_lows(&ranks, &mut lows);
-    match_levels(book, o, &mut *left, &mut ranks, &mut lows, &mut *deals)
+    match_levels(book, o, left, &mut ranks, &mut lows, deals)
 }
