@@ -1,11 +1,11 @@
 // Two columns, one number for each place of the book: what is left of each order, and its rank with its place. A third has the
 // lowest rank of each block of places, so that the best order is found without reading every rank.
-ghost use Rattle.std.specs.Prelude.{◌≡◌, cond, map, ℕ, ◌+◌, ◌-◌, ◌≤◌, ◌<◌, eqb, length, get_or, set, replicate};
+ghost use Rattle.std.specs.Prelude.{◌≡◌, cond, map, ℕ, ◌+◌, ◌-◌, ◌≤◌, ◌<◌, eqb, length, get_or, set, replicate, MatchOption};
 ghost use Rattle.tables.specs.Fit.{orders_in};
 ghost use Rattle.rules.specs.Ranges.{most_orders};
 ghost use Rattle.rules.specs.Ledger.{book_length, order_at};
 ghost use Rattle.order_priority.specs.Priority.{Ranked};
-ghost use Rattle.matching.specs.Ranks.{no_rank, lots_of, rank_in, first_rank, placed_rank, Placed, LowestAmong, block_size, block_count, BlockLows, BestPlace};
+ghost use Rattle.matching.specs.Ranks.{no_rank, lots_of, rank_in, first_rank, placed_rank, Placed, LowestAmong, block_size, block_count, BlockLows, NoneRanked, BestPlace};
 
 use order_book::order_at;
 use order_priority::{does_oppose, rank_of};
@@ -13,7 +13,7 @@ use rules::layout::ORDERS;
 use rules::ranges::MOST_ORDERS;
 use rules::{Lots, Order};
 
-// The rank of an order that is not to be met.
+// The rank of an order that is not to be met: a number and no Option, so that the lowest is found by comparisons alone.
 pub const NO_RANK: u64 = u64::MAX;
 
 // How many places of the book make a block.
@@ -76,16 +76,16 @@ pub fn write_lows(ranks: &[u64], lows: &mut [u64])
     }
 }
 
-// The place that the lowest rank of all gives, or the count of the orders where there is none.
-pub fn best_place(lows: &[u64], count: usize) -> usize
+// The place that the lowest rank of all gives, if any order has a rank.
+pub fn best_place(lows: &[u64]) -> Option<usize>
     requires { length lows.now ≡ block_count }
-    ensures { BestPlace lows.now count result }
+    ensures { MatchOption result (NoneRanked lows.now) (BestPlace lows.now) }
 {
     let low = lowest_of_block(lows, 0);
     if low < NO_RANK {
-        return (low % MOST_ORDERS) as usize;
+        return Some((low % MOST_ORDERS) as usize);
     }
-    count
+    None
 }
 
 // Uses lots of order i; an order used up has no rank.

@@ -1,5 +1,5 @@
 // Matching: the orders of the book in their priority, price level by price level.
-ghost use Rattle.std.specs.Prelude.{◌≡◌, true, map, ◌*◌, ◌≤◌, ◌<◌, length};
+ghost use Rattle.std.specs.Prelude.{◌≡◌, map, ◌*◌, ◌≤◌, ◌<◌, length};
 ghost use Rattle.rules.specs.Ranges.{most_lots, most_orders};
 ghost use Rattle.rules.specs.Ledger.{book_length, order_at};
 ghost use Rattle.tables.specs.Fit.{orders_in};
@@ -52,17 +52,6 @@ fn deal(
     Lots(wanted.0 - lots.0)
 }
 
-// Whether the order at i is one of a price level; at the end there is none.
-fn is_at(book: &[u64], count: usize, i: usize, level: Kurus) -> bool
-    requires { (i ≤ count) × (count ≤ most_orders) × (book_length ≤ length book.now) }
-    ensures { result ≡ true → (i < count) × ((order_at book.now i).price.0 ≡ level.0) }
-{
-    if i == count {
-        return false;
-    }
-    order_at(book, i).price.0 == level.0
-}
-
 // Matches level by level, and in each level by rising number, until nothing is wanted or an order does not cross.
 fn match_levels(
     book: &[u64],
@@ -76,26 +65,30 @@ fn match_levels(
     requires left_value { (left.old ≡ map lots_of (orders_in (length left.old) book.now)) × Placed (first_rank o (orders_in (length left.old) book.now)) ranks.old × BlockLows ranks.old lows.old }
     ensures { MatchMade o book.now (length left.old) deals.old result left.new deals.new }
 {
-    let count = left.len();
     let mut wanted = o.lots.0;
     let mut k: usize = 0;
-    let mut best = best_place(lows, count);
-    'levels: while best < count {
-        let first = order_at(book, best);
-        if !does_meet(o, first) {
+    let mut best = best_place(lows);
+    'levels: while let Some(first) = best {
+        let resting = order_at(book, first);
+        if !does_meet(o, resting) {
             break 'levels;
         }
-        let level = first.price;
+        let level = resting.price.0;
+        let mut place = first;
         'orders: loop {
-            wanted = deal(book, left, ranks, lows, deals, k, best, Lots(wanted)).0;
+            wanted = deal(book, left, ranks, lows, deals, k, place, Lots(wanted)).0;
             k += 1;
             if wanted == 0 {
                 break 'levels;
             }
-            best = best_place(lows, count);
-            if !is_at(book, count, best, level) {
+            best = best_place(lows);
+            let Some(next) = best else {
+                break 'orders;
+            };
+            if order_at(book, next).price.0 != level {
                 break 'orders;
             }
+            place = next;
         }
     }
     Matched {
