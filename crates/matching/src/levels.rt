@@ -12,7 +12,7 @@ use crate::deals::{Counterparty, put_deal};
 use order_book::order_at;
 use order_priority::does_meet;
 use rules::layout::ORDERS;
-use rules::{Kurus, Lots, Order};
+use rules::{Lots, Order};
 
 // The number of deals, and what is left of the incoming order.
 #[derive(Clone, Copy)]
