@@ -41,9 +41,8 @@ fn phase_of(starts: &[u64], least: LeastDays, later: LeastDays, t: Term) -> u64
     ensures { (k : Calendar) (d : ℕ) → starts.now ≡ starts_of k
         → IsLeast k d (closing_distance t.kind) (least_of least t.kind) → IsLeast k (d + 1) (closing_distance t.kind) (least_of later t.kind) → result ≡ term_phase k d t }
 {
-    let kind = t.kind;
-    let first = starts[(months_in(kind) * t.index) as usize];
-    phase_from(first, least_of(least, kind), least_of(later, kind))
+    let first = starts[(months_in(t.kind) * t.index) as usize];
+    phase_from(first, least_of(least, t.kind), least_of(later, t.kind))
 }
 
 fn write_from(starts: &[u64], least: LeastDays, later: LeastDays, column: &mut [u64])
@@ -52,10 +51,8 @@ fn write_from(starts: &[u64], least: LeastDays, later: LeastDays, column: &mut [
         → ((s : ContractKind) → IsLeast k d (closing_distance s) (least_of least s)) → ((s : ContractKind) → IsLeast k (d + 1) (closing_distance s) (least_of later s))
         → column.new ≡ phases k d }
 {
-    let mut contract: usize = 0;
-    while contract < column.len() {
-        column[contract] = phase_of(starts, least, later, term_of(contract as u64));
-        contract += 1;
+    for (contract, phase) in column.iter_mut().enumerate() {
+        *phase = phase_of(starts, least, later, term_of(contract as u64));
     }
 }
 
