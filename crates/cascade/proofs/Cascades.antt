@@ -7,8 +7,8 @@ use native.Mathlib.Omega.{arith}
 use native.Mathlib.Nat.{add-zero, sub-zero, suc-mul}
 use native.Mathlib.Numerals.{add-one}
 use lib.Dec.{eqb}
-use lib.ListN.{length, take, drop, get_or, set}
-use lib.Seq.{take-suc, take-suc-set, length-take-le, get_or-append-add, get_or-drop, ext_get_or}
+use lib.ListN.{length, take, drop, get_or}
+use lib.Seq.{length-take-le, get_or-append-add, get_or-drop, ext_get_or}
 use lib.IntN.{ℤ, pos, nat_abs, ◌+ℤ◌, +ℤ_idr}
 use borrow.Author.Tests.{ne_eqb}
 use Rattle.arith.specs.Ints.{when}
@@ -45,10 +45,6 @@ unfolding zip_with
 zip_short f [] ys h = refl
 zip_short f (x ∷ xs) [] h = absurd (omega arith)
 zip_short f (x ∷ xs) (y ∷ ys) h = ap suc (zip_short f xs ys (omega arith))
-
--- one more element copied
-pub take_more : {A : Type 0} (l s : List A) (i : ℕ) (z : A) → i < length l → i < length s → take i l ≡ take i s → take (i + 1) (set l i (get_or s i z)) ≡ take (i + 1) s
-take_more l s i z h g e = rw (add-one, take-suc-set l i (get_or s i z) h, take-suc s i z g, e)
 
 -- behind what is written so far stands what stood there
 pub front_rest : {A : Type 0} (n : ℕ) (s d : List A) (z : A) → n ≤ length s → get_or (take n s ++ drop n d) n z ≡ get_or d n z

@@ -24,12 +24,7 @@ fn rows_from(rows: &[i64], at: usize, members: usize) -> [i64; ROW_WIDTH]
     ensures { (take members result ≡ take members (drop at rows.now)) × (length result ≡ most_members) }
 {
     let mut copied = [0i64; ROW_WIDTH];
-    let mut i: usize = 0;
-    while i < members {
-        let x = rows[at + i];
-        copied[i] = x;
-        i += 1;
-    }
+    copied[..members].copy_from_slice(&rows[at..at + members]);
     copied
 }
 
@@ -38,12 +33,8 @@ fn add_rows(child: &mut [i64], parent: [i64; ROW_WIDTH])
     requires by_index { (m : ℕ) → m < length child.old → nat_abs (get_or child.old m (pos 0)) + nat_abs (get_or parent m (pos 0)) < 2 ^ 63 }
     ensures { child.new ≡ zip_with ◌+ℤ◌ child.old parent }
 {
-    let mut i: usize = 0;
-    while i < child.len() {
-        let x = child[i];
-        let y = parent[i];
-        child[i] = x + y;
-        i += 1;
+    for (i, row) in child.iter_mut().enumerate() {
+        *row += parent[i];
     }
 }
 
@@ -65,11 +56,9 @@ fn add_to_children(rows: &mut [i64], members: usize, contract: usize, first: usi
     ensures { rows.new ≡ added_to members contract (from first (end - first)) rows.old }
 {
     let at = contract * ROW_WIDTH;
-    let parent = rows_from(&*rows, at, members);
-    let mut child = first;
-    while child < end {
-        add_to_child(&mut *rows, members, child, parent);
-        child += 1;
+    let parent = rows_from(rows, at, members);
+    for child in first..end {
+        add_to_child(rows, members, child, parent);
     }
 }
 
@@ -80,7 +69,7 @@ fn move_rows(rows: &mut [i64], members: usize, contract: usize, first: usize, en
 {
     let at = contract * ROW_WIDTH;
     let after = at + members;
-    add_to_children(&mut *rows, members, contract, first, end);
+    add_to_children(rows, members, contract, first, end);
     tables::clear_rows(&mut rows[at..after]);
 }
 
@@ -117,12 +106,9 @@ fn cascade_kind(rows: &mut [i64], column: &[u64], members: usize, kind: Contract
     requires kind_bound { (contracts_in kind ≤ quarters_in_span) × (length column.now ≡ term_count) }
     ensures { rows.new ≡ all_cascaded members (kept (closes column.now) (contracts_of kind)) rows.old }
 {
-    let count = contracts_in(kind);
-    let mut i: u64 = 0;
-    while i < count {
+    for i in 0..contracts_in(kind) {
         let contract = contract_of(kind, i) as usize;
-        cascade_closing(&mut *rows, members, contract, column[contract]);
-        i += 1;
+        cascade_closing(rows, members, contract, column[contract]);
     }
 }
 
@@ -131,6 +117,6 @@ pub fn cascade_all(rows: &mut [i64], column: &[u64], members: usize)
     requires { RowsFit members most_row rows.old × (members ≤ most_members) × (length column.now ≡ term_count) }
     ensures { rows.new ≡ all_cascaded members (closing column.now) rows.old }
 {
-    cascade_kind(&mut *rows, column, members, ContractKind::Year);
-    cascade_kind(&mut *rows, column, members, ContractKind::Quarter);
+    cascade_kind(rows, column, members, ContractKind::Year);
+    cascade_kind(rows, column, members, ContractKind::Quarter);
 }
