@@ -42,9 +42,9 @@ fn write_prices(head: &[u64], prices: &mut [u64], book: &[u64], column: &[u64], 
     let count = head[ORDER_COUNT] as usize;
     let mut buys = [0u64; CONTRACTS];
     let mut sells = [0u64; CONTRACTS];
-    reference_price::write_quotes(book, count, Side::Buy, day, time, &mut buys[..]);
-    reference_price::write_quotes(book, count, Side::Sell, day, time, &mut sells[..]);
-    reference_price::write_ggfs(&mut *prices, column, &buys[..], &sells[..]);
+    reference_price::write_quotes(book, count, Side::Buy, day, time, &mut buys);
+    reference_price::write_quotes(book, count, Side::Sell, day, time, &mut sells);
+    reference_price::write_ggfs(prices, column, &buys, &sells);
     reference_price::clear_deals(prices);
 }
 
@@ -54,7 +54,7 @@ fn begin_day(head: &mut [u64], day: DayNo)
     ensures { (t : Tables) → with_head head.new t ≡ on_day day.0 (with_head head.old t) }
 {
     let members = head[MEMBERS] as usize;
-    tables::clear_at(&mut *head, SUBMITS, members);
+    tables::clear_at(head, SUBMITS, members);
     head[DAY] = day.0;
     head[TIME] = 0;
 }
@@ -75,12 +75,12 @@ fn close(
 {
     let members = head[MEMBERS] as usize;
     let mut column = [0u64; TERMS];
-    write_phases(&*head, &mut column[..]);
-    write_prices(&*head, &mut *prices, &*book, &column[..], time);
-    cascade::cascade_all(&mut *lots, &column[..], members);
-    cascade::cascade_all(&mut *value, &column[..], members);
-    orders::remove_closing(&mut *head, &mut *book, &column[..]);
-    begin_day(&mut *head, next);
+    write_phases(head, &mut column);
+    write_prices(head, prices, book, &column, time);
+    cascade::cascade_all(lots, &column, members);
+    cascade::cascade_all(value, &column, members);
+    orders::remove_closing(head, book, &column);
+    begin_day(head, next);
 }
 
 // Reference prices, the cascade of the closing contracts, the next business day.

@@ -15,10 +15,7 @@ use rules::{Lots, Order};
 fn phase_at(column: &[u64], contract: usize) -> u64
     ensures { result ≡ get_or column.now contract 0 }
 {
-    if column.len() <= contract {
-        return CLOSED;
-    }
-    column[contract]
+    column.get(contract).copied().unwrap_or(CLOSED)
 }
 
 fn left_of(o: Order, phase: u64) -> Lots
@@ -35,12 +32,9 @@ fn write_left(book: &[u64], column: &[u64], left: &mut [u64])
     requires { BookReads (length left.old) book.now }
     ensures { left.new ≡ staying (λ o. closes column.now o.contract) (orders_in (length left.old) book.now) }
 {
-    let mut i: usize = 0;
-    while i < left.len() {
+    for (i, lots) in left.iter_mut().enumerate() {
         let o = order_book::order_at(book, i);
-        let phase = phase_at(column, o.contract as usize);
-        left[i] = left_of(o, phase).0;
-        i += 1;
+        *lots = left_of(o, phase_at(column, o.contract as usize)).0;
     }
 }
 
@@ -52,6 +46,6 @@ pub fn remove_closing(head: &mut [u64], book: &mut [u64], column: &[u64])
 {
     let count = head[ORDER_COUNT] as usize;
     let mut left = [0u64; ORDERS];
-    write_left(&*book, column, &mut left[..count]);
-    order_book::keep_orders(&mut *head, &mut *book, &left[..count]);
+    write_left(book, column, &mut left[..count]);
+    order_book::keep_orders(head, book, &left[..count]);
 }
