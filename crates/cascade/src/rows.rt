@@ -1,5 +1,5 @@
 // The cascade: a closing year's rows are added to its quarters, a closing quarter's to its months, and set to zero.
-ghost use Rattle.std.specs.Prelude.{◌≡◌, cond, ℕ, ◌+◌, ◌*◌, ◌-◌, ◌%◌, ◌^◌, ◌≤◌, ◌<◌, eqb, length, get_or, take, drop, pos, nat_abs, ◌+ℤ◌};
+ghost use Rattle.std.specs.Prelude.{◌≡◌, cond, ℕ, ◌+◌, ◌*◌, ◌-◌, ◌%◌, ◌^◌, ◌≤◌, ◌<◌, length, get_or, take, drop, pos, nat_abs, ◌+ℤ◌};
 ghost use mathlib.Core.List.{zip_with};
 ghost use Rattle.arith.specs.Lists.{from, over, kept};
 ghost use Rattle.rules.specs.Ranges.{contract_count, term_count, contracts_in_year, quarters_in_span, last_quarter, most_members};
@@ -8,10 +8,10 @@ ghost use Rattle.rules.specs.ContractTerms.{contracts_of};
 ghost use Rattle.rules.specs.Ledger.{rows_length, rows_from, row_place};
 ghost use Rattle.rules.specs.CloseOfDay.{contract_rows, added_to, zero_rows, cascaded, all_cascaded};
 ghost use Rattle.tables.specs.Fit.{RowsFit};
-ghost use Rattle.contract_phases.specs.Phases.{closing_phase, closes, closing};
+ghost use Rattle.contract_phases.specs.Phases.{is_closing, closes, closing};
 ghost use Rattle.cascade.specs.Rows.{most_row};
 
-use contract_phases::CLOSING;
+use contract_phases::Phase;
 use contracts::{contract_of, contracts_in};
 use rules::ContractKind;
 use rules::layout::{
@@ -90,18 +90,18 @@ fn cascade(rows: &mut [i64], members: usize, contract: usize)
     move_rows(rows, members, contract, first, first + MONTHS_IN_QUARTER);
 }
 
-fn cascade_closing(rows: &mut [i64], members: usize, contract: usize, phase: u64)
+fn cascade_closing(rows: &mut [i64], members: usize, contract: usize, phase: Phase)
     requires rows_fit { RowsFit members (2 ^ 61) rows.old × (members ≤ most_members) }
     requires contract_lt_term_count { (contract < term_count) × (contract % contracts_in_year ≤ last_quarter) }
-    ensures { rows.new ≡ cond (eqb phase closing_phase) (cascaded members contract rows.old) rows.old }
+    ensures { rows.new ≡ cond (is_closing phase) (cascaded members contract rows.old) rows.old }
 {
-    if phase == CLOSING {
+    if phase == Phase::Closing {
         cascade(rows, members, contract);
     }
 }
 
 // The closing contracts of a kind that has children. A row grows by one parent's at a time, so none passes 64 bits.
-fn cascade_kind(rows: &mut [i64], column: &[u64], members: usize, kind: ContractKind)
+fn cascade_kind(rows: &mut [i64], column: &[Phase], members: usize, kind: ContractKind)
     requires rows_fit { RowsFit members (7 * most_row) rows.old × (members ≤ most_members) }
     requires kind_bound { (contracts_in kind ≤ quarters_in_span) × (length column.now ≡ term_count) }
     ensures { rows.new ≡ all_cascaded members (kept (closes column.now) (contracts_of kind)) rows.old }
@@ -113,7 +113,7 @@ fn cascade_kind(rows: &mut [i64], column: &[u64], members: usize, kind: Contract
 }
 
 // The closing years, then the closing quarters; a month's rows stay.
-pub fn cascade_all(rows: &mut [i64], column: &[u64], members: usize)
+pub fn cascade_all(rows: &mut [i64], column: &[Phase], members: usize)
     requires { RowsFit members most_row rows.old × (members ≤ most_members) × (length column.now ≡ term_count) }
     ensures { rows.new ≡ all_cascaded members (closing column.now) rows.old }
 {

@@ -12,13 +12,14 @@ ghost use Rattle.tables.specs.Fit.{HeadFit, PricesFit, RowsFit, BookFit, members
 ghost use Rattle.contract_phases.specs.Phases.{phases};
 ghost use Rattle.close_of_day.specs.Closed.{closed};
 
+use contract_phases::Phase;
 use rules::layout::{
     CONTRACTS, DAY, FIRST_YEAR, HOLIDAY_COUNT, HOLIDAYS, MEMBERS, ORDER_COUNT, SUBMITS, TERMS, TIME,
 };
 use rules::{Answer, Day, DayNo, Side};
 
 // The phase, on the ledger's day, of each contract that has a term.
-fn write_phases(head: &[u64], column: &mut [u64])
+fn write_phases(head: &[u64], column: &mut [Phase])
     requires { HeadFit head.now × (length column.old ≡ term_count) }
     ensures { column.new ≡ phases (calendar_in head.now) (get_or head.now day_place 0) }
 {
@@ -32,7 +33,7 @@ fn write_phases(head: &[u64], column: &mut [u64])
 }
 
 // A new GGF for every open contract; M and V of all contracts become 0.
-fn write_prices(head: &[u64], prices: &mut [u64], book: &[u64], column: &[u64], time: u64)
+fn write_prices(head: &[u64], prices: &mut [u64], book: &[u64], column: &[Phase], time: u64)
     requires head_fit { HeadFit head.now × PricesFit (lots_run_in head.now) prices.old × BookFit head.now book.now }
     requires column_value { column.now ≡ phases (calendar_in head.now) (get_or head.now day_place 0) }
     ensures { (t : Tables) → with_prices prices.new (with_head head.now (with_book book.now t))
@@ -74,7 +75,7 @@ fn close(
         ≡ closed time next.0 (with_head head.old (with_prices prices.old (with_rows lots.old value.old (with_book book.old t)))) }
 {
     let members = head[MEMBERS] as usize;
-    let mut column = [0u64; TERMS];
+    let mut column = [Phase::Closed; TERMS];
     write_phases(head, &mut column);
     write_prices(head, prices, book, &column, time);
     cascade::cascade_all(lots, &column, members);

@@ -66,8 +66,8 @@ pub fn find_open_days(first_year: u64, holidays: &[u64], day: DayNo, days: &mut 
     ensures { days.new ≡ open_days (record { first_year = first_year; holidays = holidays.now }) day.0 }
 {
     let mut starts = [0u64; SPAN_STARTS];
-    read_starts(first_year, &mut starts[..]);
+    read_starts(first_year, &mut starts);
     let end = DayNo(starts[SPAN_STARTS - 1]);
     let least = find_least(holidays, day, end);
-    write_open_days(&starts[..], least, days);
+    write_open_days(&starts, least, days);
 }

@@ -3,10 +3,10 @@ ghost use Rattle.std.specs.Prelude.{◌≡◌, cond, ◌&&◌, ◌-◌, ◌*◌,
 ghost use Rattle.rules.specs.Ranges.{contract_count, term_count, most_price, most_lots_run};
 ghost use Rattle.rules.specs.Ledger.{prices_length, ggf_place};
 ghost use Rattle.rules.specs.CloseOfDay.{rounded_half_up, without_deals};
-ghost use Rattle.contract_phases.specs.Phases.{closed_phase, open_in, all_open_in};
+ghost use Rattle.contract_phases.specs.Phases.{is_waiting, open_in, all_open_in};
 ghost use Rattle.reference_price.specs.Columns.{DealsFit, ColumnFit, quoted_from, price_from, ggf_from, ggfs_from};
 
-use contract_phases::CLOSED;
+use contract_phases::Phase;
 use contracts::{contract_of, contracts_in};
 use rules::layout::{CONTRACTS, DAY_LOTS, DAY_VALUE, GGF, PRICE_WIDTH};
 use rules::{ContractKind, Kurus, Lots, Worth};
@@ -75,16 +75,16 @@ fn write_if_open(
     buys: &[u64],
     sells: &[u64],
     contract: usize,
-    phase: u64,
+    phase: Phase,
     more: u64,
 ) -> u64
     requires { DealsFit prices.old × ColumnFit buys.now × ColumnFit sells.now × (contract < contract_count) }
-    ensures value { result ≡ cond (ltb closed_phase phase) (more - 1) more }
+    ensures value { result ≡ cond (is_waiting phase) (more - 1) more }
     ensures prices_after { prices.new
-        ≡ cond (ltb closed_phase phase && ltb 0 more)
+        ≡ cond (is_waiting phase && ltb 0 more)
         (set prices.old (ggf_place contract) (ggf_from buys.now sells.now prices.old contract)) prices.old }
 {
-    if phase == CLOSED {
+    if phase == Phase::Closed {
         return more;
     }
     if more == 0 {
@@ -96,7 +96,7 @@ fn write_if_open(
 
 fn write_kind_ggfs(
     prices: &mut [u64],
-    column: &[u64],
+    column: &[Phase],
     buys: &[u64],
     sells: &[u64],
     kind: ContractKind,
@@ -111,7 +111,7 @@ fn write_kind_ggfs(
     }
 }
 
-pub fn write_ggfs(prices: &mut [u64], column: &[u64], buys: &[u64], sells: &[u64])
+pub fn write_ggfs(prices: &mut [u64], column: &[Phase], buys: &[u64], sells: &[u64])
     requires { DealsFit prices.old × ColumnFit buys.now × ColumnFit sells.now × (length column.now ≡ term_count) }
     ensures { prices.new ≡ ggfs_from buys.now sells.now (all_open_in column.now) prices.old }
 {

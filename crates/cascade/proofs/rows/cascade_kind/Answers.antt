@@ -17,11 +17,6 @@ loop-i-init c =
 pub contract_of-contract-requires : goal.contract_of-contract-requires
 contract_of-contract-requires c = omega (arith, c.contracts_in-i-end.ensures)
 
-pub offset_bounds-column-contract : goal.offset_bounds-column-contract
-offset_bounds-column-contract c =
-    let args = c.args in
-    let b = number_below args.kind c.loop-i.i (omega (arith, c.contracts_in-i-end.ensures)) in omega (arith, c.contract_of-contract.ensures)
-
 pub bounds-column-contract : goal.bounds-column-contract
 bounds-column-contract c =
     let args = c.args in

@@ -6,6 +6,7 @@ use Rattle.arith.proofs.Columns.{mapped_next, mapped_end, written_next, written_
 use Rattle.rules.specs.Ranges.{term_count}
 use Rattle.rules.specs.ContractTerms.{term_of}
 use Rattle.contracts.proofs.InLedger.{numbered}
+use Rattle.contract_phases.specs.declared.by_contract.Phase.{Phase}
 use Rattle.contract_phases.specs.Phases.{term_phase, phases}
 use Rattle.contract_phases.proofs.by_contract.write_from.Goals as goal
 
@@ -19,7 +20,7 @@ phase_of-requires c = (c.requires.0, rw c.term_of.ensures (numbered _ (omega ari
 pub loop-contract-preserved : goal.loop-contract-preserved
 loop-contract-preserved c = (
   simp length-set c.loop-contract.invariant.0,
-  λ k d e g h. let f : ℕ → ℕ = λ x. term_phase k d (term_of x) in
+  λ k d e g h. let f : ℕ → Phase = λ x. term_phase k d (term_of x) in
       let phase : c.phase_of.result ≡ f c.loop-contract.contract = rw c.term_of.ensures at (c.phase_of.ensures k d e (g c.term_of.result.kind) (h c.term_of.result.kind)) in
       rw phase (written_next c.loop-contract.column c.loop-contract.contract _ _ _ (omega arith) (rw (mapped_next term_count c.loop-contract.contract f (omega arith)) at (c.loop-contract.invariant.1 k d e g h))),
 )
