@@ -12,8 +12,8 @@ use Rattle.cascade.proofs.rows.add_rows.Goals as goal
 pub loop-i-init : goal.loop-i-init
 loop-i-init c = (refl, refl)
 
-pub overflow_add-row : goal.overflow_add-row
-overflow_add-row c =
+pub overflow_add-child : goal.overflow_add-child
+overflow_add-child c =
     let a = c.args in
     let sums = zip_with ◌+ℤ◌ a.child.now a.parent in
     let many = zip_short ◌+ℤ◌ a.child.now a.parent (omega arith) in
