@@ -7,5 +7,5 @@ pub fn is_between(x: u64, first: u64, end: u64) -> bool
     requires { first ≤ end }
     ensures { result ≡ between first end x }
 {
-    std::num::wrapping_sub_u64(x, first) < end - first
+    x.wrapping_sub(first) < end - first
 }

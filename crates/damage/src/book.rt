@@ -46,10 +46,8 @@ fn is_repeated(book: &[u64], i: usize, count: usize) -> bool
 {
     let number = book[i * layout::ORDER_WIDTH];
     let mut found = false;
-    let mut j: usize = i + 1;
-    while j < count {
-        found = found | (number == book[j * layout::ORDER_WIDTH]);
-        j += 1;
+    for j in i + 1..count {
+        found |= number == book[j * layout::ORDER_WIDTH];
     }
     found
 }
@@ -60,10 +58,8 @@ fn is_none_repeated(book: &[u64], count: usize) -> bool
     ensures { result ≡ distinct (map (number_at book.now) (from 0 count)) }
 {
     let mut ok = true;
-    let mut i: usize = 0;
-    while i < count {
-        ok = ok & !is_repeated(book, i, count);
-        i += 1;
+    for i in 0..count {
+        ok &= !is_repeated(book, i, count);
     }
     ok
 }
@@ -77,8 +73,7 @@ fn are_orders_sound(book: &[u64], count: usize, accepted: u64, members: u64, spa
     let mut sides: u64 = 0;
     let mut falls: u64 = 0;
     let mut least: u64 = 0;
-    let mut i: usize = 0;
-    while i < count {
+    for i in 0..count {
         let at = i * layout::ORDER_WIDTH;
         let number = book[at];
         if accepted <= number {
@@ -87,10 +82,9 @@ fn are_orders_sound(book: &[u64], count: usize, accepted: u64, members: u64, spa
         if !are_fields_in_range(book, i, members, span) {
             return false;
         }
-        sides = sides | book[at + layout::ORDER_SIDE];
-        falls = falls | std::num::wrapping_sub_u64(number, least);
+        sides |= book[at + layout::ORDER_SIDE];
+        falls |= number.wrapping_sub(least);
         least = number + 1;
-        i += 1;
     }
     if ranges::LAST_SIDE < sides {
         return false;

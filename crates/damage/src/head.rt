@@ -16,15 +16,11 @@ fn are_members_sound(head: &[u64], members: u64) -> bool
     requires { (head_length ≤ length head.now) × (members ≤ most_members) }
     ensures { (t : Tables) → result ≡ every (member_sound (with_head head.now t)) (from 0 members) }
 {
-    let count = members as usize;
     let mut ok = true;
-    let mut m: usize = 0;
-    while m < count {
-        ok = ok
-            & ((head[layout::LIMITS + m] <= ranges::MOST_LIMIT)
-                & (head[layout::MARKS + m] <= layout::DEFAULT_MARK)
-                & (head[layout::SUBMITS + m] <= ranges::MOST_SUBMITS_IN_SECOND));
-        m += 1;
+    for m in 0..members as usize {
+        ok &= (head[layout::LIMITS + m] <= ranges::MOST_LIMIT)
+            & (head[layout::MARKS + m] <= layout::DEFAULT_MARK)
+            & (head[layout::SUBMITS + m] <= ranges::MOST_SUBMITS_IN_SECOND);
     }
     ok
 }

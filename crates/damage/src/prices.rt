@@ -38,14 +38,11 @@ pub fn are_prices_sound(prices: &[u64], run: u64) -> bool
     requires { (prices_length ≤ length prices.now) × (run ≤ most_lots_run) }
     ensures { result ≡ every_block price_width (contract_prices_sound run) contract_count prices.now }
 {
-    let mut contract: usize = 0;
-    while contract < layout::CONTRACTS {
+    for contract in 0..layout::CONTRACTS {
         let at = contract * layout::PRICE_WIDTH;
-        let end = at + layout::PRICE_WIDTH;
-        if !is_contract_sound(&prices[at..end], run) {
+        if !is_contract_sound(&prices[at..at + layout::PRICE_WIDTH], run) {
             return false;
         }
-        contract += 1;
     }
     true
 }

@@ -9,25 +9,13 @@ ghost use Rattle.damage.specs.Windows.{every_column, IsHalf, IsWidth};
 
 use rules::layout;
 
-// Whether x is within the bound in absolute size. For a negative x, -1 - x is one less than its size, and is in range.
-fn is_within(x: i64, bound: u64) -> bool
-    ensures { result ≡ nat_le (unsigned_abs x) bound }
-{
-    if x >= 0 {
-        return (x as u64) <= bound;
-    }
-    ((-1 - x) as u64) < bound
-}
-
+// Whether each is within the bound in absolute size. The flag keeps branches out of the loop.
 fn are_within(rows: &[i64], bound: u64) -> bool
     ensures { result ≡ every (λ z. leb (unsigned_abs z) bound) rows.now }
 {
     let mut ok = true;
-    let mut i: usize = 0;
-    while i < rows.len() {
-        let x = rows[i];
-        ok = ok & is_within(x, bound);
-        i += 1;
+    for x in rows {
+        ok &= x.unsigned_abs() <= bound;
     }
     ok
 }
@@ -38,32 +26,18 @@ fn is_each_within(rows: &[i64], n: usize, bound: u64) -> bool
     ensures { result ≡ every_row (λ z. leb (unsigned_abs z) bound) n rows.now }
 {
     let mut ok = true;
-    let mut contract: usize = 0;
-    while contract < layout::CONTRACTS {
+    for contract in 0..layout::CONTRACTS {
         let at = contract * layout::ROW_WIDTH;
-        let end = at + n;
-        ok = ok & are_within(&rows[at..end], bound);
-        contract += 1;
+        ok &= are_within(&rows[at..at + n], bound);
     }
     ok
-}
-
-// The 64 bits of x. Both arms are these bits: the compiler sees it and writes no code.
-fn bits_of(x: i64) -> u64
-    ensures { result ≡ bits_of x }
-{
-    if x >= 0 {
-        x as u64
-    } else {
-        u64::MAX - ((-1 - x) as u64)
-    }
 }
 
 // x with half a window's width added: below the width exactly if x is in the window.
 fn raised(x: i64, half: u64) -> u64
     ensures { result ≡ (bits_of x + half) % 2 ^ 64 }
 {
-    std::num::wrapping_add_u64(bits_of(x), half)
+    x.cast_unsigned().wrapping_add(half)
 }
 
 // The bitwise or of all rows, half a width added to each: below a power of two exactly if each is. No test stands in the loop,
@@ -72,11 +46,8 @@ fn or_of(rows: &[i64], half: u64) -> u64
     ensures { (k : ℕ) → IsHalf half k → nat_lt result (2 ^ k) ≡ every (in_window (2 ^ k)) rows.now }
 {
     let mut seen: u64 = 0;
-    let mut i: usize = 0;
-    while i < rows.len() {
-        let x = rows[i];
-        seen = seen | raised(x, half);
-        i += 1;
+    for x in rows {
+        seen |= raised(*x, half);
     }
     seen
 }
@@ -87,11 +58,8 @@ fn or_of_column(rows: &[i64], member: usize, half: u64) -> u64
     ensures { (k : ℕ) → IsHalf half k → nat_lt result (2 ^ k) ≡ every_column (in_window (2 ^ k)) member rows.now }
 {
     let mut seen: u64 = 0;
-    let mut contract: usize = 0;
-    while contract < layout::CONTRACTS {
-        let x = rows[contract * layout::ROW_WIDTH + member];
-        seen = seen | raised(x, half);
-        contract += 1;
+    for contract in 0..layout::CONTRACTS {
+        seen |= raised(rows[contract * layout::ROW_WIDTH + member], half);
     }
     seen
 }
@@ -102,13 +70,10 @@ fn or_of_pair(rows: &[i64], member: usize, half: u64) -> u64
     ensures { (k : ℕ) → IsHalf half k → nat_lt result (2 ^ k) ≡ every_column (in_window (2 ^ k)) member rows.now && every_column (in_window (2 ^ k)) (member + 1) rows.now }
 {
     let mut seen: u64 = 0;
-    let mut contract: usize = 0;
-    while contract < layout::CONTRACTS {
+    for contract in 0..layout::CONTRACTS {
         let at = contract * layout::ROW_WIDTH + member;
-        let x = rows[at];
-        let y = rows[at + 1];
-        seen = seen | raised(x, half) | raised(y, half);
-        contract += 1;
+        seen |= raised(rows[at], half);
+        seen |= raised(rows[at + 1], half);
     }
     seen
 }
@@ -118,13 +83,11 @@ fn or_of_columns(rows: &[i64], n: usize, half: u64) -> u64
     ensures { (k : ℕ) → IsHalf half k → nat_lt result (2 ^ k) ≡ every_row (in_window (2 ^ k)) n rows.now }
 {
     let mut seen: u64 = 0;
-    let mut member: usize = 0;
-    while member + 1 < n {
-        seen = seen | or_of_pair(rows, member, half);
-        member += 2;
+    for pair in 0..n / 2 {
+        seen |= or_of_pair(rows, 2 * pair, half);
     }
-    if member < n {
-        seen = seen | or_of_column(rows, member, half);
+    if n % 2 == 1 {
+        seen |= or_of_column(rows, n - 1, half);
     }
     seen
 }

@@ -40,12 +40,8 @@ fn add_to_row(lots: &mut [i64], value: &mut [i64], at: usize, more: SignedLots, 
     ensures lots_after { lots.new ≡ set lots.old at (get_or lots.old at (pos 0) +ℤ more.0) }
     ensures value_after { value.new ≡ set value.old at (get_or value.old at (pos 0) +ℤ more_value.0) }
 {
-    let n = lots[at];
-    let x = more.0;
-    lots[at] = n + x;
-    let v = value[at];
-    let y = more_value.0;
-    value[at] = v + y;
+    lots[at] += more.0;
+    value[at] += more_value.0;
 }
 
 // The line's signed lots go to the lots, these times its price to the value.
@@ -56,10 +52,8 @@ fn post_line(lots: &mut [i64], value: &mut [i64], members: u64, run: u64, line: 
     ensures value_after { value.new ≡ posted line_value (line_of line ∷ []) value.old }
 {
     let at = line.contract as usize * ROW_WIDTH + line.member as usize;
-    let side = line.side;
-    let price = line.price;
-    let signed_lots = with_sign(side, line.lots);
-    add_to_row(lots, value, at, signed_lots, signed_lots.times(price));
+    let signed_lots = with_sign(line.side, line.lots);
+    add_to_row(lots, value, at, signed_lots, signed_lots.times(line.price));
 }
 
 // Line i of the line table.
@@ -68,17 +62,11 @@ fn print_line(lines: &mut [i64], i: usize, line: DealLine)
     requires i_lt_least_lines { (i < least_lines) × (lines_length ≤ length lines.old) }
     ensures { lines.new ≡ over (i * line_width) (line_places (line_of line)) lines.old }
 {
-    let side = line.side;
-    let d = with_sign(side, line.lots);
-    let m = line.member as i64;
-    let k = line.contract as i64;
-    let x = d.0;
-    let p = line.price.0 as i64;
     let at = i * LINE_WIDTH;
-    lines[at + LINE_MEMBER] = m;
-    lines[at + LINE_CONTRACT] = k;
-    lines[at + LINE_LOTS] = x;
-    lines[at + LINE_PRICE] = p;
+    lines[at + LINE_MEMBER] = line.member as i64;
+    lines[at + LINE_CONTRACT] = line.contract as i64;
+    lines[at + LINE_LOTS] = with_sign(line.side, line.lots).0;
+    lines[at + LINE_PRICE] = line.price.0 as i64;
 }
 
 // One more line of a record, the one after i others.

@@ -16,28 +16,14 @@ use rules::layout::{
 use rules::ranges::MOST_PRICE;
 use tables::{clear_at, clear_rows};
 
-fn copy(places: &mut [u64], list: &[u64])
-    requires { length places.old ≡ length list.now }
-    ensures { places.new ≡ list.now }
-{
-    let mut i: usize = 0;
-    while i < list.len() {
-        places[i] = list[i];
-        i += 1;
-    }
-}
-
 // Zero rows for each member of each contract.
 fn write_rows(rows: &mut [i64], members: usize)
     requires { (rows_length ≤ length rows.old) × (members ≤ most_members) }
     ensures { rows.new ≡ fresh_rows members rows.old }
 {
-    let mut contract: usize = 0;
-    while contract < CONTRACTS {
+    for contract in 0..CONTRACTS {
         let at = contract * ROW_WIDTH;
-        let end = at + members;
-        clear_rows(&mut rows[at..end]);
-        contract += 1;
+        clear_rows(&mut rows[at..at + members]);
     }
 }
 
@@ -46,15 +32,13 @@ fn write_prices(prices: &mut [u64])
     requires { prices_length ≤ length prices.old }
     ensures { prices.new ≡ fresh_prices prices.old }
 {
-    let mut contract: usize = 0;
-    while contract < CONTRACTS {
+    for contract in 0..CONTRACTS {
         let at = contract * PRICE_WIDTH;
         prices[at + GGF] = 0;
         prices[at + LOW] = 1;
         prices[at + HIGH] = MOST_PRICE;
         prices[at + DAY_LOTS] = 0;
         prices[at + DAY_VALUE] = 0;
-        contract += 1;
     }
 }
 
@@ -62,8 +46,7 @@ fn write_at(head: &mut [u64], at: usize, list: &[u64])
     requires { at + length list.now ≤ length head.old }
     ensures { head.new ≡ over at list.now head.old }
 {
-    let end = at + list.len();
-    copy(&mut head[at..end], list);
+    head[at..at + list.len()].copy_from_slice(list);
 }
 
 // The head's first eight places; time and counts are 0.
@@ -88,11 +71,11 @@ fn write_head(head: &mut [u64], first_year: u64, start: DayNo, holidays: &[u64],
 {
     let members = limits.len();
     let count = holidays.len();
-    write_numbers(&mut *head, first_year, members as u64, count as u64, start);
-    write_at(&mut *head, HOLIDAYS, holidays);
-    write_at(&mut *head, LIMITS, limits);
-    clear_at(&mut *head, MARKS, members);
-    clear_at(&mut *head, SUBMITS, members);
+    write_numbers(head, first_year, members as u64, count as u64, start);
+    write_at(head, HOLIDAYS, holidays);
+    write_at(head, LIMITS, limits);
+    clear_at(head, MARKS, members);
+    clear_at(head, SUBMITS, members);
 }
 
 // Every table of a fresh ledger.
@@ -113,8 +96,8 @@ pub fn write_fresh(
         (with_head head.old (with_prices prices.old (with_rows lots.old value.old t))) }
 {
     let members = limits.len();
-    write_head(&mut *head, first_year, start, holidays, limits);
-    write_prices(&mut *prices);
-    write_rows(&mut *lots, members);
-    write_rows(&mut *value, members);
+    write_head(head, first_year, start, holidays, limits);
+    write_prices(prices);
+    write_rows(lots, members);
+    write_rows(value, members);
 }

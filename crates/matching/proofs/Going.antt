@@ -19,14 +19,14 @@ use Rattle.rules.specs.Ledger.{book_length, order_at}
 use Rattle.rules.specs.Matching.{opposes, meets_price, meets}
 use Rattle.matching.specs.declared.deals.Counterparty.{Counterparty}
 use Rattle.order_priority.specs.Priority.{Ranked, rank_of}
-use Rattle.matching.specs.Ranks.{no_rank, rank_in, ranks_of, lots_of, first_rank, Lowest, LowestOf, Placed, BlockLows, BestPlace}
+use Rattle.matching.specs.Ranks.{no_rank, rank_in, ranks_of, lots_of, first_rank, Lowest, Placed, BlockLows, NoneRanked, BestPlace}
 use Rattle.matching.specs.Deals.{counterparty, deal_width, deal_places, deal_at, deals_in, FromBook}
 use Rattle.matching.specs.Matching.{DealMade, Matchable, Ended, MatchMade}
 use Rattle.tables.specs.Fit.{orders_in}
 use Rattle.arith.proofs.Alls.{all_place}
 use Rattle.matching.proofs.Best.{ranks_length, ranks_at, live, rank_live, rank_room}
 use Rattle.matching.proofs.Running.{Running, running_start, running_deal, ranks_set, ended_full, ended_far, ended_none}
-use Rattle.matching.proofs.Lows.{placed_gone, best_is}
+use Rattle.matching.proofs.Lows.{placed_gone, best_is, none_is}
 use Rattle.order_book.proofs.Left.{orders_length, all_orders}
 use Rattle.matching.proofs.Passes.{order_here}
 use Rattle.rules.proofs.Distinct.{Distinct, distinct_orders}
@@ -162,38 +162,38 @@ module _ (o : Order) (book : List ℕ) (n : ℕ) (first left ranks lows deals : 
       let alive = live o (get_or left j 0) (get_or os j (order_at book j)) (rw rank at k) in
       rw (rank, alive.2) (rank_room (get_or os j (order_at book j)) (all_place Ranked (order_at book j) os g.ranked j inside))
 
-  best_of : (best : ℕ) → BestPlace lows n best → LowestOf (ranks_of o left os) best
+  best_of : (best : ℕ) → BestPlace lows best → Lowest (ranks_of o left os) best
   best_of best f =
-      best_is (ranks_of o left os) ranks g.placed (omega (arith, as_many, g.most_orders_holds)) small lows best g.block_lows (rw as_many f)
+      best_is (ranks_of o left os) ranks g.placed (omega (arith, as_many, g.most_orders_holds)) small lows best g.block_lows f
+
+  pub best_below : (best : ℕ) → BestPlace lows best → best < n
+  best_below best f = omega (arith, (best_of best f).below, as_many)
 
   stopped_here : Ended o os left wanted (deals_in k deals) → MatchMade o book n first (record { deals = k; left = record { 0 = wanted } }) left deals
   stopped_here e = record { ended = e; few = omega (arith, g.few); from_book = g.from_book; past = g.past }
 
   -- no order is left
-  pub none_left : (best : ℕ) → BestPlace lows n best → n ≤ best → MatchMade o book n first (record { deals = k; left = record { 0 = wanted } }) left deals
-  none_left best f h =
-      let l = best_of best f in
-      stopped_here (ended_none o os left wanted (deals_in k deals) g.running g.ranked (l.none (omega (arith, l.most, as_many))))
+  pub none_left : NoneRanked lows → MatchMade o book n first (record { deals = k; left = record { 0 = wanted } }) left deals
+  none_left f =
+      stopped_here (ended_none o os left wanted (deals_in k deals) g.running g.ranked
+      (none_is (ranks_of o left os) ranks g.placed (omega (arith, as_many, g.most_orders_holds)) small lows g.block_lows f))
 
   -- the best does not cross
-  pub best_apart : (best : ℕ) → BestPlace lows n best → best < n → (r : Order) → r ≡ order_at book best → meets o r ≡ false
+  pub best_apart : (best : ℕ) → BestPlace lows best → (r : Order) → r ≡ order_at book best → meets o r ≡ false
       → MatchMade o book n first (record { deals = k; left = record { 0 = wanted } }) left deals
-  best_apart best f h r e t =
-      stopped_here (ended_far o os left wanted (deals_in k deals) g.running (order_at book best) best g.ranked ((best_of best f).lowest (omega (arith, as_many)))
-      (ap (meets o) (order_here book n best (order_at book best) h ∙ sym e) ∙ t))
+  best_apart best f r e t =
+      stopped_here (ended_far o os left wanted (deals_in k deals) g.running (order_at book best) best g.ranked (best_of best f)
+      (ap (meets o) (order_here book n best (order_at book best) (best_below best f) ∙ sym e) ∙ t))
 
   -- it crosses
-  pub next_first : (best : ℕ) → BestPlace lows n best → best < n → (r : Order) → r ≡ order_at book best → meets o r ≡ true → Next o book n left best r.price.0
+  pub next_first : (best : ℕ) → BestPlace lows best → (r : Order) → r ≡ order_at book best → meets o r ≡ true → Next o book n left best r.price.0
   unfolding meets
-  next_first best f h r e t = record { below = h; lowest = (best_of best f).lowest (omega (arith, as_many)); price = ap (λ x. x.price.0) (sym e); crosses = t }
+  next_first best f r e t = record { below = best_below best f; lowest = best_of best f; price = ap (λ x. x.price.0) (sym e); crosses = t }
 
   -- the next of its level crosses too
-  pub next_level : (best level : ℕ) → BestPlace lows n best → (best < n) × ((order_at book best).price.0 ≡ level) → meets_price o.side o.price.0 level ≡ true
+  pub next_level : (best level : ℕ) → BestPlace lows best → (order_at book best).price.0 ≡ level → meets_price o.side o.price.0 level ≡ true
       → Next o book n left best level
-  next_level best level f h t = record { below = h.0; lowest = (best_of best f).lowest (omega (arith, as_many, h.0)); price = h.1; crosses = t }
-
-  pub most_best : (best : ℕ) → BestPlace lows n best → best ≤ n
-  most_best best f = omega (arith, (best_of best f).most, as_many)
+  next_level best level f h t = record { below = best_below best f; lowest = best_of best f; price = h; crosses = t }
 
   module _ (i level : ℕ) (x : Next o book n left i level) where
     inside : i < length os

@@ -8,7 +8,7 @@ use lib.Seq.{get_or-set_same, get_or-set_other}
 use borrow.Author.Tests.{lt-ltb, le-ltb}
 use Rattle.arith.proofs.Tests.{same_or, le_or_lt}
 use Rattle.rules.specs.Ranges.{most_orders}
-use Rattle.matching.specs.Ranks.{no_rank, Lowest, LowestOf, placed_rank, Placed, LowestAmong, block_size, block_count, BlockLows, BestPlace}
+use Rattle.matching.specs.Ranks.{no_rank, Lowest, placed_rank, Placed, LowestAmong, block_size, block_count, BlockLows, NoneRanked, BestPlace}
 
 -- ---- the lowest of some numbers
 pub lowest_one : (l : List ℕ) (a : ℕ) → LowestAmong l a 1 (get_or l a 0)
@@ -176,12 +176,11 @@ module _ (ranks column : List ℕ) (p : Placed ranks column) (few : length ranks
       place_is : x % most_orders ≡ i
       place_is = omega (arith, low_is, few, inside)
 
-  pub best_is : (lows : List ℕ) (place : ℕ) → BlockLows column lows → BestPlace lows (length ranks) place → LowestOf ranks place
+  pub best_is : (lows : List ℕ) (place : ℕ) → BlockLows column lows → BestPlace lows place → Lowest ranks place
   best_is lows place b f =
       let q = lowest_all column lows b f.low f.lowest in
-      le_or_lt no_rank f.low
-      (λ k. let at_end_lem : place ≡ length ranks = f.reply_of ∙ rw (le-ltb f.low no_rank k) in
-      rw at_end_lem (record { most = omega arith; lowest = λ h. absurd (omega arith); none = λ _. none_there f.low q k }))
-      (λ k. let there : place ≡ q.place = f.reply_of ∙ rw (lt-ltb f.low no_rank k) (place_is f.low q k) in
-      let low = lowest_there f.low q k in
-      rw there (record { most = omega (arith, low.below); lowest = λ _. low; none = λ e. absurd (omega (arith, low.below)) }))
+      let there : place ≡ q.place = f.given ∙ place_is f.low q f.some in
+      rw there (lowest_there f.low q f.some)
+
+  pub none_is : (lows : List ℕ) → BlockLows column lows → NoneRanked lows → (j : ℕ) → j < length ranks → no_rank ≤ get_or ranks j 0
+  none_is lows b f = none_there f.low (lowest_all column lows b f.low f.lowest) f.none

@@ -33,12 +33,6 @@ pub record Lowest (ranks : List ℕ) (i : ℕ) : Type 0 where
   pub before : (j : ℕ) → j < i → get_or ranks i 0 < get_or ranks j 0
   pub behind : (j : ℕ) → j < length ranks → get_or ranks i 0 ≤ get_or ranks j 0
 
--- The place of the lowest rank, or the end where there is none.
-pub record LowestOf (ranks : List ℕ) (i : ℕ) : Type 0 where
-  pub most : i ≤ length ranks
-  pub lowest : i < length ranks → Lowest ranks i
-  pub none : i ≡ length ranks → (j : ℕ) → j < length ranks → no_rank ≤ get_or ranks j 0
-
 -- A rank with its place in its last digits to the base 256, so that the lowest of such ranks gives its place.
 unfoldable pub placed_rank : ℕ → ℕ → ℕ
 placed_rank i x = cond (ltb x no_rank) (x * most_orders + i) no_rank
@@ -68,11 +62,18 @@ pub record BlockLows (column lows : List ℕ) : Type 0 where
   pub long : length lows ≡ block_count
   pub low : (b : ℕ) → b < block_count → LowestAmong column (b * block_size) block_size (get_or lows b 0)
 
--- The place that the lowest rank of all gives, or the count of the orders where there is none.
-pub record BestPlace (lows : List ℕ) (count place : ℕ) : Type 0 where
+-- No order has a rank.
+pub record NoneRanked (lows : List ℕ) : Type 0 where
   pub low : ℕ
   pub lowest : LowestAmong lows 0 block_count low
-  pub reply_of : place ≡ cond (ltb low no_rank) (low % most_orders) count
+  pub none : no_rank ≤ low
+
+-- The place that the lowest rank of all gives.
+pub record BestPlace (lows : List ℕ) (place : ℕ) : Type 0 where
+  pub low : ℕ
+  pub lowest : LowestAmong lows 0 block_count low
+  pub some : low < no_rank
+  pub given : place ≡ low % most_orders
 
 -- The lots that cross where so many are left.
 unfoldable pub crossing : Order → List ℕ → List Order → ℕ

@@ -1,21 +1,20 @@
 // Two columns, one number for each place of the book: what is left of each order, and its rank with its place. A third has the
 // lowest rank of each block of places, so that the best order is found without reading every rank.
-ghost use Rattle.std.specs.Prelude.{◌≡◌, cond, map, ℕ, ◌+◌, ◌-◌, ◌≤◌, ◌<◌, eqb, length, get_or, set, replicate};
+ghost use Rattle.std.specs.Prelude.{◌≡◌, cond, map, ℕ, ◌+◌, ◌-◌, ◌≤◌, ◌<◌, eqb, length, get_or, set, replicate, MatchOption};
 ghost use Rattle.tables.specs.Fit.{orders_in};
 ghost use Rattle.rules.specs.Ranges.{most_orders};
 ghost use Rattle.rules.specs.Ledger.{book_length, order_at};
 ghost use Rattle.order_priority.specs.Priority.{Ranked};
-ghost use Rattle.matching.specs.Ranks.{no_rank, lots_of, rank_in, first_rank, placed_rank, Placed, LowestAmong, block_size, block_count, BlockLows, BestPlace};
+ghost use Rattle.matching.specs.Ranks.{no_rank, lots_of, rank_in, first_rank, placed_rank, Placed, LowestAmong, block_size, block_count, BlockLows, NoneRanked, BestPlace};
 
-use numbers::smaller;
 use order_book::order_at;
 use order_priority::{does_oppose, rank_of};
 use rules::layout::ORDERS;
 use rules::ranges::MOST_ORDERS;
 use rules::{Lots, Order};
 
-// The rank of an order that is not to be met.
-pub const NO_RANK: u64 = 18446744073709551615;
+// The rank of an order that is not to be met: a number and no Option, so that the lowest is found by comparisons alone.
+pub const NO_RANK: u64 = u64::MAX;
 
 // How many places of the book make a block.
 const BLOCK: usize = 16;
@@ -40,12 +39,10 @@ pub fn write_columns(book: &[u64], o: Order, left: &mut [u64], ranks: &mut [u64]
     ensures left_after_holds { left.new ≡ map lots_of (orders_in (length left.old) book.now) }
     ensures placed { Placed (first_rank o (orders_in (length left.old) book.now)) ranks.new }
 {
-    let mut i: usize = 0;
-    while i < left.len() {
+    for i in 0..left.len() {
         let r = order_at(book, i);
         ranks[i] = rank_at(o, r, i);
         left[i] = r.lots.0;
-        i += 1;
     }
 }
 
@@ -53,10 +50,8 @@ fn lowest_of_four(ranks: &[u64], at: usize) -> u64
     requires { at + 4 ≤ length ranks.now }
     ensures { LowestAmong ranks.now at 4 result }
 {
-    smaller(
-        smaller(ranks[at], ranks[at + 1]),
-        smaller(ranks[at + 2], ranks[at + 3]),
-    )
+    let front = ranks[at].min(ranks[at + 1]);
+    front.min(ranks[at + 2].min(ranks[at + 3]))
 }
 
 // The lowest of a block, by fours: no comparison waits for all those before it.
@@ -68,7 +63,7 @@ fn lowest_of_block(ranks: &[u64], at: usize) -> u64
     let second = lowest_of_four(ranks, at + 4);
     let third = lowest_of_four(ranks, at + 8);
     let fourth = lowest_of_four(ranks, at + 12);
-    smaller(smaller(first, second), smaller(third, fourth))
+    first.min(second).min(third.min(fourth))
 }
 
 // The lowest rank of every block.
@@ -76,23 +71,21 @@ pub fn write_lows(ranks: &[u64], lows: &mut [u64])
     requires { (length ranks.now ≡ most_orders) × (length lows.old ≡ block_count) }
     ensures { BlockLows ranks.now lows.new }
 {
-    let mut b: usize = 0;
-    while b < lows.len() {
-        lows[b] = lowest_of_block(ranks, b * BLOCK);
-        b += 1;
+    for (b, low) in lows.iter_mut().enumerate() {
+        *low = lowest_of_block(ranks, b * BLOCK);
     }
 }
 
-// The place that the lowest rank of all gives, or the count of the orders where there is none.
-pub fn best_place(lows: &[u64], count: usize) -> usize
+// The place that the lowest rank of all gives, if any order has a rank.
+pub fn best_place(lows: &[u64]) -> Option<usize>
     requires { length lows.now ≡ block_count }
-    ensures { BestPlace lows.now count result }
+    ensures { MatchOption result (NoneRanked lows.now) (BestPlace lows.now) }
 {
     let low = lowest_of_block(lows, 0);
     if low < NO_RANK {
-        return (low % MOST_ORDERS) as usize;
+        return Some((low % MOST_ORDERS) as usize);
     }
-    count
+    None
 }
 
 // Uses lots of order i; an order used up has no rank.
@@ -107,6 +100,6 @@ pub fn use_lots(left: &mut [u64], ranks: &mut [u64], lows: &mut [u64], i: usize,
     if rest == 0 {
         let b = i / BLOCK;
         ranks[i] = NO_RANK;
-        lows[b] = lowest_of_block(&*ranks, b * BLOCK);
+        lows[b] = lowest_of_block(ranks, b * BLOCK);
     }
 }

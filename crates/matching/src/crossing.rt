@@ -20,9 +20,7 @@ pub struct Crossing {
 fn own_lots(o: Order, r: Order) -> Lots
     ensures { result.0 ≡ own_lots o r }
 {
-    let a = r.side;
-    let b = o.side;
-    if (r.member == o.member) & ((r.contract == o.contract) & is_same_side(a, b)) {
+    if (r.member == o.member) & ((r.contract == o.contract) & is_same_side(r.side, o.side)) {
         return r.lots;
     }
     Lots(0)
@@ -62,12 +60,10 @@ pub fn measure(book: &[u64], count: usize, o: Order) -> Crossing
 {
     let mut own: u64 = 0;
     let mut lots: u64 = 0;
-    let mut i: usize = 0;
-    while i < count {
+    for i in 0..count {
         let found = found_in(o, order_at(book, i));
         own += found.own.0;
         lots += found.lots.0;
-        i += 1;
     }
     Crossing {
         own: Lots(own),

@@ -1,5 +1,5 @@
 // Matching: the orders of the book in their priority, price level by price level.
-ghost use Rattle.std.specs.Prelude.{◌≡◌, true, map, ◌*◌, ◌≤◌, ◌<◌, length};
+ghost use Rattle.std.specs.Prelude.{◌≡◌, map, ◌*◌, ◌≤◌, ◌<◌, length};
 ghost use Rattle.rules.specs.Ranges.{most_lots, most_orders};
 ghost use Rattle.rules.specs.Ledger.{book_length, order_at};
 ghost use Rattle.tables.specs.Fit.{orders_in};
@@ -9,11 +9,10 @@ ghost use Rattle.matching.specs.Ranks.{lots_of, first_rank, Placed, BlockLows};
 
 use crate::columns::{BLOCKS, NO_RANK, best_place, use_lots, write_columns, write_lows};
 use crate::deals::{Counterparty, put_deal};
-use numbers::smaller;
 use order_book::order_at;
 use order_priority::does_meet;
 use rules::layout::ORDERS;
-use rules::{Kurus, Lots, Order};
+use rules::{Lots, Order};
 
 // The number of deals, and what is left of the incoming order.
 #[derive(Clone, Copy)]
@@ -39,30 +38,18 @@ fn deal(
     ensures block_lows { BlockLows ranks.new lows.new }
 {
     let resting = order_at(book, i);
-    let price = resting.price;
-    let lots = Lots(smaller(wanted.0, left[i]));
-    use_lots(&mut *left, &mut *ranks, &mut *lows, i, lots);
+    let lots = Lots(wanted.0.min(left[i]));
+    use_lots(left, ranks, lows, i, lots);
     put_deal(
-        &mut *deals,
+        deals,
         k,
         Counterparty {
             member: resting.member,
-            price: price,
-            lots: lots,
+            price: resting.price,
+            lots,
         },
     );
     Lots(wanted.0 - lots.0)
-}
-
-// Whether the order at i is one of a price level; at the end there is none.
-fn is_at(book: &[u64], count: usize, i: usize, level: Kurus) -> bool
-    requires { (i ≤ count) × (count ≤ most_orders) × (book_length ≤ length book.now) }
-    ensures { result ≡ true → (i < count) × ((order_at book.now i).price.0 ≡ level.0) }
-{
-    if i == count {
-        return false;
-    }
-    order_at(book, i).price.0 == level.0
 }
 
 // Matches level by level, and in each level by rising number, until nothing is wanted or an order does not cross.
@@ -78,36 +65,30 @@ fn match_levels(
     requires left_value { (left.old ≡ map lots_of (orders_in (length left.old) book.now)) × Placed (first_rank o (orders_in (length left.old) book.now)) ranks.old × BlockLows ranks.old lows.old }
     ensures { MatchMade o book.now (length left.old) deals.old result left.new deals.new }
 {
-    let count = left.len();
     let mut wanted = o.lots.0;
     let mut k: usize = 0;
-    let mut best = best_place(&*lows, count);
-    'levels: while best < count {
-        let first = order_at(book, best);
-        if !does_meet(o, first) {
+    let mut best = best_place(lows);
+    'levels: while let Some(first) = best {
+        let resting = order_at(book, first);
+        if !does_meet(o, resting) {
             break 'levels;
         }
-        let level = first.price;
+        let level = resting.price.0;
+        let mut place = first;
         'orders: loop {
-            wanted = deal(
-                book,
-                &mut *left,
-                &mut *ranks,
-                &mut *lows,
-                &mut *deals,
-                k,
-                best,
-                Lots(wanted),
-            )
-            .0;
+            wanted = deal(book, left, ranks, lows, deals, k, place, Lots(wanted)).0;
             k += 1;
             if wanted == 0 {
                 break 'levels;
             }
-            best = best_place(&*lows, count);
-            if !is_at(book, count, best, level) {
+            best = best_place(lows);
+            let Some(next) = best else {
+                break 'orders;
+            };
+            if order_at(book, next).price.0 != level {
                 break 'orders;
             }
+            place = next;
         }
     }
     Matched {
@@ -123,7 +104,7 @@ pub fn match_orders(book: &[u64], o: Order, left: &mut [u64], deals: &mut [u64])
 {
     let mut ranks = [NO_RANK; ORDERS];
     let mut lows = [NO_RANK; BLOCKS];
-    write_columns(book, o, &mut *left, &mut ranks);
+    write_columns(book, o, left, &mut ranks);
     write_lows(&ranks, &mut lows);
-    match_levels(book, o, &mut *left, &mut ranks, &mut lows, &mut *deals)
+    match_levels(book, o, left, &mut ranks, &mut lows, deals)
 }

@@ -1,18 +1,20 @@
 // Orders leave the book: what is left of each stands in a column, one number for each place of the book.
-ghost use Rattle.std.specs.Prelude.{◌≡◌, cond, not, ℕ, ◌*◌, ◌+◌, ◌≤◌, ◌<◌, eqb, length};
+ghost use Rattle.std.specs.Prelude.{◌≡◌, Bool, cond, not, ℕ, ◌*◌, ◌+◌, ◌≤◌, ◌<◌, eqb, length};
 ghost use mathlib.Core.List.{flat_map};
 ghost use Rattle.arith.specs.Lists.{over, any, kept};
 ghost use Rattle.rules.specs.Ranges.{most_orders};
 ghost use Rattle.rules.specs.Ledger.{Tables, with_head, with_book, head_length, book_length, order_width, side_at, order_at, order_places, with_orders};
 ghost use Rattle.rules.specs.Matching.{with_lots};
+ghost use Rattle.rules.specs.declared.order.Order.{Order};
 ghost use Rattle.tables.specs.Fit.{OrdersFit, order_count_in, orders_in};
-ghost use Rattle.order_book.specs.Left.{left_over, leaves, staying};
+ghost use Rattle.order_book.specs.Left.{left_over, leaves, staying, Tests};
 
 use crate::orders::{order_at, put_order};
 use rules::layout::{ORDER_COUNT, ORDER_LOTS, ORDER_WIDTH, ORDERS};
 use rules::{Lots, Order};
 
-// Which orders leave the book: the one of a number if it is the member's, or all of a member.
+// Which orders leave the book: the one of a number if it is the member's, or all of a member. A cancel asks the same of two
+// functions, and the slip of_any_member stands on `does_leave`: so a name and no closure.
 #[derive(Clone, Copy)]
 pub enum Leaving {
     Numbered { number: u64, member: u64 },
@@ -33,35 +35,32 @@ pub fn would_any_leave(book: &[u64], count: usize, w: Leaving) -> bool
     requires { (count ≤ most_orders) × (book_length ≤ length book.now) }
     ensures { result ≡ any (leaves w) (orders_in count book.now) }
 {
-    let mut found = false;
-    let mut i: usize = 0;
-    while i < count {
-        let o = order_at(book, i);
-        found = found | does_leave(w, o);
-        i += 1;
+    for i in 0..count {
+        if does_leave(w, order_at(book, i)) {
+            return true;
+        }
     }
-    found
+    false
 }
 
-fn left_of(w: Leaving, o: Order) -> Lots
-    ensures { result.0 ≡ cond (leaves w o) 0 o.lots.0 }
+fn left_of(o: Order, leaves: bool) -> Lots
+    ensures { result.0 ≡ cond leaves 0 o.lots.0 }
 {
-    if does_leave(w, o) {
+    if leaves {
         return Lots(0);
     }
     o.lots
 }
 
 // What is left of each order: nothing of those that leave.
-fn write_left(book: &[u64], left: &mut [u64], w: Leaving)
-    requires { (length left.old ≤ most_orders) × (book_length ≤ length book.now) }
-    ensures { left.new ≡ staying (leaves w) (orders_in (length left.old) book.now) }
+fn write_left<F: Fn(Order) -> bool>(book: &[u64], left: &mut [u64], leaves: F)
+    requires reads { (length left.old ≤ most_orders) × (book_length ≤ length book.now) }
+    requires callable { F.IsAlwaysCallable leaves }
+    ensures { (p : Order → Bool) → Tests (F.post leaves) p → left.new ≡ staying p (orders_in (length left.old) book.now) }
 {
-    let mut i: usize = 0;
-    while i < left.len() {
+    for (i, lots) in left.iter_mut().enumerate() {
         let o = order_at(book, i);
-        left[i] = left_of(w, o).0;
-        i += 1;
+        *lots = left_of(o, leaves(o)).0;
     }
 }
 
@@ -69,19 +68,7 @@ fn write_left(book: &[u64], left: &mut [u64], w: Leaving)
 pub fn with_lots(o: Order, left: Lots) -> Order
     ensures { result ≡ with_lots left.0 o }
 {
-    let side = o.side;
-    let price = o.price;
-    let day = o.day;
-    Order {
-        number: o.number,
-        member: o.member,
-        contract: o.contract,
-        side: side,
-        price: price,
-        lots: left,
-        day: day,
-        time: o.time,
-    }
+    Order { lots: left, ..o }
 }
 
 // Order i with what is left of it is written at the next free place, unless nothing is left; the answer is the next free
@@ -98,8 +85,8 @@ fn keep_order(book: &mut [u64], i: usize, free: usize, left: Lots) -> usize
         book[i * ORDER_WIDTH + ORDER_LOTS] = left.0;
         return free + 1;
     }
-    let o = order_at(&*book, i);
-    put_order(&mut *book, free, with_lots(o, left));
+    let o = order_at(book, i);
+    put_order(book, free, with_lots(o, left));
     free + 1
 }
 
@@ -110,10 +97,8 @@ fn write_staying(book: &mut [u64], left: &[u64], count: usize) -> usize
     ensures book_after { book.new ≡ over 0 (flat_map order_places (left_over left.now (orders_in count book.old))) book.old }
 {
     let mut free: usize = 0;
-    let mut i: usize = 0;
-    while i < count {
-        free = keep_order(&mut *book, i, free, Lots(left[i]));
-        i += 1;
+    for i in 0..count {
+        free = keep_order(book, i, free, Lots(left[i]));
     }
     free
 }
@@ -126,8 +111,21 @@ pub fn keep_orders(head: &mut [u64], book: &mut [u64], left: &[u64])
         ≡ with_orders (left_over left.now (orders_in (order_count_in head.old) book.old)) (with_head head.old (with_book book.old t)) }
 {
     let count = head[ORDER_COUNT] as usize;
-    let staying = write_staying(&mut *book, left, count);
+    let staying = write_staying(book, left, count);
     head[ORDER_COUNT] = staying as u64;
+}
+
+// Removes the orders that pass a test from the book.
+pub fn remove_where<F: Fn(Order) -> bool>(head: &mut [u64], book: &mut [u64], leaves: F)
+    requires fit { (head_length ≤ length head.old) × OrdersFit (order_count_in head.old) book.old }
+    requires callable { F.IsAlwaysCallable leaves }
+    ensures { (p : Order → Bool) → Tests (F.post leaves) p → (t : Tables) → with_head head.new (with_book book.new t)
+        ≡ with_orders (kept (λ o. not (p o)) (orders_in (order_count_in head.old) book.old)) (with_head head.old (with_book book.old t)) }
+{
+    let count = head[ORDER_COUNT] as usize;
+    let mut left = [0u64; ORDERS];
+    write_left(book, &mut left[..count], leaves);
+    keep_orders(head, book, &left[..count]);
 }
 
 // Removes these orders from the book.
@@ -136,8 +134,5 @@ pub fn remove_orders(head: &mut [u64], book: &mut [u64], w: Leaving)
     ensures { (t : Tables) → with_head head.new (with_book book.new t)
         ≡ with_orders (kept (λ o. not (leaves w o)) (orders_in (order_count_in head.old) book.old)) (with_head head.old (with_book book.old t)) }
 {
-    let count = head[ORDER_COUNT] as usize;
-    let mut left = [0u64; ORDERS];
-    write_left(&*book, &mut left[..count], w);
-    keep_orders(&mut *head, &mut *book, &left[..count]);
+    remove_where(head, book, |o| does_leave(w, o));
 }

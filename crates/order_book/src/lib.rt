@@ -4,5 +4,5 @@
 mod leaving;
 mod orders;
 
-pub use leaving::{Leaving, keep_orders, remove_orders, with_lots, would_any_leave};
+pub use leaving::{Leaving, keep_orders, remove_orders, remove_where, with_lots, would_any_leave};
 pub use orders::{order_at, put_order};

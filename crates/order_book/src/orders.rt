@@ -17,12 +17,11 @@ pub fn order_at(book: &[u64], i: usize) -> Order
     ensures { result ≡ order_at book.now i }
 {
     let at = i * ORDER_WIDTH;
-    let side = side_of(book[at + ORDER_SIDE]);
     Order {
         number: book[at + ORDER_NUMBER],
         member: book[at + ORDER_MEMBER],
         contract: book[at + ORDER_CONTRACT],
-        side: side,
+        side: side_of(book[at + ORDER_SIDE]),
         price: Kurus(book[at + ORDER_PRICE]),
         lots: Lots(book[at + ORDER_LOTS]),
         day: DayNo(book[at + ORDER_DAY]),
@@ -36,12 +35,10 @@ pub fn put_order(book: &mut [u64], i: usize, o: Order)
     ensures { book.new ≡ over (i * order_width) (order_places o) book.old }
 {
     let at = i * ORDER_WIDTH;
-    let side = o.side;
-    let n = side_number(side);
     book[at + ORDER_NUMBER] = o.number;
     book[at + ORDER_MEMBER] = o.member;
     book[at + ORDER_CONTRACT] = o.contract;
-    book[at + ORDER_SIDE] = n;
+    book[at + ORDER_SIDE] = side_number(o.side);
     book[at + ORDER_PRICE] = o.price.0;
     book[at + ORDER_LOTS] = o.lots.0;
     book[at + ORDER_DAY] = o.day.0;

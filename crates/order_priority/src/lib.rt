@@ -15,24 +15,16 @@ use sides::{is_same_side, other_side};
 pub fn does_oppose(o: Order, r: Order) -> bool
     ensures { result ≡ opposes o r }
 {
-    if r.contract != o.contract {
-        return false;
-    }
-    let incoming = o.side;
-    let resting = r.side;
-    is_same_side(resting, other_side(incoming))
+    r.contract == o.contract && is_same_side(r.side, other_side(o.side))
 }
 
 // Whether the resting price meets the incoming one.
 pub fn does_meet(o: Order, r: Order) -> bool
     ensures { result ≡ meets o r }
 {
-    let side = o.side;
-    let p = o.price.0;
-    let q = r.price.0;
-    match side {
-        Side::Buy => q <= p,
-        Side::Sell => p <= q,
+    match o.side {
+        Side::Buy => r.price.0 <= o.price.0,
+        Side::Sell => o.price.0 <= r.price.0,
     }
 }
 
@@ -51,6 +43,5 @@ pub fn rank_of(r: Order) -> u64
     requires { Ranked r }
     ensures { result ≡ rank_of r }
 {
-    let side = r.side;
-    price_rank(side, r.price.0) * ORDER_NUMBERS_END + r.number
+    price_rank(r.side, r.price.0) * ORDER_NUMBERS_END + r.number
 }

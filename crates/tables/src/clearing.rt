@@ -5,21 +5,7 @@ ghost use Rattle.arith.specs.Lists.{over};
 pub fn clear_rows(rows: &mut [i64])
     ensures { rows.new ≡ replicate (length rows.old) (pos 0) }
 {
-    let mut i: usize = 0;
-    while i < rows.len() {
-        rows[i] = 0;
-        i += 1;
-    }
-}
-
-fn clear(places: &mut [u64])
-    ensures { places.new ≡ replicate (length places.old) 0 }
-{
-    let mut i: usize = 0;
-    while i < places.len() {
-        places[i] = 0;
-        i += 1;
-    }
+    rows.fill(0);
 }
 
 // Sets so many places to zero, from one on.
@@ -27,6 +13,5 @@ pub fn clear_at(places: &mut [u64], at: usize, count: usize)
     requires { at + count ≤ length places.old }
     ensures { places.new ≡ over at (replicate count 0) places.old }
 {
-    let end = at + count;
-    clear(&mut places[at..end]);
+    places[at..at + count].fill(0);
 }

@@ -31,6 +31,6 @@ pub fn set_time(head: &mut [u64], time: u64)
         return;
     }
     let members = head[MEMBERS] as usize;
-    clear_at(&mut *head, SUBMITS, members);
+    clear_at(head, SUBMITS, members);
     head[TIME] = time;
 }

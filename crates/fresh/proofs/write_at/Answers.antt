@@ -7,5 +7,4 @@ use Rattle.fresh.proofs.write_at.Goals as goal
 pub returns : goal.returns
 returns c =
     let a = c.args in
-    let copy = c.copy in
-    rw copy.ensures (came_back a.at (a.at + length a.list.now - a.at) a.head.now a.list.now (omega arith))
+    rw c.copy_from_slice.ensures.after (came_back a.at (a.at + length a.list.now - a.at) a.head.now a.list.now (omega arith))

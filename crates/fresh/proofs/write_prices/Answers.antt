@@ -3,7 +3,7 @@ use native.Mathlib.Omega.{arith}
 use native.Mathlib.Numerals.{add-one, add-two, add-three, add-four}
 use mathlib.Core.Path.{◌≡◌, refl, ◌∙◌}
 use mathlib.Core.List.{List, [], ◌∷◌}
-use Prim.Native.Nat.{ℕ, ◌*◌, ◌-◌}
+use Prim.Native.Nat.{ℕ, ◌*◌}
 use lib.ListN.{take, drop, length-set, length-take}
 use Rattle.arith.specs.Lists.{in_each_block}
 use Rattle.rules.specs.Ledger.{price_width}
@@ -14,7 +14,7 @@ use Rattle.fresh.proofs.write_prices.Goals as goal
 
 pub loop-contract-init : goal.loop-contract-init
 unfolding in_each_block
-loop-contract-init c = (omega arith, refl, refl)
+loop-contract-init c = refl
 
 pub bounds-prices-at-in-loop-contract : goal.bounds-prices-at-in-loop-contract
 bounds-prices-at-in-loop-contract c = simp length-set (omega arith)
@@ -34,16 +34,13 @@ loop-contract-preserved c =
     let l = c.loop-contract in
     let at = l.contract * price_width in
     let five : List ℕ = 0 ∷ 1 ∷ most_price ∷ 0 ∷ 0 ∷ [] in
-    let block = take 5 (drop at d) in (
-      omega arith,
-      simp length-set (omega arith),
-      rw (add-zero at, add-one at, add-two at, add-three at, add-four at, add-one l.contract) (stored five l.prices at (omega arith)
-          ∙ rw l.invariant.2 (block_written 5 (λ x. five) (λ x e. refl) five l.contract d (over_all five block (omega (arith, length-take 5 (drop at d)))) (omega arith) (omega arith))),
-    )
+    let block = take 5 (drop at d) in
+    rw (add-zero at, add-one at, add-two at, add-three at, add-four at, add-one l.contract) (stored five l.prices at (omega arith)
+    ∙ rw l.invariant (block_written 5 (λ x. five) (λ x e. refl) five l.contract d (over_all five block (omega (arith, length-take 5 (drop at d)))) (omega arith) (omega arith)))
 
 pub returns : goal.returns
 unfolding fresh_prices
-returns c = let l = c.loop-contract in let e : l.contract ≡ contract_count = omega arith in rw e at l.invariant.2
+returns c = let l = c.loop-contract in let e : l.contract ≡ contract_count = omega arith in rw e at l.invariant
 
 pub bounds-prices-at : goal.bounds-prices-at
 bounds-prices-at c = omega arith

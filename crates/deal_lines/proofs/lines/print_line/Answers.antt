@@ -22,7 +22,7 @@ bounds-lines-at-4 c = simp length-set (omega arith)
 pub returns : goal.returns
 returns c =
     let args = c.args in
-    let with-sign = c.with_sign-d in
+    let with-sign = c.with_sign in
     let l = args.line in
     let at = args.i * line_width in
     rw (

@@ -1,9 +1,8 @@
-use borrow.Author.Tests.{lt-ltb, le-ltb}
-use Rattle.matching.specs.Ranks.{no_rank}
+use Rattle.std.proofs.Common.{refl}
 use Rattle.matching.proofs.columns.best_place.Goals as goal
 
 pub returns-then-low-lt-NO_RANK : goal.returns-then-low-lt-NO_RANK
-returns-then-low-lt-NO_RANK c = record { low = c.lowest_of_block-low.result; lowest = c.lowest_of_block-low.ensures; reply_of = rw (lt-ltb _ no_rank c.if-low-lt-NO_RANK.true) }
+returns-then-low-lt-NO_RANK c = record { low = c.lowest_of_block-low.result; lowest = c.lowest_of_block-low.ensures; some = c.if-low-lt-NO_RANK.true; given = refl }
 
 pub returns : goal.returns
-returns c = record { low = c.lowest_of_block-low.result; lowest = c.lowest_of_block-low.ensures; reply_of = rw (le-ltb _ no_rank c.if-low-lt-NO_RANK.false) }
+returns c = record { low = c.lowest_of_block-low.result; lowest = c.lowest_of_block-low.ensures; none = c.if-low-lt-NO_RANK.false }

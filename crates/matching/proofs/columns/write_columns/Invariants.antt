@@ -1,6 +1,5 @@
 use mathlib.Core.Path.{◌≡◌}
 use mathlib.Core.List.{◌++◌, map}
-use Prim.Native.Nat.{◌-◌, ◌≤◌}
 use lib.ListN.{length, take, drop}
 use Rattle.matching.specs.Ranks.{lots_of, first_rank}
 use Rattle.tables.specs.Fit.{orders_in}
@@ -8,8 +7,4 @@ use Rattle.matching.proofs.Lows.{PlacedTo}
 use Rattle.matching.proofs.columns.write_columns.Given as goal
 
 abbrev pub invariant-loop-i : goal.invariant-loop-i
-invariant-loop-i l = (length l.left ≡ length l.initial.left) × (l.i ≤ length l.initial.left) ×
-    (l.left ≡ take l.i (map lots_of (orders_in (length l.initial.left) l.book)) ++ drop l.i l.initial.left) × PlacedTo (first_rank l.o (orders_in (length l.initial.left) l.book)) l.i l.ranks
-
-abbrev pub decreases-loop-i : goal.decreases-loop-i
-decreases-loop-i l = length l.initial.left - l.i
+invariant-loop-i l = (l.left ≡ take l.i (map lots_of (orders_in (length l.initial.left) l.book)) ++ drop l.i l.initial.left) × PlacedTo (first_rank l.o (orders_in (length l.initial.left) l.book)) l.i l.ranks

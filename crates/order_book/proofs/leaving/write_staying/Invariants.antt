@@ -1,6 +1,5 @@
 use mathlib.Core.Path.{◌≡◌}
 use mathlib.Core.List.{flat_map}
-use Prim.Native.Nat.{◌-◌, ◌≤◌}
 use lib.ListN.{length}
 use Rattle.arith.specs.Lists.{over}
 use Rattle.rules.specs.Ledger.{order_places}
@@ -8,7 +7,4 @@ use Rattle.order_book.proofs.Left.{left_to}
 use Rattle.order_book.proofs.leaving.write_staying.Given as goal
 
 abbrev pub invariant-loop-i : goal.invariant-loop-i
-invariant-loop-i l = (l.i ≤ l.count) × (length l.book ≡ length l.initial.book) × (l.free ≡ length (left_to l.left l.initial.book l.i)) × (l.book ≡ over 0 (flat_map order_places (left_to l.left l.initial.book l.i)) l.initial.book)
-
-abbrev pub decreases-loop-i : goal.decreases-loop-i
-decreases-loop-i l = l.count - l.i
+invariant-loop-i l = (l.free ≡ length (left_to l.left l.initial.book l.i)) × (l.book ≡ over 0 (flat_map order_places (left_to l.left l.initial.book l.i)) l.initial.book)

@@ -6,4 +6,4 @@ use Rattle.order_book.proofs.orders.order_at.Goals as goal
 pub returns : goal.returns
 returns c =
     let args = c.args in
-    rw (← c.side_of-side.ensures, add-zero (args.i * order_width))
+    rw (← c.side_of.ensures, add-zero (args.i * order_width))

@@ -32,5 +32,5 @@ bounds-book-at-8 c = simp length-set (omega arith)
 pub returns : goal.returns
 returns c =
     let at = c.args.i * order_width in
-    rw (c.side_number-n.ensures.0, add-zero at, add-one at, add-two at, add-three at, add-four at, add_five at, add_six at, add_seven at)
+    rw (c.side_number.ensures.0, add-zero at, add-one at, add-two at, add-three at, add-four at, add_five at, add_six at, add_seven at)
     (stored (order_places c.args.o) c.args.book.now at (omega arith))
