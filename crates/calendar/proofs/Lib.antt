@@ -1,2 +1,4 @@
 pub mod FirstYears
 mod Steps
+mod Lists
+mod Adjacent

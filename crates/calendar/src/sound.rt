@@ -17,29 +17,17 @@ pub fn is_first_year_sound(first_year: u64) -> bool
     (LEAST_FIRST_YEAR <= first_year) & (first_year <= MOST_FIRST_YEAR)
 }
 
-// Whether the numbers rise strictly. Each is compared with the next one only: that is enough.
+// Whether the numbers rise strictly.
 pub fn are_rising(numbers: &[u64]) -> bool
     ensures { result ≡ rising numbers.now }
 {
-    let mut ok = true;
-    let mut i: usize = 0;
-    while i + 1 < numbers.len() {
-        ok = ok & (numbers[i] < numbers[i + 1]);
-        i += 1;
-    }
-    ok
+    numbers.is_sorted_by(|x, y| x < y)
 }
 
 fn are_in(span: Span, days: &[u64]) -> bool
     ensures { (k : Calendar) → IsSpan span k → result ≡ every (in_span k) days.now }
 {
-    let mut ok = true;
-    let mut i: usize = 0;
-    while i < days.len() {
-        ok = ok & is_in(span, DayNo(days[i]));
-        i += 1;
-    }
-    ok
+    days.iter().all(|day| is_in(span, DayNo(*day)))
 }
 
 // Whether a calendar is sound, given a sound first year and its span.

@@ -7,8 +7,8 @@ use native.Mathlib.Omega.{arith}
 use native.Mathlib.Nat.{add-zero, sub-zero, suc-mul}
 use native.Mathlib.Numerals.{add-one}
 use lib.Dec.{eqb}
-use lib.ListN.{length, take, drop, get_or, set}
-use lib.Seq.{take-suc, take-suc-set, length-take-le, get_or-append-add, get_or-drop, ext_get_or}
+use lib.ListN.{length, take, drop, get_or}
+use lib.Seq.{length-take-le, get_or-append-add, get_or-drop, ext_get_or}
 use lib.IntN.{ℤ, pos, nat_abs, ◌+ℤ◌, +ℤ_idr}
 use borrow.Author.Tests.{ne_eqb}
 use Rattle.arith.specs.Ints.{when}
@@ -29,6 +29,7 @@ use Rattle.rules.proofs.HourLaws.{Cascading, year, quarter, cascading}
 use Rattle.rules.specs.CloseOfDay.{contract_rows, added_to, cascaded, all_cascaded}
 use Rattle.rules.proofs.Cascade.{row_of, rows_length_lem, rows_at, put_length, put_row, sums, sums_length, cascaded_month, cascaded_length, cascaded_row}
 use Rattle.tables.specs.Fit.{RowsFit}
+use Rattle.contract_phases.specs.declared.by_contract.Phase.{Phase}
 use Rattle.contract_phases.specs.Phases.{closes, closing}
 use Rattle.contract_phases.proofs.Phases.{number_below}
 
@@ -45,10 +46,6 @@ unfolding zip_with
 zip_short f [] ys h = refl
 zip_short f (x ∷ xs) [] h = absurd (omega arith)
 zip_short f (x ∷ xs) (y ∷ ys) h = ap suc (zip_short f xs ys (omega arith))
-
--- one more element copied
-pub take_more : {A : Type 0} (l s : List A) (i : ℕ) (z : A) → i < length l → i < length s → take i l ≡ take i s → take (i + 1) (set l i (get_or s i z)) ≡ take (i + 1) s
-take_more l s i z h g e = rw (add-one, take-suc-set l i (get_or s i z) h, take-suc s i z g, e)
 
 -- behind what is written so far stands what stood there
 pub front_rest : {A : Type 0} (n : ℕ) (s d : List A) (z : A) → n ≤ length s → get_or (take n s ++ drop n d) n z ≡ get_or d n z
@@ -145,14 +142,14 @@ module _ (n c x b : ℕ) (l : List ℤ) (few : n ≤ 32) (below : c < term_count
       (by_bool (λ t. nat_abs (cond t (pos 0) (row_of l d m +ℤ pos 0)) ≤ b) (eqb c d) (λ _. omega arith) (λ _. rw (+ℤ_idr (row_of l d m)) h))
 
 -- the first i contracts of a kind are done: no row has grown by more than one parent's for each
-pub record KindRun (n size b : ℕ) (s : ContractKind) (column : List ℕ) (all : List ℤ) (i : ℕ) (rows : List ℤ) : Type 0 where
+pub record KindRun (n size b : ℕ) (s : ContractKind) (column : List Phase) (all : List ℤ) (i : ℕ) (rows : List ℤ) : Type 0 where
   pub most : i ≤ contracts_in s
   pub same : length rows ≡ size
   pub fit : RowsFit n ((i + 1) * b) rows
   pub kind_fit : (j m : ℕ) → j < contracts_in s → m < n → nat_abs (row_of rows (contract_of s j) m) ≤ b
   pub known : all_cascaded n (kept (closes column) (map (contract_of s) (from i (contracts_in s - i)))) rows ≡ all
 
-module _ (n size b : ℕ) (s : ContractKind) (column : List ℕ) (all : List ℤ) (few : n ≤ 32) (parents : contracts_in s ≤ 24) where
+module _ (n size b : ℕ) (s : ContractKind) (column : List Phase) (all : List ℤ) (few : n ≤ 32) (parents : contracts_in s ≤ 24) where
   pub kind_next : (i : ℕ) (rows : List ℤ) → i < contracts_in s → KindRun n size b s column all i rows
       → KindRun n size b s column all (i + 1) (cond (closes column (contract_of s i)) (cascaded n (contract_of s i) rows) rows)
   unfolding kept all_cascaded
@@ -201,7 +198,7 @@ module _ (n size b : ℕ) (s : ContractKind) (column : List ℕ) (all : List ℤ
   run_fit (suc k) i rows e r = run_fit k (i + 1) _ (omega arith) (kind_next i rows (omega arith) r)
 
 -- after the contracts of a kind no row has grown by more than one parent's for each
-pub kind_fit_after : (n b : ℕ) (s : ContractKind) (column : List ℕ) (rows : List ℤ) → n ≤ 32 → contracts_in s ≤ 24 → RowsFit n b rows
+pub kind_fit_after : (n b : ℕ) (s : ContractKind) (column : List Phase) (rows : List ℤ) → n ≤ 32 → contracts_in s ≤ 24 → RowsFit n b rows
     → RowsFit n ((contracts_in s + 1) * b) (all_cascaded n (kept (closes column) (contracts_of s)) rows)
 kind_fit_after n b s column rows few parents fit =
     run_fit n (length rows) b s column _ few parents (contracts_in s) 0 rows (omega arith) (kind_start n (length rows) b s column _ few parents rows refl fit refl)
@@ -219,7 +216,7 @@ months_stay n p (suc k) i l =
     true_or (p (contract_of Month i)) (λ e. rw e (months_stay n p k (suc i) (cascaded n (contract_of Month i) l) ∙ cascaded_month n (contract_of Month i) l (omega arith)))
     (λ e. rw e (months_stay n p k (suc i) l))
 
-pub all_closed : (n : ℕ) (column : List ℕ) (rows : List ℤ)
+pub all_closed : (n : ℕ) (column : List Phase) (rows : List ℤ)
     → all_cascaded n (closing column) rows ≡ all_cascaded n (kept (closes column) (contracts_of Quarter)) (all_cascaded n (kept (closes column) (contracts_of Year)) rows)
 unfolding closing
 all_closed n column rows =

@@ -1,5 +1,5 @@
 // The cascade: a closing year's rows are added to its quarters, a closing quarter's to its months, and set to zero.
-ghost use Rattle.std.specs.Prelude.{◌≡◌, cond, ℕ, ◌+◌, ◌*◌, ◌-◌, ◌%◌, ◌^◌, ◌≤◌, ◌<◌, eqb, length, get_or, take, drop, pos, nat_abs, ◌+ℤ◌};
+ghost use Rattle.std.specs.Prelude.{◌≡◌, cond, ℕ, ◌+◌, ◌*◌, ◌-◌, ◌%◌, ◌^◌, ◌≤◌, ◌<◌, length, get_or, take, drop, pos, nat_abs, ◌+ℤ◌};
 ghost use mathlib.Core.List.{zip_with};
 ghost use Rattle.arith.specs.Lists.{from, over, kept};
 ghost use Rattle.rules.specs.Ranges.{contract_count, term_count, contracts_in_year, quarters_in_span, last_quarter, most_members};
@@ -8,10 +8,10 @@ ghost use Rattle.rules.specs.ContractTerms.{contracts_of};
 ghost use Rattle.rules.specs.Ledger.{rows_length, rows_from, row_place};
 ghost use Rattle.rules.specs.CloseOfDay.{contract_rows, added_to, zero_rows, cascaded, all_cascaded};
 ghost use Rattle.tables.specs.Fit.{RowsFit};
-ghost use Rattle.contract_phases.specs.Phases.{closing_phase, closes, closing};
+ghost use Rattle.contract_phases.specs.Phases.{is_closing, closes, closing};
 ghost use Rattle.cascade.specs.Rows.{most_row};
 
-use contract_phases::CLOSING;
+use contract_phases::Phase;
 use contracts::{contract_of, contracts_in};
 use rules::ContractKind;
 use rules::layout::{
@@ -24,12 +24,7 @@ fn rows_from(rows: &[i64], at: usize, members: usize) -> [i64; ROW_WIDTH]
     ensures { (take members result ≡ take members (drop at rows.now)) × (length result ≡ most_members) }
 {
     let mut copied = [0i64; ROW_WIDTH];
-    let mut i: usize = 0;
-    while i < members {
-        let x = rows[at + i];
-        copied[i] = x;
-        i += 1;
-    }
+    copied[..members].copy_from_slice(&rows[at..at + members]);
     copied
 }
 
@@ -38,12 +33,8 @@ fn add_rows(child: &mut [i64], parent: [i64; ROW_WIDTH])
     requires by_index { (m : ℕ) → m < length child.old → nat_abs (get_or child.old m (pos 0)) + nat_abs (get_or parent m (pos 0)) < 2 ^ 63 }
     ensures { child.new ≡ zip_with ◌+ℤ◌ child.old parent }
 {
-    let mut i: usize = 0;
-    while i < child.len() {
-        let x = child[i];
-        let y = parent[i];
-        child[i] = x + y;
-        i += 1;
+    for i in 0..child.len() {
+        child[i] += parent[i];
     }
 }
 
@@ -65,11 +56,9 @@ fn add_to_children(rows: &mut [i64], members: usize, contract: usize, first: usi
     ensures { rows.new ≡ added_to members contract (from first (end - first)) rows.old }
 {
     let at = contract * ROW_WIDTH;
-    let parent = rows_from(&*rows, at, members);
-    let mut child = first;
-    while child < end {
-        add_to_child(&mut *rows, members, child, parent);
-        child += 1;
+    let parent = rows_from(rows, at, members);
+    for child in first..end {
+        add_to_child(rows, members, child, parent);
     }
 }
 
@@ -80,7 +69,7 @@ fn move_rows(rows: &mut [i64], members: usize, contract: usize, first: usize, en
 {
     let at = contract * ROW_WIDTH;
     let after = at + members;
-    add_to_children(&mut *rows, members, contract, first, end);
+    add_to_children(rows, members, contract, first, end);
     tables::clear_rows(&mut rows[at..after]);
 }
 
@@ -101,36 +90,33 @@ fn cascade(rows: &mut [i64], members: usize, contract: usize)
     move_rows(rows, members, contract, first, first + MONTHS_IN_QUARTER);
 }
 
-fn cascade_closing(rows: &mut [i64], members: usize, contract: usize, phase: u64)
+fn cascade_closing(rows: &mut [i64], members: usize, contract: usize, phase: Phase)
     requires rows_fit { RowsFit members (2 ^ 61) rows.old × (members ≤ most_members) }
     requires contract_lt_term_count { (contract < term_count) × (contract % contracts_in_year ≤ last_quarter) }
-    ensures { rows.new ≡ cond (eqb phase closing_phase) (cascaded members contract rows.old) rows.old }
+    ensures { rows.new ≡ cond (is_closing phase) (cascaded members contract rows.old) rows.old }
 {
-    if phase == CLOSING {
+    if phase == Phase::Closing {
         cascade(rows, members, contract);
     }
 }
 
 // The closing contracts of a kind that has children. A row grows by one parent's at a time, so none passes 64 bits.
-fn cascade_kind(rows: &mut [i64], column: &[u64], members: usize, kind: ContractKind)
+fn cascade_kind(rows: &mut [i64], column: &[Phase], members: usize, kind: ContractKind)
     requires rows_fit { RowsFit members (7 * most_row) rows.old × (members ≤ most_members) }
     requires kind_bound { (contracts_in kind ≤ quarters_in_span) × (length column.now ≡ term_count) }
     ensures { rows.new ≡ all_cascaded members (kept (closes column.now) (contracts_of kind)) rows.old }
 {
-    let count = contracts_in(kind);
-    let mut i: u64 = 0;
-    while i < count {
+    for i in 0..contracts_in(kind) {
         let contract = contract_of(kind, i) as usize;
-        cascade_closing(&mut *rows, members, contract, column[contract]);
-        i += 1;
+        cascade_closing(rows, members, contract, column[contract]);
     }
 }
 
 // The closing years, then the closing quarters; a month's rows stay.
-pub fn cascade_all(rows: &mut [i64], column: &[u64], members: usize)
+pub fn cascade_all(rows: &mut [i64], column: &[Phase], members: usize)
     requires { RowsFit members most_row rows.old × (members ≤ most_members) × (length column.now ≡ term_count) }
     ensures { rows.new ≡ all_cascaded members (closing column.now) rows.old }
 {
-    cascade_kind(&mut *rows, column, members, ContractKind::Year);
-    cascade_kind(&mut *rows, column, members, ContractKind::Quarter);
+    cascade_kind(rows, column, members, ContractKind::Year);
+    cascade_kind(rows, column, members, ContractKind::Quarter);
 }

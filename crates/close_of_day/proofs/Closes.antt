@@ -2,7 +2,7 @@
 use mathlib.Core.Path.{◌≡◌, ap, ◌∙◌}
 use mathlib.Core.Bool.{true, false, not}
 use mathlib.Core.List.{List, [], ◌∷◌, ◌++◌}
-use Prim.Native.Nat.{ℕ, zero, suc, ◌+◌, ◌≤◌, ◌<◌}
+use Prim.Native.Nat.{ℕ, zero, suc, ◌≤◌, ◌<◌}
 use native.Mathlib.Omega.{arith}
 use lib.ListN.{length, get_or, take}
 use borrow.Author.Tests.{le-ltb}
@@ -24,6 +24,7 @@ use Rattle.rules.specs.CloseOfDay.{priced, without_deals, closing_contracts, all
 use Rattle.rules.specs.Refusals.{close_spec}
 use Rattle.tables.specs.Fit.{HeadFit, PricesFit, BookFit, order_count_in, lots_run_in, orders_in}
 use Rattle.order_book.proofs.Left.{all_orders}
+use Rattle.contract_phases.specs.declared.by_contract.Phase.{Phase}
 use Rattle.contract_phases.specs.Phases.{phases, waits, closes, closing, open_in, all_open_in}
 use Rattle.reference_price.specs.Columns.{BookReads, DealsFit, best_price, ggfs_from}
 use Rattle.reference_price.proofs.Ggfs.{ggf_is, ggfs_are}
@@ -58,7 +59,7 @@ all_take P zero l a = tt
 all_take P (suc n) [] a = tt
 all_take P (suc n) (x ∷ l) a = (a.0, all_take P n l a.1)
 
-open_below : (column : List ℕ) → All (λ c. c < contract_count) (all_open_in column)
+open_below : (column : List Phase) → All (λ c. c < contract_count) (all_open_in column)
 unfolding all_open_in open_in
 open_below column =
     all_append (λ c. c < contract_count) (open_in column Year) (open_in column Quarter ++ open_in column Month) (of Year)
@@ -80,7 +81,7 @@ priced_is t s buys sells long priced_orders e f =
     ∙ rw (open_is (calendar t) (day t))
 
 -- ---- orders
-pub orders_closed : (column book : List ℕ) (n : ℕ) → length column ≡ term_count
+pub orders_closed : (column : List Phase) (book : List ℕ) (n : ℕ) → length column ≡ term_count
     → kept (λ o. not (is_of_any (closing column) o)) (orders_in n book) ≡ kept (λ o. not (closes column o.contract)) (orders_in n book)
 unfolding is_of_any
 orders_closed column book n e =

@@ -12,13 +12,14 @@ ghost use Rattle.tables.specs.Fit.{HeadFit, PricesFit, RowsFit, BookFit, members
 ghost use Rattle.contract_phases.specs.Phases.{phases};
 ghost use Rattle.close_of_day.specs.Closed.{closed};
 
+use contract_phases::Phase;
 use rules::layout::{
     CONTRACTS, DAY, FIRST_YEAR, HOLIDAY_COUNT, HOLIDAYS, MEMBERS, ORDER_COUNT, SUBMITS, TERMS, TIME,
 };
 use rules::{DayNo, Refusal, Side};
 
 // The phase, on the ledger's day, of each contract that has a term.
-fn write_phases(head: &[u64], column: &mut [u64])
+fn write_phases(head: &[u64], column: &mut [Phase])
     requires { HeadFit head.now × (length column.old ≡ term_count) }
     ensures { column.new ≡ phases (calendar_in head.now) (get_or head.now day_place 0) }
 {
@@ -32,7 +33,7 @@ fn write_phases(head: &[u64], column: &mut [u64])
 }
 
 // A new GGF for every open contract; M and V of all contracts become 0.
-fn write_prices(head: &[u64], prices: &mut [u64], book: &[u64], column: &[u64], time: u64)
+fn write_prices(head: &[u64], prices: &mut [u64], book: &[u64], column: &[Phase], time: u64)
     requires head_fit { HeadFit head.now × PricesFit (lots_run_in head.now) prices.old × BookFit head.now book.now }
     requires column_value { column.now ≡ phases (calendar_in head.now) (get_or head.now day_place 0) }
     ensures { (t : Tables) → with_prices prices.new (with_head head.now (with_book book.now t))
@@ -42,9 +43,9 @@ fn write_prices(head: &[u64], prices: &mut [u64], book: &[u64], column: &[u64], 
     let count = head[ORDER_COUNT] as usize;
     let mut buys = [0u64; CONTRACTS];
     let mut sells = [0u64; CONTRACTS];
-    reference_price::write_quotes(book, count, Side::Buy, day, time, &mut buys[..]);
-    reference_price::write_quotes(book, count, Side::Sell, day, time, &mut sells[..]);
-    reference_price::write_ggfs(&mut *prices, column, &buys[..], &sells[..]);
+    reference_price::write_quotes(book, count, Side::Buy, day, time, &mut buys);
+    reference_price::write_quotes(book, count, Side::Sell, day, time, &mut sells);
+    reference_price::write_ggfs(prices, column, &buys, &sells);
     reference_price::clear_deals(prices);
 }
 
@@ -54,7 +55,7 @@ fn begin_day(head: &mut [u64], day: DayNo)
     ensures { (t : Tables) → with_head head.new t ≡ on_day day.0 (with_head head.old t) }
 {
     let members = head[MEMBERS] as usize;
-    tables::clear_at(&mut *head, SUBMITS, members);
+    tables::clear_at(head, SUBMITS, members);
     head[DAY] = day.0;
     head[TIME] = 0;
 }
@@ -74,13 +75,13 @@ fn close(
         ≡ closed time next.0 (with_head head.old (with_prices prices.old (with_rows lots.old value.old (with_book book.old t)))) }
 {
     let members = head[MEMBERS] as usize;
-    let mut column = [0u64; TERMS];
-    write_phases(&*head, &mut column[..]);
-    write_prices(&*head, &mut *prices, &*book, &column[..], time);
-    cascade::cascade_all(&mut *lots, &column[..], members);
-    cascade::cascade_all(&mut *value, &column[..], members);
-    orders::remove_closing(&mut *head, &mut *book, &column[..]);
-    begin_day(&mut *head, next);
+    let mut column = [Phase::Closed; TERMS];
+    write_phases(head, &mut column);
+    write_prices(head, prices, book, &column, time);
+    cascade::cascade_all(lots, &column, members);
+    cascade::cascade_all(value, &column, members);
+    orders::remove_closing(head, book, &column);
+    begin_day(head, next);
 }
 
 // Reference prices, the cascade of the closing contracts, the next business day.

@@ -26,12 +26,14 @@ use Rattle.months.specs.Spans.{starts_of}
 use Rattle.contracts.specs.InLedger.{InLedger}
 use Rattle.contract_phases.specs.Least.{IsLeast}
 use Rattle.contract_phases.proofs.Least.{first_read, in_span_lem}
-use Rattle.contract_phases.specs.Phases.{phase_of, phase_from, term_phase, phases, closes, waits, open_in, all_open_in, closing}
 use Rattle.rules.specs.declared.units.DayNo.{DayNo}
+use Rattle.contract_phases.specs.declared.by_contract.Phase.{Phase}
+use Rattle.contract_phases.specs.declared.by_contract.Phase.TheVariants.{Closed, Closing, Later}
+use Rattle.contract_phases.specs.Phases.{is_closing, is_waiting, phase_of, phase_from, term_phase, phases, closes, waits, open_in, all_open_in, closing}
 
 -- ---- one contract
 -- A contract's phase by its first delivery day, beside the least ones still to close on the day and on the day after.
-by_days : (z : Option DayNo) (d : ℕ) → cond (not_before z d) (cond (not_before z (d + 1)) 2 1) 0 ≡ phase_of z d
+by_days : (z : Option DayNo) (d : ℕ) → cond (not_before z d) (cond (not_before z (d + 1)) Later Closing) Closed ≡ phase_of z d
 by_days (Some x) d =
     le_or_lt d x.0
     (λ l. same_or x.0 d (λ e. rw (le-leb d x.0 l, lt-leb (d + 1) x.0 (omega arith), le-ltb x.0 d l, eq-eqb x.0 d e))
@@ -51,13 +53,13 @@ number_below Year i h = omega arith
 number_below Quarter i h = omega arith
 number_below Month i h = omega arith
 
-phase_closes : (z : Option DayNo) (d : ℕ) → eqb (phase_of z d) 1 ≡ is_on z d
+phase_closes : (z : Option DayNo) (d : ℕ) → is_closing (phase_of z d) ≡ is_on z d
 phase_closes (Some x) d =
     same_or x.0 d (λ e. rw (eq-eqb x.0 d e, le-ltb x.0 d (omega arith)))
     (λ e. le_or_lt d x.0 (λ l. rw (ne_eqb x.0 d e, le-ltb x.0 d l)) (λ l. rw (ne_eqb x.0 d e, lt-ltb x.0 d l)))
 phase_closes None d = refl
 
-phase_waits : (z : Option DayNo) (d : ℕ) → ltb 0 (phase_of z d) ≡ not_before z d
+phase_waits : (z : Option DayNo) (d : ℕ) → is_waiting (phase_of z d) ≡ not_before z d
 phase_waits (Some x) d =
     same_or x.0 d (λ e. rw (eq-eqb x.0 d e, le-ltb x.0 d (omega arith), le-leb d x.0 (omega arith)))
     (λ e. le_or_lt d x.0 (λ l. rw (ne_eqb x.0 d e, le-ltb x.0 d l, le-leb d x.0 l)) (λ l. rw (lt-ltb x.0 d l, lt-leb d x.0 l)))
@@ -68,18 +70,18 @@ module _ (k : Calendar) (d : ℕ) where
   unfolding phases
   phases_length = length-map (from 0 term_count) (λ c. phase_of (closing_day k c) d) ∙ from_length 0 term_count
 
-  pub phases_at : (c : ℕ) → c < term_count → get_or (phases k d) c 0 ≡ phase_of (closing_day k c) d
+  pub phases_at : (c : ℕ) → c < term_count → get_or (phases k d) c Closed ≡ phase_of (closing_day k c) d
   unfolding phases
   phases_at c h =
-      map_at (λ c. phase_of (closing_day k c) d) (from 0 term_count) c 0 0 (omega (arith, from_length 0 term_count))
+      map_at (λ c. phase_of (closing_day k c) d) (from 0 term_count) c 0 Closed (omega (arith, from_length 0 term_count))
       ∙ ap (λ c. phase_of (closing_day k c) d) (from_at 0 term_count c 0 h ∙ zero-add c)
 
   pub closes_is : (c : ℕ) → c < term_count → closes (phases k d) c ≡ closes_on k c d
-  closes_is c h = rw (lt-ltb c term_count h) (ap (λ x. eqb x 1) (phases_at c h) ∙ phase_closes (closing_day k c) d)
+  closes_is c h = rw (lt-ltb c term_count h) (ap is_closing (phases_at c h) ∙ phase_closes (closing_day k c) d)
 
   waits_is : (c : ℕ) → c < term_count → waits (phases k d) c ≡ still_to_close k d (term_of c)
   unfolding still_to_close
-  waits_is c h = ap (λ x. ltb 0 x) (phases_at c h) ∙ phase_waits (closing_day k c) d
+  waits_is c h = ap is_waiting (phases_at c h) ∙ phase_waits (closing_day k c) d
 
 -- ---- all contracts
 all_from : (P : ℕ → Type 0) (a n : ℕ) → ((i : ℕ) → a ≤ i → i < a + n → P i) → All P (from a n)
@@ -137,11 +139,11 @@ some_kind Quarter b = or_false b
 some_kind Month b = refl
 
 -- A column has no place for a contract without a term.
-closes_term : (column : List ℕ) → length column ≡ term_count → (x : ℕ) → closes column x && has_term x ≡ closes column x
+closes_term : (column : List Phase) → length column ≡ term_count → (x : ℕ) → closes column x && has_term x ≡ closes column x
 closes_term column e x =
-    le_or_lt term_count x (λ h. let long : length column ≤ x = omega arith in rw (le-ltb x term_count h, get_or-eq_default column 0 long)) (λ h. rw (lt-ltb x term_count h) (and_true (closes column x)))
+    le_or_lt term_count x (λ h. let long : length column ≤ x = omega arith in rw (le-ltb x term_count h, get_or-eq_default column Closed long)) (λ h. rw (lt-ltb x term_count h) (and_true (closes column x)))
 
-pub closing_order : (column : List ℕ) → length column ≡ term_count → (x : ℕ) → any (λ c. eqb c x) (closing column) ≡ closes column x
+pub closing_order : (column : List Phase) → length column ≡ term_count → (x : ℕ) → any (λ c. eqb c x) (closing column) ≡ closes column x
 unfolding closing
 closing_order column e x =
     any_kept (closes column) x (contracts_of Year ++ (contracts_of Quarter ++ contracts_of Month))

@@ -15,59 +15,57 @@ use contracts::{months_in, term_of};
 use months::{SPAN_STARTS, read_starts};
 use rules::{DayNo, Term};
 
-// The phases of a contract: it closed before the day, closes on it, or closes later.
-pub const CLOSED: u64 = 0;
-
-pub const CLOSING: u64 = 1;
-
-const LATER: u64 = 2;
+// Where a contract stands at the close of a day: it closed before the day, closes on it, or closes later.
+#[derive(Clone, Copy, PartialEq, Eq)]
+pub enum Phase {
+    Closed,
+    Closing,
+    Later,
+}
 
 // The phase by a contract's first delivery day: from `least` on it is still to close on the day, from `later` on also on the
 // next day.
-fn phase_from(first: u64, least: DayNo, later: DayNo) -> u64
+fn phase_from(first: u64, least: DayNo, later: DayNo) -> Phase
     ensures { result ≡ phase_from first least.0 later.0 }
 {
     if first < least.0 {
-        return CLOSED;
+        return Phase::Closed;
     }
     if first < later.0 {
-        return CLOSING;
+        return Phase::Closing;
     }
-    LATER
+    Phase::Later
 }
 
-fn phase_of(starts: &[u64], least: LeastDays, later: LeastDays, t: Term) -> u64
+fn phase_of(starts: &[u64], least: LeastDays, later: LeastDays, t: Term) -> Phase
     requires { (length starts.now ≡ months_in_span + 1) × InLedger t }
     ensures { (k : Calendar) (d : ℕ) → starts.now ≡ starts_of k
         → IsLeast k d (closing_distance t.kind) (least_of least t.kind) → IsLeast k (d + 1) (closing_distance t.kind) (least_of later t.kind) → result ≡ term_phase k d t }
 {
-    let kind = t.kind;
-    let first = starts[(months_in(kind) * t.index) as usize];
-    phase_from(first, least_of(least, kind), least_of(later, kind))
+    let first = starts[(months_in(t.kind) * t.index) as usize];
+    phase_from(first, least_of(least, t.kind), least_of(later, t.kind))
 }
 
-fn write_from(starts: &[u64], least: LeastDays, later: LeastDays, column: &mut [u64])
+fn write_from(starts: &[u64], least: LeastDays, later: LeastDays, column: &mut [Phase])
     requires { (length starts.now ≡ months_in_span + 1) × (length column.old ≡ term_count) }
     ensures { (k : Calendar) (d : ℕ) → starts.now ≡ starts_of k
         → ((s : ContractKind) → IsLeast k d (closing_distance s) (least_of least s)) → ((s : ContractKind) → IsLeast k (d + 1) (closing_distance s) (least_of later s))
         → column.new ≡ phases k d }
 {
-    let mut contract: usize = 0;
-    while contract < column.len() {
-        column[contract] = phase_of(starts, least, later, term_of(contract as u64));
-        contract += 1;
+    for (contract, phase) in column.iter_mut().enumerate() {
+        *phase = phase_of(starts, least, later, term_of(contract as u64));
     }
 }
 
 // The phase of each contract that has a term, on a day of the table.
-pub fn write_phases(first_year: u64, holidays: &[u64], day: DayNo, column: &mut [u64])
+pub fn write_phases(first_year: u64, holidays: &[u64], day: DayNo, column: &mut [Phase])
     requires { FirstYear first_year × (day.0 ≤ last_month_start) × (length column.old ≡ term_count) }
     ensures { column.new ≡ phases (record { first_year = first_year; holidays = holidays.now }) day.0 }
 {
     let mut starts = [0u64; SPAN_STARTS];
-    read_starts(first_year, &mut starts[..]);
+    read_starts(first_year, &mut starts);
     let end = DayNo(starts[SPAN_STARTS - 1]);
     let least = find_least(holidays, day, end);
     let later = find_least(holidays, DayNo(day.0 + 1), end);
-    write_from(&starts[..], least, later, column);
+    write_from(&starts, least, later, column);
 }

@@ -32,16 +32,14 @@ fn least_first_day(holidays: &[u64], day: DayNo, n: u64, end: DayNo) -> DayNo
     requires { (0 < n) × (end.0 ≤ last_month_start) }
     ensures { (y : ℕ) → result.0 ≡ least_first_day (record { first_year = y; holidays = holidays.now }) day.0 n end.0 }
 {
-    let mut x = day.0;
     let mut to_count = n;
-    while x < end.0 {
+    for x in day.0..end.0 {
         if is_business_day(holidays, DayNo(x)) {
             if to_count <= 1 {
                 return DayNo(x + 1);
             }
             to_count -= 1;
         }
-        x += 1;
     }
     DayNo(end.0 + 1)
 }
@@ -52,12 +50,9 @@ pub fn find_least(holidays: &[u64], day: DayNo, end: DayNo) -> LeastDays
     ensures { (y : ℕ) (s : ContractKind) → least_of result s
         ≡ least_first_day (record { first_year = y; holidays = holidays.now }) day.0 (closing_distance s) end.0 }
 {
-    let year = least_first_day(holidays, day, ContractKind::YEAR_DISTANCE, end);
-    let quarter = least_first_day(holidays, day, ContractKind::QUARTER_DISTANCE, end);
-    let month = least_first_day(holidays, day, ContractKind::MONTH_DISTANCE, end);
     LeastDays {
-        year,
-        quarter,
-        month,
+        year: least_first_day(holidays, day, ContractKind::YEAR_DISTANCE, end),
+        quarter: least_first_day(holidays, day, ContractKind::QUARTER_DISTANCE, end),
+        month: least_first_day(holidays, day, ContractKind::MONTH_DISTANCE, end),
     }
 }

@@ -16,18 +16,16 @@ fn term_first_day(first_year: u64, t: Term) -> DayNo
     requires { FirstYear first_year × InLedger t }
     ensures { (h : List ℕ) → result.0 ≡ term_first_day (record { first_year = first_year; holidays = h }) t }
 {
-    let kind = t.kind;
-    month_start(first_month(first_year) + months_in(kind) * t.index)
+    month_start(first_month(first_year) + months_in(t.kind) * t.index)
 }
 
 fn term_closing_day(first_year: u64, holidays: &[u64], t: Term) -> Option<DayNo>
     requires { FirstYear first_year × InLedger t }
     ensures { result ≡ term_closing_day (record { first_year = first_year; holidays = holidays.now }) t }
 {
-    let kind = t.kind;
     business_day_before(
         holidays,
-        kind.closing_distance(),
+        t.kind.closing_distance(),
         term_first_day(first_year, t),
     )
 }
@@ -51,13 +49,14 @@ fn is_open_term(first_year: u64, holidays: &[u64], day: DayNo, t: Term) -> bool
     if !still_to_close(first_year, holidays, day, t) {
         return false;
     }
-    let kind = t.kind;
-    let n = kind.open_count();
-    let i = t.index;
-    if i < n {
+    let n = t.kind.open_count();
+    if t.index < n {
         return true;
     }
-    let earlier = Term { kind, index: i - n };
+    let earlier = Term {
+        index: t.index - n,
+        ..t
+    };
     !still_to_close(first_year, holidays, day, earlier)
 }
 

@@ -35,8 +35,7 @@ pub fn term_of(contract: u64) -> Term
 pub fn kind_of(contract: u64) -> ContractKind
     ensures { result ≡ kind_of contract }
 {
-    let t = term_of(contract);
-    t.kind
+    term_of(contract).kind
 }
 
 pub fn months_in(kind: ContractKind) -> u64

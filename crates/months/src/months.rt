@@ -81,12 +81,6 @@ const STARTS: [u16; MONTHS + 1] = [
     28945, 28975, 29006, 29036, 29067, 29098, 29128, 29159, 29189, 29220,
 ];
 
-fn wide(x: u16) -> u64
-    ensures { result ≡ x }
-{
-    x as u64
-}
-
 // The first day of a run of months, and the first day after it.
 #[derive(Clone, Copy)]
 pub struct Span {
@@ -99,20 +93,17 @@ pub fn month_start(month: u64) -> DayNo
     requires { month ≤ last_month }
     ensures { result.0 ≡ month_start month }
 {
-    let starts = STARTS;
-    DayNo(wide(starts[month as usize]))
+    DayNo(u64::from(STARTS[month as usize]))
 }
 
-// From the first day of one month to that of another. A constant array is copied
-// whole to be read, so both days are read from one copy.
+// From the first day of one month to that of another.
 pub fn months_span(first: u64, end: u64) -> Span
     requires { (first ≤ last_month) × (end ≤ last_month) }
     ensures { (result.start.0 ≡ month_start first) × (result.end.0 ≡ month_start end) }
 {
-    let starts = STARTS;
     Span {
-        start: DayNo(wide(starts[first as usize])),
-        end: DayNo(wide(starts[end as usize])),
+        start: month_start(first),
+        end: month_start(end),
     }
 }
 
@@ -121,10 +112,7 @@ pub fn read_months(first: u64, out: &mut [u64])
     requires { first + length out.old ≤ last_month + 1 }
     ensures { out.new ≡ map (λ i. month_start (first + i)) (from 0 (length out.old)) }
 {
-    let starts = STARTS;
-    let mut i: usize = 0;
-    while i < out.len() {
-        out[i] = wide(starts[first as usize + i]);
-        i += 1;
+    for (i, start) in out.iter_mut().enumerate() {
+        *start = month_start(first + i as u64).0;
     }
 }

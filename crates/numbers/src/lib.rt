@@ -6,22 +6,18 @@ ghost use Rattle.std.specs.Prelude.{◌≡◌, min, max, nat_abs};
 pub fn smaller(a: u64, b: u64) -> u64
     ensures { result ≡ min a b }
 {
-    if a < b { a } else { b }
+    a.min(b)
 }
 
 pub fn larger(a: u64, b: u64) -> u64
     ensures { result ≡ max a b }
 {
-    if a < b { b } else { a }
+    a.max(b)
 }
 
 // The size of x. The least i64 has one too; its -x would pass 64 bits.
 pub fn size(x: i64) -> u64
     ensures { result ≡ nat_abs x }
 {
-    if x < 0 {
-        let less_one = -1 - x;
-        return less_one as u64 + 1;
-    }
-    x as u64
+    x.unsigned_abs()
 }

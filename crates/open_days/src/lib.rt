@@ -25,17 +25,15 @@ fn is_open_from(starts: &[u64], least: DayNo, t: Term) -> bool
     requires { (length starts.now ≡ months_in_span + 1) × InLedger t }
     ensures { (k : Calendar) (d : ℕ) → starts.now ≡ starts_of k → IsLeast k d (closing_distance t.kind) least.0 → result ≡ open_by_count k d t }
 {
-    let kind = t.kind;
-    let n = months_in(kind);
-    let i = t.index;
-    if starts[(n * i) as usize] < least.0 {
+    let n = months_in(t.kind);
+    if starts[(n * t.index) as usize] < least.0 {
         return false;
     }
-    let count = kind.open_count();
-    if i < count {
+    let count = t.kind.open_count();
+    if t.index < count {
         return true;
     }
-    starts[(n * (i - count)) as usize] < least.0
+    starts[(n * (t.index - count)) as usize] < least.0
 }
 
 // The delivery days of a contract, 0 if it is not open.
@@ -47,8 +45,7 @@ fn days_if_open(starts: &[u64], least: DayNo, t: Term) -> u64
     if !is_open_from(starts, least, t) {
         return 0;
     }
-    let kind = t.kind;
-    let n = months_in(kind);
+    let n = months_in(t.kind);
     let first = n * t.index;
     starts[(first + n) as usize] - starts[first as usize]
 }
@@ -57,12 +54,9 @@ fn write_open_days(starts: &[u64], least: LeastDays, days: &mut [u64])
     requires { (length starts.now ≡ months_in_span + 1) × NoneEarlier starts.now × (length days.old ≡ term_count) }
     ensures { (k : Calendar) (d : ℕ) → starts.now ≡ starts_of k → ((s : ContractKind) → IsLeast k d (closing_distance s) (least_of least s)) → days.new ≡ open_days k d }
 {
-    let mut contract: usize = 0;
-    while contract < days.len() {
+    for (contract, open) in days.iter_mut().enumerate() {
         let t = term_of(contract as u64);
-        let kind = t.kind;
-        days[contract] = days_if_open(starts, least_of(least, kind), t);
-        contract += 1;
+        *open = days_if_open(starts, least_of(least, t.kind), t);
     }
 }
 
@@ -72,8 +66,8 @@ pub fn find_open_days(first_year: u64, holidays: &[u64], day: DayNo, days: &mut 
     ensures { days.new ≡ open_days (record { first_year = first_year; holidays = holidays.now }) day.0 }
 {
     let mut starts = [0u64; SPAN_STARTS];
-    read_starts(first_year, &mut starts[..]);
+    read_starts(first_year, &mut starts);
     let end = DayNo(starts[SPAN_STARTS - 1]);
     let least = find_least(holidays, day, end);
-    write_open_days(&starts[..], least, days);
+    write_open_days(&starts, least, days);
 }

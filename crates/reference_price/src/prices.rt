@@ -3,10 +3,10 @@ ghost use Rattle.std.specs.Prelude.{◌≡◌, cond, ◌&&◌, ◌-◌, ◌*◌,
 ghost use Rattle.rules.specs.Ranges.{contract_count, term_count, most_price, most_lots_run};
 ghost use Rattle.rules.specs.Ledger.{prices_length, ggf_place};
 ghost use Rattle.rules.specs.CloseOfDay.{rounded_half_up, without_deals};
-ghost use Rattle.contract_phases.specs.Phases.{closed_phase, open_in, all_open_in};
+ghost use Rattle.contract_phases.specs.Phases.{is_waiting, open_in, all_open_in};
 ghost use Rattle.reference_price.specs.Columns.{DealsFit, ColumnFit, quoted_from, price_from, ggf_from, ggfs_from};
 
-use contract_phases::CLOSED;
+use contract_phases::Phase;
 use contracts::{contract_of, contracts_in};
 use rules::layout::{CONTRACTS, DAY_LOTS, DAY_VALUE, GGF, PRICE_WIDTH};
 use rules::{ContractKind, Kurus, Lots, Worth};
@@ -57,8 +57,7 @@ fn write_ggf(prices: &mut [u64], buys: &[u64], sells: &[u64], contract: usize)
     ensures { prices.new ≡ set prices.old (ggf_place contract) (ggf_from buys.now sells.now prices.old contract) }
 {
     let at = contract * PRICE_WIDTH;
-    let kind = contracts::kind_of(contract as u64);
-    let threshold = kind.threshold();
+    let threshold = contracts::kind_of(contract as u64).threshold();
     let ggf = reference_price(
         threshold,
         Lots(prices[at + DAY_LOTS]),
@@ -76,16 +75,16 @@ fn write_if_open(
     buys: &[u64],
     sells: &[u64],
     contract: usize,
-    phase: u64,
+    phase: Phase,
     more: u64,
 ) -> u64
     requires { DealsFit prices.old × ColumnFit buys.now × ColumnFit sells.now × (contract < contract_count) }
-    ensures value { result ≡ cond (ltb closed_phase phase) (more - 1) more }
+    ensures value { result ≡ cond (is_waiting phase) (more - 1) more }
     ensures prices_after { prices.new
-        ≡ cond (ltb closed_phase phase && ltb 0 more)
+        ≡ cond (is_waiting phase && ltb 0 more)
         (set prices.old (ggf_place contract) (ggf_from buys.now sells.now prices.old contract)) prices.old }
 {
-    if phase == CLOSED {
+    if phase == Phase::Closed {
         return more;
     }
     if more == 0 {
@@ -97,7 +96,7 @@ fn write_if_open(
 
 fn write_kind_ggfs(
     prices: &mut [u64],
-    column: &[u64],
+    column: &[Phase],
     buys: &[u64],
     sells: &[u64],
     kind: ContractKind,
@@ -105,23 +104,20 @@ fn write_kind_ggfs(
     requires { DealsFit prices.old × ColumnFit buys.now × ColumnFit sells.now × (length column.now ≡ term_count) }
     ensures { prices.new ≡ ggfs_from buys.now sells.now (open_in column.now kind) prices.old }
 {
-    let count = contracts_in(kind);
     let mut more = kind.open_count();
-    let mut i: u64 = 0;
-    while i < count {
+    for i in 0..contracts_in(kind) {
         let contract = contract_of(kind, i) as usize;
-        more = write_if_open(&mut *prices, buys, sells, contract, column[contract], more);
-        i += 1;
+        more = write_if_open(prices, buys, sells, contract, column[contract], more);
     }
 }
 
-pub fn write_ggfs(prices: &mut [u64], column: &[u64], buys: &[u64], sells: &[u64])
+pub fn write_ggfs(prices: &mut [u64], column: &[Phase], buys: &[u64], sells: &[u64])
     requires { DealsFit prices.old × ColumnFit buys.now × ColumnFit sells.now × (length column.now ≡ term_count) }
     ensures { prices.new ≡ ggfs_from buys.now sells.now (all_open_in column.now) prices.old }
 {
-    write_kind_ggfs(&mut *prices, column, buys, sells, ContractKind::Year);
-    write_kind_ggfs(&mut *prices, column, buys, sells, ContractKind::Quarter);
-    write_kind_ggfs(&mut *prices, column, buys, sells, ContractKind::Month);
+    write_kind_ggfs(prices, column, buys, sells, ContractKind::Year);
+    write_kind_ggfs(prices, column, buys, sells, ContractKind::Quarter);
+    write_kind_ggfs(prices, column, buys, sells, ContractKind::Month);
 }
 
 // M and V of every contract become 0.
@@ -129,11 +125,9 @@ pub fn clear_deals(prices: &mut [u64])
     requires { prices_length ≤ length prices.old }
     ensures { prices.new ≡ without_deals prices.old }
 {
-    let mut contract: usize = 0;
-    while contract < CONTRACTS {
+    for contract in 0..CONTRACTS {
         let at = contract * PRICE_WIDTH;
         prices[at + DAY_LOTS] = 0;
         prices[at + DAY_VALUE] = 0;
-        contract += 1;
     }
 }

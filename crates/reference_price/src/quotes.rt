@@ -13,11 +13,9 @@ fn does_quote(o: Order, side: Side, day: DayNo, time: u64) -> bool
     requires { o.time ≤ last_second }
     ensures { result ≡ quotes_at day.0 time side o }
 {
-    let own = o.side;
     let entered = (o.day.0 < day.0) | ((o.day.0 == day.0) & (o.time + SECONDS_TO_QUOTE <= time));
-    let kind = contracts::kind_of(o.contract);
-    let threshold = kind.threshold();
-    is_same_side(own, side) & (entered & (threshold.0 <= o.lots.0))
+    let threshold = contracts::kind_of(o.contract).threshold();
+    is_same_side(o.side, side) & (entered & (threshold.0 <= o.lots.0))
 }
 
 fn better_quote(side: Side, price: Kurus, held: Kurus) -> Kurus
@@ -27,18 +25,8 @@ fn better_quote(side: Side, price: Kurus, held: Kurus) -> Kurus
         return price;
     }
     match side {
-        Side::Buy => {
-            if held.0 < price.0 {
-                return price;
-            }
-            held
-        }
-        Side::Sell => {
-            if price.0 < held.0 {
-                return price;
-            }
-            held
-        }
+        Side::Buy => Kurus(price.0.max(held.0)),
+        Side::Sell => Kurus(price.0.min(held.0)),
     }
 }
 
@@ -65,10 +53,8 @@ pub fn write_quotes(
     requires { BookReads count book.now × (quotes.old ≡ replicate contract_count 0) }
     ensures { (c : ℕ) → c < contract_count → get_or quotes.new c 0 ≡ best_price day.0 time side (orders_in count book.now) c }
 {
-    let mut i = count;
-    while 0 < i {
-        i -= 1;
+    for i in (0..count).rev() {
         let o = order_book::order_at(book, i);
-        note_quote(&mut *quotes, o, side, day, time);
+        note_quote(quotes, o, side, day, time);
     }
 }

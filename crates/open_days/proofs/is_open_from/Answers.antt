@@ -22,10 +22,10 @@ returns-then-starts-n c =
     let test = rw c.months_in-n.ensures at c.if-starts-n.true in
     λ k d e g. sym (open_closed k d c.args.t (to_close_from k c.args.t c.requires.1 d _ g ∙ lt-leb _ _ (rw e at test)))
 
-pub returns-then-i-count : goal.returns-then-i-count
-returns-then-i-count c =
+pub returns-then-t-count : goal.returns-then-t-count
+returns-then-t-count c =
     let test = rw c.months_in-n.ensures at c.if-starts-n.false in
-    λ k d e g. sym (open_first k d c.args.t (to_close_from k c.args.t c.requires.1 d _ g ∙ le-leb _ _ (rw e at test)) (rw c.open_count-count.ensures at c.if-i-count.true))
+    λ k d e g. sym (open_first k d c.args.t (to_close_from k c.args.t c.requires.1 d _ g ∙ le-leb _ _ (rw e at test)) (rw c.open_count-count.ensures at c.if-t-count.true))
 
 pub overflow_mul-result : goal.overflow_mul-result
 overflow_mul-result c =
@@ -45,4 +45,4 @@ returns c =
     let test = rw c.months_in-n.ensures at c.if-starts-n.false in
     λ k d e g.
     let still = to_close_from k t c.requires.1 d _ g ∙ le-leb _ _ (rw e at test) in
-    rw (e, c.months_in-n.ensures, c.open_count-count.ensures) (open_from k t c.requires.1 d _ g still (rw c.open_count-count.ensures at c.if-i-count.false))
+    rw (e, c.months_in-n.ensures, c.open_count-count.ensures) (open_from k t c.requires.1 d _ g still (rw c.open_count-count.ensures at c.if-t-count.false))

@@ -14,7 +14,7 @@ use Rattle.open_days.proofs.write_open_days.Goals as goal
 
 pub loop-contract-init : goal.loop-contract-init
 unfolding open_days
-loop-contract-init c = (omega arith, c.requires.2, λ k d e g. refl)
+loop-contract-init c = (c.requires.2, λ k d e g. refl)
 
 pub days_if_open-requires : goal.days_if_open-requires
 days_if_open-requires c =
@@ -23,17 +23,16 @@ days_if_open-requires c =
 
 pub loop-contract-preserved : goal.loop-contract-preserved
 loop-contract-preserved c = (
-  omega arith,
-  simp length-set c.loop-contract.invariant.1,
+  simp length-set c.loop-contract.invariant.0,
   λ k d e g. let f : ℕ → ℕ = λ x. cond (open_on k d x) (days_of k x) 0 in
       let days : c.days_if_open.result ≡ f c.loop-contract.contract =
       rw c.term_of-t.ensures at (c.days_if_open.ensures k d e (rw c.least_of.ensures (g c.term_of-t.result.kind))) ∙ days_by_number k d c.loop-contract.contract (omega arith) in
-      rw days (written_next c.loop-contract.days c.loop-contract.contract _ _ _ (omega arith) (rw (mapped_next term_count c.loop-contract.contract f (omega arith)) at (c.loop-contract.invariant.2 k d e g))),
+      rw days (written_next c.loop-contract.days c.loop-contract.contract _ _ _ (omega arith) (rw (mapped_next term_count c.loop-contract.contract f (omega arith)) at (c.loop-contract.invariant.1 k d e g))),
 )
 
 pub returns : goal.returns
 returns c =
-    λ k d e g. written_end c.loop-contract.days c.loop-contract.contract _ _ (omega arith) (mapped_end term_count c.loop-contract.contract _ (omega arith)) (c.loop-contract.invariant.2 k d e g)
+    λ k d e g. written_end c.loop-contract.days c.loop-contract.contract _ _ (omega arith) (mapped_end term_count c.loop-contract.contract _ (omega arith)) (c.loop-contract.invariant.1 k d e g)
 
 pub shape_of-days : goal.shape_of-days
 shape_of-days c = omega arith

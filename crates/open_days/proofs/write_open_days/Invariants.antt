@@ -1,4 +1,4 @@
-use Prim.Native.Nat.{ℕ, ◌-◌, ◌≤◌}
+use Prim.Native.Nat.{ℕ, ◌-◌}
 use mathlib.Core.Path.{◌≡◌}
 use mathlib.Core.Bool.{cond}
 use mathlib.Core.List.{◌++◌, map}
@@ -14,9 +14,6 @@ use Rattle.open_days.specs.OpenDays.{open_days}
 use Rattle.open_days.proofs.write_open_days.Given as goal
 
 abbrev pub invariant-loop-contract : goal.invariant-loop-contract
-invariant-loop-contract l = (l.contract ≤ term_count) × (length l.days ≡ term_count)
+invariant-loop-contract l = (length l.days ≡ term_count)
     × ((k : Calendar) (d : ℕ) → l.starts ≡ starts_of k → ((s : ContractKind) → IsLeast k d (closing_distance s) (least_of l.least s))
     → take l.contract l.days ++ map (λ c. cond (open_on k d c) (days_of k c) 0) (from l.contract (term_count - l.contract)) ≡ open_days k d)
-
-abbrev pub decreases-loop-contract : goal.decreases-loop-contract
-decreases-loop-contract l = term_count - l.contract

@@ -4,8 +4,5 @@ use Rattle.rules.specs.Days.{first_business_day}
 use Rattle.calendar.proofs.days.first_business_day.Given as goal
 
 abbrev pub invariant-loop-x : goal.invariant-loop-x
-invariant-loop-x l = (y : ℕ) → first_business_day (record { first_year = y; holidays = l.holidays }) (l.end.0 - l.x) l.x
-    ≡ first_business_day (record { first_year = y; holidays = l.holidays }) (l.end.0 - l.initial.x) l.initial.x
-
-abbrev pub decreases-loop-x : goal.decreases-loop-x
-decreases-loop-x l = l.end.0 - l.x
+invariant-loop-x l = (y : ℕ) → first_business_day (record { first_year = y; holidays = l.holidays }) (l.fn.end.0 - l.x) l.x
+    ≡ first_business_day (record { first_year = y; holidays = l.holidays }) (l.fn.end.0 - l.initial.x) l.initial.x

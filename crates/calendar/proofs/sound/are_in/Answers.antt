@@ -1,19 +1,16 @@
-use native.Mathlib.Omega.{arith}
-use mathlib.Core.Path.{refl}
-use Rattle.arith.proofs.Scans.{every_next, every_end}
+use Rattle.std.proofs.Common.{◌∙◌, rules, tests}
+use Rattle.std.proofs.lemmas.Iterator.{YieldsList-from_slice}
+use Rattle.std.proofs.lemmas.Iterator.Search.{all_from_yields_List}
+use Rattle.arith.proofs.Scans.{every_same}
 use Rattle.rules.specs.Days.{in_span}
+use Rattle.months.specs.Spans.{lies_in}
 use Rattle.months.proofs.Starts.{lies_in_lem}
+use Rattle.calendar.proofs.Lists.{every_lem}
 use Rattle.calendar.proofs.sound.are_in.Goals as goal
 
-pub loop-i-init : goal.loop-i-init
-loop-i-init c = (omega arith, λ k s. refl)
-
-pub loop-i-preserved : goal.loop-i-preserved
-loop-i-preserved c =
-    let test = c.loop-i-test in
-    let loop = c.loop-i in
-    let l = loop in
-    (omega arith, λ k s. rw (c.is_in-ok.ensures, lies_in_lem k c.args.span _ s) (every_next (in_span k) c.args.days.now 0 l.i l.ok (l.invariant.1 k s) test.true))
-
 pub returns : goal.returns
-returns c = let l = c.loop-i in λ k s. every_end (in_span k) c.args.days.now 0 l.i l.ok (l.invariant.1 k s) c.loop-i-test.false
+returns c =
+    let span = c.args.span in
+    let days = c.args.days.now in
+    λ k s. all_from_yields_List (lies_in span) _ _ c.all.result c.all.ensures.ran (YieldsList-from_slice days c.iter.ensures.rest) (λ x b q h. search (rules, tests))
+    ∙ every_lem (lies_in span) days ∙ every_same (lies_in span) (in_span k) (λ d. lies_in_lem k span d s) days

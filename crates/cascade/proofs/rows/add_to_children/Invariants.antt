@@ -7,6 +7,3 @@ use Rattle.cascade.proofs.rows.add_to_children.Given as goal
 
 abbrev pub invariant-loop-child : goal.invariant-loop-child
 invariant-loop-child l = Adding l.members l.contract l.end (length l.initial.rows) (added_to l.members l.contract (from l.first (l.end - l.first)) l.initial.rows) l.parent l.child l.rows
-
-abbrev pub decreases-loop-child : goal.decreases-loop-child
-decreases-loop-child l = l.end - l.child

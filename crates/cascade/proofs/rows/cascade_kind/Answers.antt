@@ -1,6 +1,6 @@
 use Rattle.cascade.proofs.Cascades.{kind_start, kind_end}
 use mathlib.Core.Path.{refl}
-use Prim.Native.Nat.{◌*◌, ◌-◌, ◌<◌}
+use Prim.Native.Nat.{◌*◌, ◌<◌}
 use native.Mathlib.Omega.{arith}
 use lib.ListN.{length}
 use Rattle.rules.specs.OtherForms.{contracts_in}
@@ -15,22 +15,17 @@ loop-i-init c =
     kind_start a.members (length a.rows.now) (7 * most_row) a.kind a.column.now _ (omega arith) (omega arith) a.rows.now refl c.requires.rows_fit.0 refl
 
 pub contract_of-contract-requires : goal.contract_of-contract-requires
-contract_of-contract-requires c = omega (arith, c.contracts_in-count.ensures)
-
-pub offset_bounds-column-contract : goal.offset_bounds-column-contract
-offset_bounds-column-contract c =
-    let args = c.args in
-    let b = number_below args.kind c.loop-i.i (omega (arith, c.contracts_in-count.ensures)) in omega (arith, c.contract_of-contract.ensures)
+contract_of-contract-requires c = omega (arith, c.contracts_in-i-end.ensures)
 
 pub bounds-column-contract : goal.bounds-column-contract
 bounds-column-contract c =
     let args = c.args in
-    let b = number_below args.kind c.loop-i.i (omega (arith, c.contracts_in-count.ensures)) in omega (arith, c.contract_of-contract.ensures)
+    let b = number_below args.kind c.loop-i.i (omega (arith, c.contracts_in-i-end.ensures)) in omega (arith, c.contract_of-contract.ensures)
 
 pub cascade_closing-requires : goal.cascade_closing-requires
 cascade_closing-requires c =
     let s = c.args.kind in
-    let h : c.loop-i.i < contracts_in s = omega (arith, c.contracts_in-count.ensures) in
+    let h : c.loop-i.i < contracts_in s = omega (arith, c.contracts_in-i-end.ensures) in
     rw c.contract_of-contract.ensures
     record { rows_fit = (record { long = c.loop-i.invariant.fit.long; within = λ x m u k. omega (arith, c.loop-i.invariant.fit.within x m u k) }, omega arith); contract_lt_term_count = (number_below s c.loop-i.i h, number_parent s c.loop-i.i (omega arith)) }
 
@@ -38,7 +33,7 @@ pub loop-i-preserved : goal.loop-i-preserved
 loop-i-preserved c =
     let a = c.args in
     rw (c.cascade_closing.ensures, c.contract_of-contract.ensures)
-    (kind_next a.members (length a.rows.now) (7 * most_row) a.kind a.column.now _ (omega arith) (omega arith) c.loop-i.i c.loop-i.rows (omega (arith, c.contracts_in-count.ensures))
+    (kind_next a.members (length a.rows.now) (7 * most_row) a.kind a.column.now _ (omega arith) (omega arith) c.loop-i.i c.loop-i.rows (omega (arith, c.contracts_in-i-end.ensures))
     c.loop-i.invariant)
 
 pub shape_of-rows : goal.shape_of-rows
@@ -47,5 +42,5 @@ shape_of-rows c = c.loop-i.invariant.same
 pub returns : goal.returns
 returns c =
     let a = c.args in
-    kind_end a.members (length a.rows.now) (7 * most_row) a.kind a.column.now _ (omega arith) (omega arith) c.loop-i.i c.loop-i.rows (omega (arith, c.contracts_in-count.ensures))
+    kind_end a.members (length a.rows.now) (7 * most_row) a.kind a.column.now _ (omega arith) (omega arith) c.loop-i.i c.loop-i.rows (omega (arith, c.contracts_in-i-end.ensures))
     c.loop-i.invariant

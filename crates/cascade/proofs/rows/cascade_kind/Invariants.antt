@@ -1,4 +1,4 @@
-use Prim.Native.Nat.{◌*◌, ◌-◌}
+use Prim.Native.Nat.{◌*◌}
 use lib.ListN.{length}
 use Rattle.arith.specs.Lists.{kept}
 use Rattle.rules.specs.ContractTerms.{contracts_of}
@@ -10,6 +10,3 @@ use Rattle.cascade.proofs.rows.cascade_kind.Given as goal
 
 abbrev pub invariant-loop-i : goal.invariant-loop-i
 invariant-loop-i l = KindRun l.members (length l.initial.rows) (7 * most_row) l.kind l.column (all_cascaded l.members (kept (closes l.column) (contracts_of l.kind)) l.initial.rows) l.i l.rows
-
-abbrev pub decreases-loop-i : goal.decreases-loop-i
-decreases-loop-i l = l.count - l.i

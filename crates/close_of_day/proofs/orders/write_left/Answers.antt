@@ -1,6 +1,5 @@
 use mathlib.Core.Bool.{Bool, cond}
 use mathlib.Core.Path.{◌≡◌, refl, sym, ap, ◌∙◌}
-use Prim.Native.Nat.{◌-◌}
 use native.Mathlib.Omega.{arith}
 use lib.ListN.{length, get_or, length-set}
 use Rattle.arith.proofs.Writes.{front_next, front_end}
@@ -12,7 +11,7 @@ use Rattle.contract_phases.specs.Phases.{closes}
 use Rattle.close_of_day.proofs.orders.write_left.Goals as goal
 
 pub loop-i-init : goal.loop-i-init
-loop-i-init c = (refl, omega arith, refl)
+loop-i-init c = (refl, refl)
 
 pub order_at-o-requires : goal.order_at-o-requires
 order_at-o-requires c = (omega (arith, c.requires.most_orders_holds), c.requires.long)
@@ -24,10 +23,9 @@ loop-i-preserved c =
     let p : Order → Bool = λ o. closes a.column.now o.contract in
     let all = staying p (orders_in n a.book.now) in
     let here : c.left_of.result.0 ≡ get_or all c.loop-i.i 0
-    = rw c.phase_at-phase.ensures at c.left_of.ensures ∙ ap (λ o. cond (p o) 0 o.lots.0) c.order_at-o.ensures ∙ sym (staying_at p n a.book.now c.loop-i.i (omega arith)) in (
+    = rw c.phase_at.ensures at c.left_of.ensures ∙ ap (λ o. cond (p o) 0 o.lots.0) c.order_at-o.ensures ∙ sym (staying_at p n a.book.now c.loop-i.i (omega arith)) in (
       length-set c.loop-i.left c.loop-i.i c.left_of.result.0 ∙ c.loop-i.invariant.0,
-      omega arith,
-      rw (here, c.loop-i.invariant.2) (front_next c.loop-i.i all a.left.now 0 (omega (arith, staying_length p n a.book.now)) (omega arith)),
+      rw (here, c.loop-i.invariant.1) (front_next c.loop-i.i all a.left.now 0 (omega (arith, staying_length p n a.book.now)) (omega arith)),
     )
 
 pub returns : goal.returns
@@ -35,4 +33,4 @@ returns c =
     let a = c.args in
     let n = length a.left.now in
     let p : Order → Bool = λ o. closes a.column.now o.contract in
-    c.loop-i.invariant.2 ∙ front_end c.loop-i.i (staying p (orders_in n a.book.now)) a.left.now (omega (arith, staying_length p n a.book.now)) (omega arith)
+    c.loop-i.invariant.1 ∙ front_end c.loop-i.i (staying p (orders_in n a.book.now)) a.left.now (omega (arith, staying_length p n a.book.now)) (omega arith)

@@ -1,6 +1,5 @@
 use mathlib.Core.Path.{◌≡◌}
 use mathlib.Core.List.{◌++◌}
-use Prim.Native.Nat.{◌-◌, ◌≤◌}
 use lib.ListN.{length, take, drop}
 use Rattle.tables.specs.Fit.{orders_in}
 use Rattle.order_book.specs.Left.{staying}
@@ -8,7 +7,4 @@ use Rattle.contract_phases.specs.Phases.{closes}
 use Rattle.close_of_day.proofs.orders.write_left.Given as goal
 
 abbrev pub invariant-loop-i : goal.invariant-loop-i
-invariant-loop-i l = (length l.left ≡ length l.initial.left) × (l.i ≤ length l.initial.left) × (l.left ≡ take l.i (staying (λ o. closes l.column o.contract) (orders_in (length l.initial.left) l.book)) ++ drop l.i l.initial.left)
-
-abbrev pub decreases-loop-i : goal.decreases-loop-i
-decreases-loop-i l = length l.initial.left - l.i
+invariant-loop-i l = (length l.left ≡ length l.initial.left) × (l.left ≡ take l.i (staying (λ o. closes l.column o.contract) (orders_in (length l.initial.left) l.book)) ++ drop l.i l.initial.left)

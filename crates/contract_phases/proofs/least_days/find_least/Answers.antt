@@ -8,6 +8,6 @@ pub returns : goal.returns
 returns c =
     let a = c.args in
     λ y. by_kind
-    (λ s. least_of (record { year = c.least_first_day-year.result; quarter = c.least_first_day-quarter.result; month = c.least_first_day-month.result }) s
+    (λ s. least_of (record { year = c.least_first_day.result; quarter = c.least_first_day-2.result; month = c.least_first_day-3.result }) s
     ≡ least_first_day (record { first_year = y; holidays = a.holidays.now }) a.day.0 (closing_distance s) a.end.0)
-    (c.least_first_day-year.ensures y) (c.least_first_day-quarter.ensures y) (c.least_first_day-month.ensures y)
+    (c.least_first_day.ensures y) (c.least_first_day-2.ensures y) (c.least_first_day-3.ensures y)

@@ -10,4 +10,4 @@ unfolding month_length month_days leap_year
 returns c =
     let month : c.args.month < 961 = omega arith in
     let t : Unit {0} = tt in
-    c.wide.ensures ∙ rw at
+    c.from.ensures ∙ rw at

@@ -1,7 +1,7 @@
 use lib.ListN.{set}
 use mathlib.Core.Path.{◌≡◌, refl, ◌∙◌}
 use mathlib.Core.List.{List, [], ◌∷◌}
-use Prim.Native.Nat.{ℕ, suc, ◌+◌, ◌*◌, ◌-◌}
+use Prim.Native.Nat.{ℕ, suc, ◌+◌, ◌*◌}
 use native.Mathlib.Omega.{arith}
 use native.Mathlib.Numerals.{add-one}
 use lib.ListN.{length-set}
@@ -15,7 +15,7 @@ use Rattle.reference_price.proofs.prices.clear_deals.Goals as goal
 
 pub loop-contract-init : goal.loop-contract-init
 unfolding in_each_block
-loop-contract-init c = (omega arith, refl, refl)
+loop-contract-init c = (refl, refl)
 
 pub bounds-prices-at-in-loop-contract : goal.bounds-prices-at-in-loop-contract
 bounds-prices-at-in-loop-contract c = simp length-set (omega arith)
@@ -27,14 +27,13 @@ loop-contract-preserved c =
     let at = c.loop-contract.contract * price_width in
     let next : at + 4 ≡ suc (at + 3) = omega arith in
     let both : set (set c.loop-contract.prices (at + 3) 0) (at + 4) 0 ≡ over (at + 3) none c.loop-contract.prices = rw next (stored none c.loop-contract.prices (at + 3) (omega arith)) in (
-      omega arith,
       simp length-set (omega arith),
-      both ∙ rw (c.loop-contract.invariant.2, add-one c.loop-contract.contract) (inside_written 5 3 none (omega arith) c.loop-contract.contract d (omega arith)),
+      both ∙ rw (c.loop-contract.invariant.1, add-one c.loop-contract.contract) (inside_written 5 3 none (omega arith) c.loop-contract.contract d (omega arith)),
     )
 
 pub shape_of-prices : goal.shape_of-prices
-shape_of-prices c = c.loop-contract.invariant.1
+shape_of-prices c = c.loop-contract.invariant.0
 
 pub returns : goal.returns
 unfolding without_deals
-returns c = let e : c.loop-contract.contract ≡ contract_count = omega arith in rw e at c.loop-contract.invariant.2
+returns c = let e : c.loop-contract.contract ≡ contract_count = omega arith in rw e at c.loop-contract.invariant.1

@@ -10,7 +10,7 @@ reference_price-ggf-requires c =
     let pre = c.requires in
     let a = c.args in
     let h = pre.3 in (
-      rw c.threshold-threshold.ensures (least_threshold c.kind_of-kind.result),
+      rw c.threshold-threshold.ensures (least_threshold c.kind_of.result),
       pre.0.most_lots_holds a.contract h,
       pre.0.most_value a.contract h,
       pre.1.most a.contract h,
@@ -21,4 +21,4 @@ pub returns : goal.returns
 unfolding ggf_from
 returns c =
     let args = c.args in
-    rw (c.reference_price-ggf.ensures, c.threshold-threshold.ensures, c.kind_of-kind.ensures, add-zero (args.contract * price_width))
+    rw (c.reference_price-ggf.ensures, c.threshold-threshold.ensures, c.kind_of.ensures, add-zero (args.contract * price_width))

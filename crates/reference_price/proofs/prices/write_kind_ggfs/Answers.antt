@@ -21,40 +21,34 @@ pub loop-i-init : goal.loop-i-init
 unfolding open_in
 loop-i-init c =
     let kind = c.args.kind in
-    (c.requires.0, refl, omega arith, rw (c.open_count-more.ensures, contracts_of_lem kind, sub-zero (contracts_in kind)))
+    (c.requires.0, refl, rw (c.open_count-more.ensures, contracts_of_lem kind, sub-zero (contracts_in kind)))
 
 pub contract_of-contract-requires : goal.contract_of-contract-requires
-contract_of-contract-requires c = omega (arith, c.contracts_in-count.ensures)
-
-pub offset_bounds-column-contract : goal.offset_bounds-column-contract
-offset_bounds-column-contract c =
-    let args = c.args in
-    let b = number_below args.kind c.loop-i.i (omega (arith, c.contracts_in-count.ensures)) in omega (arith, c.contract_of-contract.ensures)
+contract_of-contract-requires c = omega (arith, c.contracts_in-i-end.ensures)
 
 pub bounds-column-contract : goal.bounds-column-contract
 bounds-column-contract c =
     let args = c.args in
-    let b = number_below args.kind c.loop-i.i (omega (arith, c.contracts_in-count.ensures)) in omega (arith, c.contract_of-contract.ensures)
+    let b = number_below args.kind c.loop-i.i (omega (arith, c.contracts_in-i-end.ensures)) in omega (arith, c.contract_of-contract.ensures)
 
 pub write_if_open-more-requires : goal.write_if_open-more-requires
 write_if_open-more-requires c =
     let pre = c.requires in
     let args = c.args in
-    let b = number_below args.kind c.loop-i.i (omega (arith, c.contracts_in-count.ensures)) in
+    let b = number_below args.kind c.loop-i.i (omega (arith, c.contracts_in-i-end.ensures)) in
     (c.loop-i.invariant.0, pre.1, pre.2, omega (arith, c.contract_of-contract.ensures))
 
 pub loop-i-preserved : goal.loop-i-preserved
 loop-i-preserved c =
     let a = c.args in
     let size = contracts_in a.kind in
-    let h : c.loop-i.i < size = omega (arith, c.contracts_in-count.ensures) in
+    let h : c.loop-i.i < size = omega (arith, c.contracts_in-i-end.ensures) in
     let x = contract_of a.kind c.loop-i.i in
     let rest = map (contract_of a.kind) (from (c.loop-i.i + 1) (size - (c.loop-i.i + 1))) in
-    let known = rw (from_next c.loop-i.i size h) at c.loop-i.invariant.3 in
+    let known = rw (from_next c.loop-i.i size h) at c.loop-i.invariant.2 in
     let v = ggf_from a.buys.now a.sells.now c.loop-i.prices x in (
       rw (c.write_if_open-more.ensures.prices_after, c.contract_of-contract.ensures) (deals_if (waits a.column.now x && ltb 0 c.loop-i.more) c.loop-i.prices x v c.loop-i.invariant.0),
       omega (arith, c.write_if_open-more.auto.prices),
-      omega arith,
       rw (c.write_if_open-more.ensures.value, c.write_if_open-more.ensures.prices_after, c.contract_of-contract.ensures)
           (open_next a.buys.now a.sells.now c.loop-i.prices _ (waits a.column.now) c.loop-i.more x rest known),
     )
@@ -67,4 +61,4 @@ unfolding ggfs_from kept
 returns c =
     let a = c.args in
     let size = contracts_in a.kind in
-    rw (take-nil c.loop-i.more) at (rw (from_end c.loop-i.i size (omega (arith, c.contracts_in-count.ensures))) at c.loop-i.invariant.3)
+    rw (take-nil c.loop-i.more) at (rw (from_end c.loop-i.i size (omega (arith, c.contracts_in-i-end.ensures))) at c.loop-i.invariant.2)

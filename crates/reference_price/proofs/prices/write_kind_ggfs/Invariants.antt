@@ -1,6 +1,6 @@
 use mathlib.Core.Path.{◌≡◌}
 use mathlib.Core.List.{map}
-use Prim.Native.Nat.{◌-◌, ◌≤◌}
+use Prim.Native.Nat.{◌-◌}
 use lib.ListN.{length, take}
 use Rattle.arith.specs.Lists.{from, kept}
 use Rattle.rules.specs.OtherForms.{contract_of, contracts_in}
@@ -9,8 +9,5 @@ use Rattle.reference_price.specs.Columns.{DealsFit, ggfs_from}
 use Rattle.reference_price.proofs.prices.write_kind_ggfs.Given as goal
 
 abbrev pub invariant-loop-i : goal.invariant-loop-i
-invariant-loop-i l = DealsFit l.prices × (length l.prices ≡ length l.initial.prices) × (l.i ≤ contracts_in l.kind)
+invariant-loop-i l = DealsFit l.prices × (length l.prices ≡ length l.initial.prices)
     × (ggfs_from l.buys l.sells (take l.more (kept (waits l.column) (map (contract_of l.kind) (from l.i (contracts_in l.kind - l.i))))) l.prices ≡ ggfs_from l.buys l.sells (open_in l.column l.kind) l.initial.prices)
-
-abbrev pub decreases-loop-i : goal.decreases-loop-i
-decreases-loop-i l = l.count - l.i

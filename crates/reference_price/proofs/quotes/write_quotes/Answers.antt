@@ -17,7 +17,6 @@ loop-i-init c =
     let pre = c.requires in
     let a = c.args in
     let n = a.count in (
-      omega arith,
       rw pre.1 (length-replicate {A = ℕ} contract_count 0),
       λ x h. rw (pre.1, get_or-replicate {A = ℕ} contract_count x 0 0 h, from_end n n (omega arith)) (sym (quotes_none a.day.0 a.time a.side x)),
     )
@@ -40,16 +39,15 @@ loop-i-preserved c =
     let up : i + 1 ≡ c.loop-i.i = omega arith in
     let rest = map (order_at b) (from c.loop-i.i (a.count - c.loop-i.i)) in
     let more : map (order_at b) (from i (a.count - i)) ≡ order_at b i ∷ rest = ap (map (order_at b)) (from_next i a.count (omega arith)) ∙ rw up in (
-      omega arith,
       omega (arith, c.note_quote.auto.quotes),
       λ x h. rw (c.note_quote.ensures, c.order_at-o.ensures, more)
           (quotes_next a.day.0 a.time a.side c.loop-i.quotes (order_at b i) rest
           (all_from_place (λ o. 1 ≤ o.price.0) (order_at b) c.loop-i.i (a.count - c.loop-i.i) (λ j u v. fit.least_price j (omega arith)))
-          (omega (arith, fit.contract_below i (omega arith))) c.loop-i.invariant.2 x h),
+          (omega (arith, fit.contract_below i (omega arith))) c.loop-i.invariant.1 x h),
     )
 
 pub returns : goal.returns
 returns c =
     let a = c.args in
     let e : c.loop-i.i ≡ 0 = omega arith in
-    rw (e, sub-zero a.count) at c.loop-i.invariant.2
+    rw (e, sub-zero a.count) at c.loop-i.invariant.1

@@ -1,6 +1,6 @@
 use mathlib.Core.Path.{◌≡◌}
 use mathlib.Core.List.{map}
-use Prim.Native.Nat.{ℕ, ◌-◌, ◌≤◌, ◌<◌}
+use Prim.Native.Nat.{ℕ, ◌-◌, ◌<◌}
 use lib.ListN.{length, get_or}
 use Rattle.arith.specs.Lists.{from}
 use Rattle.rules.specs.Ranges.{contract_count}
@@ -9,8 +9,5 @@ use Rattle.reference_price.specs.Columns.{best_price}
 use Rattle.reference_price.proofs.quotes.write_quotes.Given as goal
 
 abbrev pub invariant-loop-i : goal.invariant-loop-i
-invariant-loop-i l = (l.i ≤ l.count) × (length l.quotes ≡ contract_count)
+invariant-loop-i l = (length l.quotes ≡ contract_count)
     × ((c : ℕ) → c < contract_count → get_or l.quotes c 0 ≡ best_price l.day.0 l.time l.side (map (order_at l.book) (from l.i (l.count - l.i))) c)
-
-abbrev pub decreases-loop-i : goal.decreases-loop-i
-decreases-loop-i l = l.i
