@@ -21,6 +21,6 @@ pub fn apply(head: &mut [u64], book: &mut [u64], member: u64) -> Answer
         return Answer::MemberDefaulted(member);
     }
     head[at] = DEFAULT_MARK;
-    order_book::remove_orders(&mut *head, &mut *book, Leaving::OfMember(member));
+    order_book::remove_orders(head, book, Leaving::OfMember(member));
     Answer::Accepted(0)
 }
