@@ -11,4 +11,4 @@ pub returns-then-marked-2 : goal.returns-then-marked-2
 returns-then-marked-2 c = rw (c.in-DefaultedShorts.is, c.if-marked-2.true) (c.short_lots.ensures ∙ ap dn (to_z-of_z c.ranges.net))
 
 pub returns-else-marked-3 : goal.returns-else-marked-3
-returns-else-marked-3 c = rw (c.in-Others.is, c.if-marked-3.false) (c.size.ensures ∙ ap nat_abs (to_z-of_z c.ranges.net))
+returns-else-marked-3 c = rw (c.in-Others.is, c.if-marked-3.false) (c.unsigned_abs.ensures.value ∙ ap nat_abs (to_z-of_z c.ranges.net))
