@@ -10,8 +10,8 @@ use Rattle.close_out.proofs.netting.subtract.Goals as goal
 pub loop-i-init : goal.loop-i-init
 loop-i-init c = (omega arith, refl, refl, refl)
 
-pub overflow_sub-remaining : goal.overflow_sub-remaining
-overflow_sub-remaining c =
+pub overflow_sub-held : goal.overflow_sub-held
+overflow_sub-held c =
     let pre = c.requires in
     let args = c.args in
     omega (arith, still_at c.loop-i.held args.held.now c.loop-i.i c.loop-i.invariant.2, pre.1 c.loop-i.i)
