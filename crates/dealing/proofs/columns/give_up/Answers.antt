@@ -1,15 +1,8 @@
-use mathlib.Core.Path.{refl}
 use native.Mathlib.Omega.{arith}
 use lib.ListN.{length-set}
 use Rattle.arith.proofs.Columns.{written_next, written_end}
 use Rattle.rules.proofs.Netting.{given_next, given_end}
 use Rattle.dealing.proofs.columns.give_up.Goals as goal
-
-pub loop-i-init : goal.loop-i-init
-loop-i-init c = (omega arith, c.requires, refl)
-
-pub overflow_sub-remaining : goal.overflow_sub-remaining
-overflow_sub-remaining c = omega (arith, c.min-share.ensures)
 
 pub loop-i-preserved : goal.loop-i-preserved
 loop-i-preserved c = let a = c.args in
@@ -24,6 +17,3 @@ loop-i-preserved c = let a = c.args in
 pub returns : goal.returns
 returns c = let l = c.loop-i in
     written_end l.given l.i _ _ (omega arith) (given_end l.remaining _ l.i (omega arith)) l.invariant.2
-
-pub shape_of-given : goal.shape_of-given
-shape_of-given c = omega arith

@@ -11,18 +11,12 @@ use Rattle.dealing.proofs.level.highest_level.Goals as goal
 all_below : (n : ℕ) (l : List ℕ) → ((j : ℕ) → j < length l → get_or l j 0 ≤ n) → (j : ℕ) → get_or l j 0 ≤ n
 all_below n l f j = le_or_lt (length l) j (λ h. rw (get_or-eq_default l 0 h) (omega arith)) (λ h. f j h)
 
-pub lots_at_level-requires : goal.lots_at_level-requires
-lots_at_level-requires c = (omega (arith, c.min-top.ensures), omega arith)
-
 pub returns-then-lots_at_level-lots : goal.returns-then-lots_at_level-lots
 returns-then-lots_at_level-lots c =
     let a = c.args in
     let top = c.min-top.ensures in
     let same = level_top a.lots c.largest.result a.minima.now (all_below c.largest.result a.minima.now c.largest.ensures) in
     record { within = omega arith; enough = rw (← same, ← top, ← c.lots_at_level.ensures) c.if-lots_at_level-lots.true; short = λ h. absurd (omega arith) }
-
-pub level_below-low-requires : goal.level_below-low-requires
-level_below-low-requires c = (omega (arith, c.min-top.ensures), omega arith, rw (← c.lots_at_level.ensures) c.if-lots_at_level-lots.false)
 
 pub loop-low-init : goal.loop-low-init
 loop-low-init c =
@@ -33,9 +27,6 @@ loop-low-init c =
       c.level_below-low.ensures.1,
       λ h. rw (next, ← c.lots_at_level.ensures) c.if-lots_at_level-lots.false,
     )
-
-pub loop-low-preserved-then-lots_at_level-lots-2 : goal.loop-low-preserved-then-lots_at_level-lots-2
-loop-low-preserved-then-lots_at_level-lots-2 c = (omega arith, omega arith, rw (← c.lots_at_level-in-loop-low.ensures) c.if-lots_at_level-lots-2.true, c.loop-low.invariant.3)
 
 pub loop-low-preserved : goal.loop-low-preserved
 loop-low-preserved c = let l = c.loop-low in
