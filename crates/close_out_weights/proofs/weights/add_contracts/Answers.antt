@@ -8,6 +8,10 @@ use Rattle.close_out_weights.proofs.DayWeights.{sums_start, sums_next}
 use Rattle.close_out_weights.proofs.ColumnFits.{sums_most}
 use Rattle.close_out_weights.proofs.weights.add_contracts.Goals as goal
 
+pub loop-contract-init : goal.loop-contract-init
+loop-contract-init c =
+    (omega arith, refl, c.requires.rows_fit.2 ∙ sums_start c.args.days.now c.args.lots.now (length c.args.sums.now))
+
 pub add_if_open-requires : goal.add_if_open-requires
 add_if_open-requires c =
     let a = c.args in
@@ -20,3 +24,8 @@ loop-contract-preserved c =
     let next = sums_next a.days.now a.lots.now (length a.sums.now) c.loop-contract.contract c.loop-contract.sums _ c.loop-contract.invariant.2 added in
     (omega arith, ap length next ∙ mapped_length _ 0 (length a.sums.now), next)
 
+pub returns : goal.returns
+returns c =
+    let a = c.args in
+    let e : c.loop-contract.contract ≡ term_count = omega arith in
+    rw e at c.loop-contract.invariant.2
