@@ -12,9 +12,6 @@ loop-member-init c =
     let pre = c.requires in
     (record { within = omega arith; few = omega arith; members = pre.gains_len.0; takes = pre.bookable; count = refl; same = λ t. refl }, refl, refl, refl, refl)
 
-pub bounds-losses-member : goal.bounds-losses-member
-bounds-losses-member c = omega (arith, c.requires.gains_len.1)
-
 pub book_change-at-requires : goal.book_change-at-requires
 book_change-at-requires c =
     let pre = c.requires in
@@ -35,18 +32,6 @@ loop-member-preserved c =
       k.value ∙ c.loop-member.invariant.3,
       k.lines ∙ c.loop-member.invariant.4,
     )
-
-pub shape_of-head : goal.shape_of-head
-shape_of-head c = c.loop-member.invariant.1
-
-pub shape_of-lots : goal.shape_of-lots
-shape_of-lots c = c.loop-member.invariant.2
-
-pub shape_of-value : goal.shape_of-value
-shape_of-value c = c.loop-member.invariant.3
-
-pub shape_of-lines : goal.shape_of-lines
-shape_of-lines c = c.loop-member.invariant.4
 
 pub returns : goal.returns
 returns c = let a = c.args in

@@ -12,9 +12,6 @@ use Rattle.dealing.specs.Levels.{most_days}
 use Rattle.close_out_weights.proofs.Still.{still_at, still_after}
 use Rattle.close_out_weights.proofs.weights.add_contract.Goals as goal
 
-pub loop-i-init : goal.loop-i-init
-loop-i-init c = (omega arith, refl, refl, rw (sub-zero (length c.args.sums.now)))
-
 pub overflow_mul-sum : goal.overflow_mul-sum
 overflow_mul-sum c =
     let net = get_or c.args.lots.now (row_place c.args.contract c.loop-i.i) (pos 0) in
@@ -44,5 +41,3 @@ loop-i-preserved c =
 pub returns : goal.returns
 returns c = written_end c.loop-i.sums c.loop-i.i _ _ (omega arith) (mapped_end _ c.loop-i.i _ (omega arith)) c.loop-i.invariant.3
 
-pub shape_of-sums : goal.shape_of-sums
-shape_of-sums c = omega arith

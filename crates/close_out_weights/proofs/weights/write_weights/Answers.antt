@@ -12,9 +12,6 @@ use Rattle.tables.specs.Fit.{members_in}
 use Rattle.close_out_weights.proofs.weights.write_weights.Goals as goal
 use Rattle.close_out_weights.proofs.weights.write_weights.Goals.{then-head-i-eq-DEFAULT_MARK, else-head-i-eq-DEFAULT_MARK}
 
-pub loop-i-init : goal.loop-i-init
-loop-i-init c = (omega arith, c.requires.2, rw (sub-zero (members_in c.args.head.now)))
-
 pub loop-i-preserved : goal.loop-i-preserved
 loop-i-preserved c = let a = c.args in
     let f : ℕ → ℕ = λ m. cond (eqb (get_or a.head.now (marks_from + m) 0) 1) 0 (get_or a.sums.now m 0) in
@@ -27,5 +24,3 @@ loop-i-preserved c = let a = c.args in
 pub returns : goal.returns
 returns c = written_end c.loop-i.weights c.loop-i.i _ _ (omega arith) (mapped_end _ c.loop-i.i _ (omega arith)) c.loop-i.invariant.2
 
-pub shape_of-weights : goal.shape_of-weights
-shape_of-weights c = omega arith
