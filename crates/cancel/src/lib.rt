@@ -25,10 +25,10 @@ pub fn apply(head: &mut [u64], book: &mut [u64], e: Cancellation) -> Result<u64,
         number: e.order,
         member: e.member,
     };
-    if !order_book::would_any_leave(&*book, count, leaving) {
+    if !order_book::would_any_leave(book, count, leaving) {
         return Err(Refusal::NoSuchOrder);
     }
-    tables::set_time(&mut *head, time);
-    order_book::remove_orders(&mut *head, &mut *book, leaving);
+    tables::set_time(head, time);
+    order_book::remove_orders(head, book, leaving);
     Ok(0)
 }

@@ -1,14 +1,32 @@
 // Lines of a close-out booked: a line for each member whose lots change.
-ghost use Rattle.std.specs.Prelude.{◌≡◌, [], ◌∷◌, ◌+◌, ◌≤◌, ◌<◌, pos, ◌-ℤ◌, length};
+ghost use Rattle.std.specs.Prelude.{◌≡◌, ◌≢◌, [], ◌∷◌, ◌+◌, ◌≤◌, ◌<◌, pos, ◌-ℤ◌, length};
 ghost use Rattle.rules.specs.Default.{sum_of, change_lines};
 ghost use Rattle.rules.specs.Ledger.{Tables, with_head, with_rows, with_lines};
 ghost use Rattle.rules.specs.Ranges.{contract_count, most_price, least_lines};
 ghost use Rattle.tables.specs.Fit.{members_in};
+ghost use Rattle.deal_lines.specs.Lines.{line_of};
 ghost use Rattle.deal_lines.specs.Room.{Bookable};
 ghost use Rattle.close_out.specs.Booking.{with_each, changes};
 
 use deal_lines::DealLine;
 use rules::{Kurus, Lots, Side};
+
+// The line of a member whose lots change: it buys what it gains, and sells what it gives up.
+fn change_line(contract: u64, price: Kurus, member: u64, gain: u64, loss: u64) -> DealLine
+    requires { gain ≢ loss }
+    ensures line { change_lines contract price.0 member ((pos gain -ℤ pos loss) ∷ []) ≡ line_of result ∷ [] }
+    ensures terms { (result.member ≡ member) × (result.contract ≡ contract) × (result.price ≡ price) × (result.lots.0 ≤ gain + loss) }
+{
+    let lots = Lots(gain.abs_diff(loss));
+    let side = if loss < gain { Side::Buy } else { Side::Sell };
+    DealLine {
+        member,
+        contract,
+        side,
+        lots,
+        price,
+    }
+}
 
 // Books the change of one member as line i, if there is one. The answer is the number of lines then.
 fn book_change(
@@ -33,26 +51,7 @@ fn book_change(
     if gain == loss {
         return i;
     }
-    if loss < gain {
-        let side = Side::Buy;
-        let line = DealLine {
-            member,
-            contract,
-            side,
-            lots: Lots(gain - loss),
-            price,
-        };
-        deal_lines::book_line(head, lots, value, lines, i, line);
-        return i + 1;
-    }
-    let side = Side::Sell;
-    let line = DealLine {
-        member,
-        contract,
-        side,
-        lots: Lots(loss - gain),
-        price,
-    };
+    let line = change_line(contract, price, member, gain, loss);
     deal_lines::book_line(head, lots, value, lines, i, line);
     i + 1
 }
@@ -78,21 +77,19 @@ pub fn book_changes(
         (with_head head.old (with_rows lots.old value.old (with_lines lines.old t))) }
 {
     let mut at = i;
-    let mut member: usize = 0;
-    while member < gains.len() {
+    for (member, gain) in gains.iter().enumerate() {
         at = book_change(
-            &mut *head,
-            &mut *lots,
-            &mut *value,
-            &mut *lines,
+            head,
+            lots,
+            value,
+            lines,
             at,
             contract,
             price,
             member as u64,
-            gains[member],
+            *gain,
             losses[member],
         );
-        member += 1;
     }
     at
 }

@@ -6,7 +6,6 @@ ghost use Rattle.close_out.specs.Booking.{Defaulted};
 
 use close_out_weights::{Part, read_column};
 use dealing::sum_of;
-use numbers::smaller;
 
 // Lots netted among the defaulted, and L, the lots that remain on one side.
 #[derive(Clone, Copy)]
@@ -27,11 +26,12 @@ pub fn find_defaulted(
     requires longs_len { (length longs.old ≡ members_in head.now) × (length shorts.old ≡ members_in head.now) }
     ensures { Defaulted head.now lots.now contract result.netted result.remaining longs.new shorts.new }
 {
-    read_column(Part::DefaultedLongs, head, lots, contract, &mut *longs);
-    read_column(Part::DefaultedShorts, head, lots, contract, &mut *shorts);
-    let long = sum_of(&longs[..]);
-    let short = sum_of(&shorts[..]);
-    let netted = smaller(long, short);
-    let remaining = (long - netted) + (short - netted);
-    Netting { netted, remaining }
+    read_column(Part::DefaultedLongs, head, lots, contract, longs);
+    read_column(Part::DefaultedShorts, head, lots, contract, shorts);
+    let long = sum_of(longs);
+    let short = sum_of(shorts);
+    Netting {
+        netted: long.min(short),
+        remaining: long.abs_diff(short),
+    }
 }

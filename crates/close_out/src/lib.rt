@@ -45,31 +45,21 @@ fn close_out_lots(
         ≡ close_out_spec (with_head head.old (with_rows lots.old value.old (with_lines lines.old t))) e }
 {
     let contract = e.contract;
-    let found = find_defaulted(&head[..], &lots[..], contract, &mut *longs, &mut *shorts);
+    let found = find_defaulted(head, lots, contract, longs, shorts);
     let netted = found.netted;
     let remaining = found.remaining;
     if netted + remaining == 0 {
         return Err(Refusal::NoDefaultedLots);
     }
-    find_weights(&head[..], &lots[..], e, remaining, &mut *weights);
-    if (0 < remaining) & (sum_of(&weights[..]) == 0) {
+    find_weights(head, lots, e, remaining, weights);
+    if (0 < remaining) & (sum_of(weights) == 0) {
         return Err(Refusal::NoTaker);
     }
     if MOST_LOTS_RUN < head[LOTS_RUN] + ((netted + netted) + (remaining + remaining)) {
         return Err(Refusal::TotalPassed);
     }
     let count = book_steps(
-        head,
-        lots,
-        value,
-        lines,
-        contract,
-        price,
-        netted,
-        remaining,
-        longs,
-        shorts,
-        &weights[..],
+        head, lots, value, lines, contract, price, netted, remaining, longs, shorts, weights,
     );
     Ok(count as u64)
 }
@@ -92,7 +82,7 @@ pub fn apply(
         ≡ close_out_spec (with_prices prices.now (with_head head.old (with_rows lots.old value.old (with_lines lines.old t)))) e }
 {
     let contract = e.contract;
-    if !tables::is_contract_open(&head[..], contract) {
+    if !tables::is_contract_open(head, contract) {
         return Err(Refusal::ContractNotOpen(contract));
     }
     let price = prices[contract as usize * PRICE_WIDTH + GGF];

@@ -17,11 +17,8 @@ fn subtract(held: &mut [u64], given: &[u64])
     requires { (length given.now ≡ length held.old) × ((i : ℕ) → get_or given.now i 0 ≤ get_or held.old i 0) }
     ensures { held.new ≡ less held.old given.now }
 {
-    let mut i: usize = 0;
-    while i < held.len() {
-        let remaining = held[i] - given[i];
-        held[i] = remaining;
-        i += 1;
+    for (i, lots) in given.iter().enumerate() {
+        held[i] -= *lots;
     }
 }
 
@@ -48,8 +45,8 @@ fn net_columns(
         ≡ with_each 0 (netting_lines contract price.0 netted longs.old shorts.old)
         (with_head head.old (with_rows lots.old value.old (with_lines lines.old t))) }
 {
-    give_up(netted, &longs[..], &mut *given_longs);
-    give_up(netted, &shorts[..], &mut *given_shorts);
+    give_up(netted, longs, given_longs);
+    give_up(netted, shorts, given_shorts);
     let count = book_changes(
         head,
         lots,
@@ -58,11 +55,11 @@ fn net_columns(
         0,
         contract,
         price,
-        &given_shorts[..],
-        &given_longs[..],
+        given_shorts,
+        given_longs,
     );
-    subtract(longs, &given_longs[..]);
-    subtract(shorts, &given_shorts[..]);
+    subtract(longs, given_longs);
+    subtract(shorts, given_shorts);
     count
 }
 

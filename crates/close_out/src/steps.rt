@@ -37,31 +37,15 @@ pub fn book_steps(
         (with_head head.old (with_rows lots.old value.old (with_lines lines.old t))) }
 {
     let first = book_netting(
-        &mut *head,
-        &mut *lots,
-        &mut *value,
-        &mut *lines,
-        contract,
-        price,
-        netted,
-        &mut *longs,
-        &mut *shorts,
+        head, lots, value, lines, contract, price, netted, longs, shorts,
     );
     let second = book_changes(
-        &mut *head,
-        &mut *lots,
-        &mut *value,
-        &mut *lines,
-        first,
-        contract,
-        price,
-        &shorts[..],
-        &longs[..],
+        head, lots, value, lines, first, contract, price, shorts, longs,
     );
     if remaining == 0 {
         return second;
     }
-    let long = sum_of(&longs[..]);
+    let long = sum_of(longs);
     book_takers(
         head, lots, value, lines, second, contract, price, long, remaining, weights,
     )

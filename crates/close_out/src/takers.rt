@@ -35,31 +35,11 @@ fn deal_columns(
         ≡ with_each i (taker_lines contract price.0 long remaining weights.now)
         (with_head head.old (with_rows lots.old value.old (with_lines lines.old t))) }
 {
-    deal_out(remaining, weights, &mut *taken);
+    deal_out(remaining, weights, taken);
     if 0 < long {
-        return book_changes(
-            head,
-            lots,
-            value,
-            lines,
-            i,
-            contract,
-            price,
-            &taken[..],
-            nothing,
-        );
+        return book_changes(head, lots, value, lines, i, contract, price, taken, nothing);
     }
-    book_changes(
-        head,
-        lots,
-        value,
-        lines,
-        i,
-        contract,
-        price,
-        nothing,
-        &taken[..],
-    )
+    book_changes(head, lots, value, lines, i, contract, price, nothing, taken)
 }
 
 // Books the takers' lines after i others: long lots go to them, short lots come from them.

@@ -26,9 +26,8 @@ pub fn find_weights(
         ≡ weights (with_head head.now (with_rows lots.now v t)) e }
     ensures member_column { MemberColumn most_weight column.new }
 {
-    let ratio = e.ratio;
-    read_column(Part::Others, head, lots, e.contract, &mut *column);
-    if PER_MILLE * remaining < ratio * sum_of(&column[..]) {
+    read_column(Part::Others, head, lots, e.contract, column);
+    if PER_MILLE * remaining < e.ratio * sum_of(column) {
         return;
     }
     weigh_by_days(head, lots, column);

@@ -5,7 +5,6 @@ ghost use Rattle.rules.specs.Ledger.{Tables, members_place, with_head, with_rows
 ghost use Rattle.rules.specs.Ranges.{contract_count, most_members};
 ghost use Rattle.close_out_weights.specs.Columns.{lots_in, column_of};
 
-use numbers::size;
 use rules::layout::{DEFAULT_MARK, MARKS, ROW_WIDTH};
 
 #[derive(Clone, Copy)]
@@ -18,17 +17,13 @@ pub enum Part {
 fn long_lots(net: i64) -> u64
     ensures { result ≡ up net }
 {
-    if net < 0 { 0 } else { net as u64 }
+    net.max(0).unsigned_abs()
 }
 
 fn short_lots(net: i64) -> u64
     ensures { result ≡ dn net }
 {
-    if net < 0 {
-        let size = -1 - net;
-        return size as u64 + 1;
-    }
-    0
+    net.min(0).unsigned_abs()
 }
 
 fn lots_in(part: Part, marked: bool, net: i64) -> u64
@@ -37,7 +32,7 @@ fn lots_in(part: Part, marked: bool, net: i64) -> u64
     match part {
         Part::DefaultedLongs => if marked { long_lots(net) } else { 0 },
         Part::DefaultedShorts => if marked { short_lots(net) } else { 0 },
-        Part::Others => if marked { 0 } else { size(net) },
+        Part::Others => if marked { 0 } else { net.unsigned_abs() },
     }
 }
 
@@ -48,10 +43,8 @@ pub fn read_column(part: Part, head: &[u64], lots: &[i64], contract: u64, column
     ensures { (t : Tables) (v : List ℤ) → column.new ≡ column_of part (with_head head.now (with_rows lots.now v t)) contract }
 {
     let row = contract as usize * ROW_WIDTH;
-    let mut i: usize = 0;
-    while i < column.len() {
+    for (i, place) in column.iter_mut().enumerate() {
         let marked = head[MARKS + i] == DEFAULT_MARK;
-        column[i] = lots_in(part, marked, lots[row + i]);
-        i += 1;
+        *place = lots_in(part, marked, lots[row + i]);
     }
 }

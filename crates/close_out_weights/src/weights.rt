@@ -7,7 +7,6 @@ ghost use Rattle.rules.specs.Ledger.{Tables, with_head, with_rows, marks_from, r
 ghost use Rattle.tables.specs.Fit.{HeadFit, RowsFit, members_in};
 ghost use Rattle.close_out_weights.specs.Columns.{weight_by, days_weights};
 
-use numbers::size;
 use rules::DayNo;
 use rules::layout::{
     DAY, DEFAULT_MARK, FIRST_YEAR, HOLIDAY_COUNT, HOLIDAYS, MARKS, ROW_WIDTH, TERMS,
@@ -20,11 +19,8 @@ fn add_contract(lots: &[i64], contract: usize, days: u64, sums: &mut [u64])
     ensures { sums.new ≡ map (λ m. get_or sums.old m 0 + days * nat_abs (get_or lots.now (row_place contract m) (pos 0))) (from 0 (length sums.old)) }
 {
     let row = contract * ROW_WIDTH;
-    let mut i: usize = 0;
-    while i < sums.len() {
-        let more = days * size(lots[row + i]);
-        sums[i] = sums[i] + more;
-        i += 1;
+    for (i, sum) in sums.iter_mut().enumerate() {
+        *sum += days * lots[row + i].unsigned_abs();
     }
 }
 
@@ -46,10 +42,8 @@ fn add_contracts(lots: &[i64], days: &[u64], sums: &mut [u64])
     requires rows_fit { RowsFit (length sums.old) most_lots_run lots.now × (length sums.old ≤ most_members) × (sums.old ≡ replicate (length sums.old) 0) }
     ensures { sums.new ≡ map (weight_by term_count days.now lots.now) (from 0 (length sums.old)) }
 {
-    let mut contract: usize = 0;
-    while contract < days.len() {
-        add_if_open(lots, contract, days[contract], &mut *sums);
-        contract += 1;
+    for (contract, days) in days.iter().enumerate() {
+        add_if_open(lots, contract, *days, sums);
     }
 }
 
@@ -58,14 +52,12 @@ fn write_weights(head: &[u64], sums: &[u64], weights: &mut [u64])
     requires { HeadFit head.now × (length sums.now ≡ members_in head.now) × (length weights.old ≡ members_in head.now) }
     ensures { weights.new ≡ map (λ m. cond (eqb (get_or head.now (marks_from + m) 0) 1) 0 (get_or sums.now m 0)) (from 0 (members_in head.now)) }
 {
-    let mut i: usize = 0;
-    while i < weights.len() {
-        weights[i] = if head[MARKS + i] == DEFAULT_MARK {
+    for (i, weight) in weights.iter_mut().enumerate() {
+        *weight = if head[MARKS + i] == DEFAULT_MARK {
             0
         } else {
             sums[i]
         };
-        i += 1;
     }
 }
 
@@ -75,8 +67,8 @@ fn weigh(head: &[u64], lots: &[i64], days: &[u64], sums: &mut [u64], weights: &m
     ensures { weights.new
         ≡ map (λ m. cond (eqb (get_or head.now (marks_from + m) 0) 1) 0 (weight_by term_count days.now lots.now m)) (from 0 (members_in head.now)) }
 {
-    add_contracts(lots, days, &mut *sums);
-    write_weights(head, &sums[..], weights);
+    add_contracts(lots, days, sums);
+    write_weights(head, sums, weights);
 }
 
 pub fn weigh_by_days(head: &[u64], lots: &[i64], weights: &mut [u64])

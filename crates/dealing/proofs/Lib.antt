@@ -1,2 +1,5 @@
+mod Ceilings
 mod Levels
 pub mod Dealt
+mod Placed
+mod Sums

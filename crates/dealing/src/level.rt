@@ -1,46 +1,30 @@
 // The level up to which whole rounds deal.
-ghost use Rattle.std.specs.Prelude.{◌≡◌, ℕ, ◌≤◌, ◌<◌, length, get_or};
+ghost use Rattle.std.specs.Prelude.{◌≡◌, ◌≤◌, ◌<◌, length, get_or, EachIndex};
 ghost use Rattle.rules.specs.Default.{sum_of};
 ghost use Rattle.rules.specs.Ranges.{most_members, most_lots_run};
 ghost use Rattle.dealing.specs.Levels.{at_level, Highest};
-
-use numbers::{larger, smaller};
 
 pub fn lots_at_level(level: u64, minima: &[u64]) -> u64
     requires { (level ≤ most_lots_run) × (length minima.now ≤ most_members) }
     ensures { result ≡ sum_of (at_level level minima.now) }
 {
-    let mut sum: u64 = 0;
-    let mut i: usize = 0;
-    while i < minima.len() {
-        sum += smaller(level, minima[i]);
-        i += 1;
-    }
-    sum
+    minima.iter().map(|minimum| level.min(*minimum)).sum()
 }
 
 pub fn fill_to_level(level: u64, minima: &[u64], received: &mut [u64])
     requires { length received.old ≡ length minima.now }
     ensures { received.new ≡ at_level level minima.now }
 {
-    let mut i: usize = 0;
-    while i < minima.len() {
-        received[i] = smaller(level, minima[i]);
-        i += 1;
+    for (i, minimum) in minima.iter().enumerate() {
+        received[i] = level.min(*minimum);
     }
 }
 
 // The largest minimum.
 fn largest(minima: &[u64]) -> u64
-    ensures { (i : ℕ) → get_or minima.now i 0 ≤ result }
+    ensures { EachIndex minima.now (λ i. get_or minima.now i 0 ≤ result) }
 {
-    let mut found: u64 = 0;
-    let mut i: usize = 0;
-    while i < minima.len() {
-        found = larger(found, minima[i]);
-        i += 1;
-    }
-    found
+    minima.iter().copied().max().unwrap_or(0)
 }
 
 // A level that the lots suffice for, below the top, for which they do not. It is as many below the top as there are members if
@@ -49,7 +33,7 @@ fn level_below(lots: u64, minima: &[u64], top: u64) -> u64
     requires { (top ≤ most_lots_run) × (length minima.now ≤ most_members) × (lots < sum_of (at_level top minima.now)) }
     ensures { (result < top) × (sum_of (at_level result minima.now) ≤ lots) }
 {
-    let level = top - smaller(top, minima.len() as u64);
+    let level = top.saturating_sub(minima.len() as u64);
     if lots_at_level(level, minima) <= lots {
         return level;
     }
@@ -62,7 +46,7 @@ pub fn highest_level(lots: u64, minima: &[u64]) -> u64
     requires { (lots ≤ most_lots_run) × (length minima.now ≤ most_members) }
     ensures { Highest lots minima.now result }
 {
-    let top = smaller(lots, largest(minima));
+    let top = lots.min(largest(minima));
     if lots_at_level(top, minima) <= lots {
         return lots;
     }

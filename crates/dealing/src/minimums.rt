@@ -12,10 +12,7 @@ pub fn find_minimums(lots: u64, weights: &[u64], minima: &mut [u64])
     ensures { minima.new ≡ minimums lots weights.now }
 {
     let total = sum_of(weights);
-    let mut i: usize = 0;
-    while i < weights.len() {
-        let minimum = (lots * weights[i] + (total - 1)) / total;
-        minima[i] = minimum;
-        i += 1;
+    for (i, weight) in weights.iter().enumerate() {
+        minima[i] = (lots * *weight).div_ceil(total);
     }
 }

@@ -16,15 +16,12 @@ fn take_turns(minima: &[u64], order: &[usize], received: &mut [u64], lots: u64) 
     ensures { record { received = received.exit.now; undealt = result } ≡ round minima.now order.now (record { received = received.entry.now; undealt = lots }) }
 {
     let mut undealt = lots;
-    let mut i: usize = 0;
-    while i < order.len() {
-        let member = order[i];
+    for &member in order {
         let has = received[member];
         if (0 < undealt) & (has < minima[member]) {
             received[member] = has + 1;
             undealt -= 1;
         }
-        i += 1;
     }
     undealt
 }
@@ -40,8 +37,8 @@ fn deal_by_minimums(lots: u64, weights: &[u64], minima: &[u64], received: &mut [
     put_in_order(minima, weights, &mut order[..members]);
     let level = highest_level(lots, minima);
     let undealt = lots - lots_at_level(level, minima);
-    fill_to_level(level, minima, &mut *received);
-    take_turns(minima, &order[..members], &mut *received, undealt);
+    fill_to_level(level, minima, received);
+    take_turns(minima, &order[..members], received, undealt);
 }
 
 // Lots dealt out to the members by weight.

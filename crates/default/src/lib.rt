@@ -21,6 +21,6 @@ pub fn apply(head: &mut [u64], book: &mut [u64], member: u64) -> Result<u64, Ref
         return Err(Refusal::MemberDefaulted(member));
     }
     head[at] = DEFAULT_MARK;
-    order_book::remove_orders(&mut *head, &mut *book, Leaving::OfMember(member));
+    order_book::remove_orders(head, book, Leaving::OfMember(member));
     Ok(0)
 }

@@ -15,16 +15,13 @@ pub fn order_of(head: &[u64], e: Submission) -> Order
     requires { head_length ≤ length head.now }
     ensures { (t : Tables) → result ≡ incoming (with_head head.now t) e }
 {
-    let side = e.side;
-    let price = e.price;
-    let lots = e.lots;
     Order {
         number: head[ACCEPTED_SUBMITS],
         member: e.member,
         contract: e.contract,
-        side: side,
-        price: price,
-        lots: lots,
+        side: e.side,
+        price: e.price,
+        lots: e.lots,
         day: DayNo(head[DAY]),
         time: e.time,
     }
@@ -36,10 +33,8 @@ fn count_submit(head: &mut [u64], member: u64)
     ensures { head.new
         ≡ with_accepted_submits (accepted_in head.old + 1) (with_submits_this_second member (get_or head.old (submits_from + member) 0 + 1) head.old) }
 {
-    let at = SUBMITS + member as usize;
-    let accepted = head[ACCEPTED_SUBMITS];
-    head[at] = head[at] + 1;
-    head[ACCEPTED_SUBMITS] = accepted + 1;
+    head[SUBMITS + member as usize] += 1;
+    head[ACCEPTED_SUBMITS] += 1;
 }
 
 // The tables after an accepted submit, step by step as the rules have them.
@@ -64,19 +59,8 @@ pub fn book_submit(
         ≡ submit_booked (with_head head.old (with_prices prices.old (with_rows lots.old value.old
         (with_book book.old (with_lines lines.old t))))) e }
 {
-    let kind = e.kind;
-    let o = order_of(&*head, e);
-    tables::set_time(&mut *head, e.time);
-    count_submit(&mut *head, e.member);
-    place_order(
-        &mut *head,
-        &mut *prices,
-        &mut *lots,
-        &mut *value,
-        &mut *book,
-        &mut *lines,
-        kind,
-        o,
-        crossing,
-    )
+    let o = order_of(head, e);
+    tables::set_time(head, e.time);
+    count_submit(head, e.member);
+    place_order(head, prices, lots, value, book, lines, e.kind, o, crossing)
 }

@@ -21,12 +21,9 @@ pub fn worth_of(deals: &[u64], count: usize) -> Worth
     ensures { (result.0 ≡ total worth_of (deals_in count deals.now)) × (result.0 ≤ most_lots * (most_lots * most_price)) }
 {
     let mut worth: u64 = 0;
-    let mut k: usize = 0;
-    while k < count {
+    for k in 0..count {
         let d = deal_at(deals, k);
-        let lots = d.lots;
-        worth += lots.times(d.price).0;
-        k += 1;
+        worth += d.lots.times(d.price).0;
     }
     Worth(worth)
 }
@@ -47,40 +44,20 @@ fn book_deal(
         ≡ with_line (k * 2 + 1) (line_out o d) (with_line (k * 2) (line_in o d)
         (with_head head.old (with_rows lots.old value.old (with_lines lines.old t)))) }
 {
-    let side = o.side;
-    let against = other_side(side);
-    let lots_dealt = d.lots;
-    let price = d.price;
     let incoming = DealLine {
         member: o.member,
         contract: o.contract,
-        side: side,
-        lots: lots_dealt,
-        price: price,
+        side: o.side,
+        lots: d.lots,
+        price: d.price,
     };
     let resting = DealLine {
         member: d.member,
-        contract: o.contract,
-        side: against,
-        lots: lots_dealt,
-        price: price,
+        side: other_side(o.side),
+        ..incoming
     };
-    book_line(
-        &mut *head,
-        &mut *lots,
-        &mut *value,
-        &mut *lines,
-        k * 2,
-        incoming,
-    );
-    book_line(
-        &mut *head,
-        &mut *lots,
-        &mut *value,
-        &mut *lines,
-        k * 2 + 1,
-        resting,
-    );
+    book_line(head, lots, value, lines, k * 2, incoming);
+    book_line(head, lots, value, lines, k * 2 + 1, resting);
 }
 
 // Both lines of every deal, in the order of the deals.
@@ -99,10 +76,7 @@ pub fn book_deals(
         ≡ (booked (flat_map (lines_with o) (deals_in count deals.now))
         (with_head head.old (with_rows lots.old value.old (with_lines lines.old t)))).after }
 {
-    let mut k: usize = 0;
-    while k < count {
-        let d = deal_at(deals, k);
-        book_deal(&mut *head, &mut *lots, &mut *value, &mut *lines, k, o, d);
-        k += 1;
+    for k in 0..count {
+        book_deal(head, lots, value, lines, k, o, deal_at(deals, k));
     }
 }

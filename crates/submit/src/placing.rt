@@ -28,7 +28,7 @@ fn rest_order(head: &mut [u64], book: &mut [u64], kind: OrderKind, o: Order, lef
 {
     if is_resting(kind) & (0 < left.0) {
         let count = head[ORDER_COUNT];
-        order_book::put_order(&mut *book, count as usize, order_book::with_lots(o, left));
+        order_book::put_order(book, count as usize, order_book::with_lots(o, left));
         head[ORDER_COUNT] = count + 1;
     }
 }
@@ -56,26 +56,10 @@ fn trade(
     let orders = head[ORDER_COUNT] as usize;
     let mut left = [0u64; ORDERS];
     let mut deals = [0u64; DEAL_PLACES];
-    let m = settle(
-        &mut *head,
-        &mut *prices,
-        &mut *book,
-        o,
-        &mut left[..orders],
-        &mut deals,
-    );
-    rest_order(&mut *head, &mut *book, kind, o, m.left);
-    let count = m.deals;
-    book_deals(
-        &mut *head,
-        &mut *lots,
-        &mut *value,
-        &mut *lines,
-        o,
-        &deals,
-        count,
-    );
-    Ok(count as u64 * 2)
+    let m = settle(head, prices, book, o, &mut left[..orders], &mut deals);
+    rest_order(head, book, kind, o, m.left);
+    book_deals(head, lots, value, lines, o, &deals, m.deals);
+    Ok(m.deals as u64 * 2)
 }
 
 // Places an order of which so many lots cross.
@@ -100,17 +84,8 @@ pub fn place_order(
         (with_book book.old (with_lines lines.old t))))) }
 {
     if crossing.0 == 0 {
-        rest_order(&mut *head, &mut *book, kind, o, o.lots);
+        rest_order(head, book, kind, o, o.lots);
         return Ok(0);
     }
-    trade(
-        &mut *head,
-        &mut *prices,
-        &mut *lots,
-        &mut *value,
-        &mut *book,
-        &mut *lines,
-        kind,
-        o,
-    )
+    trade(head, prices, lots, value, book, lines, kind, o)
 }

@@ -21,10 +21,8 @@ fn add_dealt(prices: &mut [u64], contract: u64, lots: Lots, worth: Worth)
         ≡ with_dealt contract (get_or prices.old (day_lots_place contract) 0 + lots.0) (get_or prices.old (day_value_place contract) 0 + worth.0) prices.old }
 {
     let at = contract as usize * PRICE_WIDTH;
-    let all_lots = prices[at + DAY_LOTS] + lots.0;
-    let all_worth = prices[at + DAY_VALUE] + worth.0;
-    prices[at + DAY_LOTS] = all_lots;
-    prices[at + DAY_VALUE] = all_worth;
+    prices[at + DAY_LOTS] += lots.0;
+    prices[at + DAY_VALUE] += worth.0;
 }
 
 // Matches an order and writes M, V and the book. One column is for what is left of each order, one for the deals.
@@ -42,10 +40,10 @@ pub fn settle(
     ensures book_value { (matched o (orders_in (order_count_in head.old) book.old)).resting
         ≡ left_over left.new (orders_in (order_count_in head.old) book.old) }
 {
-    let m = match_orders(&*book, o, &mut *left, &mut *deals);
-    let worth = worth_of(&*deals, m.deals);
+    let m = match_orders(book, o, left, deals);
+    let worth = worth_of(deals, m.deals);
     let dealt = Lots(o.lots.0 - m.left.0);
-    add_dealt(&mut *prices, o.contract, dealt, worth);
-    order_book::keep_orders(&mut *head, &mut *book, &*left);
+    add_dealt(prices, o.contract, dealt, worth);
+    order_book::keep_orders(head, book, left);
     m
 }

@@ -10,7 +10,6 @@ ghost use Rattle.submit_causes.specs.Causes.{outcome, first_causes, measured_cau
 
 use crate::position::{is_above, position};
 use matching::Crossing;
-use numbers::smaller;
 use rules::layout::{
     ACCEPTED_SUBMITS, DEFAULT_MARK, HIGH, LIMITS, LOTS_RUN, LOW, MARKS, ORDER_COUNT, PRICE_WIDTH,
     SUBMITS, TIME,
@@ -21,21 +20,13 @@ use rules::{Kurus, Lots, OrderKind, Refusal, Submission};
 fn is_teye(kind: OrderKind) -> bool
     ensures { result ≡ is_teye kind }
 {
-    match kind {
-        OrderKind::Resting => false,
-        OrderKind::Oeye => false,
-        OrderKind::Teye => true,
-    }
+    matches!(kind, OrderKind::Teye)
 }
 
 pub fn is_resting(kind: OrderKind) -> bool
     ensures { result ≡ is_resting kind }
 {
-    match kind {
-        OrderKind::Resting => true,
-        OrderKind::Oeye => false,
-        OrderKind::Teye => false,
-    }
+    matches!(kind, OrderKind::Resting)
 }
 
 fn is_price_outside(prices: &[u64], contract: u64, price: Kurus) -> bool
@@ -97,25 +88,23 @@ pub fn measured_cause(
         ≡ decide (measured_causes found.own.0 found.lots.0 (with_head head.now (with_rows lots.now t.value t)) e)
         (with_head head.now (with_rows lots.now t.value t)) b }
 {
-    let kind = e.kind;
-    let side = e.side;
     let wanted = e.lots.0;
     let crossing = found.lots.0;
     let limit = Lots(head[LIMITS + e.member as usize]);
     if is_above(
         limit,
-        position(lots, e.contract, e.member, side),
+        position(lots, e.contract, e.member, e.side),
         Lots(found.own.0 + wanted),
     ) {
         return Err(Refusal::AboveLimit);
     }
-    if is_teye(kind) & (crossing < wanted) {
+    if is_teye(e.kind) & (crossing < wanted) {
         return Err(Refusal::CannotMatchInFull);
     }
-    if is_resting(kind) & ((crossing == 0) & (MOST_ORDERS <= head[ORDER_COUNT])) {
+    if is_resting(e.kind) & ((crossing == 0) & (MOST_ORDERS <= head[ORDER_COUNT])) {
         return Err(Refusal::BookFull);
     }
-    let run = head[LOTS_RUN] + 2 * smaller(wanted, crossing);
+    let run = head[LOTS_RUN] + 2 * wanted.min(crossing);
     if (MOST_LOTS_RUN < run) | (MOST_ACCEPTED_SUBMITS <= head[ACCEPTED_SUBMITS]) {
         return Err(Refusal::TotalPassed);
     }

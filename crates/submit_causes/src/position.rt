@@ -27,8 +27,5 @@ pub fn is_above(limit: Lots, net: SignedLots, more: Lots) -> bool
     requires { (limit.0 ≤ most_limit) × (nat_abs net.0 ≤ most_lots_run) × (more.0 ≤ most_lots_run) }
     ensures { result ≡ lt_z (pos limit.0) (net.0 +ℤ pos more.0) }
 {
-    let most = limit.0 as i64;
-    let wanted = more.0 as i64;
-    let held = net.0;
-    most < held + wanted
+    (limit.0 as i64) < net.0 + more.0 as i64
 }

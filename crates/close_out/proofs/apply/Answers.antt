@@ -22,21 +22,6 @@ returns-then-price-eq0 c =
     (sym (c.is_contract_open.ensures (with_prices a.prices.now (with_rows a.lots.now a.value.now (with_lines a.lines.now t)))) ∙ c.if-not-is_contract_open.false)
     (sym same ∙ c.if-price-eq0.true)
 
-pub slice_bounds-close_out_lots-end : goal.slice_bounds-close_out_lots-end
-slice_bounds-close_out_lots-end c =
-    let pre = c.requires in
-    simp length-take (omega (arith, pre.head_fit.0.most_members_holds))
-
-pub slice_bounds-close_out_lots-end-2 : goal.slice_bounds-close_out_lots-end-2
-slice_bounds-close_out_lots-end-2 c =
-    let pre = c.requires in
-    simp length-take (omega (arith, pre.head_fit.0.most_members_holds))
-
-pub slice_bounds-close_out_lots-end-3 : goal.slice_bounds-close_out_lots-end-3
-slice_bounds-close_out_lots-end-3 c =
-    let pre = c.requires in
-    simp length-take (omega (arith, pre.head_fit.0.most_members_holds))
-
 pub close_out_lots-requires : goal.close_out_lots-requires
 close_out_lots-requires c =
     let pre = c.requires in

@@ -42,10 +42,6 @@ returns-then-remaining-sum_of c =
     λ t o g. no_taker _ _ _ _ f a.e p.0 _ _ _ _ c.find_defaulted-found.ensures a.price.0 p.3 t o g c.if-netted-remaining-eq0.false _ _ c.sum_of.ensures
     c.find_weights.ensures.column_after c.if-remaining-sum_of.true
 
-pub bounds-head-6 : goal.bounds-head-6
-bounds-head-6 c =
-    omega (arith, c.requires.head_fit.0.long)
-
 pub overflow_add-netted-2 : goal.overflow_add-netted-2
 overflow_add-netted-2 c =
     let a = c.args in
@@ -100,14 +96,6 @@ book_steps-count-requires c =
       dealable = dealable _ _ _ _ f a.e p.0 _ _ _ _ c.find_defaulted-found.ensures _ _ c.sum_of.ensures c.if-remaining-sum_of.false
           (c.find_weights.auto.column ∙ c.requires.longs_len.2) c.find_weights.ensures.member_column;
     }
-
-pub shape_of-longs : goal.shape_of-longs
-shape_of-longs c =
-    c.book_steps-count.auto.longs ∙ c.find_defaulted-found.auto.longs
-
-pub shape_of-shorts : goal.shape_of-shorts
-shape_of-shorts c =
-    c.book_steps-count.auto.shorts ∙ c.find_defaulted-found.auto.shorts
 
 pub returns : goal.returns
 returns c =

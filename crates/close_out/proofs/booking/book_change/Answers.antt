@@ -1,8 +1,7 @@
-use Prim.Native.Nat.{◌<◌}
 use mathlib.Core.Path.{sym, ◌∙◌}
 use native.Mathlib.Omega.{arith}
 use Rattle.deal_lines.proofs.Takes.{less_room}
-use Rattle.close_out.proofs.Changes.{same_none, more_bought, more_sold, each_none, each_one}
+use Rattle.close_out.proofs.Changes.{same_none, each_none, each_one}
 use Rattle.close_out.proofs.booking.book_change.Goals as goal
 
 pub returns-then-gain-loss : goal.returns-then-gain-loss
@@ -13,21 +12,21 @@ returns-then-gain-loss c = let a = c.args in
 pub book_line-requires : goal.book_line-requires
 book_line-requires c =
     let pre = c.requires in
-    record { bookable = less_room _ _ (omega arith) pre.bookable; line_fit = (record { member_below = pre.i_lt_least_lines.3; contract_below = pre.i_lt_least_lines.1; most_price_holds = pre.i_lt_least_lines.2 }, pre.i_lt_least_lines.0) }
-
-pub returns-then-loss-gain : goal.returns-then-loss-gain
-returns-then-loss-gain c = let a = c.args in
-    let one = more_bought a.contract a.price.0 a.member a.gain a.loss c.if-loss-gain.true in
-    record { value = rw one (omega arith); t_after = λ t. rw one (c.book_line.ensures t ∙ sym (each_one a.i _ _)) }
-
-pub book_line-requires-2 : goal.book_line-requires-2
-book_line-requires-2 c =
-    let pre = c.requires in
-    record { bookable = less_room _ _ (omega arith) pre.bookable; line_fit = (record { member_below = pre.i_lt_least_lines.3; contract_below = pre.i_lt_least_lines.1; most_price_holds = pre.i_lt_least_lines.2 }, pre.i_lt_least_lines.0) }
+    let terms = c.change_line-line.ensures.terms in
+    record {
+      bookable = less_room _ _ terms.3 pre.bookable;
+      line_fit = (
+        record {
+          member_below = rw terms.0 pre.i_lt_least_lines.3;
+          contract_below = rw terms.1 pre.i_lt_least_lines.1;
+          most_price_holds = rw terms.2 pre.i_lt_least_lines.2;
+        },
+        pre.i_lt_least_lines.0,
+      );
+    }
 
 pub returns : goal.returns
 returns c =
     let a = c.args in
-    let less : a.gain < a.loss = omega (arith, c.if-gain-loss.false, c.if-loss-gain.false) in
-    let one = more_sold a.contract a.price.0 a.member a.gain a.loss less in
-    record { value = rw one (omega arith); t_after = λ t. rw one (c.book_line-2.ensures t ∙ sym (each_one a.i _ _)) }
+    let one = c.change_line-line.ensures.line in
+    record { value = rw one (omega arith); t_after = λ t. rw one (c.book_line.ensures t ∙ sym (each_one a.i _ _)) }

@@ -1,3 +1,6 @@
+use Prim.Native.Nat.{◌+◌, ◌-◌}
+use mathlib.Core.Path.{◌≡◌}
+use native.Mathlib.Omega.{arith}
 use Rattle.close_out_weights.specs.declared.columns.Part.TheVariants.{DefaultedLongs, DefaultedShorts}
 use Rattle.close_out.proofs.Verdicts.{read_fits, defaulted_found}
 use Rattle.close_out.proofs.defaulted.find_defaulted.Goals as goal
@@ -14,4 +17,5 @@ sum_of-short-requires c =
 
 pub returns : goal.returns
 returns c =
-    defaulted_found _ _ _ _ _ c.read_column.ensures c.read_column-2.ensures _ _ _ c.sum_of-long.ensures c.sum_of-short.ensures c.smaller-netted.ensures
+    let e : c.abs_diff.result ≡ c.sum_of-long.result - c.min.result + (c.sum_of-short.result - c.min.result) = omega (arith, c.abs_diff.ensures, c.min.ensures) in
+    rw e (defaulted_found _ _ _ _ _ c.read_column.ensures c.read_column-2.ensures _ _ _ c.sum_of-long.ensures c.sum_of-short.ensures c.min.ensures)

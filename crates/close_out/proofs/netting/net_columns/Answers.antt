@@ -4,14 +4,6 @@ use Rattle.close_out.proofs.StepColumns.{netting_count, netting_tables, netting_
 use Rattle.deal_lines.proofs.Takes.{less_room}
 use Rattle.close_out.proofs.netting.net_columns.Goals as goal
 
-pub give_up-requires : goal.give_up-requires
-give_up-requires c = c.requires.given_longs_len.0 ∙ sym c.requires.contract_lt_contract_count.2
-
-pub give_up-requires-2 : goal.give_up-requires-2
-give_up-requires-2 c =
-    let pre = c.requires in
-    pre.given_longs_len.1 ∙ sym pre.contract_lt_contract_count.3
-
 pub book_changes-count-requires : goal.book_changes-count-requires
 book_changes-count-requires c =
     let pre = c.requires in

@@ -7,15 +7,6 @@ use Rattle.close_out_weights.proofs.Still.{still_at, still_after}
 use Rattle.close_out.proofs.StepColumns.{less_end, remaining_next}
 use Rattle.close_out.proofs.netting.subtract.Goals as goal
 
-pub loop-i-init : goal.loop-i-init
-loop-i-init c = (omega arith, refl, refl, refl)
-
-pub overflow_sub-remaining : goal.overflow_sub-remaining
-overflow_sub-remaining c =
-    let pre = c.requires in
-    let args = c.args in
-    omega (arith, still_at c.loop-i.held args.held.now c.loop-i.i c.loop-i.invariant.2, pre.1 c.loop-i.i)
-
 pub loop-i-preserved : goal.loop-i-preserved
 loop-i-preserved c =
     let pre = c.requires in
@@ -29,6 +20,3 @@ loop-i-preserved c =
 
 pub returns : goal.returns
 returns c = written_end c.loop-i.held c.loop-i.i _ _ (omega arith) (less_end _ _ c.loop-i.i (omega arith)) c.loop-i.invariant.3
-
-pub shape_of-held : goal.shape_of-held
-shape_of-held c = omega arith

@@ -7,6 +7,3 @@ use Rattle.close_out.proofs.netting.subtract.Given as goal
 
 abbrev pub invariant-loop-i : goal.invariant-loop-i
 invariant-loop-i l = (l.i ≤ length l.initial.held) × (length l.held ≡ length l.initial.held) × (drop l.i l.held ≡ drop l.i l.initial.held) × (take l.i l.held ++ less (drop l.i l.initial.held) (drop l.i l.given) ≡ less l.initial.held l.given)
-
-abbrev pub decreases-loop-i : goal.decreases-loop-i
-decreases-loop-i l = length l.initial.held - l.i

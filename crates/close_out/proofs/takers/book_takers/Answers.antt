@@ -3,12 +3,6 @@ use lib.ListN.{length, length-take}
 use Rattle.close_out_weights.proofs.Still.{zeros_front}
 use Rattle.close_out.proofs.takers.book_takers.Goals as goal
 
-pub slice_bounds-deal_columns-end : goal.slice_bounds-deal_columns-end
-slice_bounds-deal_columns-end c = simp length-take (omega (arith, c.requires.bookable.1.few))
-
-pub slice_bounds-deal_columns-end-2 : goal.slice_bounds-deal_columns-end-2
-slice_bounds-deal_columns-end-2 c = simp length-take (omega (arith, c.requires.bookable.1.few))
-
 pub deal_columns-requires : goal.deal_columns-requires
 deal_columns-requires c =
     let pre = c.requires in

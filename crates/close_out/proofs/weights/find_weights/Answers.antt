@@ -18,8 +18,8 @@ sum_of-requires c =
     rw (c.read_column.ensures blank [])
     (column_fits (with_head a.head.now (with_rows a.lots.now [] blank)) pre.head_fit.0.most_members_holds pre.head_fit.1 Others a.e.contract pre.contract_lt_contract_count.0)
 
-pub overflow_mul-ratio : goal.overflow_mul-ratio
-overflow_mul-ratio c =
+pub overflow_mul-e : goal.overflow_mul-e
+overflow_mul-e c =
     let pre = c.requires in
     let a = c.args in
     let t = with_head a.head.now (with_rows a.lots.now [] blank) in
@@ -27,14 +27,14 @@ overflow_mul-ratio c =
     rw (c.sum_of.ensures, c.read_column.ensures blank []) (sum_fits _ (column_fits t pre.head_fit.0.most_members_holds pre.head_fit.1 Others a.e.contract pre.contract_lt_contract_count.0)) in
     omega (arith, mul-le-mul pre.contract_lt_contract_count.1 most)
 
-pub returns-then-remaining-ratio : goal.returns-then-remaining-ratio
-returns-then-remaining-ratio c =
+pub returns-then-remaining-e : goal.returns-then-remaining-e
+returns-then-remaining-e c =
     let pre = c.requires in
     let a = c.args in
     let r = c.read_column.ensures in
     let s = with_head a.head.now (with_rows a.lots.now [] blank) in record {
       column_after = λ t v k. let u = with_head a.head.now (with_rows a.lots.now v t) in
-          r t v ∙ weights_here u a.e a.remaining k (rw (← r t v, ← c.sum_of.ensures) c.if-remaining-ratio.true);
+          r t v ∙ weights_here u a.e a.remaining k (rw (← r t v, ← c.sum_of.ensures) c.if-remaining-e.true);
       member_column = rw (r blank []) (column_fits s pre.head_fit.0.most_members_holds pre.head_fit.1 Others a.e.contract pre.contract_lt_contract_count.0);
     }
 
@@ -46,6 +46,6 @@ returns c =
     let w = c.weigh_by_days.ensures in
     let s = with_head a.head.now (with_rows a.lots.now [] blank) in record {
       column_after = λ t v k. let u = with_head a.head.now (with_rows a.lots.now v t) in
-          w t v ∙ weights_days u a.e a.remaining k (rw (← r t v, ← c.sum_of.ensures) c.if-remaining-ratio.false);
+          w t v ∙ weights_days u a.e a.remaining k (rw (← r t v, ← c.sum_of.ensures) c.if-remaining-e.false);
       member_column = rw (w blank []) (days_column s pre.head_fit.0.most_members_holds pre.head_fit.1);
     }

@@ -11,9 +11,6 @@ use Rattle.rules.specs.Ledger.{marks_from, row_place}
 use Rattle.close_out_weights.specs.Columns.{lots_in, column_of}
 use Rattle.close_out_weights.proofs.columns.read_column.Goals as goal
 
-pub loop-i-init : goal.loop-i-init
-loop-i-init c = (omega arith, refl, rw (sub-zero (length c.args.column.now)))
-
 pub loop-i-preserved : goal.loop-i-preserved
 loop-i-preserved c =
     let a = c.args in
@@ -32,5 +29,3 @@ returns c =
     λ t v. rw (← pre.column_len.0) (written_end c.loop-i.column c.loop-i.i _ _ (omega arith) (mapped_end _ c.loop-i.i _ (omega arith))
     c.loop-i.invariant.2)
 
-pub shape_of-column : goal.shape_of-column
-shape_of-column c = omega arith

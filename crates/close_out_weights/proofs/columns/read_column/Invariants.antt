@@ -13,6 +13,3 @@ abbrev pub invariant-loop-i : goal.invariant-loop-i
 invariant-loop-i l = (l.i ≤ length l.initial.column) × (length l.column ≡ length l.initial.column)
     × (take l.i l.column ++ map (λ m. lots_in l.part (eqb (get_or l.head (marks_from + m) 0) 1) (get_or l.lots (row_place l.contract m) (pos 0))) (from l.i (length l.initial.column - l.i))
     ≡ map (λ m. lots_in l.part (eqb (get_or l.head (marks_from + m) 0) 1) (get_or l.lots (row_place l.contract m) (pos 0))) (from 0 (length l.initial.column)))
-
-abbrev pub decreases-loop-i : goal.decreases-loop-i
-decreases-loop-i l = length l.initial.column - l.i

@@ -4,7 +4,7 @@ use native.Mathlib.Omega.{arith}
 use native.Mathlib.Nat.{mul-le-mul, sub-zero}
 use lib.IntN.{pos, nat_abs}
 use lib.ListN.{length, get_or, length-set}
-use Rattle.arith.proofs.Signed.{back_mag}
+use Rattle.arith.proofs.Signed.{back}
 use Rattle.arith.proofs.Columns.{mapped_next, mapped_end, written_next, written_end}
 use Rattle.rules.specs.Ledger.{row_place}
 use Rattle.rules.specs.Ranges.{most_lots_run}
@@ -12,19 +12,16 @@ use Rattle.dealing.specs.Levels.{most_days}
 use Rattle.close_out_weights.proofs.Still.{still_at, still_after}
 use Rattle.close_out_weights.proofs.weights.add_contract.Goals as goal
 
-pub loop-i-init : goal.loop-i-init
-loop-i-init c = (omega arith, refl, refl, rw (sub-zero (length c.args.sums.now)))
-
-pub overflow_mul-more : goal.overflow_mul-more
-overflow_mul-more c =
+pub overflow_mul-sum : goal.overflow_mul-sum
+overflow_mul-sum c =
     let net = get_or c.args.lots.now (row_place c.args.contract c.loop-i.i) (pos 0) in
-    let e : c.size.result ≡ nat_abs net = c.size.ensures ∙ ap nat_abs (back_mag net c.size-arg-1.given) in
+    let e : c.unsigned_abs.result ≡ nat_abs net = c.unsigned_abs.ensures.value ∙ ap nat_abs (back net (omega (arith, c.requires.contract_lt_contract_count.2.within c.args.contract c.loop-i.i c.requires.contract_lt_contract_count.0 (omega arith)))) in
     omega (arith, mul-le-mul c.requires.contract_lt_contract_count.1 (rw (← e) at (c.requires.contract_lt_contract_count.2.within c.args.contract c.loop-i.i c.requires.contract_lt_contract_count.0 (omega arith))))
 
-pub overflow_add-sums : goal.overflow_add-sums
-overflow_add-sums c =
+pub overflow_add-sum : goal.overflow_add-sum
+overflow_add-sum c =
     let net = get_or c.args.lots.now (row_place c.args.contract c.loop-i.i) (pos 0) in
-    let e : c.size.result ≡ nat_abs net = c.size.ensures ∙ ap nat_abs (back_mag net c.size-arg-1.given) in
+    let e : c.unsigned_abs.result ≡ nat_abs net = c.unsigned_abs.ensures.value ∙ ap nat_abs (back net (omega (arith, c.requires.contract_lt_contract_count.2.within c.args.contract c.loop-i.i c.requires.contract_lt_contract_count.0 (omega arith)))) in
     let sum : get_or c.loop-i.sums c.loop-i.i 0 ≤ c.args.contract * (most_days * most_lots_run) = rw (still_at c.loop-i.sums c.args.sums.now c.loop-i.i c.loop-i.invariant.2) (c.requires.by_index c.loop-i.i) in
     omega (arith, mul-le-mul c.requires.contract_lt_contract_count.1 (rw (← e) at (c.requires.contract_lt_contract_count.2.within c.args.contract c.loop-i.i c.requires.contract_lt_contract_count.0 (omega arith))))
 
@@ -33,7 +30,7 @@ loop-i-preserved c =
     let a = c.args in
     let f : ℕ → ℕ = λ m. get_or a.sums.now m 0 + a.days * nat_abs (get_or a.lots.now (row_place a.contract m) (pos 0)) in
     let net = get_or a.lots.now (row_place a.contract c.loop-i.i) (pos 0) in
-    let e : c.size.result ≡ nat_abs net = c.size.ensures ∙ ap nat_abs (back_mag net c.size-arg-1.given) in (
+    let e : c.unsigned_abs.result ≡ nat_abs net = c.unsigned_abs.ensures.value ∙ ap nat_abs (back net (omega (arith, c.requires.contract_lt_contract_count.2.within c.args.contract c.loop-i.i c.requires.contract_lt_contract_count.0 (omega arith)))) in (
       omega arith,
       simp length-set c.loop-i.invariant.1,
       still_after c.loop-i.sums a.sums.now c.loop-i.i c.loop-i.invariant.2 _,
@@ -44,5 +41,3 @@ loop-i-preserved c =
 pub returns : goal.returns
 returns c = written_end c.loop-i.sums c.loop-i.i _ _ (omega arith) (mapped_end _ c.loop-i.i _ (omega arith)) c.loop-i.invariant.3
 
-pub shape_of-sums : goal.shape_of-sums
-shape_of-sums c = omega arith

@@ -24,8 +24,3 @@ loop-contract-preserved c =
     let next = sums_next a.days.now a.lots.now (length a.sums.now) c.loop-contract.contract c.loop-contract.sums _ c.loop-contract.invariant.2 added in
     (omega arith, ap length next ∙ mapped_length _ 0 (length a.sums.now), next)
 
-pub returns : goal.returns
-returns c =
-    let a = c.args in
-    let e : c.loop-contract.contract ≡ term_count = omega arith in
-    rw e at c.loop-contract.invariant.2

@@ -9,6 +9,3 @@ use Rattle.close_out_weights.proofs.weights.add_contracts.Given as goal
 
 abbrev pub invariant-loop-contract : goal.invariant-loop-contract
 invariant-loop-contract l = (l.contract ≤ term_count) × (length l.sums ≡ length l.initial.sums) × (l.sums ≡ map (weight_by l.contract l.days l.lots) (from 0 (length l.initial.sums)))
-
-abbrev pub decreases-loop-contract : goal.decreases-loop-contract
-decreases-loop-contract l = term_count - l.contract

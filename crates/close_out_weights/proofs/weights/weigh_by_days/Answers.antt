@@ -7,9 +7,6 @@ use Rattle.close_out_weights.proofs.Still.{zeros_front}
 use Rattle.close_out_weights.proofs.DayWeights.{open_days_length, open_days_most, weights_by_days}
 use Rattle.close_out_weights.proofs.weights.weigh_by_days.Goals as goal
 
-pub slice_bounds-weigh-end-2 : goal.slice_bounds-weigh-end-2
-slice_bounds-weigh-end-2 c = simp length-take (omega (arith, c.requires.0.most_members_holds))
-
 pub weigh-requires : goal.weigh-requires
 weigh-requires c =
     let few = c.requires.0.most_members_holds in

@@ -12,20 +12,15 @@ use Rattle.tables.specs.Fit.{members_in}
 use Rattle.close_out_weights.proofs.weights.write_weights.Goals as goal
 use Rattle.close_out_weights.proofs.weights.write_weights.Goals.{then-head-i-eq-DEFAULT_MARK, else-head-i-eq-DEFAULT_MARK}
 
-pub loop-i-init : goal.loop-i-init
-loop-i-init c = (omega arith, c.requires.2, rw (sub-zero (members_in c.args.head.now)))
-
 pub loop-i-preserved : goal.loop-i-preserved
 loop-i-preserved c = let a = c.args in
     let f : ℕ → ℕ = λ m. cond (eqb (get_or a.head.now (marks_from + m) 0) 1) 0 (get_or a.sums.now m 0) in
-    let e : c.if-head-i-eq-DEFAULT_MARK.weights ≡ f c.loop-i.i = (elim c.if-head-i-eq-DEFAULT_MARK.branch [
-      | then-head-i-eq-DEFAULT_MARK w ↦ w.weights-is ∙ rw (eq-eqb _ _ w.if-head-i-eq-DEFAULT_MARK.true)
-      | else-head-i-eq-DEFAULT_MARK w ↦ w.weights-is ∙ rw (ne_eqb _ _ w.if-head-i-eq-DEFAULT_MARK.false)
+    let e : c.if-head-i-eq-DEFAULT_MARK.weight ≡ f c.loop-i.i = (elim c.if-head-i-eq-DEFAULT_MARK.branch [
+      | then-head-i-eq-DEFAULT_MARK w ↦ w.weight-is ∙ rw (eq-eqb _ _ w.if-head-i-eq-DEFAULT_MARK.true)
+      | else-head-i-eq-DEFAULT_MARK w ↦ w.weight-is ∙ rw (ne_eqb _ _ w.if-head-i-eq-DEFAULT_MARK.false)
     ]) in
     (omega arith, simp length-set c.loop-i.invariant.1, rw e (written_next c.loop-i.weights c.loop-i.i _ _ _ (omega arith) (rw (mapped_next (members_in a.head.now) c.loop-i.i f (omega arith)) at c.loop-i.invariant.2)))
 
 pub returns : goal.returns
 returns c = written_end c.loop-i.weights c.loop-i.i _ _ (omega arith) (mapped_end _ c.loop-i.i _ (omega arith)) c.loop-i.invariant.2
 
-pub shape_of-weights : goal.shape_of-weights
-shape_of-weights c = omega arith

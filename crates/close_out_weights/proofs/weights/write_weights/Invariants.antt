@@ -13,6 +13,3 @@ abbrev pub invariant-loop-i : goal.invariant-loop-i
 invariant-loop-i l = (l.i ≤ members_in l.head) × (length l.weights ≡ members_in l.head)
     × (take l.i l.weights ++ map (λ m. cond (eqb (get_or l.head (marks_from + m) 0) 1) 0 (get_or l.sums m 0)) (from l.i (members_in l.head - l.i))
     ≡ map (λ m. cond (eqb (get_or l.head (marks_from + m) 0) 1) 0 (get_or l.sums m 0)) (from 0 (members_in l.head)))
-
-abbrev pub decreases-loop-i : goal.decreases-loop-i
-decreases-loop-i l = members_in l.head - l.i

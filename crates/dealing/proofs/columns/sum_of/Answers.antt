@@ -1,22 +1,16 @@
+use mathlib.Core.Path.{◌∙◌}
 use native.Mathlib.Omega.{arith}
-use Rattle.arith.proofs.Columns.{total_next, total_end}
-use Rattle.rules.specs.Default.{sum_of}
+use Rattle.std.proofs.lemmas.Iterator.{YieldsList-from_slice}
+use Rattle.std.proofs.lemmas.Iterator.Consumers.{sum_from_yields_List, fits_from_yields_list}
+use Rattle.rules.proofs.Netting.{sum_most}
+use Rattle.dealing.specs.Levels.{most_weight}
+use Rattle.dealing.proofs.Sums.{sum_is}
 use Rattle.dealing.proofs.columns.sum_of.Goals as goal
 
-pub loop-i-init : goal.loop-i-init
-unfolding sum_of
-loop-i-init c = (omega arith, omega arith, omega arith)
-
-pub overflow_add-sum : goal.overflow_add-sum
-overflow_add-sum c = omega (arith, c.requires.few, c.requires.each c.loop-i.i)
-
-pub loop-i-preserved : goal.loop-i-preserved
-loop-i-preserved c = (
-  omega arith,
-  omega (arith, c.requires.each c.loop-i.i),
-  omega
-      (arith, total_next c.args.numbers.now c.loop-i.i (λ n. n) 0 c.loop-i-test.true, c.loop-i.invariant.2),
-)
+pub sum-requires-clause-fits : goal.sum-requires-clause-fits
+sum-requires-clause-fits c =
+    let l = c.args.numbers.now in
+    fits_from_yields_list c.iter.result _ (YieldsList-from_slice l cc) (omega (arith, sum_is l, c.requires.few, sum_most l most_weight c.requires.each))
 
 pub returns : goal.returns
-returns c = omega (arith, total_end c.args.numbers.now c.loop-i.i (λ n. n) c.loop-i-test.false, c.loop-i.invariant.2)
+returns c = sum_from_yields_List c.iter.result c.sum.result c.sum.ensures.ran (YieldsList-from_slice c.args.numbers.now cc) ∙ sum_is _

@@ -1,34 +1,32 @@
-use Prim.Native.Nat.{◌+◌, ◌-◌, ◌/◌}
+use Prim.Native.Nat.{ℕ, ◌<◌, ◌≤◌, ◌+◌, ◌-◌, ◌/◌}
 use mathlib.Core.Path.{◌≡◌}
 use native.Mathlib.Omega.{arith}
 use Rattle.dealing.proofs.Levels.{level_top}
+use mathlib.Core.List.{List}
+use lib.ListN.{length, get_or, get_or-eq_default}
+use Rattle.arith.proofs.Tests.{le_or_lt}
 use Rattle.dealing.proofs.level.highest_level.Goals as goal
 
-pub lots_at_level-requires : goal.lots_at_level-requires
-lots_at_level-requires c = (omega (arith, c.smaller-top.ensures), omega arith)
+-- past the end there is 0
+all_below : (n : ℕ) (l : List ℕ) → ((j : ℕ) → j < length l → get_or l j 0 ≤ n) → (j : ℕ) → get_or l j 0 ≤ n
+all_below n l f j = le_or_lt (length l) j (λ h. rw (get_or-eq_default l 0 h) (omega arith)) (λ h. f j h)
 
 pub returns-then-lots_at_level-lots : goal.returns-then-lots_at_level-lots
 returns-then-lots_at_level-lots c =
     let a = c.args in
-    let top = c.smaller-top.ensures in
-    let same = level_top a.lots c.largest.result a.minima.now c.largest.ensures in
+    let top = c.min-top.ensures in
+    let same = level_top a.lots c.largest.result a.minima.now (all_below c.largest.result a.minima.now c.largest.ensures) in
     record { within = omega arith; enough = rw (← same, ← top, ← c.lots_at_level.ensures) c.if-lots_at_level-lots.true; short = λ h. absurd (omega arith) }
-
-pub level_below-low-requires : goal.level_below-low-requires
-level_below-low-requires c = (omega (arith, c.smaller-top.ensures), omega arith, rw (← c.lots_at_level.ensures) c.if-lots_at_level-lots.false)
 
 pub loop-low-init : goal.loop-low-init
 loop-low-init c =
-    let top = c.smaller-top.result in
+    let top = c.min-top.result in
     let next : top - 1 + 1 ≡ top = omega (arith, c.level_below-low.ensures.0) in (
       omega (arith, c.level_below-low.ensures.0),
-      omega (arith, c.smaller-top.ensures),
+      omega (arith, c.min-top.ensures),
       c.level_below-low.ensures.1,
       λ h. rw (next, ← c.lots_at_level.ensures) c.if-lots_at_level-lots.false,
     )
-
-pub loop-low-preserved-then-lots_at_level-lots-2 : goal.loop-low-preserved-then-lots_at_level-lots-2
-loop-low-preserved-then-lots_at_level-lots-2 c = (omega arith, omega arith, rw (← c.lots_at_level-in-loop-low.ensures) c.if-lots_at_level-lots-2.true, c.loop-low.invariant.3)
 
 pub loop-low-preserved : goal.loop-low-preserved
 loop-low-preserved c = let l = c.loop-low in

@@ -1,4 +1,4 @@
-use Prim.Native.Nat.{◌-◌, ◌≤◌}
+use Prim.Native.Nat.{◌≤◌}
 use native.Mathlib.Omega.{arith}
 use Rattle.rules.specs.Default.{sum_of}
 use Rattle.dealing.specs.Levels.{at_level}
@@ -8,7 +8,7 @@ use Rattle.dealing.proofs.level.level_below.Goals as goal
 pub returns-then-lots_at_level-lots : goal.returns-then-lots_at_level-lots
 returns-then-lots_at_level-lots c =
     let enough = rw c.lots_at_level.ensures at c.if-lots_at_level-lots.true in
-    (level_below c.args.lots (c.args.top - c.smaller.result) c.args.top c.args.minima.now enough c.requires.2, enough)
+    (level_below c.args.lots c.saturating_sub-level.result c.args.top c.args.minima.now enough c.requires.2, enough)
 
 pub returns : goal.returns
 returns c =

@@ -9,9 +9,6 @@ use Rattle.rules.proofs.Minimums.{minimums_length}
 use Rattle.dealing.proofs.Dealt.{some_members, dealt_by_round}
 use Rattle.dealing.proofs.turns.deal_by_minimums.Goals as goal
 
-pub slice_bounds-put_in_order-end : goal.slice_bounds-put_in_order-end
-slice_bounds-put_in_order-end c = simp length-take (omega arith)
-
 pub put_in_order-requires : goal.put_in_order-requires
 put_in_order-requires c = (ap length c.requires.member_column.1 ∙ minimums_length _ _, simp length-take (omega arith))
 
@@ -22,9 +19,6 @@ highest_level-level-requires c =
 pub lots_at_level-requires : goal.lots_at_level-requires
 lots_at_level-requires c =
     (omega (arith, c.highest_level-level.ensures.within), omega (arith, ap length c.requires.member_column.1, minimums_length c.args.lots c.args.weights.now))
-
-pub overflow_sub-undealt : goal.overflow_sub-undealt
-overflow_sub-undealt c = omega (arith, c.lots_at_level.ensures, c.highest_level-level.ensures.enough)
 
 pub fill_to_level-requires : goal.fill_to_level-requires
 fill_to_level-requires c =

@@ -1,18 +1,12 @@
 use mathlib.Core.Path.{◌≡◌, sym, ap, ◌∙◌}
 use native.Mathlib.Omega.{arith}
-use lib.ListN.{length, length-take, length-append}
+use lib.ListN.{length, length-take}
 use lib.Seq.{take_at}
 use Rattle.rules.proofs.Minimums.{minimums_length}
 use Rattle.dealing.proofs.turns.deal_out.Goals as goal
 
-pub slice_bounds-find_minimums-end : goal.slice_bounds-find_minimums-end
-slice_bounds-find_minimums-end c = simp length-take (omega arith)
-
 pub find_minimums-requires : goal.find_minimums-requires
 find_minimums-requires c = record { lots_le_most_lots_run = (omega arith, c.requires.lots_le_most_lots_run.1, simp length-take (omega arith)); member_column = c.requires.member_column }
-
-pub slice_bounds-minima-end-2 : goal.slice_bounds-minima-end-2
-slice_bounds-minima-end-2 c = simp length-append (omega (arith, ap length c.find_minimums.ensures ∙ minimums_length _ _))
 
 pub slice_bounds-deal_by_minimums-end : goal.slice_bounds-deal_by_minimums-end
 slice_bounds-deal_by_minimums-end c =

@@ -19,10 +19,10 @@ book_line-requires-2 c =
     let small = c.requires.bookable.1 in
     let u = with_head a.head.now (with_rows a.lots.now a.value.now (with_lines a.lines.now zero_tables)) in
     let after = c.book_line.ensures u in
-    let other = c.other_side-against.ensures in
+    let other = c.other_side.ensures in
     let takes = first_takes a.o a.d a.k small u q.0 q.1 a.d.lots.0 (less_room _ _ (omega arith) c.requires.bookable.0) in
     let fits = resting_fit a.o a.d a.k small u q.0 q.1 in record { bookable = subst (λ (x : Tables). Takes a.d.lots.0 x) (sym after) takes; line_fit = (rw other (subst (λ (x : Tables). LineFit x.head (line_out a.o a.d)) (sym after) fits), omega (arith, small)) }
 
 pub returns : goal.returns
 returns c =
-    λ t. rw (← c.other_side-against.ensures, ← (c.book_line.ensures t)) (c.book_line-2.ensures t)
+    λ t. rw (← c.other_side.ensures, ← (c.book_line.ensures t)) (c.book_line-2.ensures t)

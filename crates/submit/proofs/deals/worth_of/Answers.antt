@@ -14,16 +14,16 @@ deal_at-d-requires c = let f = c.requires in (omega (arith, f.most), f.room)
 pub times-worth-requires : goal.times-worth-requires
 times-worth-requires c =
     let f = c.requires in rw c.deal_at-d.ensures (omega
-    (arith, mul-le-mul (f.most_lots_holds c.loop-k.k c.loop-k-test.true) (f.most_price_holds c.loop-k.k c.loop-k-test.true)))
+    (arith, mul-le-mul (f.most_lots_holds c.loop-k.k (omega arith)) (f.most_price_holds c.loop-k.k (omega arith))))
 
 pub overflow_add-worth : goal.overflow_add-worth
 overflow_add-worth c =
-    let w = worth_next _ _ _ _ c.requires c.loop-k-test.true c.loop-k.invariant.1 _ c.deal_at-d.ensures in omega
+    let w = worth_next _ _ _ _ c.requires (omega arith) c.loop-k.invariant.1 _ c.deal_at-d.ensures in omega
     (arith, w.most, c.requires.most, c.times-worth.ensures)
 
 pub loop-k-preserved : goal.loop-k-preserved
 loop-k-preserved c =
-    (omega arith, rw c.times-worth.ensures (worth_next _ _ _ _ c.requires c.loop-k-test.true c.loop-k.invariant.1 _ c.deal_at-d.ensures))
+    (omega arith, rw c.times-worth.ensures (worth_next _ _ _ _ c.requires (omega arith) c.loop-k.invariant.1 _ c.deal_at-d.ensures))
 
 pub returns : goal.returns
 returns c =

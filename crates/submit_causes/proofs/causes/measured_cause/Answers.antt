@@ -61,7 +61,7 @@ returns-then-run-head c = λ t b. rw (
   c.if-is_teye-crossing.false,
   ← c.is_resting.ensures,
   c.if-is_resting-crossing.false,
-  ← c.smaller.ensures,
+  ← c.min.ensures,
   c.if-run-head.true,
 )
 
@@ -73,6 +73,6 @@ returns c = λ t b. rw (
   c.if-is_teye-crossing.false,
   ← c.is_resting.ensures,
   c.if-is_resting-crossing.false,
-  ← c.smaller.ensures,
+  ← c.min.ensures,
   c.if-run-head.false,
 )
