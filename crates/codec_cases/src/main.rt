@@ -296,18 +296,15 @@ fn show_header(rt: &impl Print, h: JournalHeader) -> io::Result<()> {
 }
 
 fn header(rt: &impl Print, bytes: &[u8]) -> io::Result<()> {
-    let r = header::read_header(bytes);
-    let answer = r.answer;
-    let h = r.header;
-    match answer {
-        Answer::Accepted(n) => {
-            show_header(rt, h)?;
-            number(rt, n)?;
+    match header::read_header(bytes) {
+        Some(read) => {
+            show_header(rt, read.header)?;
+            number(rt, read.length)?;
             let mut out = [0u8; 64];
-            show_answer(rt, header::write_header(h, &mut out))?;
+            show_answer(rt, header::write_header(read.header, &mut out))?;
             show_again(rt, &out, bytes)?;
         }
-        _ => rt.print("2")?,
+        None => rt.print("2")?,
     }
     rt.println("")
 }

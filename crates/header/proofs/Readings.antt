@@ -15,7 +15,7 @@ use Rattle.rules.specs.Header.{Header, u32_at, u32s_at, header_length, header_of
 use Rattle.header.specs.declared.reader.ReadHeader.{ReadHeader}
 use Rattle.header.specs.Journal.{header_columns, header_reading}
 use Rattle.arith.proofs.Appends.{from_length}
-use Rattle.header.proofs.Columns.{column, room}
+use Rattle.header.proofs.Columns.{column}
 use Rattle.header.proofs.Trips.{begun, given}
 
 -- ---- the lists of a header
@@ -58,14 +58,11 @@ module _ (s : List ℕ) (r : ReadHeader) (e : Some r ≡ header_reading s) where
   few : (1 ≤ (header_of s).members) × ((header_of s).members ≤ 32) × (length (header_of s).holidays ≤ 120)
   few = counts (header_of s) (begun s begins).2
 
-  pub holiday_room : r.header.holiday_count ≤ length r.header.holidays
-  holiday_room = let m = few in rw as_read (room 120 (header_of s).holidays m.2)
+  pub few_holidays : r.header.holiday_count ≤ 120
+  few_holidays = let m = few in rw as_read m.2
 
-  pub limit_room : r.header.members ≤ length r.header.limits
-  limit_room =
-      let m = few in
-      let h = room 32 (header_of s).limits (rw (limits_length s) m.1) in
-      rw as_read (omega (arith, limits_length s))
+  pub few_members : r.header.members ≤ 32
+  few_members = let m = few in rw as_read m.1
 
   pub holiday_most : length (take r.header.holiday_count r.header.holidays) ≤ 120
   holiday_most = let m = few in rw (as_read, column 120 (header_of s).holidays) m.2
