@@ -22,6 +22,23 @@ pub u32_wide : (n : ℕ) → length (u32_bytes n) ≡ 4
 unfolding u16_bytes u32_bytes
 u32_wide n = refl
 
+-- The bytes of what is left of a number that may be larger.
+pub low_u16 : (m n : ℕ) → m ≡ n % 65536 → m / 256 % 256 ∷ m % 256 ∷ [] ≡ u16_bytes n
+unfolding u16_bytes
+low_u16 m n e =
+    let high : m / 256 % 256 ≡ n / 256 % 256 = omega arith in
+    let low : m % 256 ≡ n % 256 = omega arith in
+    rw (high, low) refl
+
+pub low_u32 : (m n : ℕ) → m ≡ n % 4294967296 → m / 16777216 % 256 ∷ m / 65536 % 256 ∷ m / 256 % 256 ∷ m % 256 ∷ [] ≡ u32_bytes n
+unfolding u16_bytes u32_bytes
+low_u32 m n e =
+    let first : m / 16777216 % 256 ≡ n / 65536 / 256 % 256 = omega arith in
+    let second : m / 65536 % 256 ≡ n / 65536 % 256 = omega arith in
+    let third : m / 256 % 256 ≡ n % 65536 / 256 % 256 = omega arith in
+    let last : m % 256 ≡ n % 65536 % 256 = omega arith in
+    rw (first, second, third, last) refl
+
 -- ---- written, then read
 module _ (p q : List ℕ) (i : ℕ) (e : i ≡ length p) where
   pub u16_back : (v : ℕ) → v < 65536 → u16_at (p ++ (u16_bytes v ++ q)) i ≡ v

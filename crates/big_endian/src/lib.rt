@@ -7,41 +7,32 @@ ghost use Rattle.rules.specs.Fields.{number_at, number_bytes};
 ghost use Rattle.rules.specs.Header.{u16_at, u32_at, u16_bytes, u32_bytes};
 ghost use Rattle.big_endian.specs.Width.{Width};
 
-pub fn wide(x: u8) -> u64
-    ensures { (result ≡ x) × (result < 256) }
-{
-    x as u64
-}
-
 pub fn u8_at(s: &[u8], at: usize) -> u64
     requires { at < length s.now }
     ensures { (result ≡ get_or s.now at 0) × (result < 256) }
 {
-    wide(s[at])
+    u64::from(s[at])
 }
 
 // The byte at a place, or 0 past the end.
 pub fn u8_or_zero(s: &[u8], at: usize) -> u64
     ensures { (result ≡ get_or s.now at 0) × (result < 256) }
 {
-    if at < s.len() {
-        return u8_at(s, at);
-    }
-    0
+    s.get(at).map_or(0, |&byte| u64::from(byte))
 }
 
 pub fn u16_at(s: &[u8], at: usize) -> u64
     requires { at + 2 ≤ length s.now }
     ensures { (result ≡ u16_at s.now at) × (result < 65536) }
 {
-    u8_at(s, at) * 256 + u8_at(s, at + 1)
+    u64::from(u16::from_be_bytes([s[at], s[at + 1]]))
 }
 
 pub fn u32_at(s: &[u8], at: usize) -> u64
     requires { at + 4 ≤ length s.now }
     ensures { (result ≡ u32_at s.now at) × (result < 4294967296) }
 {
-    u16_at(s, at) * 65536 + u16_at(s, at + 2)
+    u64::from(u32::from_be_bytes([s[at], s[at + 1], s[at + 2], s[at + 3]]))
 }
 
 // The number of so many bytes, whatever the width.
@@ -67,16 +58,14 @@ pub fn put_u16(out: &mut [u8], at: usize, n: u64)
     requires { at + 2 ≤ length out.old }
     ensures { out.new ≡ over at (u16_bytes n) out.old }
 {
-    put_u8(out, at, n / 256 % 256);
-    put_u8(out, at + 1, n % 256);
+    out[at..at + 2].copy_from_slice(&((n % 65536) as u16).to_be_bytes());
 }
 
 pub fn put_u32(out: &mut [u8], at: usize, n: u64)
     requires { at + 4 ≤ length out.old }
     ensures { out.new ≡ over at (u32_bytes n) out.old }
 {
-    put_u16(out, at, n / 65536);
-    put_u16(out, at + 2, n % 65536);
+    out[at..at + 4].copy_from_slice(&((n % 4294967296) as u32).to_be_bytes());
 }
 
 pub fn put_number(out: &mut [u8], at: usize, width: usize, n: u64)

@@ -12,9 +12,7 @@ use header::is_member_count_sound;
 use record_kinds::places::{
     FIRST_FIELD_BYTE, FIRST_FIELD_NUMBER, KIND_BYTE, KIND_NUMBER, MOST_NUMBERS, PROPOSAL_LEGS_BYTE,
 };
-use record_kinds::{
-    event_of, field_count, field_of, kind_number, leg_count, record_length, width_of,
-};
+use record_kinds::{event_of, kind_fields, kind_number, leg_count, record_length, width_of};
 use rules::Event;
 use rules::kinds::PROPOSAL;
 
@@ -23,16 +21,14 @@ fn record_numbers(kind: u64, bytes: &[u8]) -> [u64; MOST_NUMBERS]
     requires { (kind ≡ get_or bytes.now kind_byte 0) × (widths (kind_fields kind) ≤ length bytes.now - 1) }
     ensures { result ≡ padded most_numbers (record_numbers kind bytes.now) }
 {
-    let count = field_count(kind);
+    let fields = kind_fields(kind);
     let mut numbers = [0u64; MOST_NUMBERS];
     numbers[KIND_NUMBER] = kind;
     let mut at = FIRST_FIELD_BYTE;
-    let mut i: usize = 0;
-    while i < count {
-        let width = width_of(field_of(kind, i));
+    for (i, field) in fields.iter().enumerate() {
+        let width = width_of(*field);
         numbers[FIRST_FIELD_NUMBER + i] = number_at(bytes, at, width);
         at += width;
-        i += 1;
     }
     numbers
 }

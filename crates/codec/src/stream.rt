@@ -11,7 +11,7 @@ use rules::Front;
 pub fn front_record(bytes: &[u8]) -> Front
     ensures { result ≡ front_of bytes.now }
 {
-    if bytes.len() == 0 {
+    if bytes.is_empty() {
         return Front::Cut;
     }
     let n = record_length(

@@ -18,7 +18,7 @@ use record_kinds::places::{
     FIRST_FIELD_BYTE, FIRST_FIELD_NUMBER, KIND_BYTE, LEG_LOTS_BYTE, LEG_PRICE_BYTE, MOST_NUMBERS,
 };
 use record_kinds::{
-    field_count, field_of, kind_number, leg_count, leg_place, put_numbers, record_length, width_of,
+    kind_fields, kind_number, leg_count, leg_place, put_numbers, record_length, width_of,
 };
 use rules::kinds::PROPOSAL;
 use rules::{Event, Leg, Refusal};
@@ -28,17 +28,14 @@ fn put_kind_fields(out: &mut [u8], event: Event)
     requires { (widths (kind_fields (kind_number event)) < length out.old) × EventFits event }
     ensures { out.new ≡ over first_field_byte (bytes_by (kind_fields (kind_number event)) (event_numbers event)) out.old }
 {
-    let kind = kind_number(event);
-    let count = field_count(kind);
+    let fields = kind_fields(kind_number(event));
     let mut numbers = [0u64; MOST_NUMBERS];
     put_numbers(&mut numbers, event);
     let mut at = FIRST_FIELD_BYTE;
-    let mut i: usize = 0;
-    while i < count {
-        let width = width_of(field_of(kind, i));
+    for (i, field) in fields.iter().enumerate() {
+        let width = width_of(*field);
         put_number(out, at, width, numbers[FIRST_FIELD_NUMBER + i]);
         at += width;
-        i += 1;
     }
 }
 

@@ -16,10 +16,6 @@ fn number(rt: &impl Print, n: u64) -> io::Result<()> {
     print!(rt; " {n}")
 }
 
-fn wide(b: u8) -> u64 {
-    b as u64
-}
-
 fn show_answer(rt: &impl Print, answer: Result<u64, Refusal>) -> io::Result<()> {
     match answer {
         Ok(n) => print!(rt; " wrote {n}"),
@@ -57,8 +53,8 @@ fn show_event(rt: &impl Print, event: Event) -> io::Result<()> {
     record_kinds::put_numbers(&mut numbers, event);
     let count = record_kinds::field_count(record_kinds::kind_number(event));
     rt.print("kind")?;
-    for i in 0..=count {
-        number(rt, numbers[i])?;
+    for n in &numbers[..=count] {
+        number(rt, *n)?;
     }
     Ok(())
 }
@@ -74,11 +70,7 @@ fn show_again(rt: &impl Print, out: &[u8], bytes: &[u8]) -> io::Result<()> {
     if out.len() < bytes.len() {
         return rt.print(" short");
     }
-    if check::same(&out[..bytes.len()], bytes) {
-        rt.print(" again")
-    } else {
-        rt.print(" differs")
-    }
+    rt.print(if out.starts_with(bytes) { " again" } else { " differs" })
 }
 
 fn record(rt: &impl Print, members: u64, bytes: &[u8]) -> io::Result<()> {
@@ -240,7 +232,7 @@ fn legs(rt: &impl Print, count: u64) -> io::Result<()> {
         rt,
         codec::write_record(3, Event::Proposal(count), columns, &mut out),
     )?;
-    number(rt, wide(out[1]))?;
+    number(rt, u64::from(out[1]))?;
     rt.println("")
 }
 
@@ -296,18 +288,15 @@ fn show_header(rt: &impl Print, h: JournalHeader) -> io::Result<()> {
 }
 
 fn header(rt: &impl Print, bytes: &[u8]) -> io::Result<()> {
-    let r = header::read_header(bytes);
-    let answer = r.answer;
-    let h = r.header;
-    match answer {
-        Ok(n) => {
-            show_header(rt, h)?;
-            number(rt, n)?;
+    match header::read_header(bytes) {
+        Some(read) => {
+            show_header(rt, read.header)?;
+            number(rt, read.length)?;
             let mut out = [0u8; 64];
-            show_answer(rt, header::write_header(h, &mut out))?;
+            show_answer(rt, header::write_header(read.header, &mut out))?;
             show_again(rt, &out, bytes)?;
         }
-        _ => rt.print("2")?,
+        None => rt.print("2")?,
     }
     rt.println("")
 }

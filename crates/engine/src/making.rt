@@ -3,6 +3,7 @@ ghost use Rattle.std.specs.Prelude.{List, ℤ};
 ghost use Rattle.rules.specs.Ledger.{lent};
 ghost use Rattle.engine.specs.Runs.{Makes};
 
+use header::ReadHeader;
 use rules::Refusal;
 
 // Makes a ledger. Of the tables only their length is tested. The book stays as it was: a fresh ledger has no orders.
@@ -20,25 +21,18 @@ pub fn make(
     if tables::is_ledger_short(&*head, &*prices, &*lots, &*value, book) {
         return Err(Refusal::TableUnsound);
     }
-    let reading = header::read_header(bytes);
-    let header = reading.header;
-    // An unsound header comes back as zeros; a sound one has at least one member.
-    if header.members == 0 {
+    let Some(ReadHeader { header, .. }) = header::read_header(bytes) else {
         return Err(Refusal::HeaderUnsound);
-    }
-    let holidays = header.holidays;
-    let limits = header.limits;
-    let days = header.holiday_count as usize;
-    let members = header.members as usize;
+    };
     fresh::write_fresh(
-        &mut *head,
-        &mut *prices,
-        &mut *lots,
-        &mut *value,
+        head,
+        prices,
+        lots,
+        value,
         header.first_year,
         header.start_day,
-        &holidays[..days],
-        &limits[..members],
+        &header.holidays[..header.holiday_count as usize],
+        &header.limits[..header.members as usize],
     );
     Ok(0)
 }

@@ -1,10 +1,14 @@
 -- What the reader and the writer of headers need. Assumes nothing.
-use Prim.Native.Nat.{ℕ, ◌+◌, ◌*◌, ◌-◌, ◌≤◌, ◌<◌}
+use Prim.Native.Nat.{ℕ, zero, suc, ◌+◌, ◌*◌, ◌≤◌, ◌<◌}
 use mathlib.Core.Bool.{Bool, true, false, ◌&&◌}
 use mathlib.Core.List.{List, [], ◌∷◌, flat_map}
 use mathlib.Core.Path.{◌≡◌, refl, sym, ap, ◌∙◌}
 use native.Mathlib.Omega.{arith}
-use borrow.Author.Tests.{lt-ltb, le-ltb, le-leb, lt-leb, eq-eqb, eqb-true}
+use Rattle.std.proofs.Common.{Some, None, ◌↔◌, ◌≤◌, IsTrue, EachIndex, slice_index}
+use Rattle.std.specs.Cmp.Lexicographic.{pointwise}
+use Rattle.arith.proofs.Alls.{every_place}
+use Rattle.rules.specs.Ranges.{most_limit}
+use borrow.Author.Tests.{lt-ltb, le-ltb, le-leb, lt-leb, eq-eqb, eqb-true, leb-true}
 use lib.Dec.{eqb, leb}
 use lib.ListN.{length, get_or, take, length-append}
 use lib.Seq.{length-take-le, get_or-take}
@@ -16,7 +20,7 @@ use Rattle.rules.specs.Header.{Header, u16_at, u32_at, u16_bytes, u32_bytes, u16
 use Rattle.rules.specs.Header.{calendar_sound, members_sound, limit_sound, day_sound, header_sound, header_bytes, write_header_spec}
 use Rattle.arith.specs.Columns.{padded}
 use Rattle.arith.proofs.Padded.{padded_at}
-use Rattle.header.specs.Journal.{firsts, days_sound, header_from, header_columns, blank_header, header_reading}
+use Rattle.header.specs.Journal.{firsts, days_sound, header_from, header_columns, header_reading}
 use Rattle.big_endian.proofs.Numbers.{u16_wide, u32_wide}
 use Rattle.arith.proofs.Appends.{flat_length}
 use Rattle.arith.proofs.Runs.{length_run, run_of}
@@ -48,6 +52,18 @@ module _ (h : Header) where
   unfolding header_sound
   header_judged m l = rw (m, eq-eqb (length h.limits) h.members l, and_true, and_true) refl
 
+-- ---- limits
+every_at : (p : ℕ → Bool) (l : List ℕ) → every p l ≡ true → (i : ℕ) → i < length l → p (get_or l i 0) ≡ true
+unfolding every
+every_at p [] e i h = absurd (omega arith)
+every_at p (x ∷ l) e zero h = and_left (p x) (every p l) e
+every_at p (x ∷ l) e (suc i) h = every_at p l (and_right (p x) (every p l) e) i (omega arith)
+
+pub limits_told : (l : List ℕ) (r : Bool) → (IsTrue r ↔ EachIndex l (λ k. slice_index l k ≤ 100000)) → r ≡ every limit_sound l
+limits_told l r told =
+    same_test r (every limit_sound l) (λ e. every_place limit_sound 0 l (λ i h. le-leb (get_or l i 0) most_limit (told.0 e i h)))
+    (λ e. told.1 (λ i h. leb-true (get_or l i 0) most_limit (every_at limit_sound l e i h)))
+
 -- ---- the letters
 same_refl : (a : List ℕ) → same_bytes a a ≡ true
 unfolding same_bytes
@@ -62,6 +78,16 @@ same_true (x ∷ a) [] e = never (sym e)
 same_true (x ∷ a) (y ∷ b) e =
     let first : x ≡ y = eqb-true x y (and_left (eqb x y) (same_bytes a b) e) in
     rw (first, same_true a b (and_right (eqb x y) (same_bytes a b) e)) refl
+
+eqb_turned : (x y : ℕ) → eqb x y ≡ eqb y x
+eqb_turned x y = same_test (eqb x y) (eqb y x) (λ e. eq-eqb y x (sym (eqb-true x y e))) (λ e. eq-eqb x y (sym (eqb-true y x e)))
+
+pub same_letters : (a b : List ℕ) → pointwise eqb b a ≡ same_bytes a b
+unfolding same_bytes
+same_letters [] [] = refl
+same_letters [] (y ∷ b) = refl
+same_letters (x ∷ a) [] = refl
+same_letters (x ∷ a) (y ∷ b) = rw (eqb_turned y x, same_letters a b)
 
 pub same_bytes_lem : (r : Bool) (a b : List ℕ) → (r ≡ true → a ≡ b) → (a ≡ b → r ≡ true) → r ≡ same_bytes a b
 same_bytes_lem r a b f g = same_test r (same_bytes a b) (λ e. rw (f e) (same_refl b)) (λ e. g (same_true a b e))
@@ -128,11 +154,11 @@ module _ (s : List ℕ) where
       let columns : header_from h ≡ header_of s = ap header_from f ∙ columns_read in
       sym (begins_judged x y z) ∙ (ap header_sound (sym columns) ∙ (sym t ∙ e))
 
-  pub reading_unsound : begins_with_header s ≡ false → record { answer = Err HeaderUnsound; header = blank_header } ≡ header_reading s
+  pub reading_unsound : begins_with_header s ≡ false → None ≡ header_reading s
   unfolding header_reading
   reading_unsound e = rw e refl
 
-  pub reading_sound : (n : ℕ) → begins_with_header s ≡ true → n ≡ header_length s → record { answer = Ok n; header = header_columns (header_of s) } ≡ header_reading s
+  pub reading_sound : (n : ℕ) → begins_with_header s ≡ true → n ≡ header_length s → Some (record { length = n; header = header_columns (header_of s) }) ≡ header_reading s
   unfolding header_reading
   reading_sound n e l = rw (e, l) refl
 

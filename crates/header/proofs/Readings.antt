@@ -1,22 +1,23 @@
 -- What a header says that was read, sound or not. Assumes nothing.
 use Prim.Native.Nat.{ℕ, ◌+◌, ◌*◌, ◌≤◌}
-use mathlib.Core.Path.{◌≡◌, refl, ◌∙◌}
-use mathlib.Core.Bool.{Bool, true, false, ◌&&◌}
+use mathlib.Core.Path.{◌≡◌, refl, sym, ◌∙◌}
+use mathlib.Core.Bool.{Bool, true, false, cond, ◌&&◌}
 use mathlib.Core.List.{List}
 use native.Mathlib.Omega.{arith}
+use Rattle.std.proofs.Common.{Option, Some, None}
 use lib.Dec.{eqb, leb}
 use lib.ListN.{length, take, get_or, length-map}
 use borrow.Author.Tests.{leb-true}
 use Rattle.std.specs.Prelude.{Ok}
 use Rattle.arith.specs.Lists.{every, from}
-use Rattle.arith.proofs.Tests.{true_or, and_left, and_right}
+use Rattle.arith.proofs.Tests.{and_left, and_right}
 use Rattle.rules.specs.Days.{in_span}
 use Rattle.rules.specs.Header.{Header, u32_at, u32s_at, header_length, header_of, rising, calendar_of, calendar_sound, members_sound, limit_sound, day_sound, header_sound, begins_with_header}
-use Rattle.header.specs.declared.reader.HeaderReading.{HeaderReading}
+use Rattle.header.specs.declared.reader.ReadHeader.{ReadHeader}
 use Rattle.header.specs.Journal.{header_columns, header_reading}
 use Rattle.arith.proofs.Appends.{from_length}
-use Rattle.header.proofs.Columns.{column, room}
-use Rattle.header.proofs.Trips.{begun}
+use Rattle.header.proofs.Columns.{column}
+use Rattle.header.proofs.Trips.{begun, given}
 
 -- ---- the lists of a header
 pub limits_length : (s : List ℕ) → length (header_of s).limits ≡ (header_of s).members
@@ -40,40 +41,39 @@ counts h e =
     (leb-true 1 n (and_left (leb 1 n) (leb n 32) two.1), leb-true n 32 (and_right (leb 1 n) (leb n 32) two.1), leb-true (length h.holidays) 120 three.1)
 
 -- ---- a reading
-module _ (s : List ℕ) (r : HeaderReading) (e : r ≡ header_reading s) where
-  pub as_read : begins_with_header s ≡ true → r ≡ record { answer = Ok (header_length s); header = header_columns (header_of s) }
-  unfolding header_reading
-  as_read b = e ∙ rw b
+pub none_read : (s : List ℕ) → None ≡ header_reading s → begins_with_header s ≡ false
+unfolding header_reading
+none_read s e = go (begins_with_header s) e
+  where
+    go : (b : Bool) → ◌≡◌ {A = Option ReadHeader} None (cond b (Some (record { length = header_length s; header = header_columns (header_of s) })) None) → b ≡ false
+    go true e = absurd (let z : ◌≡◌ {A = ℕ} 0 1 = cc in omega arith)
+    go false e = refl
 
-  pub turned_back : r.header.members ≡ 0 → begins_with_header s ≡ false
-  turned_back z =
-      true_or (begins_with_header s)
-      (λ b. let m = counts (header_of s) (begun s b).2 in absurd (omega (arith, rw (as_read b) at z)))
-      (λ b. b)
+module _ (s : List ℕ) (r : ReadHeader) (e : Some r ≡ header_reading s) where
+  pub begins : begins_with_header s ≡ true
+  begins = (given s r (sym e)).0
 
-  pub read_well : (r.header.members ≡ 0 → ⊥) → begins_with_header s ≡ true
-  unfolding header_reading
-  read_well z = true_or (begins_with_header s) (λ b. b) (λ b. absurd (z (rw (e, b))))
+  pub as_read : r ≡ record { length = header_length s; header = header_columns (header_of s) }
+  as_read = (given s r (sym e)).1
 
-  module _ (b : begins_with_header s ≡ true) where
-    pub holiday_room : r.header.holiday_count ≤ length r.header.holidays
-    holiday_room = let m = counts (header_of s) (begun s b).2 in rw (as_read b) (room 120 (header_of s).holidays m.2)
+  few : (1 ≤ (header_of s).members) × ((header_of s).members ≤ 32) × (length (header_of s).holidays ≤ 120)
+  few = counts (header_of s) (begun s begins).2
 
-    pub limit_room : r.header.members ≤ length r.header.limits
-    limit_room =
-        let m = counts (header_of s) (begun s b).2 in
-        let h = room 32 (header_of s).limits (rw (limits_length s) m.1) in
-        rw (as_read b) (omega (arith, limits_length s))
+  pub few_holidays : r.header.holiday_count ≤ 120
+  few_holidays = let m = few in rw as_read m.2
 
-    pub holiday_most : length (take r.header.holiday_count r.header.holidays) ≤ 120
-    holiday_most = let m = counts (header_of s) (begun s b).2 in rw (as_read b, column 120 (header_of s).holidays) m.2
+  pub few_members : r.header.members ≤ 32
+  few_members = let m = few in rw as_read m.1
 
-    pub limit_most : length (take r.header.members r.header.limits) ≤ 32
-    limit_most = let m = counts (header_of s) (begun s b).2 in rw (as_read b) (rw (← limits_length s, column 32 (header_of s).limits, limits_length s) m.1)
+  pub holiday_most : length (take r.header.holiday_count r.header.holidays) ≤ 120
+  holiday_most = let m = few in rw (as_read, column 120 (header_of s).holidays) m.2
 
-    -- The header by its parts; each member has a limit.
-    pub as-listed :
-        let h = r.header in
-        let limits = take h.members h.limits in
-        record { first_year = h.first_year; start_day = h.start_day.0; members = length limits; holidays = take h.holiday_count h.holidays; limits = limits } ≡ header_of s
-    as-listed = rw (as_read b) (rw (column 120 (header_of s).holidays, ← limits_length s, column 32 (header_of s).limits))
+  pub limit_most : length (take r.header.members r.header.limits) ≤ 32
+  limit_most = let m = few in rw as_read (rw (← limits_length s, column 32 (header_of s).limits, limits_length s) m.1)
+
+  -- The header by its parts; each member has a limit.
+  pub as-listed :
+      let h = r.header in
+      let limits = take h.members h.limits in
+      record { first_year = h.first_year; start_day = h.start_day.0; members = length limits; holidays = take h.holiday_count h.holidays; limits = limits } ≡ header_of s
+  as-listed = rw as_read (rw (column 120 (header_of s).holidays, ← limits_length s, column 32 (header_of s).limits))

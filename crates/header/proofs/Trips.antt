@@ -4,6 +4,8 @@ use mathlib.Core.Bool.{Bool, true, false, cond}
 use mathlib.Core.List.{List, [], ◌∷◌, ◌++◌, flat_map, append_assoc}
 use mathlib.Core.Path.{◌≡◌, refl, sym, ap, ◌∙◌}
 use native.Mathlib.Omega.{arith}
+use Rattle.std.proofs.Common.{Some, None}
+use Rattle.header.specs.declared.reader.ReadHeader.{ReadHeader}
 use borrow.Author.Tests.{le-leb, leb-true, ltb-true, eqb-true}
 use lib.Dec.{eqb, leb, ltb}
 use lib.Seq.{take_at}
@@ -17,13 +19,11 @@ use Rattle.rules.specs.Ranges.{most_first_year, most_limit}
 use Rattle.rules.specs.Days.{Calendar, leap_year, year_start, month_start, span_start, day_after_span, in_span}
 use Rattle.rules.specs.Header.{Header, u16_at, u32_at, u16_bytes, u32_bytes, u16s_at, u32s_at, letters_and_version, same_bytes, header_length, header_of, header_bytes, calendar_of}
 use Rattle.rules.specs.Header.{calendar_sound, limit_sound, day_sound, header_sound, begins_with_header, write_header_spec}
-use Rattle.rules.proofs.Writing.{written}
+use Rattle.rules.proofs.Writing.{written, not_header_refused}
 use Rattle.rules.specs.declared.refusal.Refusal.TheVariants.{HeaderUnsound}
 use Rattle.header.proofs.Headers.{same_true, length_u16s, columns_read, reading_sound, write_header_whole}
-use Rattle.header.specs.Journal.{header_from, header_columns, blank_header, header_reading}
+use Rattle.header.specs.Journal.{header_from, header_columns, header_reading}
 use Rattle.header.specs.Trips.{WrittenIsRead, ReadIsWritten}
-use Rattle.header.specs.declared.journal.JournalHeader.{JournalHeader}
-use Rattle.header.specs.declared.reader.HeaderReading.{HeaderReading}
 use Rattle.big_endian.proofs.Numbers.{bytes_small, u16_wide, u32_wide, u16_back, u32_back, all_back, u8_again, u16_again, u32_again, all_again}
 use Rattle.arith.proofs.Appends.{flat_length}
 
@@ -51,12 +51,12 @@ unfolding in_span
 in_span_small k d y t = omega (arith, span_most k y, ltb-true d (day_after_span k) (and_right (leb (span_start k) d) (ltb d (day_after_span k)) t))
 
 -- ---- what a sound header holds
-record Holds (h : Header) : Type 0 where
-  year : h.first_year ≤ most_first_year
-  start : h.start_day < 65536
-  sized : length h.limits ≡ h.members
-  days : All (λ d. d < 65536) h.holidays
-  limits : All (λ l. l < 4294967296) h.limits
+pub record Holds (h : Header) : Type 0 where
+  pub year : h.first_year ≤ most_first_year
+  pub start : h.start_day < 65536
+  pub sized : length h.limits ≡ h.members
+  pub days : All (λ d. d < 65536) h.holidays
+  pub limits : All (λ l. l < 4294967296) h.limits
 
 fits : (h : Header) → h.first_year ≤ most_first_year → in_span (calendar_of h) h.start_day ≡ true → length h.limits ≡ h.members
     → every (in_span (calendar_of h)) h.holidays ≡ true → every limit_sound h.limits ≡ true → Holds h
@@ -73,7 +73,7 @@ must : (b : Bool) → (b ≡ false → true ≡ false) → b ≡ true
 must true f = refl
 must false f = sym (f refl)
 
-holds : (h : Header) → header_sound h ≡ true → Holds h
+pub holds : (h : Header) → header_sound h ≡ true → Holds h
 unfolding header_sound calendar_sound day_sound
 holds h t =
     let k = calendar_of h in
@@ -192,28 +192,26 @@ written_is_read h out k after w =
     rw (reply_of.1, reply_of.2 ∙ over_front bytes out)
     (sym (rw (fields_back x held rest) at (reading_sound (bytes ++ rest) (length bytes) begins (sym (length_read x held rest)))))
 
-abbrev sound_reading : List ℕ → HeaderReading
-sound_reading s = record { answer = Ok (header_length s); header = header_columns (header_of s) }
-
 -- what a reading says that gives a header
-pub given : (s : List ℕ) (k : ℕ) (h : JournalHeader) → header_reading s ≡ record { answer = Ok k; header = h } → (begins_with_header s ≡ true) × (k ≡ header_length s)
-    × (h ≡ header_columns (header_of s))
+pub given : (s : List ℕ) (r : ReadHeader) → header_reading s ≡ Some r → (begins_with_header s ≡ true) × (r ≡ record { length = header_length s; header = header_columns (header_of s) })
 unfolding header_reading
-given s k h r = go (begins_with_header s) r
+given s r e = go (begins_with_header s) e
   where
-    go : (b : Bool) → cond b (sound_reading s) (record { answer = Err HeaderUnsound; header = blank_header }) ≡ record { answer = Ok k; header = h }
-        → (b ≡ true) × (k ≡ header_length s) × (h ≡ header_columns (header_of s))
-    go true e = let x : Ok (header_length s) ≡ Ok k = ap (λ o. o.answer) e in (refl, cc, sym (ap (λ o. o.header) e))
-    go false e = let x : Err HeaderUnsound ≡ Ok k = ap (λ o. o.answer) e in absurd (let z : ◌≡◌ {A = ℕ} 0 1 = cc in omega arith)
+    go : (b : Bool) → cond b (Some (record { length = header_length s; header = header_columns (header_of s) })) None ≡ Some r
+        → (b ≡ true) × (r ≡ record { length = header_length s; header = header_columns (header_of s) })
+    go true e = (refl, cc)
+    go false e = absurd (let z : ◌≡◌ {A = ℕ} 0 1 = cc in omega arith)
 
 pub read_is_written : ReadIsWritten
 read_is_written s out k h b r room =
-    let reply_of = given s k h r in
+    let reply_of = given s (record { length = k; header = h }) r in
+    let size_of : k ≡ header_length s = ap (λ (x : ReadHeader). x.length) reply_of.1 in
+    let header_of_it : h ≡ header_columns (header_of s) = ap (λ (x : ReadHeader). x.header) reply_of.1 in
     let w = begun s reply_of.0 in
     let n = header_length s in
     let size : length (header_bytes (header_of s)) ≡ n = header_size s w.2 in
     let again = header_bytes_again s (bytes_small s b) w.0 w.1 in
     let whole : header_bytes (header_of s) ≡ take n s = sym (rw again at (take_at (header_bytes (header_of s)) (drop n s) n size)) in
-    let fits : n ≤ length out = rw reply_of.1 at room in
-    rw (reply_of.1, reply_of.2, columns_read s)
+    let fits : n ≤ length out = rw size_of at room in
+    rw (size_of, header_of_it, columns_read s)
     (sym (write_header_whole (header_of s) out w.2 n (over 0 (take n s) out) (sym size) (rw size fits) (ap (λ l. over 0 l out) (sym whole))))

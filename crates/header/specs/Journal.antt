@@ -1,13 +1,12 @@
 -- A journal's header with its lists in columns, and what reading one answers.
-use Rattle.std.specs.Prelude.{ℕ, Bool, cond, ◌&&◌, List, map, length, get_or, replicate, Ok, Err}
+use Rattle.std.specs.Prelude.{ℕ, Bool, cond, ◌&&◌, List, map, length, get_or, Option, Some, None}
 use Rattle.arith.specs.Lists.{from}
-use Rattle.rules.specs.declared.refusal.Refusal.TheVariants.{HeaderUnsound}
 use Rattle.rules.specs.Ranges.{most_members, most_holidays}
 use Rattle.rules.specs.Days.{Calendar}
 use Rattle.rules.specs.Header.{Header, calendar_sound, day_sound, header_of, header_length, begins_with_header}
 use Rattle.arith.specs.Columns.{padded}
 use Rattle.header.specs.declared.journal.JournalHeader.{JournalHeader}
-use Rattle.header.specs.declared.reader.HeaderReading.{HeaderReading}
+use Rattle.header.specs.declared.reader.ReadHeader.{ReadHeader}
 
 -- The first n numbers of a column.
 unfoldable pub firsts : ℕ → List ℕ → List ℕ
@@ -35,11 +34,6 @@ header_columns h =
       limits = padded most_members h.limits;
     }
 
-abbrev pub blank_header : JournalHeader
-blank_header = record { first_year = 0; start_day = record { 0 = 0 }; members = 0; holiday_count = 0; holidays = replicate most_holidays 0; limits = replicate most_members 0 }
-
 -- What reading answers: the header and its length if the bytes begin with a sound one.
-unfoldable pub header_reading : List ℕ → HeaderReading
-header_reading s =
-    cond (begins_with_header s) (record { answer = Ok (header_length s); header = header_columns (header_of s) })
-    (record { answer = Err HeaderUnsound; header = blank_header })
+unfoldable pub header_reading : List ℕ → Option ReadHeader
+header_reading s = cond (begins_with_header s) (Some (record { length = header_length s; header = header_columns (header_of s) })) None

@@ -53,35 +53,22 @@ pub fn is_member_count_sound(members: u64) -> bool
     (1 <= members) & (members <= MOST_MEMBERS)
 }
 
-fn are_limits_sound(list: [u64; MEMBER_PLACES], count: usize) -> bool
-    requires { count ≤ most_members }
-    ensures { result ≡ every limit_sound (firsts count list) }
+fn are_limits_sound(limits: &[u64]) -> bool
+    ensures { result ≡ every limit_sound limits.now }
 {
-    let mut ok = true;
-    let mut i: usize = 0;
-    while i < count {
-        ok = ok & (list[i] <= MOST_LIMIT);
-        i += 1;
-    }
-    ok
+    limits.iter().all(|limit| *limit <= MOST_LIMIT)
 }
 
 // The calendar and the start day.
-fn are_days_sound(
-    first_year: u64,
-    list: [u64; HOLIDAY_PLACES],
-    count: usize,
-    start_day: DayNo,
-) -> bool
-    requires { count ≤ most_holidays }
-    ensures { result ≡ days_sound (record { first_year = first_year; holidays = firsts count list }) start_day.0 }
+fn are_days_sound(first_year: u64, holidays: &[u64], start_day: DayNo) -> bool
+    ensures { result ≡ days_sound (record { first_year = first_year; holidays = holidays.now }) start_day.0 }
 {
     if !calendar::is_first_year_sound(first_year) {
         return false;
     }
     let span = months::span_of(first_year);
-    let calendar_sound = calendar::is_calendar_sound(first_year, span, &list[..count]);
-    calendar_sound & calendar::is_day_sound(span, &list[..count], start_day)
+    calendar::is_calendar_sound(first_year, span, holidays)
+        & calendar::is_day_sound(span, holidays, start_day)
 }
 
 pub fn is_header_sound(h: JournalHeader) -> bool
@@ -93,13 +80,7 @@ pub fn is_header_sound(h: JournalHeader) -> bool
     if !is_member_count_sound(h.members) {
         return false;
     }
-    let holidays = h.holidays;
-    let limits = h.limits;
-    let days_sound = are_days_sound(
-        h.first_year,
-        holidays,
-        h.holiday_count as usize,
-        h.start_day,
-    );
-    days_sound & are_limits_sound(limits, h.members as usize)
+    let holidays = &h.holidays[..h.holiday_count as usize];
+    let limits = &h.limits[..h.members as usize];
+    are_days_sound(h.first_year, holidays, h.start_day) & are_limits_sound(limits)
 }

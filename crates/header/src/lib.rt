@@ -9,5 +9,5 @@ pub use journal::{
     FIRST_HOLIDAY_BYTE, FIRST_YEAR_BYTE, HOLIDAY_COUNT_BYTE, HOLIDAY_LENGTH, JournalHeader,
     LIMIT_LENGTH, MEMBERS_BYTE, START_DAY_BYTE, header_length, is_member_count_sound,
 };
-pub use reader::{HeaderReading, read_header};
+pub use reader::{ReadHeader, read_header};
 pub use writer::write_header;

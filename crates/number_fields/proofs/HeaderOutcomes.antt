@@ -1,16 +1,18 @@
 -- What reading a header to a row and writing one from a row answer, by the tests that lead to it. Assumes nothing.
-use Prim.Native.Nat.{ℕ, ◌+◌, ◌≤◌, ◌<◌}
+use Prim.Native.Nat.{ℕ, zero, suc, ◌+◌, ◌-◌, ◌≤◌, ◌<◌}
 use mathlib.Core.Bool.{true, false}
-use mathlib.Core.List.{List, [], ◌∷◌, ◌++◌}
+use mathlib.Core.List.{List, [], ◌∷◌, ◌++◌, map}
 use mathlib.Core.Path.{◌≡◌, refl, sym, ap, ◌∙◌}
 use native.Mathlib.Omega.{arith}
 use borrow.Author.Tests.{lt-ltb, le-ltb, lt-leb}
 use lib.Dec.{leb}
-use lib.ListN.{length, get_or, set}
-use Rattle.std.specs.Prelude.{Result, Ok, Err}
+use lib.ListN.{length, get_or, set, take, drop, replicate, length-drop}
+use lib.Seq.{length-take-le, get_or-take, get_or-drop}
+use Rattle.arith.specs.Columns.{padded}
+use Rattle.arith.specs.Lists.{from}
 use Rattle.arith.specs.Lists.{over}
 use Rattle.arith.proofs.Beside.{over_then}
-use Rattle.arith.proofs.Runs.{length_run}
+use Rattle.arith.proofs.Runs.{length_run, run_of}
 use Rattle.arith.proofs.Tests.{and_false}
 use Rattle.arith.proofs.Writes.{stored}
 use Rattle.rules.specs.declared.refusal.Refusal.TheVariants.{TableUnsound, HeaderUnsound}
@@ -23,9 +25,25 @@ use Rattle.header.proofs.Headers.{holidays_many, members_wrong, columns_back, wr
 use Rattle.number_fields.specs.HeaderFields.{header_fields, members_field, holiday_count_field, limits_field, with_header, numbers_at, header_in, read_header_fields, write_header_fields}
 use Rattle.rules.specs.declared.refusal.Refusal.{Refusal}
 
+zeros_past : (n k : ℕ) → drop {A = ℕ} k (replicate n 0) ≡ replicate (n - k) 0
+zeros_past zero zero = refl
+zeros_past zero (suc k) = let none : 0 - suc k ≡ 0 = omega arith in rw none
+zeros_past (suc n) zero = let all : suc n - 0 ≡ suc n = omega arith in rw all
+zeros_past (suc n) (suc k) = let less : suc n - suc k ≡ n - k = omega arith in rw less (zeros_past n k)
+
 pub length_numbers : (f : List ℕ) (i n : ℕ) → length (numbers_at f i n) ≡ n
 unfolding numbers_at
 length_numbers f i n = length_run (λ j. get_or f (i + j) 0) n
+
+-- Numbers of a row in the first places of a column of zeros.
+pub column_read : (n : ℕ) (f : List ℕ) (i k : ℕ) → k ≤ n → i + k ≤ length f → take (i + k - i) (drop i f) ++ drop k (replicate n 0) ≡ padded n (numbers_at f i k)
+unfolding padded numbers_at
+column_read n f i k h l =
+    let cut : i + k - i ≡ k = omega arith in
+    let sized : length (take k (drop i f)) ≡ k = length-take-le k (drop i f) (rw (length-drop i f) (omega arith)) in
+    let read : map (λ j. get_or f (i + j) 0) (from 0 k) ≡ take k (drop i f)
+    = rw sized at (run_of (λ j. get_or f (i + j) 0) (take k (drop i f)) 0 (λ j g. sym (get_or-take k (drop i f) j 0 (rw sized at g) ∙ get_or-drop i f j 0))) in
+    rw (cut, read, sized, zeros_past n k) refl
 
 -- A header's four numbers, then its holidays, then its limits.
 pub header_put : (h : Header) (row a b : List ℕ) → header_fields ≤ length row

@@ -15,6 +15,7 @@ use Rattle.arith.proofs.Writes.{over_front, over_more}
 use Rattle.rules.specs.Answers.{Outcome, reply_of}
 use Rattle.rules.specs.Ranges.{most_holidays, most_members}
 use Rattle.rules.specs.Header.{Header, header_length, header_of, header_sound, begins_with_header, write_header_spec}
+use Rattle.header.specs.declared.reader.ReadHeader.{ReadHeader}
 use Rattle.header.specs.Journal.{firsts, header_from, header_columns}
 use Rattle.header.proofs.Headers.{take_firsts, columns_read, reading_sound}
 use Rattle.header.proofs.Readings.{counts, limits_length}
@@ -147,10 +148,10 @@ header_written_is_read row out other k after room w =
         let columns = header_columns (header_in row) in
         let same : header_from columns ≡ header_in row = columns_in row out h in
         let read = header.written_is_read columns out k after (rw same x) in
-        let reply_of = header.given after k (header_columns (header_from columns)) read in
-        let back : header_of after ≡ header_in row = sym (columns_read after) ∙ (ap header_from (sym reply_of.2) ∙ (ap (λ y. header_from (header_columns y)) same ∙ same)) in
+        let reply_of = header.given after (record { length = k; header = header_columns (header_from columns) }) read in
+        let back : header_of after ≡ header_in row = sym (columns_read after) ∙ (ap (λ (r : ReadHeader). header_from r.header) (sym reply_of.1) ∙ (ap (λ y. header_from (header_columns y)) same ∙ same)) in
         let sound : header_sound (header_in row) ≡ true = rw (← back) (header.begun after reply_of.0).2 in
         let most = counts (header_in row) sound in
         let days : get_or row holiday_count_field 0 ≤ most_holidays = rw (length_numbers row holidays_field (get_or row holiday_count_field 0)) at most.2 in
         let put : with_header (header_of after) other ≡ with_header (header_in row) other = ap (λ y. with_header y other) back in
-        (header_gives_numbers row h days most.1, sym (read_header_whole after other room reply_of.0 (Ok k) (with_header (header_in row) other) (ap Ok reply_of.1) (sym put)))
+        (header_gives_numbers row h days most.1, sym (read_header_whole after other room reply_of.0 (Ok k) (with_header (header_in row) other) (ap (λ (r : ReadHeader). Ok r.length) reply_of.1) (sym put)))

@@ -6,8 +6,6 @@ use native.Mathlib.Nat.{add-zero}
 use native.Mathlib.Omega.{arith}
 use borrow.Author.Tests.{eq-eqb}
 use lib.ListN.{length, take, drop, length-append, take-append-drop}
-use lib.Seq.{paste, take-length}
-use Rattle.std.specs.Prelude.{Ok}
 use Rattle.arith.specs.Lists.{over}
 use Rattle.arith.proofs.Appends.{flat_length}
 use Rattle.arith.proofs.Beside.{over_then}
@@ -65,8 +63,3 @@ pub put_rows : {k n : ℕ} (e : Event) (l : Legs) (row put after : List ℕ) →
     → record { answer = Ok (1 + n + 3 * k); after = after } ≡ with_numbers e (leg_rows (leg_count e) l) row
 put_rows e l row put after count fields h p q =
     rw (count, fields) (put_joined e (leg_rows (leg_count e) l) (length_rows (leg_count e) l) row put after h p (rw count at q))
-
--- A list stored place by place.
-pub pasted : (row : List ℕ) (at : ℕ) (list : List ℕ) (i : ℕ) → i ≡ length list → paste row at list i ≡ over at list row
-unfolding over
-pasted row at list i e = rw (e, take-length list) (append_assoc (take at row) list (drop (at + length list) row))

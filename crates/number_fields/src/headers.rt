@@ -4,14 +4,13 @@ ghost use Rattle.arith.specs.Columns.{padded};
 ghost use Rattle.arith.specs.Lists.{over};
 ghost use Rattle.rules.specs.Ranges.{most_holidays, most_members};
 ghost use Rattle.header.specs.Journal.{header_columns};
-ghost use Rattle.number_fields.specs.HeaderFields.{header_fields, holidays_field, limits_field, members_field, holiday_count_field, with_header, numbers_at, header_in, read_header_fields, write_header_fields};
+ghost use Rattle.number_fields.specs.HeaderFields.{header_fields, members_field, holiday_count_field, with_header, numbers_at, header_in, read_header_fields, write_header_fields};
 
 use crate::places::{
     FIRST_YEAR_FIELD, HEADER_FIELDS, HOLIDAY_COUNT_FIELD, HOLIDAYS_FIELD, LIMITS_FIELD,
     MEMBERS_FIELD, START_DAY_FIELD,
 };
-use header::{JournalHeader, read_header, write_header};
-use rules::layout::{HOLIDAY_PLACES, MEMBER_PLACES};
+use header::{JournalHeader, ReadHeader, read_header, write_header};
 use rules::ranges::{MOST_HOLIDAYS, MOST_MEMBERS};
 use rules::{DayNo, Refusal};
 
@@ -20,11 +19,7 @@ fn put_list(row: &mut [u64], at: usize, list: &[u64])
     requires { at + length list.now ≤ length row.old }
     ensures { row.new ≡ over at list.now row.old }
 {
-    let mut i: usize = 0;
-    while i < list.len() {
-        row[at + i] = list[i];
-        i += 1;
-    }
+    row[at..at + list.len()].copy_from_slice(list);
 }
 
 // Each member has a limit, so there are as many members as limits.
@@ -38,8 +33,8 @@ fn put_header(row: &mut [u64], first_year: u64, start: DayNo, holidays: &[u64], 
     row[START_DAY_FIELD] = start.0;
     row[MEMBERS_FIELD] = limits.len() as u64;
     row[HOLIDAY_COUNT_FIELD] = holidays.len() as u64;
-    put_list(&mut *row, HOLIDAYS_FIELD, holidays);
-    put_list(&mut *row, LIMITS_FIELD, limits);
+    put_list(row, HOLIDAYS_FIELD, holidays);
+    put_list(row, LIMITS_FIELD, limits);
 }
 
 // Reads the header that bytes begin with: TableUnsound for a short row before HeaderUnsound, and nothing written on
@@ -50,49 +45,26 @@ pub fn read_header_fields(bytes: &[u8], row: &mut [u64]) -> Result<u64, Refusal>
     if row.len() < HEADER_FIELDS {
         return Err(Refusal::TableUnsound);
     }
-    let reading = read_header(bytes);
-    let header = reading.header;
-    // An unsound header comes back as zeros; a sound one has at least one member.
-    if header.members == 0 {
+    let Some(ReadHeader { length, header }) = read_header(bytes) else {
         return Err(Refusal::HeaderUnsound);
-    }
-    let holidays = header.holidays;
-    let limits = header.limits;
-    let days = header.holiday_count as usize;
-    let members = header.members as usize;
+    };
     put_header(
-        &mut *row,
+        row,
         header.first_year,
         header.start_day,
-        &holidays[..days],
-        &limits[..members],
+        &header.holidays[..header.holiday_count as usize],
+        &header.limits[..header.members as usize],
     );
-    reading.answer
+    Ok(length)
 }
 
-fn holidays_in(row: &[u64], count: usize) -> [u64; HOLIDAY_PLACES]
-    requires { (header_fields ≤ length row.now) × (count ≤ most_holidays) }
-    ensures { result ≡ padded most_holidays (numbers_at row.now holidays_field count) }
+// So many numbers of a row, and 0 in the places past them.
+fn column_in<const PLACES: usize>(row: &[u64], at: usize, count: usize) -> [u64; PLACES]
+    requires { (count ≤ PLACES) × (at + count ≤ length row.now) }
+    ensures { result ≡ padded PLACES (numbers_at row.now at count) }
 {
-    let mut column = [0u64; HOLIDAY_PLACES];
-    let mut i: usize = 0;
-    while i < count {
-        column[i] = row[HOLIDAYS_FIELD + i];
-        i += 1;
-    }
-    column
-}
-
-fn limits_in(row: &[u64], count: usize) -> [u64; MEMBER_PLACES]
-    requires { (header_fields ≤ length row.now) × (count ≤ most_members) }
-    ensures { result ≡ padded most_members (numbers_at row.now limits_field count) }
-{
-    let mut column = [0u64; MEMBER_PLACES];
-    let mut i: usize = 0;
-    while i < count {
-        column[i] = row[LIMITS_FIELD + i];
-        i += 1;
-    }
+    let mut column = [0u64; PLACES];
+    column[..count].copy_from_slice(&row[at..at + count]);
     column
 }
 
@@ -101,16 +73,14 @@ fn header_in(row: &[u64]) -> JournalHeader
     ensures { result ≡ header_columns (header_in row.now) }
 {
     let members = row[MEMBERS_FIELD];
-    let count = row[HOLIDAY_COUNT_FIELD];
-    let holidays = holidays_in(row, count as usize);
-    let limits = limits_in(row, members as usize);
+    let holiday_count = row[HOLIDAY_COUNT_FIELD];
     JournalHeader {
         first_year: row[FIRST_YEAR_FIELD],
         start_day: DayNo(row[START_DAY_FIELD]),
-        members: members,
-        holiday_count: count,
-        holidays: holidays,
-        limits: limits,
+        members,
+        holiday_count,
+        holidays: column_in(row, HOLIDAYS_FIELD, holiday_count as usize),
+        limits: column_in(row, LIMITS_FIELD, members as usize),
     }
 }
 

@@ -1,6 +1,6 @@
 -- The fields and the event of a kind by its number, and of a number that no kind has. Assumes nothing.
-use Prim.Native.Nat.{ℕ, suc, ◌+◌, ◌*◌, ◌≤◌, ◌<◌}
-use mathlib.Core.Bool.{Bool, true, false, cond}
+use Prim.Native.Nat.{ℕ, zero, suc, ◌+◌, ◌*◌, ◌≤◌, ◌<◌}
+use mathlib.Core.Bool.{cond}
 use mathlib.Core.List.{List, [], ◌∷◌}
 use mathlib.Core.Path.{◌≡◌, refl, sym, ap, ◌∙◌}
 use native.Mathlib.Nat.{add-zero, add_assoc}
@@ -13,17 +13,9 @@ use lib.Seq.{drop-cons}
 use Rattle.std.specs.Prelude.{None}
 use Rattle.arith.proofs.Tests.{and_false}
 use Rattle.rules.specs.declared.field.Field.{Field}
-use Rattle.rules.specs.declared.field.Field.TheVariants.{Kind, Time}
+use Rattle.rules.specs.declared.field.Field.TheVariants.{Kind}
 use Rattle.rules.specs.Fields.{close_of_day_kind, close_of_day_fields, has_legs, width_of, widths, kind_fields}
 use Rattle.rules.specs.Records.{length_with, record_length, submit_of, event_by_kind}
-
--- The last of numbers of which all others are ruled out.
-pub last_of_four : (i : ℕ) → 3 ≤ i → i < 7 → (i ≡ 3 → ⊥) → (i ≡ 4 → ⊥) → (i ≡ 5 → ⊥) → i ≡ 6
-last_of_four i h k a b c = omega arith
-
--- A list of one field.
-pub only : (f : Field) (i : ℕ) → i < 1 → f ≡ get_or (f ∷ []) i Kind
-only f i h = let e : i ≡ 0 = omega arith in rw e refl
 
 -- A kind that is none of the first six is a close of day or none.
 module _ (k : ℕ) (a : k ≡ 1 → ⊥) (b : k ≡ 2 → ⊥) (c : k ≡ 3 → ⊥) (d : k ≡ 4 → ⊥) (e : k ≡ 5 → ⊥) (f : k ≡ 6 → ⊥) where
@@ -31,15 +23,14 @@ module _ (k : ℕ) (a : k ≡ 1 → ⊥) (b : k ≡ 2 → ⊥) (c : k ≡ 3 → 
   unfolding kind_fields
   last_kind = simp (ne_eqb _ _ a, ne_eqb _ _ b, ne_eqb _ _ c, ne_eqb _ _ d, ne_eqb _ _ e, ne_eqb _ _ f)
 
-  pub time_at : (i : ℕ) → i < length (kind_fields k) → Time ≡ get_or (kind_fields k) i Kind
-  time_at i h = rw last_kind (go (eqb k close_of_day_kind) (rw last_kind at h))
-    where
-      go : (t : Bool) → i < length (cond t close_of_day_fields []) → Time ≡ get_or (cond t close_of_day_fields []) i Kind
-      go true q = only Time i q
-      go false q = absurd (omega arith)
-
   pub no_fields : (k ≡ 7 → ⊥) → [] ≡ kind_fields k
   no_fields g = rw (last_kind, ne_eqb _ _ g) refl
+
+-- A field that there is, whatever stands for one that there is not.
+pub field_there : (fs : List Field) (i : ℕ) (y z : Field) → i < length fs → get_or fs i y ≡ get_or fs i z
+field_there [] i y z h = absurd (omega arith)
+field_there (f ∷ fs) zero y z h = refl
+field_there (f ∷ fs) (suc i) y z h = field_there fs i y z (omega arith)
 
 -- ---- the bytes of fields, added from the first on
 module _ (fs : List Field) (i n : ℕ) where

@@ -2,7 +2,7 @@
 // their fields, and the listing's words follow from here.
 ghost use Rattle.std.specs.Prelude.{◌≡◌, ◌<◌, ◌≤◌, length, get_or};
 ghost use Rattle.rules.specs.declared.field.Field.TheVariants.{Kind as firstField};
-ghost use Rattle.rules.specs.Fields.{width_of, submit_fields, cancel_fields, day_limits_fields, close_out_fields, leg_fields, kind_fields};
+ghost use Rattle.rules.specs.Fields.{width_of, leg_fields, kind_fields};
 ghost use Rattle.record_kinds.specs.Numbers.{most_fields};
 
 use rules::Field;
@@ -10,6 +10,31 @@ use rules::kinds::{CANCEL, CLOSE_OF_DAY, CLOSE_OUT, DAY_LIMITS, DEFAULT, PROPOSA
 
 // How many fields a leg has.
 pub const LEG_FIELDS: usize = 3;
+
+// After a record's kind, those of its legs aside.
+const SUBMIT_FIELDS: [Field; 7] = [
+    Field::Time,
+    Field::Member,
+    Field::Contract,
+    Field::Side,
+    Field::OrderKind,
+    Field::Price,
+    Field::Lots,
+];
+
+const CANCEL_FIELDS: [Field; 3] = [Field::Time, Field::Member, Field::Order];
+
+const DAY_LIMITS_FIELDS: [Field; 3] = [Field::Contract, Field::Low, Field::High];
+
+const PROPOSAL_FIELDS: [Field; 1] = [Field::Legs];
+
+const FIELDS_OF_A_LEG: [Field; LEG_FIELDS] = [Field::Order, Field::Lots, Field::Price];
+
+const DEFAULT_FIELDS: [Field; 1] = [Field::Member];
+
+const CLOSE_OUT_FIELDS: [Field; 2] = [Field::Contract, Field::Ratio];
+
+const CLOSE_OF_DAY_FIELDS: [Field; 1] = [Field::Time];
 
 // How many bytes a field takes.
 pub fn width_of(field: Field) -> usize
@@ -42,71 +67,26 @@ pub fn width_of(field: Field) -> usize
     }
 }
 
-// How many fields a record has after its kind, its legs aside; none where no kind has that number.
+// The fields of a record after its kind, its legs aside; none where no kind has that number.
+pub fn kind_fields(kind: u64) -> &'static [Field]
+    ensures { (result.now ≡ kind_fields kind) × (length result.now ≤ most_fields) }
+{
+    match kind {
+        SUBMIT => &SUBMIT_FIELDS,
+        CANCEL => &CANCEL_FIELDS,
+        DAY_LIMITS => &DAY_LIMITS_FIELDS,
+        PROPOSAL => &PROPOSAL_FIELDS,
+        DEFAULT => &DEFAULT_FIELDS,
+        CLOSE_OUT => &CLOSE_OUT_FIELDS,
+        CLOSE_OF_DAY => &CLOSE_OF_DAY_FIELDS,
+        _ => &[],
+    }
+}
+
 pub fn field_count(kind: u64) -> usize
     ensures { (result ≡ length (kind_fields kind)) × (result ≤ most_fields) }
 {
-    match kind {
-        SUBMIT => 7,
-        CANCEL => 3,
-        DAY_LIMITS => 3,
-        PROPOSAL => 1,
-        DEFAULT => 1,
-        CLOSE_OUT => 2,
-        CLOSE_OF_DAY => 1,
-        _ => 0,
-    }
-}
-
-fn submit_field(i: usize) -> Field
-    requires { i < length submit_fields }
-    ensures { result ≡ get_or submit_fields i firstField }
-{
-    if i < 3 {
-        return match i {
-            0 => Field::Time,
-            1 => Field::Member,
-            _ => Field::Contract,
-        };
-    }
-    match i {
-        3 => Field::Side,
-        4 => Field::OrderKind,
-        5 => Field::Price,
-        _ => Field::Lots,
-    }
-}
-
-fn cancel_field(i: usize) -> Field
-    requires { i < length cancel_fields }
-    ensures { result ≡ get_or cancel_fields i firstField }
-{
-    match i {
-        0 => Field::Time,
-        1 => Field::Member,
-        _ => Field::Order,
-    }
-}
-
-fn day_limits_field(i: usize) -> Field
-    requires { i < length day_limits_fields }
-    ensures { result ≡ get_or day_limits_fields i firstField }
-{
-    match i {
-        0 => Field::Contract,
-        1 => Field::Low,
-        _ => Field::High,
-    }
-}
-
-fn close_out_field(i: usize) -> Field
-    requires { i < length close_out_fields }
-    ensures { result ≡ get_or close_out_fields i firstField }
-{
-    match i {
-        0 => Field::Contract,
-        _ => Field::Ratio,
-    }
+    kind_fields(kind).len()
 }
 
 // Field i of a record, from 0 after its kind.
@@ -114,15 +94,7 @@ pub fn field_of(kind: u64, i: usize) -> Field
     requires { i < length (kind_fields kind) }
     ensures { result ≡ get_or (kind_fields kind) i firstField }
 {
-    match kind {
-        SUBMIT => submit_field(i),
-        CANCEL => cancel_field(i),
-        DAY_LIMITS => day_limits_field(i),
-        PROPOSAL => Field::Legs,
-        DEFAULT => Field::Member,
-        CLOSE_OUT => close_out_field(i),
-        _ => Field::Time,
-    }
+    kind_fields(kind)[i]
 }
 
 // Field i of a leg.
@@ -130,9 +102,5 @@ pub fn leg_field(i: usize) -> Field
     requires { i < length leg_fields }
     ensures { result ≡ get_or leg_fields i firstField }
 {
-    match i {
-        0 => Field::Order,
-        1 => Field::Lots,
-        _ => Field::Price,
-    }
+    FIELDS_OF_A_LEG[i]
 }

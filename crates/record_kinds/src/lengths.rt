@@ -4,7 +4,7 @@ ghost use Rattle.rules.specs.Fields.{widths, kind_fields};
 ghost use Rattle.rules.specs.Ranges.{most_legs};
 ghost use Rattle.rules.specs.Records.{leg_place, record_length};
 
-use crate::fields::{field_count, field_of, width_of};
+use crate::fields::{kind_fields, width_of};
 use crate::places::{FIRST_FIELD_BYTE, FIRST_LEG_BYTE, LEG_LENGTH};
 use rules::kinds::PROPOSAL;
 
@@ -20,22 +20,20 @@ pub fn leg_place(leg: usize) -> usize
 fn fields_length(kind: u64) -> usize
     ensures { (result ≡ widths (kind_fields kind)) × (result ≤ 28) }
 {
-    let count = field_count(kind);
-    let mut length: usize = 0;
-    let mut i: usize = 0;
-    while i < count {
-        length += width_of(field_of(kind, i));
-        i += 1;
+    let mut length = 0;
+    for field in kind_fields(kind) {
+        length += width_of(*field);
     }
     length
 }
 
-// By its kind and, of a proposal, its number of legs; 0 where no kind has that number.
+// By its kind and, of a proposal, its number of legs; 0 where no kind has that number, as the definition of rules says
+// that front_of and fields_of cite.
 pub fn record_length(kind: u64, legs: u64) -> u64
     requires { legs < 256 }
     ensures { result ≡ record_length kind legs }
 {
-    if field_count(kind) == 0 {
+    if kind_fields(kind).is_empty() {
         return 0;
     }
     let length = (FIRST_FIELD_BYTE + fields_length(kind)) as u64;

@@ -108,8 +108,8 @@ pub fn event_of(numbers: &[u64]) -> Option<Event>
     requires { most_numbers ≤ length numbers.now }
     ensures { result ≡ event_by_kind (get_or numbers.now 0 0) numbers.now }
 {
-    let kind = numbers[KIND_NUMBER];
-    match kind {
+    // A record's first byte becomes an event here; a second enum, of kinds alone, would only stand between them.
+    match numbers[KIND_NUMBER] {
         SUBMIT => submit_of(numbers),
         CANCEL => Some(Event::Cancel(cancellation_of(numbers))),
         DAY_LIMITS => Some(Event::DayLimits(new_day_limits_of(numbers))),
@@ -126,14 +126,12 @@ fn put_submit(numbers: &mut [u64], e: Submission)
     requires { most_numbers ≤ length numbers.old }
     ensures { numbers.new ≡ over 0 (kind_number (Submit e) ∷ event_numbers (Submit e)) numbers.old }
 {
-    let side = e.side;
-    let kind = e.kind;
     numbers[KIND_NUMBER] = SUBMIT;
     numbers[SUBMIT_TIME] = e.time;
     numbers[SUBMIT_MEMBER] = e.member;
     numbers[SUBMIT_CONTRACT] = e.contract;
-    numbers[SUBMIT_SIDE] = side_number(side);
-    numbers[SUBMIT_ORDER_KIND] = order_kind_number(kind);
+    numbers[SUBMIT_SIDE] = side_number(e.side);
+    numbers[SUBMIT_ORDER_KIND] = order_kind_number(e.kind);
     numbers[SUBMIT_PRICE] = e.price.0;
     numbers[SUBMIT_LOTS] = e.lots.0;
 }

@@ -7,13 +7,11 @@ use rules::OrderKind;
 pub fn order_kind_of(b: u64) -> OrderKind
     ensures { result ≡ order_kind_of b }
 {
-    if b == 0 {
-        return OrderKind::Resting;
+    match b {
+        0 => OrderKind::Resting,
+        1 => OrderKind::Oeye,
+        _ => OrderKind::Teye,
     }
-    if b == 1 {
-        return OrderKind::Oeye;
-    }
-    OrderKind::Teye
 }
 
 // The number of an order kind, which fits a byte.

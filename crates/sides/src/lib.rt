@@ -9,10 +9,7 @@ use rules::Side;
 pub fn side_of(n: u64) -> Side
     ensures { result ≡ side_of n }
 {
-    if n == 0 {
-        return Side::Buy;
-    }
-    Side::Sell
+    if n == 0 { Side::Buy } else { Side::Sell }
 }
 
 // The number of a side, which fits a byte.
@@ -28,16 +25,7 @@ pub fn side_number(side: Side) -> u64
 pub fn is_same_side(a: Side, b: Side) -> bool
     ensures { result ≡ same_side a b }
 {
-    match a {
-        Side::Buy => match b {
-            Side::Buy => true,
-            Side::Sell => false,
-        },
-        Side::Sell => match b {
-            Side::Buy => false,
-            Side::Sell => true,
-        },
-    }
+    matches!((a, b), (Side::Buy, Side::Buy) | (Side::Sell, Side::Sell))
 }
 
 pub fn other_side(side: Side) -> Side

@@ -1,9 +1,14 @@
-use mathlib.Core.Path.{refl}
+use Prim.Native.Nat.{◌+◌, ◌-◌}
+use mathlib.Core.Path.{◌≡◌, refl, ◌∙◌}
 use native.Mathlib.Omega.{arith}
 use Rattle.rules.specs.Header.{u16_bytes, u32_bytes}
-use Rattle.arith.proofs.Beside.{over_next}
+use Rattle.arith.proofs.Writes.{came_back}
+use Rattle.big_endian.proofs.Numbers.{low_u32}
 use Rattle.big_endian.proofs.put_u32.Goals as goal
 
 pub returns : goal.returns
 unfolding u16_bytes u32_bytes
-returns c = over_next _ _ _ _ _ _ _ c.put_u16.ensures c.put_u16-2.ensures refl (omega arith)
+returns c =
+    let cut : c.args.at + 4 - c.args.at ≡ 4 = omega arith in
+    let written : c.copy_from_slice.new.self ≡ u32_bytes c.args.n = c.copy_from_slice.ensures.after ∙ c.to_be_bytes.ensures ∙ low_u32 _ c.args.n (omega arith) in
+    rw (cut, written) (came_back c.args.at 4 c.args.out.now (u32_bytes c.args.n) refl)

@@ -1,6 +1,5 @@
 use native.Mathlib.Omega.{arith}
 use mathlib.Core.Path.{◌≡◌, refl, ap, ◌∙◌}
-use Prim.Native.Nat.{◌-◌}
 use Rattle.arith.specs.Columns.{padded}
 use Rattle.arith.proofs.Padded.{column_next}
 use Rattle.arith.specs.Lists.{from}

@@ -1,6 +1,5 @@
 use native.Mathlib.Omega.{arith}
 use mathlib.Core.Path.{ap, ◌∙◌}
-use Prim.Native.Nat.{◌-◌}
 use Rattle.arith.proofs.Runs.{run_start, run_passed, run_end}
 use Rattle.rules.specs.Records.{leg_sound}
 use Rattle.codec.specs.Columns.{leg_row, leg_rows}

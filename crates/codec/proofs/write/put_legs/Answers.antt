@@ -1,6 +1,5 @@
 use native.Mathlib.Omega.{arith}
 use mathlib.Core.Path.{◌≡◌, refl}
-use Prim.Native.Nat.{◌-◌}
 use Rattle.arith.proofs.Widths.{blocks_none, blocks_next}
 use Rattle.rules.specs.Records.{leg_bytes}
 use Rattle.codec.specs.Columns.{leg_row, leg_rows}

@@ -18,9 +18,7 @@ returns-then-out-n c =
     write_header_short _ _ sound (omega (arith, length_header c.args.h))
 
 pub put_header-requires : goal.put_header-requires
-put_header-requires c =
-    let sound = asked_true c.is_header_sound.ensures c.if-not-is_header_sound.false in
-    omega (arith, holidays_fit c.args.h sound, members_fit c.args.h sound)
+put_header-requires c = record { room = omega arith; sound = asked_true c.is_header_sound.ensures c.if-not-is_header_sound.false }
 
 pub returns : goal.returns
 returns c =

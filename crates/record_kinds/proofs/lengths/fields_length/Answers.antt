@@ -1,28 +1,22 @@
 use native.Mathlib.Omega.{arith}
-use native.Mathlib.Nat.{zero-add}
+use Prim.Native.Nat.{◌<◌}
+use lib.ListN.{length}
 use Rattle.rules.specs.Fields.{kind_fields}
-use Rattle.record_kinds.proofs.ByKind.{widths_next, widths_end}
+use Rattle.rules.specs.declared.field.Field.TheVariants.{LetterV, Kind}
+use Rattle.record_kinds.proofs.ByKind.{field_there, widths_next, widths_end}
 use Rattle.record_kinds.proofs.lengths.fields_length.Goals as goal
 
-pub loop-i-init : goal.loop-i-init
-loop-i-init c = (omega arith, omega arith, zero-add _)
-
-pub field_of-requires : goal.field_of-requires
-field_of-requires c = omega (arith, c.field_count-count.ensures)
-
-pub overflow_add-length : goal.overflow_add-length
-overflow_add-length c = omega (arith, c.field_count-count.ensures, c.width_of-length.ensures)
-
-pub loop-i-preserved : goal.loop-i-preserved
-loop-i-preserved c =
-    let l = c.loop-i in
+pub loop-field-preserved : goal.loop-field-preserved
+loop-field-preserved c =
+    let l = c.loop-field in
     let fields = kind_fields c.args.kind in
-    let count = c.field_count-count.ensures in
+    let all = c.kind_fields-field-items.ensures in
     let width = c.width_of-length.ensures in
-    (omega arith, omega (arith, width), widths_next fields l.i l.length (omega (arith, count)) c.field_of.ensures width.0 l.invariant.2)
+    let here : l.field-index < length fields = rw all.0 at c.loop-field-test.true in
+    (omega (arith, width), widths_next fields l.field-index l.length here (field_there fields l.field-index LetterV Kind here) (rw all.0 at width.0) l.invariant.1)
 
 pub returns : goal.returns
 returns c =
-    let l = c.loop-i in
-    let count = c.field_count-count.ensures in
-    (widths_end (kind_fields _) l.i l.length (omega (arith, count)) l.invariant.2, omega (arith, count))
+    let l = c.loop-field in
+    let all = c.kind_fields-field-items.ensures in
+    (widths_end (kind_fields c.args.kind) l.field-index l.length (rw all.0 at c.loop-field-test.false) l.invariant.1, omega (arith, all))

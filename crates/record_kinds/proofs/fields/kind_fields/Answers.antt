@@ -1,9 +1,8 @@
 use native.Mathlib.Omega.{arith}
-use mathlib.Core.Path.{refl, ap}
-use lib.ListN.{length}
+use mathlib.Core.Path.{refl}
 use Rattle.rules.specs.Fields.{kind_fields}
 use Rattle.record_kinds.proofs.ByKind.{no_fields}
-use Rattle.record_kinds.proofs.fields.field_count.Goals as goal
+use Rattle.record_kinds.proofs.fields.kind_fields.Goals as goal
 
 pub returns-in-1 : goal.returns-in-1
 unfolding kind_fields
@@ -36,4 +35,4 @@ returns-in-7 c = (rw c.in-7.is refl, omega arith)
 pub returns-in_default : goal.returns-in_default
 returns-in_default c =
     let r = c.in_default.in_default-own.rest in
-    (ap length (no_fields _ r.0.0.0.0.0.0.1 r.0.0.0.0.0.1 r.0.0.0.0.1 r.0.0.0.1 r.0.0.1 r.0.1 r.1), omega arith)
+    (no_fields _ r.0.0.0.0.0.0.1 r.0.0.0.0.0.1 r.0.0.0.0.1 r.0.0.0.1 r.0.0.1 r.0.1 r.1, omega arith)
