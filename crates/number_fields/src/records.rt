@@ -18,7 +18,7 @@ pub fn read_record_fields(members: u64, bytes: &[u8], row: &mut [u64]) -> Answer
         return Answer::TableUnsound;
     }
     match read_record(members, bytes) {
-        Reading::Sound(event) => Answer::Accepted(put_event(row, event, read_legs(bytes))),
+        Reading::Sound(event) => Answer::Accepted(put_event(row, event, &read_legs(bytes))),
         Reading::Unsound => Answer::RecordUnsound,
     }
 }
@@ -34,7 +34,7 @@ pub fn write_record_fields(members: u64, row: &[u64], out: &mut [u8]) -> Answer
     match event_in(row) {
         Reading::Sound(event) => {
             let legs = legs_in(row, leg_count(event) as usize);
-            write_record(members, event, legs, out)
+            write_record(members, event, &legs, out)
         }
         Reading::Unsound => Answer::RecordUnsound,
     }
