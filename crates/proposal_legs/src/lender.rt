@@ -24,5 +24,6 @@ pub fn are_first_acceptable(
     if MOST_LEGS < count as u64 {
         return false;
     }
-    are_legs_acceptable(&legs[..count], head, prices, book)
+    let first = &legs[..count];
+    are_legs_acceptable(first, head, prices, book)
 }
