@@ -25,12 +25,11 @@ use Rattle.rules.proofs.Writing.{written}
 use Rattle.big_endian.proofs.Numbers.{bytes_small, all_back, u8_first, none_past, all_again}
 use Rattle.record_kinds.specs.Numbers.{leg_count}
 use Rattle.record_kinds.proofs.EachKind.{described}
-use Rattle.codec.specs.Columns.{leg_rows}
 use Rattle.codec.specs.Fits.{Fits, EventFits}
 use Rattle.codec.specs.Trips.{WrittenIsRead, ReadIsWritten, SoundStandsWhole}
 use Rattle.codec.proofs.FieldBytes.{numbers_back, numbers_again}
 use Rattle.codec.proofs.Fields.{Says, says, said, length_legless, fields_of_kind_lem, by_numbers}
-use Rattle.codec.proofs.LegColumns.{is_proposal, none_beside, says_proposal, legs_to_lem, rows_said}
+use Rattle.codec.proofs.PlacedLegs.{is_proposal, none_beside, says_proposal, legs_to_lem, places_said}
 use Rattle.codec.proofs.Written.{leg_wide, first_leg, record_sized, length_record, some_bytes, two_bytes, bound, sound_event, write_whole}
 
 -- ---- written, then read
@@ -140,7 +139,7 @@ written_again n s e b h = record_again s (bytes_small s b) e (says s e (said n s
 pub written_is_read : WrittenIsRead
 unfolding write_spec
 written_is_read n e l out k after w =
-    let legs = leg_rows (leg_count e) l in
+    let legs = take (leg_count e) l in
     let bytes = bytes_of e legs in
     let both = members_sound n && event_sound n e legs in
     let reply_of = written RecordUnsound k (length bytes) out after (over 0 bytes out) both (ltb (length out) (length bytes)) w in
@@ -149,13 +148,13 @@ written_is_read n e l out k after w =
     let whole : take k after ≡ bytes = rw (reply_of.1, reply_of.2) (take_over bytes out) in
     let read = read_written n e legs few sound in
     let back = legs_written n e legs few sound in
-    rw whole (read, rows_said n bytes e (said n bytes read).1 (rw back sound) ∙ back)
+    rw whole (read, places_said n bytes e (said n bytes read).1 (rw back sound) ∙ back)
 
 pub read_is_written : ReadIsWritten
 read_is_written n s e out b r h =
     let known = said n s r in
     let again = written_again n s e b r in
-    rw (rows_said n s e known.1 known.2)
+    rw (places_said n s e known.1 known.2)
     (sym (write_whole n e (legs_of s) out known.0 known.2 (length s) (over 0 s out) (ap length (sym again)) (rw again h) (rw again refl)))
 
 -- ---- a record at the front of a stream

@@ -1,8 +1,7 @@
-// The legs of a proposal, as columns.
-ghost use Rattle.std.specs.Prelude.{◌≡◌, ◌+◌, ◌<◌, ◌≤◌, length};
-ghost use Rattle.rules.specs.Ranges.{most_legs};
+// The legs of a proposal.
+ghost use Rattle.std.specs.Prelude.{◌≡◌, ◌+◌, ◌≤◌, length};
 ghost use Rattle.rules.specs.Records.{leg_length, leg_at};
-ghost use Rattle.codec.specs.Columns.{leg_row, Held, held_legs, leg_columns};
+ghost use Rattle.codec.specs.Legs.{Held, held_legs, in_places};
 
 use big_endian::{u8_or_zero, u16_at, u32_at};
 use record_kinds::places::{KIND_BYTE, LEG_LOTS_BYTE, LEG_PRICE_BYTE, PROPOSAL_LEGS_BYTE};
@@ -12,25 +11,12 @@ use rules::layout::LEG_PLACES;
 use rules::ranges::MOST_LEGS;
 use rules::{Kurus, Leg, Lots};
 
-// Leg i is the order orders[i], with lots[i] at prices[i]. Places past a proposal's legs are surplus.
-#[derive(Clone, Copy)]
-pub struct Legs {
-    pub orders: [u64; LEG_PLACES],
-    pub lots: [u64; LEG_PLACES],
-    pub prices: [u64; LEG_PLACES],
-}
-
-// Leg i, out of the columns.
-pub fn leg_of(legs: Legs, i: usize) -> Leg
-    requires { i < most_legs }
-    ensures { result ≡ leg_row legs i }
-{
-    Leg {
-        order: legs.orders[i],
-        lots: Lots(legs.lots[i]),
-        price: Kurus(legs.prices[i]),
-    }
-}
+// What stands in an array's places past a proposal's legs.
+pub const NO_LEG: Leg = Leg {
+    order: 0,
+    lots: Lots(0),
+    price: Kurus(0),
+};
 
 // The leg whose bytes start at a place.
 fn leg_at(bytes: &[u8], at: usize) -> Leg
@@ -41,7 +27,7 @@ fn leg_at(bytes: &[u8], at: usize) -> Leg
     let lots = u16_at(bytes, at + LEG_LOTS_BYTE);
     let price = u32_at(bytes, at + LEG_PRICE_BYTE);
     Leg {
-        order: order,
+        order,
         lots: Lots(lots),
         price: Kurus(price),
     }
@@ -64,25 +50,13 @@ fn legs_held(bytes: &[u8]) -> usize
     count as usize
 }
 
-// The legs that a record holds whole, and 0 in the places past them.
-pub fn read_legs(bytes: &[u8]) -> Legs
-    ensures { result ≡ leg_columns (held_legs bytes.now) }
+// The legs that a record holds whole, and no leg in the places past them.
+pub fn read_legs(bytes: &[u8]) -> [Leg; LEG_PLACES]
+    ensures { result ≡ in_places (held_legs bytes.now) }
 {
-    let count = legs_held(bytes);
-    let mut orders = [0u64; LEG_PLACES];
-    let mut lots = [0u64; LEG_PLACES];
-    let mut prices = [0u64; LEG_PLACES];
-    let mut i: usize = 0;
-    while i < count {
-        let leg = leg_at(bytes, leg_place(i));
-        orders[i] = leg.order;
-        lots[i] = leg.lots.0;
-        prices[i] = leg.price.0;
-        i += 1;
+    let mut legs = [NO_LEG; LEG_PLACES];
+    for i in 0..legs_held(bytes) {
+        legs[i] = leg_at(bytes, leg_place(i));
     }
-    Legs {
-        orders: orders,
-        lots: lots,
-        prices: prices,
-    }
+    legs
 }

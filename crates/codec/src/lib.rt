@@ -7,7 +7,7 @@ mod sound;
 mod stream;
 mod write;
 
-pub use legs::{Legs, leg_of, read_legs};
+pub use legs::{NO_LEG, read_legs};
 pub use read::read_record;
 pub use sound::is_proposal_sound;
 pub use stream::front_record;

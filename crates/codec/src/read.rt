@@ -52,7 +52,7 @@ fn is_sound_as_read(members: u64, event: Event, bytes: &[u8]) -> bool
     ensures { result ≡ event_sound members event (legs_of bytes.now) }
 {
     if kind_number(event) == PROPOSAL {
-        return is_proposal_sound(leg_count(event), read_legs(bytes));
+        return is_proposal_sound(leg_count(event), &read_legs(bytes));
     }
     is_legless_sound(members, event)
 }

@@ -1,13 +1,10 @@
 // The ranges of document 01, tested once for reader and writer.
-ghost use Rattle.std.specs.Prelude.{◌≡◌, [], ℕ, ◌≤◌};
-ghost use Rattle.arith.specs.Lists.{every};
-ghost use Rattle.rules.specs.Ranges.{most_legs};
+ghost use Rattle.std.specs.Prelude.{◌≡◌, [], ℕ, take};
+ghost use Rattle.std.specs.List.{list_all};
 ghost use Rattle.rules.specs.Records.{price_sound, lots_sound, leg_sound, event_sound};
 ghost use Rattle.rules.specs.declared.event.Event.TheVariants.{Submit, Cancel, DayLimits, Proposal, Default, CloseOut};
 ghost use Rattle.record_kinds.specs.Numbers.{leg_count};
-ghost use Rattle.codec.specs.Columns.{leg_rows};
 
-use crate::legs::{Legs, leg_of};
 use record_kinds::{kind_number, leg_count};
 use rules::kinds::PROPOSAL;
 use rules::ranges::{
@@ -64,22 +61,15 @@ fn is_leg_sound(leg: Leg) -> bool
     (leg.order < ORDER_NUMBERS_END) & lots & price
 }
 
-fn are_legs_sound(count: u64, legs: Legs) -> bool
-    requires { count ≤ most_legs }
-    ensures { result ≡ every leg_sound (leg_rows count legs) }
+fn are_legs_sound(legs: &[Leg]) -> bool
+    ensures { result ≡ list_all leg_sound legs.now }
 {
-    let n = count as usize;
-    let mut ok = true;
-    let mut i: usize = 0;
-    while i < n {
-        ok = ok & is_leg_sound(leg_of(legs, i));
-        i += 1;
-    }
-    ok
+    legs.iter().all(|leg| is_leg_sound(*leg))
 }
 
-pub fn is_proposal_sound(count: u64, legs: Legs) -> bool
-    ensures { (n : ℕ) → result ≡ event_sound n (Proposal count) (leg_rows count legs) }
+// Whether a proposal of so many legs is sound with the first ones of a slice.
+pub fn is_proposal_sound(count: u64, legs: &[Leg]) -> bool
+    ensures { (n : ℕ) → result ≡ event_sound n (Proposal count) (take count legs.now) }
 {
     if count < LEAST_LEGS {
         return false;
@@ -87,7 +77,11 @@ pub fn is_proposal_sound(count: u64, legs: Legs) -> bool
     if MOST_LEGS < count {
         return false;
     }
-    are_legs_sound(count, legs)
+    let n = count as usize;
+    if legs.len() < n {
+        return false;
+    }
+    are_legs_sound(&legs[..n])
 }
 
 // Whether an event with no legs beside it is sound in a ledger of that many members; a proposal without legs is not.
@@ -105,9 +99,9 @@ pub fn is_legless_sound(members: u64, event: Event) -> bool
     }
 }
 
-// Whether an event with its legs in columns is sound.
-pub fn is_event_sound(members: u64, event: Event, legs: Legs) -> bool
-    ensures { result ≡ event_sound members event (leg_rows (leg_count event) legs) }
+// Whether an event with its legs, the first ones of a slice, is sound.
+pub fn is_event_sound(members: u64, event: Event, legs: &[Leg]) -> bool
+    ensures { result ≡ event_sound members event (take (leg_count event) legs.now) }
 {
     if kind_number(event) == PROPOSAL {
         return is_proposal_sound(leg_count(event), legs);

@@ -1,5 +1,5 @@
 // Writing a record.
-ghost use Rattle.std.specs.Prelude.{◌≡◌, ◌+◌, ◌<◌, ◌≤◌, length};
+ghost use Rattle.std.specs.Prelude.{◌≡◌, ◌+◌, ◌<◌, ◌≤◌, length, take};
 ghost use mathlib.Core.List.{flat_map};
 ghost use Rattle.arith.specs.Lists.{over};
 ghost use Rattle.rules.specs.Ranges.{most_legs};
@@ -7,10 +7,8 @@ ghost use Rattle.rules.specs.Fields.{widths, kind_fields, bytes_by};
 ghost use Rattle.rules.specs.Records.{first_field_byte, first_leg_byte, leg_length, leg_place, record_length};
 ghost use Rattle.rules.specs.Records.{leg_bytes, kind_number, event_numbers, field_bytes, write_spec};
 ghost use Rattle.record_kinds.specs.Numbers.{leg_count};
-ghost use Rattle.codec.specs.Columns.{leg_rows};
 ghost use Rattle.codec.specs.Fits.{EventFits};
 
-use crate::legs::{Legs, leg_of};
 use crate::sound::is_event_sound;
 use big_endian::{put_number, put_u8, put_u16, put_u32};
 use header::is_member_count_sound;
@@ -48,30 +46,28 @@ fn put_leg(out: &mut [u8], at: usize, leg: Leg)
     put_u32(out, at + LEG_PRICE_BYTE, leg.price.0);
 }
 
-fn put_legs(out: &mut [u8], count: usize, legs: Legs)
-    requires { (leg_place count ≤ length out.old) × (count ≤ most_legs) }
-    ensures { out.new ≡ over first_leg_byte (flat_map leg_bytes (leg_rows count legs)) out.old }
+fn put_legs(out: &mut [u8], legs: &[Leg])
+    requires { (leg_place (length legs.now) ≤ length out.old) × (length legs.now ≤ most_legs) }
+    ensures { out.new ≡ over first_leg_byte (flat_map leg_bytes legs.now) out.old }
 {
-    let mut i: usize = 0;
-    while i < count {
-        put_leg(out, leg_place(i), leg_of(legs, i));
-        i += 1;
+    for i in 0..legs.len() {
+        put_leg(out, leg_place(i), legs[i]);
     }
 }
 
-fn put_fields(out: &mut [u8], event: Event, legs: Legs)
-    requires { (record_length (kind_number event) (leg_count event) ≤ length out.old) × EventFits event × (leg_count event ≤ most_legs) }
-    ensures { out.new ≡ over first_field_byte (field_bytes event (leg_rows (leg_count event) legs)) out.old }
+fn put_fields(out: &mut [u8], event: Event, legs: &[Leg])
+    requires { (record_length (kind_number event) (leg_count event) ≤ length out.old) × EventFits event × (leg_count event ≤ most_legs) × (leg_count event ≤ length legs.now) }
+    ensures { out.new ≡ over first_field_byte (field_bytes event (take (leg_count event) legs.now)) out.old }
 {
     put_kind_fields(out, event);
     if kind_number(event) == PROPOSAL {
-        put_legs(out, leg_count(event) as usize, legs);
+        put_legs(out, &legs[..leg_count(event) as usize]);
     }
 }
 
-// The record of an event, with its legs in columns: RecordUnsound before TableUnsound, and nothing written on either.
-pub fn write_record(members: u64, event: Event, legs: Legs, out: &mut [u8]) -> Result<u64, Refusal>
-    ensures { record { answer = result; after = out.new } ≡ write_spec members event (leg_rows (leg_count event) legs) out.old }
+// The record of an event, with its legs, the first ones of a slice: RecordUnsound before TableUnsound, and nothing written on either.
+pub fn write_record(members: u64, event: Event, legs: &[Leg], out: &mut [u8]) -> Result<u64, Refusal>
+    ensures { record { answer = result; after = out.new } ≡ write_spec members event (take (leg_count event) legs.now) out.old }
 {
     if !is_member_count_sound(members) {
         return Err(Refusal::RecordUnsound);

@@ -1,5 +1,5 @@
-// A proposal's legs, read from the record's bytes into columns and handed to the proposal's code.
-ghost use Rattle.std.specs.Prelude.{◌≡◌, Some};
+// A proposal's legs, read from the record's bytes and handed to the proposal's code.
+ghost use Rattle.std.specs.Prelude.{◌≡◌};
 ghost use Rattle.rules.specs.declared.event.Event.TheVariants.{Proposal};
 ghost use Rattle.rules.specs.Ledger.{lent};
 ghost use Rattle.rules.specs.Records.{legs_of, read_of};
@@ -22,20 +22,6 @@ pub fn apply_legs(
     ensures { record { answer = result; after = lent head.new prices.now lots.new value.new book.new lines.new }
         ≡ proposal_spec (lent head.old prices.now lots.old value.old book.old lines.old) (legs_of bytes.now) }
 {
-    let legs = codec::read_legs(bytes);
-    let orders = legs.orders;
-    let leg_lots = legs.lots;
-    let leg_prices = legs.prices;
-    let n = count as usize;
-    proposal::apply(
-        &mut *head,
-        prices,
-        &mut *lots,
-        &mut *value,
-        &mut *book,
-        &mut *lines,
-        &orders[..n],
-        &leg_lots[..n],
-        &leg_prices[..n],
-    )
+    let legs = &codec::read_legs(bytes)[..count as usize];
+    proposal::apply(head, prices, lots, value, book, lines, legs)
 }

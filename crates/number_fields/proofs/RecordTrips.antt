@@ -25,14 +25,16 @@ use Rattle.rules.specs.Records.{kind_number, event_numbers, leg_numbers, numbers
 use Rattle.big_endian.proofs.Numbers.{all_back, all_again}
 use Rattle.record_kinds.specs.Numbers.{leg_count}
 use Rattle.record_kinds.proofs.EachKind.{described, legs_or_none}
-use Rattle.codec.specs.Columns.{leg_rows, leg_columns, held_legs}
-use Rattle.codec.proofs.LegColumns.{length_rows, rows_of_columns}
+use Rattle.codec.specs.Legs.{in_places, held_legs}
+use Rattle.codec.proofs.PlacedLegs.{placed}
+use Rattle.codec.proofs.Fields as fields
+use Rattle.codec.proofs.Written.{sound_event}
 use Rattle.codec.proofs.Trips as codec
 use Rattle.number_fields.specs.RecordFields.{record_fields, kind_field, proposal_legs_field, leg_field, row_event, event_in, first_legs, legs_in, read_fields, write_fields}
 use Rattle.number_fields.specs.Trips.{NumbersGiveEvent, EventGivesNumbers, ReadIsWritten, WrittenIsRead}
 use Rattle.number_fields.proofs.Given.{Given, given, legs_given}
 use Rattle.number_fields.proofs.Rows.{numbers_joined, most_numbers_lem}
-use Rattle.number_fields.proofs.RecordOutcomes.{length_legs, read_short, read_by, few_read, rows_read, write_short, write_by}
+use Rattle.number_fields.proofs.RecordOutcomes.{length_legs, read_short, read_by, few_read, legs_read, write_short, write_by}
 
 -- ---- an event's numbers give the event
 leg_back : (p q : List ℕ) (i : ℕ) → i ≡ length p → (g : Leg) → Unit {0} → leg_in (p ++ (leg_numbers g ++ q)) i ≡ g
@@ -169,8 +171,9 @@ read_then_written : (n : ℕ) (s row out after : List ℕ) (e : Event) → T (ev
 read_then_written n s row out after e b h long said put =
     let legs = legs_of s in
     let few = few_read n s row refl said in
-    let rows = rows_read n s row refl said in
-    let counted : length legs ≡ leg_count e = ap length (sym rows) ∙ length_rows (leg_count e) (leg_columns (held_legs s)) in
+    let rows = legs_read n s row refl said in
+    let known = fields.said n s said in
+    let counted : length legs ≡ leg_count e = (sound_event n known.0 legs e known.2).beside in
     let numbers = numbers_of e legs in
     let rest = drop (length numbers) row in
     let back = numbers_give_event e legs rest counted few in
@@ -195,8 +198,8 @@ written_is_read n row out other k after room w =
     let e = x.event in
     let legs = legs_in row in
     let counted : length legs ≡ leg_count e = ap length (legs_given row e x.given) ∙ length_legs row (leg_count e) in
-    let rows : leg_rows (leg_count e) (leg_columns legs) ≡ legs = rw counted at (rows_of_columns legs) in
+    let rows : take (leg_count e) (in_places legs) ≡ legs = rw counted at (placed legs) in
     let s = take k after in
-    let read = codec.written_is_read n e (leg_columns legs) out k after (rw rows x.wrote) in
-    let same : legs_of s ≡ legs = sym (rows_read n s other refl read.0) ∙ (read.1 ∙ rows) in
+    let read = codec.written_is_read n e (in_places legs) out k after (rw rows x.wrote) in
+    let same : legs_of s ≡ legs = sym (legs_read n s other refl read.0) ∙ (read.1 ∙ rows) in
     (e, (x.says, (again row e x.long x.given, read_by n s other (sym read.0) room ∙ rw same refl)))

@@ -6,6 +6,7 @@ use native.Mathlib.Nat.{add-zero}
 use native.Mathlib.Omega.{arith}
 use borrow.Author.Tests.{eq-eqb}
 use lib.ListN.{length, take, drop, length-append, take-append-drop}
+use lib.Seq.{paste, take-length, length-take-le}
 use Rattle.arith.specs.Lists.{over}
 use Rattle.arith.proofs.Appends.{flat_length}
 use Rattle.arith.proofs.Beside.{over_then}
@@ -16,9 +17,6 @@ use Rattle.rules.specs.Ranges.{most_legs}
 use Rattle.rules.specs.Records.{kind_number, event_numbers, leg_numbers, numbers_of}
 use Rattle.record_kinds.specs.Numbers.{leg_count}
 use Rattle.record_kinds.proofs.EachKind.{described, legs_or_none}
-use Rattle.codec.specs.Columns.{leg_rows}
-use Rattle.codec.specs.declared.legs.Legs.{Legs}
-use Rattle.codec.proofs.LegColumns.{length_rows}
 use Rattle.codec.proofs.Trips as codec
 use Rattle.number_fields.specs.RecordFields.{record_fields, first_leg_field, with_numbers}
 
@@ -58,8 +56,13 @@ module _ (e : Event) (legs : List Leg) (counted : length legs ≡ leg_count e) w
       alone numbers put after n p q = rw (n, append-nil numbers) (rw n at q ∙ over_none first_leg_field put ∙ p)
 
 -- The same of the numbers that calls answered.
-pub put_rows : {k n : ℕ} (e : Event) (l : Legs) (row put after : List ℕ) → k ≡ leg_count e → n ≡ length (kind_fields (kind_number e)) → record_fields ≤ length row
-    → put ≡ over 0 (kind_number e ∷ event_numbers e) row → after ≡ over first_leg_field (flat_map leg_numbers (leg_rows k l)) put
-    → record { answer = Ok (1 + n + 3 * k); after = after } ≡ with_numbers e (leg_rows (leg_count e) l) row
-put_rows e l row put after count fields h p q =
-    rw (count, fields) (put_joined e (leg_rows (leg_count e) l) (length_rows (leg_count e) l) row put after h p (rw count at q))
+pub put_rows : {k n : ℕ} (e : Event) (l : List Leg) (row put after : List ℕ) → k ≡ leg_count e → n ≡ length (kind_fields (kind_number e)) → record_fields ≤ length row → leg_count e ≤ length l
+    → put ≡ over 0 (kind_number e ∷ event_numbers e) row → after ≡ over first_leg_field (flat_map leg_numbers (take k l)) put
+    → record { answer = Ok (1 + n + 3 * k); after = after } ≡ with_numbers e (take (leg_count e) l) row
+put_rows e l row put after count fields h many p q =
+    rw (count, fields) (put_joined e (take (leg_count e) l) (length-take-le (leg_count e) l many) row put after h p (rw count at q))
+
+-- A list stored place by place.
+pub pasted : (row : List ℕ) (at : ℕ) (list : List ℕ) (i : ℕ) → i ≡ length list → paste row at list i ≡ over at list row
+unfolding over
+pasted row at list i e = rw (e, take-length list) (append_assoc (take at row) list (drop (at + length list) row))

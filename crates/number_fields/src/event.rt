@@ -1,12 +1,12 @@
-// The event of a row of numbers, its fields in range or not, and its legs in columns.
+// The event of a row of numbers, its fields in range or not, and its legs.
 ghost use Rattle.std.specs.Prelude.{◌≡◌, ◌+◌, ◌≤◌, length};
 ghost use Rattle.rules.specs.Ranges.{most_legs};
 ghost use Rattle.rules.specs.Records.{leg_in};
-ghost use Rattle.codec.specs.Columns.{leg_columns};
+ghost use Rattle.codec.specs.Legs.{in_places};
 ghost use Rattle.number_fields.specs.RecordFields.{record_fields, event_in, first_legs};
 
 use crate::places::FIRST_LEG_FIELD;
-use codec::Legs;
+use codec::NO_LEG;
 use record_kinds::places::{KIND_NUMBER, PROPOSAL_LEGS};
 use record_kinds::{LEG_FIELDS, event_of};
 use rules::kinds::PROPOSAL;
@@ -39,25 +39,14 @@ fn leg_in(row: &[u64], at: usize) -> Leg
     }
 }
 
-// The first legs of a row, and 0 in the places past them.
-pub fn legs_in(row: &[u64], count: usize) -> Legs
+// The first legs of a row, and no leg in the places past them.
+pub fn legs_in(row: &[u64], count: usize) -> [Leg; LEG_PLACES]
     requires { (record_fields ≤ length row.now) × (count ≤ most_legs) }
-    ensures { result ≡ leg_columns (first_legs row.now count) }
+    ensures { result ≡ in_places (first_legs row.now count) }
 {
-    let mut orders = [0u64; LEG_PLACES];
-    let mut lots = [0u64; LEG_PLACES];
-    let mut prices = [0u64; LEG_PLACES];
-    let mut i: usize = 0;
-    while i < count {
-        let leg = leg_in(row, FIRST_LEG_FIELD + LEG_FIELDS * i);
-        orders[i] = leg.order;
-        lots[i] = leg.lots.0;
-        prices[i] = leg.price.0;
-        i += 1;
+    let mut legs = [NO_LEG; LEG_PLACES];
+    for i in 0..count {
+        legs[i] = leg_in(row, FIRST_LEG_FIELD + LEG_FIELDS * i);
     }
-    Legs {
-        orders: orders,
-        lots: lots,
-        prices: prices,
-    }
+    legs
 }

@@ -18,7 +18,7 @@ pub fn read_record_fields(members: u64, bytes: &[u8], row: &mut [u64]) -> Result
         return Err(Refusal::TableUnsound);
     }
     match read_record(members, bytes) {
-        Some(event) => Ok(put_event(row, event, read_legs(bytes))),
+        Some(event) => Ok(put_event(row, event, &read_legs(bytes))),
         None => Err(Refusal::RecordUnsound),
     }
 }
@@ -34,7 +34,7 @@ pub fn write_record_fields(members: u64, row: &[u64], out: &mut [u8]) -> Result<
     match event_in(row) {
         Some(event) => {
             let legs = legs_in(row, leg_count(event) as usize);
-            write_record(members, event, legs, out)
+            write_record(members, event, &legs, out)
         }
         None => Err(Refusal::RecordUnsound),
     }

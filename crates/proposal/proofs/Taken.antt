@@ -8,12 +8,12 @@ use native.Mathlib.Nat.{zero-add}
 use native.Mathlib.Numerals.{add-one}
 use lib.Dec.{eqb, leb}
 use lib.ListN.{length, get_or, set, take, drop, length-set, length-map}
-use lib.Seq.{length-take-le}
+use lib.Seq.{length-take-le, take-suc, take_all}
 use borrow.Author.Tests.{eqb-true, eqb-false, eq-eqb, ne_eqb, le-leb, lt-leb, not-true}
-use Rattle.arith.specs.Lists.{All, any, from}
+use Rattle.arith.specs.Lists.{All, any}
 use Rattle.arith.proofs.Tests.{by_bool, true_or, same_or, le_or_lt, and_left, and_right, or_left, or_right}
 use Rattle.arith.proofs.Writes.{again_long, again_front, again_many}
-use Rattle.arith.proofs.Appends.{from_more, map_append, map_at}
+use Rattle.arith.proofs.Appends.{map_at}
 use Rattle.rules.specs.declared.event.Leg.{Leg}
 use Rattle.rules.specs.declared.order.Order.{Order}
 use Rattle.rules.specs.Ledger.{order_at}
@@ -23,7 +23,7 @@ use Rattle.rules.specs.Synthetic.{used_by_legs}
 use Rattle.tables.specs.Fit.{orders_in}
 use Rattle.order_book.specs.Left.{left_over}
 use Rattle.order_book.proofs.Left.{orders_length}
-use Rattle.proposal_check.specs.Columns.{PlacesFit, column_leg, column_legs, place_of, places_of}
+use Rattle.proposal_check.specs.Legs.{PlacesFit, no_leg, place_of, places_of}
 use Rattle.proposal.specs.Booking.{left_after, order_lots}
 use Rattle.proposal_check.proofs.Named.{order_there}
 
@@ -82,42 +82,36 @@ unfolding used_by_legs
 used_more [] g os = refl
 used_more (x ∷ gs) g os = used_more gs g (used x.order x.lots.0 os)
 
--- ---- the legs as columns
-pub after_length : (places lots : List ℕ) (n : ℕ) (left : List ℕ) → length (left_after places lots n left) ≡ length left
+-- ---- leg by leg, at the orders' places
+pub after_length : (places : List ℕ) (legs : List Leg) (n : ℕ) (left : List ℕ) → length (left_after places legs n left) ≡ length left
 unfolding left_after
-after_length places lots zero left = refl
-after_length places lots (suc n) left = length-set (left_after places lots n left) (get_or places n 0) _ ∙ after_length places lots n left
+after_length places legs zero left = refl
+after_length places legs (suc n) left = length-set (left_after places legs n left) (get_or places n 0) _ ∙ after_length places legs n left
 
-legs_more : (numbers lots prices : List ℕ) (n : ℕ) → map (column_leg numbers lots prices) (from 0 (suc n)) ≡ map (column_leg numbers lots prices) (from 0 n) ++ (column_leg numbers lots prices n ∷ [])
-legs_more numbers lots prices n = rw (from_more 0 n, map_append (column_leg numbers lots prices) (from 0 n) ((0 + n) ∷ []), zero-add n)
+module _ (count : ℕ) (book : List ℕ) (legs : List Leg) (each : All (λ o. 1 ≤ o.lots.0) (orders_in count book)) (apart : distinct (map (λ o. o.number) (orders_in count book)) ≡ true)
+    (places : List ℕ) (at : places ≡ places_of count book legs) (fit : PlacesFit count places) where
+  many : length places ≡ length legs
+  many = ap length at ∙ length-map legs (λ g. place_of g.order (orders_in count book))
 
-module _ (count : ℕ) (book numbers lots prices : List ℕ) (each : All (λ o. 1 ≤ o.lots.0) (orders_in count book)) (apart : distinct (map (λ o. o.number) (orders_in count book)) ≡ true)
-    (places : List ℕ) (at : places ≡ places_of count book numbers) (fit : PlacesFit count places) where
-  taken_to : (n : ℕ) → n ≤ length numbers
-      → left_over (left_after places lots n (order_lots count book)) (orders_in count book) ≡ used_by_legs (map (column_leg numbers lots prices) (from 0 n)) (orders_in count book)
-  unfolding left_after used_by_legs from
+  taken_to : (n : ℕ) → n ≤ length legs
+      → left_over (left_after places legs n (order_lots count book)) (orders_in count book) ≡ used_by_legs (take n legs) (orders_in count book)
+  unfolding left_after used_by_legs
   taken_to zero h = left_all (orders_in count book) each
   taken_to (suc n) h =
       let os = orders_in count book in
-      let q = get_or lots n 0 in
-      let left = left_after places lots n (order_lots count book) in
-      let number = get_or numbers n 0 in
-      let place : get_or places n 0 ≡ place_of number os = ap (λ ps. get_or ps n 0) at ∙ map_at (λ x. place_of x os) numbers n 0 0 (omega arith) in
-      let many : length places ≡ length numbers = ap length at ∙ length-map numbers (λ x. place_of x os) in
-      let long : length left ≡ length os = after_length places lots n (order_lots count book) ∙ length-map os (λ o. o.lots.0) in
-      let below = fit.below n (omega arith) in
-      let legs = map (column_leg numbers lots prices) (from 0 n) in
-      let step : left_over (set left (get_or places n 0) (get_or left (get_or places n 0) 0 - q)) os ≡ used number q (left_over left os)
-      = rw place (used_left number q left os long apart (omega (arith, place, below, orders_length book count))) in
+      let g = get_or legs n no_leg in
+      let left = left_after places legs n (order_lots count book) in
+      let place : get_or places n 0 ≡ place_of g.order os = ap (λ ps. get_or ps n 0) at ∙ map_at (λ x. place_of x.order os) legs n no_leg 0 (omega arith) in
+      let long : length left ≡ length os = after_length places legs n (order_lots count book) ∙ length-map os (λ o. o.lots.0) in
+      let below = fit.below n (omega (arith, many)) in
+      let step : left_over (set left (get_or places n 0) (get_or left (get_or places n 0) 0 - g.lots.0)) os ≡ used g.order g.lots.0 (left_over left os)
+      = rw place (used_left g.order g.lots.0 left os long apart (omega (arith, place, below, orders_length book count))) in
       step
-      ∙ ap (used number q) (taken_to n (omega arith))
-      ∙ sym (ap (λ gs. used_by_legs gs os) (legs_more numbers lots prices n) ∙ used_more legs (column_leg numbers lots prices n) os)
+      ∙ ap (used g.order g.lots.0) (taken_to n (omega arith))
+      ∙ sym (ap (λ gs. used_by_legs gs os) (take-suc legs n no_leg (omega arith)) ∙ used_more (take n legs) g os)
 
-  pub taken_columns : left_over (left_after places lots (length places) (order_lots count book)) (orders_in count book) ≡ used_by_legs (column_legs numbers lots prices) (orders_in count book)
-  unfolding column_legs
-  taken_columns =
-      let many : length places ≡ length numbers = ap length at ∙ length-map numbers (λ x. place_of x (orders_in count book)) in
-      rw many (taken_to (length numbers) (omega arith))
+  pub taken_legs : left_over (left_after places legs (length places) (order_lots count book)) (orders_in count book) ≡ used_by_legs legs (orders_in count book)
+  taken_legs = rw many (taken_to (length legs) (omega arith)) ∙ ap (λ gs. used_by_legs gs (orders_in count book)) (take_all (length legs) legs (omega arith))
 
 -- ---- the lots of each order
 module _ (n : ℕ) (book : List ℕ) where
@@ -127,15 +121,15 @@ module _ (n : ℕ) (book : List ℕ) where
   pub lots_at_lem : (i : ℕ) → i < n → get_or (order_lots n book) i 0 ≡ (order_at book i).lots.0
   lots_at_lem i h = map_at (λ o. o.lots.0) (orders_in n book) i (order_at book i) 0 (omega (arith, orders_length book n)) ∙ ap (λ o. o.lots.0) (order_there n book i (order_at book i) h)
 
-pub after_next : (places lots : List ℕ) (n : ℕ) (left now : List ℕ) (r : ℕ) → now ≡ left_after places lots n left → r ≡ get_or now (get_or places n 0) 0 - get_or lots n 0
-    → set now (get_or places n 0) r ≡ left_after places lots (n + 1) left
+pub after_next : (places : List ℕ) (legs : List Leg) (n : ℕ) (left now : List ℕ) (r : ℕ) → now ≡ left_after places legs n left → r ≡ get_or now (get_or places n 0) 0 - (get_or legs n no_leg).lots.0
+    → set now (get_or places n 0) r ≡ left_after places legs (n + 1) left
 unfolding left_after
-after_next places lots n left now r e f = rw (f, e, add-one n)
+after_next places legs n left now r e f = rw (f, e, add-one n)
 
 -- the column as it is lent: the first n places of an array
-module _ (places lots : List ℕ) (k n : ℕ) (ys l book : List ℕ) (fits : n ≤ length l) (e : ys ≡ left_after places lots k (order_lots (length (take n l)) book)) where
+module _ (places : List ℕ) (legs : List Leg) (k n : ℕ) (ys l book : List ℕ) (fits : n ≤ length l) (e : ys ≡ left_after places legs k (order_lots (length (take n l)) book)) where
   as_lent : length ys ≡ length (take n l)
-  as_lent = ap length e ∙ after_length places lots k (order_lots (length (take n l)) book) ∙ lots_length (length (take n l)) book
+  as_lent = ap length e ∙ after_length places legs k (order_lots (length (take n l)) book) ∙ lots_length (length (take n l)) book
 
   pub left_long : n ≤ length (ys ++ drop n l)
   left_long = again_long n ys l as_lent fits
@@ -143,5 +137,5 @@ module _ (places lots : List ℕ) (k n : ℕ) (ys l book : List ℕ) (fits : n �
   pub left_many : n ≡ length (take n (ys ++ drop n l))
   left_many = again_many n ys l as_lent fits
 
-  pub left_front : take n (ys ++ drop n l) ≡ left_after places lots k (order_lots n book)
-  left_front = again_front n ys l as_lent fits ∙ e ∙ ap (λ m. left_after places lots k (order_lots m book)) (length-take-le n l fits)
+  pub left_front : take n (ys ++ drop n l) ≡ left_after places legs k (order_lots n book)
+  left_front = again_front n ys l as_lent fits ∙ e ∙ ap (λ m. left_after places legs k (order_lots m book)) (length-take-le n l fits)

@@ -11,6 +11,7 @@ use borrow.Author.Tests.{lt-ltb, le-ltb, eq-eqb, ne_eqb}
 use Rattle.arith.specs.Lists.{any, every, from}
 use Rattle.arith.proofs.Tests.{same_or, le_or_lt, and_false, or_false, any_next, any_end}
 use Rattle.arith.proofs.Scans.{every_map}
+use Rattle.rules.specs.declared.event.Leg.{Leg}
 use Rattle.rules.specs.declared.order.Order.{Order}
 use Rattle.rules.specs.declared.order.Side.{Side}
 use Rattle.rules.specs.declared.order.Side.TheVariants.{Buy, Sell}
@@ -20,7 +21,7 @@ use Rattle.rules.specs.Ledger.{order_at}
 use Rattle.tables.specs.Fit.{HeadFit, BookFit, orders_in, order_count_in}
 use Rattle.order_priority.specs.Priority.{Ranked, rank_of}
 use Rattle.order_priority.proofs.Ranks.{precedes_rank}
-use Rattle.proposal_check.specs.Columns.{PlacesFit, is_before, is_ahead, is_full_leg}
+use Rattle.proposal_check.specs.Legs.{PlacesFit, is_before, is_ahead, is_full_leg}
 use Rattle.proposal_check.specs.SidePlaces.{side_places, side_place_of}
 use Rattle.proposal_check.specs.LastRanks.{OrdersRanked, LegsRanked, LastRanks, is_behind, kept_by}
 use Rattle.proposal_check.proofs.Lists.{each_same}
@@ -93,19 +94,19 @@ module _ (count : ℕ) (book places : List ℕ) (fit : OrdersRanked count book) 
         s.last (side_place_of o) (rank_of o) h
         ∙ sym (any_at _ _ places (λ i k. before_behind o (order_at book (get_or places i 0)) f (legs_ranked.ranked i k)))
 
-    pub kept_last : (orders lots : List ℕ) → every (kept_by lasts orders lots) (orders_in count book) ≡ every (λ o. not (is_ahead book places o) || is_full_leg orders lots o) (orders_in count book)
-    kept_last orders lots =
+    pub kept_last : (legs : List Leg) → every (kept_by lasts legs) (orders_in count book) ≡ every (λ o. not (is_ahead book places o) || is_full_leg legs o) (orders_in count book)
+    kept_last legs =
         every_map _ (order_at book) (from 0 count)
         ∙ each_same _ _ 0 count
-        (λ i _ h. ap (λ t. not t || is_full_leg orders lots (order_at book i))
+        (λ i _ h. ap (λ t. not t || is_full_leg legs (order_at book i))
         (ahead_last (order_at book i) (fit.ranked i (omega arith)) (omega (arith, fit.contract_below i (omega arith), side_below (order_at book i).side))))
         ∙ sym (every_map _ (order_at book) (from 0 count))
 
-module _ (lasts orders lots : List ℕ) (o : Order) (at r : ℕ) (e : at ≡ side_place_of o) (f : r ≡ rank_of o) where
-  pub kept_behind : get_or lasts at 0 ≤ r → true ≡ kept_by lasts orders lots o
+module _ (lasts : List ℕ) (legs : List Leg) (o : Order) (at r : ℕ) (e : at ≡ side_place_of o) (f : r ≡ rank_of o) where
+  pub kept_behind : get_or lasts at 0 ≤ r → true ≡ kept_by lasts legs o
   kept_behind h = rw (← e, ← f, le-ltb r (get_or lasts at 0) h)
 
-  pub kept_ahead : r < get_or lasts at 0 → is_full_leg orders lots o ≡ kept_by lasts orders lots o
+  pub kept_ahead : r < get_or lasts at 0 → is_full_leg legs o ≡ kept_by lasts legs o
   kept_ahead h = rw (← e, ← f, lt-ltb r (get_or lasts at 0) h)
 
 -- What tables that passed their tests give.

@@ -5,4 +5,4 @@ mod SidePlaces
 mod Sums
 mod LastRanks
 pub mod Checks
-pub mod LegColumns
+pub mod SoundLegs

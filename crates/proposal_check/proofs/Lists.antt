@@ -8,6 +8,7 @@ use native.Mathlib.Nat.{zero-add, sub-zero}
 use native.Mathlib.Numerals.{add-one}
 use lib.ListN.{length, get_or, length-map}
 use lib.Seq.{ext_get_or}
+use Rattle.std.specs.List.{list_all, list_any}
 use Rattle.arith.specs.Lists.{every, any, total, from}
 use Rattle.arith.proofs.Ranges.{total_more}
 use Rattle.arith.proofs.Tests.{and_true, or_false}
@@ -78,3 +79,14 @@ total_map f g (x ∷ l) = rw (total_map f g l)
 -- ---- a sum of what stands at the first i places
 pub sum_next : (f : ℕ → ℕ) (i sum : ℕ) → sum ≡ total f (from 0 i) → sum + f i ≡ total f (from 0 (i + 1))
 sum_next f i sum e = rw (add-one i, total_more f 0 i, zero-add i, e)
+
+-- ---- std's words for tests of a list
+pub every_is_all : {A : Type 0} (p : A → Bool) (l : List A) → list_all p l ≡ every p l
+unfolding every
+every_is_all p [] = refl
+every_is_all p (x ∷ l) = rw (every_is_all p l) refl
+
+pub any_is_any : {A : Type 0} (p : A → Bool) (l : List A) → list_any p l ≡ any p l
+unfolding any
+any_is_any p [] = refl
+any_is_any p (x ∷ l) = rw (any_is_any p l) refl

@@ -14,16 +14,17 @@ use Rattle.arith.proofs.Alls.{every_all, all_place}
 use Rattle.arith.specs.Lists.{every, from}
 use Rattle.arith.proofs.Tests.{by_bool, true_or, le_or_lt, and_left, and_right, never}
 use Rattle.arith.proofs.Appends.{from_length, map_at, from_at}
+use Rattle.arith.proofs.Runs.{run_of}
 use Rattle.arith.proofs.Writes.{again_long, again_front, again_many}
 use Rattle.arith.proofs.Scans.{from_next, from_end, every_map, map-map}
 use Rattle.rules.specs.declared.event.Leg.{Leg}
 use Rattle.rules.specs.declared.order.Order.{Order}
 use Rattle.rules.specs.Ledger.{Tables, order_at}
-use Rattle.rules.specs.Synthetic.{numbered, named_legs, has_lots, price_allowed}
+use Rattle.rules.specs.Synthetic.{Named, numbered, named_legs, has_lots, price_allowed}
 use Rattle.tables.specs.Fit.{BookFit, order_count_in, orders_in}
 use Rattle.order_book.proofs.Left.{orders_length}
-use Rattle.proposal_check.specs.Columns.{PlacesFit, ContractsFit, column_leg, column_legs, place_of, places_of, named_to}
-use Rattle.proposal_check.proofs.Lists.{map_from, map_places}
+use Rattle.proposal_check.specs.Legs.{PlacesFit, ContractsFit, no_leg, place_of, places_of, named_at, named_to}
+use Rattle.proposal_check.proofs.Lists.{map_from}
 
 -- ---- one leg
 numbered_found : (n : ℕ) (os : List Order) (z : Order) → place_of n os < length os → numbered n os ≡ some (get_or os (place_of n os) z)
@@ -50,9 +51,9 @@ module _ (n : ℕ) (b : List ℕ) (count i all : ℕ) (known : i + place_of n (m
   unfolding place_of
   place_next h d = omega (arith, rw (from_next i count h, ne_eqb (order_at b i).number n d) at known)
 
-  pub place_end : count ≤ i → i ≡ all
+  pub place_end : count ≤ i → i ≤ count → count ≡ all
   unfolding place_of
-  place_end h = sym (add-zero i) ∙ rw (from_end i count h) at known
+  place_end h l = omega (arith, rw (from_end i count h) at known)
 
 -- ---- all legs
 module _ (os : List Order) (z : Order) where
@@ -95,11 +96,7 @@ module _ (os : List Order) (z : Order) where
   pub named_not : (legs : List Leg) → every is_found legs ≡ false → eqb (length (named_legs os legs)) (length legs) ≡ false
   named_not legs e = ne_eqb (length (named_legs os legs)) (length legs) (λ same. omega (arith, named_fewer legs e))
 
--- ---- legs as columns
-pub columns_orders : (orders lots prices : List ℕ) → map (λ g. g.order) (column_legs orders lots prices) ≡ orders
-unfolding column_legs
-columns_orders orders lots prices = map-map (λ g. g.order) (column_leg orders lots prices) (from 0 (length orders)) ∙ map_places orders
-
+-- ---- where the orders stand
 pub order_there : (count : ℕ) (book : List ℕ) (p : ℕ) (z : Order) → p < count → get_or (orders_in count book) p z ≡ order_at book p
 order_there count book p z h =
     map_at (order_at book) (from 0 count) p 0 z (omega (arith, from_length 0 count)) ∙ ap (order_at book) (from_at 0 count p 0 h ∙ zero-add p)
@@ -114,59 +111,52 @@ places_wider a b places h f = record { below = λ i k. omega (arith, f.below i k
 pub contracts_fit : (head book places : List ℕ) → BookFit head book → PlacesFit (order_count_in head) places → ContractsFit book places
 contracts_fit head book places b f = record { long = b.long; contract_below = λ i h. (b.order_fit (get_or places i 0) (f.below i h)).contract_below }
 
-module _ (count : ℕ) (book orders lots prices : List ℕ) where
-  abbrev legs : List Leg
-  legs = column_legs orders lots prices
-
+module _ (count : ℕ) (book : List ℕ) (legs : List Leg) where
   abbrev os : List Order
   os = orders_in count book
 
   abbrev places_in : List ℕ
-  places_in = places_of count book orders
+  places_in = places_of count book legs
 
   found_same : every (λ p. ltb p count) places_in ≡ every (is_found os (order_at book 0)) legs
   found_same =
-      every_map (λ p. ltb p count) (λ n. place_of n os) orders
-      ∙ ap (every (λ n. ltb (place_of n os) count)) (sym (columns_orders orders lots prices))
-      ∙ every_map (λ n. ltb (place_of n os) count) (λ g. g.order) legs
+      every_map (λ p. ltb p count) (λ g. place_of g.order os) legs
       ∙ ap (λ n. every (λ g. ltb (place_of g.order os) n) legs) (sym (orders_length book count))
 
-  place_at : (i : ℕ) → i < length orders → get_or places_in i 0 ≡ place_of (get_or orders i 0) os
-  place_at i h = map_at (λ n. place_of n os) orders i 0 0 h
-
-  order_at_lem : (i : ℕ) → every (λ p. ltb p count) places_in ≡ true → i < length orders → get_or os (place_of (get_or orders i 0) os) (order_at book 0) ≡ order_at book (get_or places_in i 0)
+  order_at_lem : (i : ℕ) → every (λ p. ltb p count) places_in ≡ true → i < length legs
+      → get_or os (place_of (get_or legs i no_leg).order os) (order_at book 0) ≡ order_at book (get_or places_in i 0)
   order_at_lem i e h =
-      let below = (found_fit count places_in e).below i (omega (arith, length-map orders (λ n. place_of n os))) in
-      rw (← place_at i h) (order_there count book (get_or places_in i 0) (order_at book 0) below)
+      let below = (found_fit count places_in e).below i (omega (arith, length-map legs (λ g. place_of g.order os))) in
+      rw (← map_at (λ g. place_of g.order os) legs i no_leg 0 h) (order_there count book (get_or places_in i 0) (order_at book 0) below)
 
-  pub named_columns : every (λ p. ltb p count) places_in ≡ true → named_legs os legs ≡ named_to book places_in orders lots prices
-  unfolding column_legs
-  named_columns e =
+  pub named_places : every (λ p. ltb p count) places_in ≡ true → named_legs os legs ≡ named_to book places_in legs
+  named_places e =
+      let f : Leg → Named = λ g. record { leg = g; order = get_or os (place_of g.order os) (order_at book 0) } in
       named_all os (order_at book 0) legs (sym found_same ∙ e)
-      ∙ map-map (λ g. record { leg = g; order = get_or os (place_of g.order os) (order_at book 0) }) (column_leg orders lots prices) (from 0 (length orders))
-      ∙ map_from _ _ 0 (length orders) (λ i l u. ap (λ o. record { leg = column_leg orders lots prices i; order = o }) (order_at_lem i e (omega arith)))
+      ∙ sym (ap (map f) (run_of (λ i. get_or legs i no_leg) legs no_leg (λ i _. refl)))
+      ∙ map-map f (λ i. get_or legs i no_leg) (from 0 (length legs))
+      ∙ map_from _ _ 0 (length legs) (λ i l u. ap (λ o. record { leg = get_or legs i no_leg; order = o }) (order_at_lem i e (omega arith)))
 
   pub not_named : every (λ p. ltb p count) places_in ≡ false → eqb (length (named_legs os legs)) (length legs) ≡ false
   not_named e = named_not os (order_at book 0) legs (sym found_same ∙ e)
 
--- the column of places as it is lent: the first places of an array
-module _ (count : ℕ) (book numbers ys l : List ℕ) (e : ys ≡ places_of count book numbers) (room : length numbers ≤ length l) where
-  as_lent : length ys ≡ length (take (length numbers) l)
-  as_lent = ap length e ∙ length-map numbers (λ n. place_of n (orders_in count book)) ∙ sym (length-take-le (length numbers) l room)
+-- the places as it is lent: the first places of an array
+module _ (count : ℕ) (book : List ℕ) (legs : List Leg) (ys l : List ℕ) (e : ys ≡ places_of count book legs) (room : length legs ≤ length l) where
+  as_lent : length ys ≡ length (take (length legs) l)
+  as_lent = ap length e ∙ length-map legs (λ g. place_of g.order (orders_in count book)) ∙ sym (length-take-le (length legs) l room)
 
-  pub places_long : length numbers ≤ length (ys ++ drop (length numbers) l)
-  places_long = again_long (length numbers) ys l as_lent room
+  pub places_long : length legs ≤ length (ys ++ drop (length legs) l)
+  places_long = again_long (length legs) ys l as_lent room
 
-  pub places_as_many : length numbers ≡ length (take (length numbers) (ys ++ drop (length numbers) l))
-  places_as_many = again_many (length numbers) ys l as_lent room
+  pub places_as_many : length legs ≡ length (take (length legs) (ys ++ drop (length legs) l))
+  places_as_many = again_many (length legs) ys l as_lent room
 
-  pub places_front : take (length numbers) (ys ++ drop (length numbers) l) ≡ places_of count book numbers
-  places_front = again_front (length numbers) ys l as_lent room ∙ e
+  pub places_front : take (length legs) (ys ++ drop (length legs) l) ≡ places_of count book legs
+  places_front = again_front (length legs) ys l as_lent room ∙ e
 
 -- ---- a leg and its order as the code reads them
-pub within_same : (t : Tables) (g h : Leg) (o p : Order) (b : Bool) → g ≡ h → o ≡ p → b ≡ price_allowed t (record { leg = g; order = o })
-    → leb g.lots.0 o.lots.0 && b ≡ has_lots (record { leg = h; order = p }) && price_allowed t (record { leg = h; order = p })
-within_same t g h o p b e f same =
+pub within_same : (t : Tables) (g : Leg) (o p : Order) (b : Bool) → o ≡ p → b ≡ price_allowed t (record { leg = g; order = o })
+    → leb g.lots.0 o.lots.0 && b ≡ has_lots (record { leg = g; order = p }) && price_allowed t (record { leg = g; order = p })
+within_same t g o p b f same =
     ap (λ x. leb g.lots.0 o.lots.0 && x) same
-    ∙ ap (λ x. leb x.lots.0 o.lots.0 && price_allowed t (record { leg = x; order = o })) e
-    ∙ ap (λ x. leb h.lots.0 x.lots.0 && price_allowed t (record { leg = h; order = x })) f
+    ∙ ap (λ x. leb g.lots.0 x.lots.0 && price_allowed t (record { leg = g; order = x })) f

@@ -1,7 +1,7 @@
 -- The amounts of a month are those of its year, quarter and month contract. Assumes nothing.
 use mathlib.Core.Path.{◌≡◌, refl, sym, ap, ◌∙◌}
 use mathlib.Core.Bool.{cond, ◌&&◌, ◌||◌}
-use mathlib.Core.List.{List, [], ◌∷◌, zip_with}
+use mathlib.Core.List.{List, [], ◌∷◌}
 use Prim.Native.Nat.{ℕ, ◌+◌, ◌*◌, ◌<◌, ◌≤◌}
 use native.Mathlib.Omega.{arith}
 use native.Mathlib.Nat.{zero-add, mul-le-mul, mul-add}
@@ -13,20 +13,20 @@ use borrow.Author.Tests.{eq-eqb, ne_eqb}
 use Rattle.arith.specs.Lists.{total, from}
 use Rattle.arith.proofs.Tests.{by_bool, by_eqb, same_or}
 use Rattle.arith.proofs.Scans.{every_both}
-use Rattle.arith.proofs.Overs.{zip_at}
 use Rattle.arith.proofs.Ranges.{total_more}
 use Rattle.arith.proofs.Totals.{total_plus, total_same, total_most}
+use Rattle.rules.specs.declared.event.Leg.{Leg}
 use Rattle.rules.specs.declared.order.Side.{Side}
 use Rattle.rules.specs.declared.order.Side.TheVariants.{Buy, Sell}
 use Rattle.rules.specs.Ranges.{months_in_span, most_lots, most_price}
 use Rattle.rules.specs.Ledger.{order_at}
 use Rattle.rules.specs.Sides.{same_side}
 use Rattle.rules.specs.OtherForms.{year_of, quarter_of, month_of, holds_month}
-use Rattle.proposal_check.specs.Columns.{LegsFit, counts_at, in_month, balanced_months}
+use Rattle.proposal_check.specs.Legs.{LegsFit, no_leg, lots_of, value_of, counts_at, in_month, balanced_months}
 use Rattle.proposal_check.proofs.Lists.{each_same}
 use Rattle.proposal_check.proofs.SidePlaces.{side_below, place_same}
 use Rattle.proposal_check.specs.SidePlaces.{side_place, side_places, side_place_of}
-use Rattle.proposal_check.specs.Sums.{SumsTo, SumsFit, lot_unit, amount_at, most_amount, sum_at, month_sum, balanced_sums}
+use Rattle.proposal_check.specs.Sums.{SumsTo, SumsFit, lot_unit, amount_of, most_amount, sum_at, month_sum, balanced_sums}
 
 -- ---- a month's three contracts are different
 one_of_three : (y q n c a : ℕ) → y < q → q < n
@@ -69,40 +69,34 @@ two_same a b c d h k =
     (λ e. rw (eq-eqb a c e) (by_eqb (λ t. eqb x y ≡ t) b d (λ f. eq-eqb x y (omega arith)) (λ n. ne_eqb x y (λ f. n (omega arith)))))
     (λ n. rw (ne_eqb a c n) (ne_eqb x y (λ f. n (omega arith))))
 
-module _ (book places lots prices : List ℕ) (fit : LegsFit (length places) lots prices) where
-  abbrev values : List ℕ
-  values = zip_with (λ q p. q * p) lots prices
+amount_two : (g : Leg) → amount_of g ≡ lots_of g * lot_unit + value_of g
+unfolding amount_of
+amount_two g = mul-add g.lots.0 lot_unit g.price.0
 
-  abbrev legs : ℕ
-  legs = length places
+module _ (book places : List ℕ) (legs : List Leg) (fit : LegsFit legs) where
+  abbrev leg : ℕ → Leg
+  leg i = get_or legs i no_leg
 
   abbrev place_of_leg : ℕ → ℕ
   place_of_leg i = side_place_of (order_at book (get_or places i 0))
 
-  pub most_value : (i : ℕ) → i < legs → get_or lots i 0 * get_or prices i 0 ≤ most_lots * most_price
+  pub most_value : (i : ℕ) → i < length legs → value_of (leg i) ≤ most_lots * most_price
   most_value i h = mul-le-mul (fit.most_lots_holds i h) (fit.most_price_holds i h)
 
-  pub amount_two : (i : ℕ) → amount_at lots prices i ≡ get_or lots i 0 * lot_unit + get_or lots i 0 * get_or prices i 0
-  unfolding amount_at
-  amount_two i = mul-add (get_or lots i 0) lot_unit (get_or prices i 0)
-
-  pub most_at : (i : ℕ) → i < legs → amount_at lots prices i ≤ most_amount
-  most_at i h = rw (amount_two i) (omega (arith, fit.most_lots_holds i h, most_value i h))
-
-  value_at_lem : (i : ℕ) → i < legs → get_or values i 0 ≡ get_or lots i 0 * get_or prices i 0
-  value_at_lem i h = zip_at (λ q p. q * p) lots prices i 0 (omega (arith, fit.lots_length)) (omega (arith, fit.prices_length_holds))
+  pub most_at : (i : ℕ) → i < length legs → amount_of (leg i) ≤ most_amount
+  most_at i h = rw (amount_two (leg i)) (omega (arith, fit.most_lots_holds i h, most_value i h))
 
   -- ---- leg by leg
-  pub sums_start : SumsTo book places lots prices 0 (replicate side_places 0)
+  pub sums_start : SumsTo book places legs 0 (replicate side_places 0)
   unfolding sum_at total from
   sums_start = record { long = length-replicate {A = ℕ} side_places 0; at = λ k h. get_or-replicate side_places k 0 0 h }
 
-  sum_more : (n k : ℕ) → sum_at book places lots prices (n + 1) k ≡ sum_at book places lots prices n k + cond (eqb (place_of_leg n) k) (amount_at lots prices n) 0
+  sum_more : (n k : ℕ) → sum_at book places legs (n + 1) k ≡ sum_at book places legs n k + cond (eqb (place_of_leg n) k) (amount_of (leg n)) 0
   unfolding sum_at
-  sum_more n k = rw (add-one n, total_more (λ i. cond (eqb (place_of_leg i) k) (amount_at lots prices i) 0) 0 n, zero-add n)
+  sum_more n k = rw (add-one n, total_more (λ i. cond (eqb (place_of_leg i) k) (amount_of (leg i)) 0) 0 n, zero-add n)
 
-  pub sums_next : (n at : ℕ) (sums : List ℕ) → SumsTo book places lots prices n sums → at ≡ place_of_leg n → at < side_places
-      → SumsTo book places lots prices (n + 1) (set sums at (get_or sums at 0 + amount_at lots prices n))
+  pub sums_next : (n at : ℕ) (sums : List ℕ) → SumsTo book places legs n sums → at ≡ place_of_leg n → at < side_places
+      → SumsTo book places legs (n + 1) (set sums at (get_or sums at 0 + amount_of (leg n)))
   sums_next n at sums s e h =
       record {
         long = length-set sums at _ ∙ s.long;
@@ -112,57 +106,57 @@ module _ (book places lots prices : List ℕ) (fit : LegsFit (length places) lot
             (λ d. rw (ne_eqb at k d) (get_or-set_other sums at k _ 0 (λ f. d (sym f)) ∙ omega arith)));
       }
 
-  pub most_sum : (n k : ℕ) → n ≤ legs → sum_at book places lots prices n k ≤ n * most_amount
+  pub most_sum : (n k : ℕ) → n ≤ length legs → sum_at book places legs n k ≤ n * most_amount
   unfolding sum_at
   most_sum n k h =
       total_most _ most_amount 0 n
-      (λ i _ l. by_bool (λ b. cond b (amount_at lots prices i) 0 ≤ most_amount) (eqb (place_of_leg i) k) (λ _. most_at i (omega arith)) (λ _. omega arith))
+      (λ i _ l. by_bool (λ b. cond b (amount_of (leg i)) 0 ≤ most_amount) (eqb (place_of_leg i) k) (λ _. most_at i (omega arith)) (λ _. omega arith))
 
-  pub sums_fit : (sums : List ℕ) → SumsTo book places lots prices legs sums → SumsFit sums
+  pub sums_fit : (sums : List ℕ) → SumsTo book places legs (length legs) sums → SumsFit sums
   sums_fit sums s =
-      record { long = s.long; most = λ k h. rw (s.at k h) (omega (arith, most_sum legs k (omega arith), fit.most_legs_holds)) }
+      record { long = s.long; most = λ k h. rw (s.at k h) (omega (arith, most_sum (length legs) k (omega arith), fit.most_legs_holds)) }
 
   -- ---- month by month
-  month_three : (s : Side) (m : ℕ) → total (λ i. cond (counts_at book s m (get_or places i 0)) (amount_at lots prices i) 0) (from 0 legs)
-      ≡ sum_at book places lots prices legs (side_place (year_of m) s) + sum_at book places lots prices legs (side_place (quarter_of m) s) + sum_at book places lots prices legs (side_place (month_of m) s)
+  month_three : (s : Side) (m : ℕ) → total (λ i. cond (counts_at book s m (get_or places i 0)) (amount_of (leg i)) 0) (from 0 (length legs))
+      ≡ sum_at book places legs (length legs) (side_place (year_of m) s) + sum_at book places legs (length legs) (side_place (quarter_of m) s) + sum_at book places legs (length legs) (side_place (month_of m) s)
   unfolding sum_at
   month_three s m =
-      total_same _ _ 0 legs (λ i _ _. leg_places (order_at book (get_or places i 0)).side s (order_at book (get_or places i 0)).contract m (amount_at lots prices i))
-      ∙ total_plus _ _ (from 0 legs)
-      ∙ ap (λ x. x + sum_at book places lots prices legs (side_place (month_of m) s)) (total_plus _ _ (from 0 legs))
+      total_same _ _ 0 (length legs) (λ i _ _. leg_places (order_at book (get_or places i 0)).side s (order_at book (get_or places i 0)).contract m (amount_of (leg i)))
+      ∙ total_plus _ _ (from 0 (length legs))
+      ∙ ap (λ x. x + sum_at book places legs (length legs) (side_place (month_of m) s)) (total_plus _ _ (from 0 (length legs)))
 
-  month_two : (s : Side) (m : ℕ) → total (λ i. cond (counts_at book s m (get_or places i 0)) (amount_at lots prices i) 0) (from 0 legs)
-      ≡ in_month book places lots s m * lot_unit + in_month book places values s m
+  month_two : (s : Side) (m : ℕ) → total (λ i. cond (counts_at book s m (get_or places i 0)) (amount_of (leg i)) 0) (from 0 (length legs))
+      ≡ in_month book places lots_of legs s m * lot_unit + in_month book places value_of legs s m
   unfolding in_month
   month_two s m =
-      total_same _ (λ i. cond (counts_at book s m (get_or places i 0)) (get_or lots i 0) 0 * lot_unit + cond (counts_at book s m (get_or places i 0)) (get_or values i 0) 0) 0 legs
-      (λ i _ h. rw (amount_two i, value_at_lem i (omega arith))
-      (by_bool (λ b. cond b (get_or lots i 0 * lot_unit + get_or lots i 0 * get_or prices i 0) 0 ≡ cond b (get_or lots i 0) 0 * lot_unit + cond b (get_or lots i 0 * get_or prices i 0) 0)
+      total_same _ (λ i. cond (counts_at book s m (get_or places i 0)) (lots_of (leg i)) 0 * lot_unit + cond (counts_at book s m (get_or places i 0)) (value_of (leg i)) 0) 0 (length legs)
+      (λ i _ h. rw (amount_two (leg i))
+      (by_bool (λ b. cond b (lots_of (leg i) * lot_unit + value_of (leg i)) 0 ≡ cond b (lots_of (leg i)) 0 * lot_unit + cond b (value_of (leg i)) 0)
       (counts_at book s m (get_or places i 0)) (λ _. refl) (λ _. refl)))
-      ∙ total_two _ _ (from 0 legs)
+      ∙ total_two _ _ (from 0 (length legs))
 
-  value_below : (s : Side) (m : ℕ) → in_month book places values s m < lot_unit
+  value_below : (s : Side) (m : ℕ) → in_month book places value_of legs s m < lot_unit
   unfolding in_month
   value_below s m =
       omega (
         arith,
         fit.most_legs_holds,
-        total_most (λ i. cond (counts_at book s m (get_or places i 0)) (get_or values i 0) 0) (most_lots * most_price) 0 legs
-            (λ i _ h. by_bool (λ b. cond b (get_or values i 0) 0 ≤ most_lots * most_price) (counts_at book s m (get_or places i 0))
-            (λ _. rw (value_at_lem i (omega arith)) (most_value i (omega arith))) (λ _. omega arith)),
+        total_most (λ i. cond (counts_at book s m (get_or places i 0)) (value_of (leg i)) 0) (most_lots * most_price) 0 (length legs)
+            (λ i _ h. by_bool (λ b. cond b (value_of (leg i)) 0 ≤ most_lots * most_price) (counts_at book s m (get_or places i 0))
+            (λ _. most_value i (omega arith)) (λ _. omega arith)),
       )
 
-  module _ (sums : List ℕ) (s : SumsTo book places lots prices legs sums) where
-    month_sum_lem : (u : Side) (m : ℕ) → m < months_in_span → month_sum sums u m ≡ in_month book places lots u m * lot_unit + in_month book places values u m
+  module _ (sums : List ℕ) (s : SumsTo book places legs (length legs) sums) where
+    month_sum_lem : (u : Side) (m : ℕ) → m < months_in_span → month_sum sums u m ≡ in_month book places lots_of legs u m * lot_unit + in_month book places value_of legs u m
     month_sum_lem u m h =
         let below = months_below m h u in
         rw (s.at (side_place (year_of m) u) below.0, s.at (side_place (quarter_of m) u) below.1, s.at (side_place (month_of m) u) below.2, ← month_three u m)
         (month_two u m)
 
     month_same : (m : ℕ) → m < months_in_span → eqb (month_sum sums Buy m) (month_sum sums Sell m)
-        ≡ eqb (in_month book places lots Buy m) (in_month book places lots Sell m) && eqb (in_month book places values Buy m) (in_month book places values Sell m)
+        ≡ eqb (in_month book places lots_of legs Buy m) (in_month book places lots_of legs Sell m) && eqb (in_month book places value_of legs Buy m) (in_month book places value_of legs Sell m)
     month_same m h = rw (month_sum_lem Buy m h, month_sum_lem Sell m h) (two_same _ _ _ _ (value_below Buy m) (value_below Sell m))
 
-    pub sums_balanced : balanced_sums sums ≡ balanced_months book places lots && balanced_months book places values
+    pub sums_balanced : balanced_sums sums ≡ balanced_months book places lots_of legs && balanced_months book places value_of legs
     unfolding balanced_sums balanced_months
     sums_balanced = each_same _ _ 0 months_in_span (λ m _ h. month_same m (omega arith)) ∙ every_both _ _ (from 0 months_in_span)

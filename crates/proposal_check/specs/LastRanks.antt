@@ -1,11 +1,12 @@
 -- The last leg in priority of one contract and side. A resting order is ahead of some leg exactly if it is ahead of this one.
 use Rattle.std.specs.Prelude.{ℕ, ◌≤◌, ◌<◌, ◌≡◌, Bool, not, ◌&&◌, ◌||◌, List, eqb, ltb, length, get_or}
 use Rattle.arith.specs.Lists.{any}
+use Rattle.rules.specs.declared.event.Leg.{Leg}
 use Rattle.rules.specs.declared.order.Order.{Order}
 use Rattle.rules.specs.Ranges.{contract_count, most_orders}
 use Rattle.rules.specs.Ledger.{book_length, order_at}
 use Rattle.order_priority.specs.Priority.{Ranked, rank_of}
-use Rattle.proposal_check.specs.Columns.{is_full_leg}
+use Rattle.proposal_check.specs.Legs.{is_full_leg}
 use Rattle.proposal_check.specs.SidePlaces.{side_places, side_place_of}
 
 -- Orders of the ledger's contracts that have ranks.
@@ -32,5 +33,5 @@ pub record LastRanks (book places lasts : List ℕ) : Type 0 where
   pub last : (k x : ℕ) → k < side_places → ltb x (get_or lasts k 0) ≡ any (is_behind book k x) places
 
 -- An order of lower rank than the last one of its contract and side is a leg in full.
-abbrev pub kept_by : List ℕ → List ℕ → List ℕ → Order → Bool
-kept_by lasts orders lots o = not (ltb (rank_of o) (get_or lasts (side_place_of o) 0)) || is_full_leg orders lots o
+abbrev pub kept_by : List ℕ → List Leg → Order → Bool
+kept_by lasts legs o = not (ltb (rank_of o) (get_or lasts (side_place_of o) 0)) || is_full_leg legs o

@@ -1,5 +1,5 @@
 -- The definitions that the promises of this crate use.
-pub mod Columns
+pub mod Legs
 pub mod SidePlaces
 pub mod Sums
 pub mod LastRanks

@@ -1,44 +1,40 @@
 // In every hour bought equals sold. The hours of a month lie in the same three contracts, so the 72 months are tried, over
 // the sums of each contract and side.
 ghost use Rattle.std.specs.Prelude.{◌≡◌, ◌&&◌, ◌+◌, ◌*◌, ◌≤◌, ◌<◌, eqb, length, get_or, replicate};
-ghost use mathlib.Core.List.{zip_with};
 ghost use Rattle.rules.specs.declared.order.Side.TheVariants.{Buy, Sell};
 ghost use Rattle.rules.specs.Ranges.{months_in_span, most_orders, most_lots, most_price};
 ghost use Rattle.rules.specs.OtherForms.{year_of, quarter_of, month_of};
-ghost use Rattle.proposal_check.specs.Columns.{LegsFit, PlacesFit, ContractsFit, balanced_months};
+ghost use Rattle.proposal_check.specs.Legs.{LegsFit, PlacesFit, ContractsFit, lots_of, value_of, balanced_months};
 ghost use Rattle.proposal_check.specs.SidePlaces.{side_places};
-ghost use Rattle.proposal_check.specs.Sums.{lot_unit, SumsTo, SumsFit, month_sum, balanced_sums};
+ghost use Rattle.proposal_check.specs.Sums.{amount_of, SumsTo, SumsFit, month_sum, balanced_sums};
 
 use crate::side_places::{SIDE_PLACES, SIDES, side_place};
 use order_book::order_at;
 use rules::ranges::{
     CONTRACTS_IN_YEAR, FIRST_QUARTER, JANUARY, MONTHS_IN_QUARTER, MONTHS_IN_SPAN, MONTHS_IN_YEAR,
 };
-use rules::{Kurus, Lots};
+use rules::Leg;
 
 // What a lot adds to a sum beside its price: more than the values of all legs together, so that sums are equal exactly if
 // lots and values both are.
 const LOT_UNIT: u64 = 4294967296;
 
 // What a leg adds to a sum.
-fn leg_amount(lots: Lots, price: Kurus) -> u64
-    requires { (lots.0 ≤ most_lots) × (price.0 ≤ most_price) }
-    ensures { result ≡ lots.0 * (lot_unit + price.0) }
+fn leg_amount(leg: Leg) -> u64
+    requires { (leg.lots.0 ≤ most_lots) × (leg.price.0 ≤ most_price) }
+    ensures { result ≡ amount_of leg }
 {
-    lots.0 * LOT_UNIT + lots.times(price).0
+    leg.lots.0 * LOT_UNIT + leg.lots.times(leg.price).0
 }
 
 // Each leg is added to the sum of its contract and side.
-fn write_sums(book: &[u64], places: &[usize], lots: &[u64], prices: &[u64], sums: &mut [u64])
-    requires { PlacesFit most_orders places.now × ContractsFit book.now places.now × LegsFit (length places.now) lots.now prices.now × (sums.old ≡ replicate side_places 0) }
-    ensures { SumsTo book.now places.now lots.now prices.now (length places.now) sums.new }
+fn write_sums(book: &[u64], places: &[usize], legs: &[Leg], sums: &mut [u64])
+    requires { PlacesFit most_orders places.now × ContractsFit book.now places.now × LegsFit legs.now × (length places.now ≡ length legs.now) × (sums.old ≡ replicate side_places 0) }
+    ensures { SumsTo book.now places.now legs.now (length legs.now) sums.new }
 {
-    let mut i: usize = 0;
-    while i < places.len() {
+    for i in 0..legs.len() {
         let at = side_place(order_at(book, places[i]));
-        let sum = sums[at] + leg_amount(Lots(lots[i]), Kurus(prices[i]));
-        sums[at] = sum;
-        i += 1;
+        sums[at] += leg_amount(legs[i]);
     }
 }
 
@@ -87,21 +83,19 @@ fn are_months_balanced(sums: &[u64]) -> bool
     ensures { result ≡ balanced_sums sums.now }
 {
     let mut ok = true;
-    let mut month: u64 = 0;
-    while month < MONTHS_IN_SPAN {
-        ok = ok & is_month_balanced(sums, month);
-        month += 1;
+    for month in 0..MONTHS_IN_SPAN {
+        ok &= is_month_balanced(sums, month);
     }
     ok
 }
 
 // Whether lots and lots times price are balanced.
-pub fn are_both_balanced(book: &[u64], places: &[usize], lots: &[u64], prices: &[u64]) -> bool
-    requires { PlacesFit most_orders places.now × ContractsFit book.now places.now × LegsFit (length places.now) lots.now prices.now }
-    ensures { result ≡ balanced_months book.now places.now lots.now
-        && balanced_months book.now places.now (zip_with (λ q p. q * p) lots.now prices.now) }
+pub fn are_both_balanced(book: &[u64], places: &[usize], legs: &[Leg]) -> bool
+    requires { PlacesFit most_orders places.now × ContractsFit book.now places.now × LegsFit legs.now × (length places.now ≡ length legs.now) }
+    ensures { result ≡ balanced_months book.now places.now lots_of legs.now
+        && balanced_months book.now places.now value_of legs.now }
 {
     let mut sums = [0u64; SIDE_PLACES];
-    write_sums(book, places, lots, prices, &mut sums);
+    write_sums(book, places, legs, &mut sums);
     are_months_balanced(&sums)
 }

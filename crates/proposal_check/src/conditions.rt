@@ -1,14 +1,15 @@
 // What each leg must meet, and what the legs' members and contracts must meet together.
-ghost use Rattle.std.specs.Prelude.{◌≡◌, not, ◌&&◌, ◌*◌, ◌+◌, ◌≤◌, ◌<◌, eqb, length, get_or};
+ghost use Rattle.std.specs.Prelude.{◌≡◌, not, ◌&&◌, ◌*◌, ◌+◌, ◌≤◌, ◌<◌, map, eqb, length, get_or};
 ghost use Rattle.arith.specs.Lists.{every, any};
 ghost use Rattle.rules.specs.Ranges.{contract_count, most_orders};
+ghost use Rattle.rules.specs.Header.{rising};
 ghost use Rattle.rules.specs.Ledger.{Tables, with_prices, prices_length, book_length, order_width};
 ghost use Rattle.rules.specs.Synthetic.{has_lots, price_allowed};
-ghost use Rattle.proposal_check.specs.Columns.{LegsFit, PlacesFit, ContractsFit, column_leg, named_to};
+ghost use Rattle.proposal_check.specs.Legs.{PlacesFit, ContractsFit, number_of, named_to};
 
 use order_book::order_at;
 use rules::layout::{HIGH, LOW, ORDER_WIDTH, PRICE_WIDTH};
-use rules::{Kurus, Leg, Lots, Order, Side};
+use rules::{Leg, Order, Side};
 
 // Whether a field of the legs' orders, their member or contract, is not the same in all of them.
 pub fn do_two_occur(book: &[u64], places: &[usize], field: usize) -> bool
@@ -18,23 +19,22 @@ pub fn do_two_occur(book: &[u64], places: &[usize], field: usize) -> bool
 {
     let first = book[places[0] * ORDER_WIDTH + field];
     let mut found = false;
-    let mut i: usize = 0;
-    while i < places.len() {
-        found = found | !(book[places[i] * ORDER_WIDTH + field] == first);
-        i += 1;
+    for place in places {
+        found |= book[*place * ORDER_WIDTH + field] != first;
     }
     found
 }
 
-pub fn leg_at(orders: &[u64], lots: &[u64], prices: &[u64], i: usize) -> Leg
-    requires { (i < length orders.now) × (i < length lots.now) × (i < length prices.now) }
-    ensures { result ≡ column_leg orders.now lots.now prices.now i }
+// Whether the numbers of the legs' orders strictly rise.
+pub fn do_numbers_rise(legs: &[Leg]) -> bool
+    requires { 1 ≤ length legs.now }
+    ensures { result ≡ rising (map number_of legs.now) }
 {
-    Leg {
-        order: orders[i],
-        lots: Lots(lots[i]),
-        price: Kurus(prices[i]),
+    let mut ok = true;
+    for i in 1..legs.len() {
+        ok &= legs[i - 1].order < legs[i].order;
     }
+    ok
 }
 
 // Whether a leg's price is allowed: a sell's from its order's price to the contract's high, a buy's from the low to its order's
@@ -46,8 +46,7 @@ fn is_price_allowed(prices: &[u64], leg: Leg, order: Order) -> bool
     let at = order.contract as usize * PRICE_WIDTH;
     let price = leg.price.0;
     let resting = order.price.0;
-    let side = order.side;
-    match side {
+    match order.side {
         Side::Buy => (prices[at + LOW] <= price) & (price <= resting),
         Side::Sell => (resting <= price) & (price <= prices[at + HIGH]),
     }
@@ -58,22 +57,18 @@ pub fn are_within(
     prices: &[u64],
     book: &[u64],
     places: &[usize],
-    orders: &[u64],
-    leg_lots: &[u64],
-    leg_prices: &[u64],
+    legs: &[Leg],
 ) -> bool
     requires prices_length_in_bounds { (prices_length ≤ length prices.now) × PlacesFit most_orders places.now × ContractsFit book.now places.now }
-    requires legs_fit { LegsFit (length orders.now) leg_lots.now leg_prices.now × (length places.now ≡ length orders.now) }
+    requires legs_fit { length places.now ≡ length legs.now }
     ensures { (t : Tables) → result ≡ every (λ n. has_lots n && price_allowed (with_prices prices.now t) n)
-        (named_to book.now places.now orders.now leg_lots.now leg_prices.now) }
+        (named_to book.now places.now legs.now) }
 {
     let mut ok = true;
-    let mut i: usize = 0;
-    while i < places.len() {
-        let leg = leg_at(orders, leg_lots, leg_prices, i);
+    for i in 0..legs.len() {
+        let leg = legs[i];
         let order = order_at(book, places[i]);
-        ok = ok & ((leg.lots.0 <= order.lots.0) & is_price_allowed(prices, leg, order));
-        i += 1;
+        ok &= (leg.lots.0 <= order.lots.0) & is_price_allowed(prices, leg, order);
     }
     ok
 }

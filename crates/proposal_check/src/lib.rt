@@ -3,12 +3,12 @@
 
 mod acceptable;
 mod balance;
-mod columns;
 mod conditions;
+mod legs;
 mod places;
 mod priority;
 mod side_places;
 
 pub use acceptable::is_acceptable;
-pub use columns::are_columns_acceptable;
+pub use legs::are_legs_acceptable;
 pub use places::write_places;

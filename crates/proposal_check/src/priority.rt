@@ -4,68 +4,55 @@ ghost use Rattle.arith.specs.Lists.{every};
 ghost use Rattle.rules.specs.Ranges.{contract_count};
 ghost use Rattle.tables.specs.Fit.{orders_in};
 ghost use Rattle.order_priority.specs.Priority.{Ranked};
-ghost use Rattle.proposal_check.specs.Columns.{PlacesFit, is_ahead, is_full_leg};
+ghost use Rattle.proposal_check.specs.Legs.{PlacesFit, is_ahead, is_full_leg};
 ghost use Rattle.proposal_check.specs.SidePlaces.{side_places};
 ghost use Rattle.proposal_check.specs.LastRanks.{OrdersRanked, LegsRanked, LastRanks, kept_by};
 
 use crate::side_places::{SIDE_PLACES, side_place};
-use numbers::larger;
 use order_book::order_at;
 use order_priority::rank_of;
-use rules::Order;
+use rules::{Leg, Order};
 
 // The last rank among the legs of each contract and side; a place with no leg has 0, and no rank is below that.
 fn write_last_ranks(book: &[u64], places: &[usize], lasts: &mut [u64])
     requires { LegsRanked book.now places.now × (lasts.old ≡ replicate side_places 0) }
     ensures { LastRanks book.now places.now lasts.new }
 {
-    let mut i: usize = 0;
-    while i < places.len() {
-        let order = order_at(book, places[i]);
+    for place in places {
+        let order = order_at(book, *place);
         let at = side_place(order);
-        let last = larger(lasts[at], rank_of(order));
-        lasts[at] = last;
-        i += 1;
+        lasts[at] = lasts[at].max(rank_of(order));
     }
 }
 
 // Whether the order is a leg in full.
-fn is_full_leg(orders: &[u64], lots: &[u64], o: Order) -> bool
-    requires { length lots.now ≡ length orders.now }
-    ensures { result ≡ is_full_leg orders.now lots.now o }
+fn is_full_leg(legs: &[Leg], o: Order) -> bool
+    ensures { result ≡ is_full_leg legs.now o }
 {
-    let mut found = false;
-    let mut i: usize = 0;
-    while i < orders.len() {
-        found = found | ((orders[i] == o.number) & (lots[i] == o.lots.0));
-        i += 1;
-    }
-    found
+    legs.iter()
+        .any(|leg| (leg.order == o.number) & (leg.lots.0 == o.lots.0))
 }
 
 // Whether the order is not ahead of the last leg of its contract and side, or is a leg in full.
-fn is_kept(lasts: &[u64], orders: &[u64], lots: &[u64], o: Order) -> bool
-    requires { (length lasts.now ≡ side_places) × (length lots.now ≡ length orders.now) × (o.contract < contract_count) × Ranked o }
-    ensures { result ≡ kept_by lasts.now orders.now lots.now o }
+fn is_kept(lasts: &[u64], legs: &[Leg], o: Order) -> bool
+    requires { (length lasts.now ≡ side_places) × (o.contract < contract_count) × Ranked o }
+    ensures { result ≡ kept_by lasts.now legs.now o }
 {
     let at = side_place(o);
     if lasts[at] <= rank_of(o) {
         return true;
     }
-    is_full_leg(orders, lots, o)
+    is_full_leg(legs, o)
 }
 
 // Whether each order of the book is not ahead of the last leg of its contract and side, or is a leg in full.
-fn are_kept(book: &[u64], count: usize, lasts: &[u64], orders: &[u64], lots: &[u64]) -> bool
-    requires { OrdersRanked count book.now × (length lasts.now ≡ side_places) × (length lots.now ≡ length orders.now) }
-    ensures { result ≡ every (kept_by lasts.now orders.now lots.now) (orders_in count book.now) }
+fn are_kept(book: &[u64], count: usize, lasts: &[u64], legs: &[Leg]) -> bool
+    requires { OrdersRanked count book.now × (length lasts.now ≡ side_places) }
+    ensures { result ≡ every (kept_by lasts.now legs.now) (orders_in count book.now) }
 {
     let mut ok = true;
-    let mut i: usize = 0;
-    while i < count {
-        let o = order_at(book, i);
-        ok = ok & is_kept(lasts, orders, lots, o);
-        i += 1;
+    for i in 0..count {
+        ok &= is_kept(lasts, legs, order_at(book, i));
     }
     ok
 }
@@ -75,13 +62,12 @@ pub fn is_priority_kept(
     book: &[u64],
     count: usize,
     places: &[usize],
-    orders: &[u64],
-    lots: &[u64],
+    legs: &[Leg],
 ) -> bool
-    requires { OrdersRanked count book.now × PlacesFit count places.now × (length lots.now ≡ length orders.now) }
-    ensures { result ≡ every (λ o. not (is_ahead book.now places.now o) || is_full_leg orders.now lots.now o) (orders_in count book.now) }
+    requires { OrdersRanked count book.now × PlacesFit count places.now }
+    ensures { result ≡ every (λ o. not (is_ahead book.now places.now o) || is_full_leg legs.now o) (orders_in count book.now) }
 {
     let mut lasts = [0u64; SIDE_PLACES];
     write_last_ranks(book, places, &mut lasts);
-    are_kept(book, count, &lasts, orders, lots)
+    are_kept(book, count, &lasts, legs)
 }

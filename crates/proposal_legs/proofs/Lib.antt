@@ -1,1 +1,1 @@
-pub mod LegColumns
+pub mod Judged

@@ -1,6 +1,5 @@
 // The first legs of an array, lent. The array comes by value, so callers need not lend it.
 ghost use Rattle.std.specs.Prelude.{◌≡◌, ◌≤◌, length, take};
-ghost use Rattle.rules.specs.Ranges.{most_legs};
 ghost use Rattle.rules.specs.Ledger.{Tables, with_head, with_prices, with_book, prices_length};
 ghost use Rattle.tables.specs.Fit.{HeadFit, BookFit};
 ghost use Rattle.proposal_legs.specs.Proposals.{legs_acceptable};
@@ -10,27 +9,13 @@ use rules::Leg;
 use rules::layout::LEG_PLACES;
 use rules::ranges::MOST_LEGS;
 
-fn are_lent_acceptable<'t>(
-    legs: [Leg; LEG_PLACES],
-    count: usize,
-    head: &'t [u64],
-    prices: &'t [u64],
-    book: &'t [u64],
-) -> bool
-    requires { (count ≤ most_legs) × (HeadFit head.now × BookFit head.now book.now × (prices_length ≤ length prices.now)) }
-    ensures { (t : Tables) → result ≡ legs_acceptable (with_head head.now (with_prices prices.now (with_book book.now t)))
-        count (take count legs) }
-{
-    are_legs_acceptable(&legs[..count], head, prices, book)
-}
-
 // Whether the first legs make an acceptable proposal; a count past the array's 12 legs makes none.
-pub fn are_first_acceptable<'t>(
+pub fn are_first_acceptable(
     legs: [Leg; LEG_PLACES],
     count: usize,
-    head: &'t [u64],
-    prices: &'t [u64],
-    book: &'t [u64],
+    head: &[u64],
+    prices: &[u64],
+    book: &[u64],
 ) -> bool
     requires { HeadFit head.now × BookFit head.now book.now × (prices_length ≤ length prices.now) }
     ensures { (t : Tables) → result ≡ legs_acceptable (with_head head.now (with_prices prices.now (with_book book.now t)))
@@ -39,5 +24,6 @@ pub fn are_first_acceptable<'t>(
     if MOST_LEGS < count as u64 {
         return false;
     }
-    are_lent_acceptable(legs, count, head, prices, book)
+    let first = &legs[..count];
+    are_legs_acceptable(first, head, prices, book)
 }

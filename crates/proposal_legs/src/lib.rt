@@ -1,8 +1,6 @@
 // Whether a proposal is acceptable, its legs given as structs. It is handed tables that are long enough and not damaged.
 #![tactic(auto)]
 
-mod acceptable;
-mod columns;
 mod legs;
 mod lender;
 

@@ -18,11 +18,11 @@ write_places-requires c =
 
 pub slice_bounds-places-end-2 : goal.slice_bounds-places-end-2
 slice_bounds-places-end-2 c =
-    let a = c.args in places_long (get_or a.head.now order_count_place 0) a.book.now a.orders.now _ (replicate 12 0) c.write_places.ensures c.requires.legs_fit.most_legs_holds
+    let a = c.args in places_long (get_or a.head.now order_count_place 0) a.book.now a.legs.now _ (replicate 12 0) c.write_places.ensures c.requires.legs_fit.most_legs_holds
 
 pub slice_bounds-apply_at-end : goal.slice_bounds-apply_at-end
 slice_bounds-apply_at-end c =
-    let a = c.args in places_as_many (get_or a.head.now order_count_place 0) a.book.now a.orders.now _ (replicate 12 0) c.write_places.ensures
+    let a = c.args in places_as_many (get_or a.head.now order_count_place 0) a.book.now a.legs.now _ (replicate 12 0) c.write_places.ensures
     c.requires.legs_fit.most_legs_holds
 
 pub apply_at-requires : goal.apply_at-requires
@@ -32,7 +32,7 @@ apply_at-requires c =
       rows_fit = c.requires.rows_fit;
       legs_fit = (
         c.requires.legs_fit,
-        places_front (get_or a.head.now order_count_place 0) a.book.now a.orders.now _ (replicate 12 0) c.write_places.ensures
+        places_front (get_or a.head.now order_count_place 0) a.book.now a.legs.now _ (replicate 12 0) c.write_places.ensures
             c.requires.legs_fit.most_legs_holds,
       );
     }

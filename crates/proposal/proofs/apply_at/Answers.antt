@@ -10,7 +10,7 @@ use Rattle.rules.specs.Synthetic.{proposal_lines, used_by_legs, proposal_booked}
 use Rattle.rules.specs.Refusals.{proposal_spec}
 use Rattle.tables.specs.Fit.{order_count_in}
 use Rattle.order_book.proofs.Left.{all_orders}
-use Rattle.proposal_check.specs.Columns.{LegsFit, PlacesFit, column_legs}
+use Rattle.proposal_check.specs.Legs.{PlacesFit}
 use Rattle.proposal.specs.Booking.{lines_to}
 use Rattle.proposal.proofs.Accepted.{count_after_lines, all_booked, named, line_count, run_passes, run_fits}
 use Rattle.proposal.proofs.apply_at.Goals as goal
@@ -30,11 +30,6 @@ returns-then-not-is_acceptable c =
     let a = c.args in
     λ t. rw (sym (c.is_acceptable.ensures (tables a.head.now a.prices.now a.lots.now a.value.now a.book.now a.lines.now t)) ∙ c.if-not-is_acceptable.true)
 
-pub total_lots-requires : goal.total_lots-requires
-total_lots-requires c =
-    let fit = c.requires.legs_fit.0 in
-    subst (λ k. LegsFit k c.args.leg_lots.now c.args.leg_prices.now) (sym fit.lots_length) fit
-
 pub returns-then-run-gt-MOST_LOTS_RUN : goal.returns-then-run-gt-MOST_LOTS_RUN
 unfolding proposal_spec
 returns-then-run-gt-MOST_LOTS_RUN c =
@@ -42,7 +37,7 @@ returns-then-run-gt-MOST_LOTS_RUN c =
     λ t.
     let u = tables a.head.now a.prices.now a.lots.now a.value.now a.book.now a.lines.now t in
     let ok = sym (c.is_acceptable.ensures u) ∙ c.if-not-is_acceptable.false in
-    let n = named u a.places.now a.orders.now a.leg_lots.now a.leg_prices.now c.requires.legs_fit.0 c.requires.legs_fit.1 ok in
+    let n = named u a.places.now a.legs.now c.requires.legs_fit.1 ok in
     rw (ok, run_passes n c.total_lots.result.0 c.total_lots.ensures.0 c.if-run-gt-MOST_LOTS_RUN.true)
 
 pub book_legs-requires : goal.book_legs-requires
@@ -50,11 +45,10 @@ book_legs-requires c =
     let a = c.args in
     let u = tables a.head.now a.prices.now a.lots.now a.value.now a.book.now a.lines.now zero_tables in
     let fit = c.requires.legs_fit.0 in
-    let n = named u a.places.now a.orders.now a.leg_lots.now a.leg_prices.now fit c.requires.legs_fit.1 (sym (c.is_acceptable.ensures u) ∙ c.if-not-is_acceptable.false) in
-    let sum = c.total_lots.ensures.0 ∙ ap (λ n. total (λ i. get_or a.leg_lots.now i 0) (from 0 n)) (fit.lots_length ∙ sym n.many) in
+    let n = named u a.places.now a.legs.now c.requires.legs_fit.1 (sym (c.is_acceptable.ensures u) ∙ c.if-not-is_acceptable.false) in
     let h = c.requires.head_fit.0 in
     let rows = c.requires.rows_fit in record {
-      book_fit = (c.requires.head_fit.2, n.there, subst (λ n. LegsFit n a.leg_lots.now a.leg_prices.now) (sym n.many) fit);
+      book_fit = (c.requires.head_fit.2, n.there, fit, n.many);
       bookable = (
         record {
           long = h.long;
@@ -62,7 +56,7 @@ book_legs-requires c =
           lots_fit = rows.0;
           value_fit = rows.1;
           lines_long = c.requires.head_fit.3;
-          most_run = rw (← sum) (omega (arith, c.if-run-gt-MOST_LOTS_RUN.false));
+          most_run = rw (← c.total_lots.ensures.0) (omega (arith, c.if-run-gt-MOST_LOTS_RUN.false));
         },
         h.most_orders_holds,
       );
@@ -73,16 +67,16 @@ use_orders-requires c =
     let a = c.args in
     let u = tables a.head.now a.prices.now a.lots.now a.value.now a.book.now a.lines.now zero_tables in
     let fit = c.requires.legs_fit.0 in
-    let n = named u a.places.now a.orders.now a.leg_lots.now a.leg_prices.now fit c.requires.legs_fit.1 (sym (c.is_acceptable.ensures u) ∙ c.if-not-is_acceptable.false) in
+    let n = named u a.places.now a.legs.now c.requires.legs_fit.1 (sym (c.is_acceptable.ensures u) ∙ c.if-not-is_acceptable.false) in
     let h = c.requires.head_fit in
     let l = c.book_legs.new in
-    let lines = lines_to a.book.now a.places.now a.leg_lots.now a.leg_prices.now (length a.places.now) in
+    let lines = lines_to a.book.now a.places.now a.legs.now (length a.legs.now) in
     let count = count_at a.head.now l.head l.lots l.value l.lines lines u (c.book_legs.ensures u) in (
       omega (arith, c.book_legs.auto.head, h.0.long),
       omega (arith, count, h.0.most_orders_holds),
       h.2.long,
       subst (λ n. PlacesFit n a.places.now) (sym count) n.there,
-      fit.lots_length ∙ sym n.many,
+      sym n.many,
       λ i b. (h.2.order_fit i (omega (arith, count))).most_side,
     )
 
@@ -92,17 +86,17 @@ returns c =
     let a = c.args in
     let h = c.requires.head_fit in
     let l = c.book_legs.new in
-    let legs = column_legs a.orders.now a.leg_lots.now a.leg_prices.now in
+    let legs = a.legs.now in
     let each = all_orders (λ o. 1 ≤ o.lots.0) a.book.now (order_count_in a.head.now) (λ i b. (h.2.order_fit i b).least_lots) in
     λ t.
     let u = tables a.head.now a.prices.now a.lots.now a.value.now a.book.now a.lines.now t in
     let ok = sym (c.is_acceptable.ensures u) ∙ c.if-not-is_acceptable.false in
-    let n = named u a.places.now a.orders.now a.leg_lots.now a.leg_prices.now c.requires.legs_fit.0 c.requires.legs_fit.1 ok in
-    let lines = lines_to a.book.now a.places.now a.leg_lots.now a.leg_prices.now (length a.places.now) in
+    let n = named u a.places.now a.legs.now c.requires.legs_fit.1 ok in
+    let lines = lines_to a.book.now a.places.now a.legs.now (length a.legs.now) in
     let count = count_at a.head.now l.head l.lots l.value l.lines lines u (c.book_legs.ensures u) in
     let used = n.used each h.2.numbers_distinct _ count in
     let after = with_head l.head (with_rows l.lots l.value (with_lines l.lines (with_prices a.prices.now (with_book a.book.now t)))) in
     rw (ok, run_fits n c.total_lots.result.0 c.total_lots.ensures.0 c.if-run-gt-MOST_LOTS_RUN.false)
-    (all_booked (proposal_lines u legs) (used_by_legs legs (orders u)) (length a.orders.now) u after _ (line_count n)
+    (all_booked (proposal_lines u legs) (used_by_legs legs (orders u)) (length a.legs.now) u after _ (line_count n)
     (c.book_legs.ensures (with_prices a.prices.now (with_book a.book.now t)) ∙ ap (λ ls. (booked ls u).after) (sym n.lines_are))
     (c.use_orders.ensures (with_prices a.prices.now (with_rows l.lots l.value (with_lines l.lines t))) ∙ ap (λ os. with_orders os after) used))

@@ -1,6 +1,6 @@
 use mathlib.Core.Path.{sym, ◌∙◌}
 use Rattle.rules.specs.Records.{record_length}
-use Rattle.codec.proofs.LegColumns.{held_other, held_many, held_uneven, held_whole}
+use Rattle.codec.proofs.PlacedLegs.{held_other, held_many, held_uneven, held_whole}
 use Rattle.codec.proofs.legs.legs_held.Goals as goal
 
 pub returns-then-u8_or_zero-ne-PROPOSAL : goal.returns-then-u8_or_zero-ne-PROPOSAL

@@ -1,6 +1,6 @@
 use mathlib.Core.Path.{refl}
 use Rattle.arith.proofs.Tests.{and_true}
-use Rattle.codec.proofs.LegColumns.{proposal_legless}
+use Rattle.codec.proofs.PlacedLegs.{proposal_legless}
 use Rattle.rules.specs.Records.{event_sound}
 use Rattle.codec.proofs.sound.is_legless_sound.Goals as goal
 

@@ -1,5 +1,6 @@
 use native.Mathlib.Omega.{arith}
 use mathlib.Core.Path.{sym, ◌∙◌}
+use lib.Seq.{length-take-le}
 use Rattle.record_kinds.specs.Numbers.{leg_count}
 use Rattle.codec.proofs.Written.{length_proposal, some_bytes, no_legs_put, legs_put}
 use Rattle.codec.proofs.write.put_fields.Goals as goal
@@ -13,7 +14,8 @@ pub put_legs-requires : goal.put_legs-requires
 put_legs-requires c =
     let e = c.args.event in
     let sized = length_proposal e (sym c.kind_number.ensures.0 ∙ c.if-kind_number-eq-PROPOSAL.true) in
-    rw c.leg_count.ensures (omega arith, c.requires.2)
+    let many = length-take-le (leg_count e) c.args.legs.now c.requires.3 in
+    rw (c.leg_count.ensures, many) (omega arith, c.requires.2)
 
 pub returns-then-kind_number-eq-PROPOSAL : goal.returns-then-kind_number-eq-PROPOSAL
 returns-then-kind_number-eq-PROPOSAL c =

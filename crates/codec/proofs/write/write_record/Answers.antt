@@ -2,8 +2,7 @@ use mathlib.Core.Path.{sym, ◌∙◌}
 use native.Mathlib.Omega.{arith}
 use Rattle.arith.proofs.Tests.{asked_true, asked_false}
 use Rattle.record_kinds.specs.Numbers.{leg_count}
-use Rattle.codec.specs.Columns.{leg_rows}
-use Rattle.codec.proofs.LegColumns.{length_rows}
+use lib.ListN.{take, length-take}
 use Rattle.codec.proofs.Written.{length_record, sound_event, some_bytes, record_put, write_few, write_unsound, write_short, write_whole}
 use Rattle.codec.proofs.write.write_record.Goals as goal
 
@@ -33,7 +32,8 @@ returns-then-out-n c =
     let e = args.event in
     let few = asked_true is-member-count-sound.ensures if1.false in
     let sized = rw (kind-number.ensures.0, leg-count.ensures) at c.record_length-n.ensures in
-    let whole = length_record e (leg_rows (leg_count e) args.legs) (length_rows (leg_count e) args.legs) in
+    let known = sound_event _ few _ _ (asked_true is-event-sound.ensures if2.false) in
+    let whole = length_record e (take (leg_count e) args.legs.now) known.beside in
     write_short _ _ _ _ few (asked_true is-event-sound.ensures if2.false) (omega (arith, sized, whole))
 
 pub put_u8-requires : goal.put_u8-requires
@@ -54,7 +54,7 @@ put_fields-requires c =
     let few = asked_true is-member-count-sound.ensures if1.false in
     let sized = rw (kind-number.ensures.0, leg-count.ensures) at record_length_holds.ensures in
     let known = sound_event _ few _ _ (asked_true is-event-sound.ensures if2.false) in
-    (omega (arith, sized), known.fits, known.few)
+    (omega (arith, sized), known.fits, known.few, omega (arith, known.beside, length-take (leg_count c.args.event) c.args.legs.now))
 
 pub returns : goal.returns
 returns c =
@@ -71,7 +71,8 @@ returns c =
     let e = a.event in
     let few = asked_true is-member-count-sound.ensures if1.false in
     let sized = rw (kind-number.ensures.0, leg-count.ensures) at record_length_holds.ensures in
-    let whole = length_record e (leg_rows (leg_count e) a.legs) (length_rows (leg_count e) a.legs) in
+    let known = sound_event _ few _ _ (asked_true is-event-sound.ensures if2.false) in
+    let whole = length_record e (take (leg_count e) a.legs.now) known.beside in
     let some = some_bytes e (leg_count e) in
     let put = record_put e _ _ _ _ kind-number.ensures.0 put-u8.ensures put-fields.ensures (omega (arith, sized)) in
     write_whole _ _ _ _ few (asked_true is-event-sound.ensures if2.false) _ _ (sized ∙ sym whole) (omega (arith, sized, whole)) put

@@ -1,3 +1,4 @@
+use native.Mathlib.Omega.{arith}
 use Rattle.number_fields.proofs.RecordOutcomes.{read_short, read_unsound, few_read, read_sound}
 use Rattle.number_fields.proofs.records.read_record_fields.Goals as goal
 
@@ -7,7 +8,8 @@ returns-then-row-lt-RECORD_FIELDS c = let a = c.args in read_short a.members a.b
 pub put_event-requires : goal.put_event-requires
 put_event-requires c =
     let a = c.args in
-    (c.if-row-lt-RECORD_FIELDS.false, few_read a.members a.bytes.now a.row.now c.read_record.ensures c.in-Some.is)
+    let few = few_read a.members a.bytes.now a.row.now c.read_record.ensures c.in-Sound.is in
+    (c.if-row-lt-RECORD_FIELDS.false, few, omega arith)
 
 pub returns-in-Some : goal.returns-in-Some
 returns-in-Some c =

@@ -1,24 +1,25 @@
 use native.Mathlib.Omega.{arith}
-use mathlib.Core.Path.{◌≡◌, refl, ap, ◌∙◌}
-use lib.ListN.{length, get_or}
-use Rattle.arith.specs.Lists.{total, from}
-use Rattle.proposal_check.proofs.Lists.{sum_next}
+use mathlib.Core.Path.{◌≡◌}
+use native.Mathlib.Numerals.{add-one}
+use Prim.Native.Nat.{◌+◌}
+use lib.ListN.{drop, get_or, drop_of_length-le}
+use lib.Seq.{drop-cons}
+use Rattle.arith.specs.Lists.{total}
+use Rattle.proposal_check.specs.Legs.{no_leg, lots_of}
+use Rattle.proposal.proofs.LegLines.{lots_first}
 use Rattle.proposal.proofs.booking.total_lots.Goals as goal
 
-pub loop-i-init : goal.loop-i-init
-unfolding total from
-loop-i-init c = (omega arith, omega arith, refl)
-
 pub overflow_add-sum : goal.overflow_add-sum
-overflow_add-sum c = omega (arith, c.requires.most_lots_holds c.loop-i.i c.loop-i-test.true, c.requires.most_legs_holds, c.loop-i-test.true, c.loop-i.invariant.1)
+overflow_add-sum c = omega (arith, c.requires.most_lots_holds c.loop-leg.leg-index c.loop-leg-test.true, c.requires.most_legs_holds, c.loop-leg-test.true, c.loop-leg.invariant.0)
 
-pub loop-i-preserved : goal.loop-i-preserved
-loop-i-preserved c = let a = c.args in (
-  omega (arith, c.loop-i-test.true),
-  omega (arith, c.requires.most_lots_holds c.loop-i.i c.loop-i-test.true, c.loop-i.invariant.1),
-  sum_next (λ j. get_or a.lots.now j 0) c.loop-i.i c.loop-i.sum c.loop-i.invariant.2,
+pub loop-leg-preserved : goal.loop-leg-preserved
+loop-leg-preserved c = (
+  omega (arith, c.requires.most_lots_holds c.loop-leg.leg-index c.loop-leg-test.true, c.loop-leg.invariant.0),
+  omega (arith, c.loop-leg.invariant.1, lots_first c.args.legs.now c.loop-leg.leg-index c.loop-leg-test.true),
 )
 
 pub returns : goal.returns
-returns c = let a = c.args in let same : c.loop-i.i ≡ length a.lots.now = omega (arith, c.loop-i-test.false, c.loop-i.invariant.0) in
-    (c.loop-i.invariant.2 ∙ ap (λ n. total (λ j. get_or a.lots.now j 0) (from 0 n)) same, omega (arith, c.loop-i.invariant.1, same, c.requires.most_legs_holds))
+unfolding total
+returns c =
+    let all : c.loop-leg.sum ≡ total lots_of c.args.legs.now = omega (arith, rw (drop_of_length-le c.args.legs.now c.loop-leg-test.false) at c.loop-leg.invariant.1) in
+    (all, omega (arith, c.loop-leg.invariant.0, c.requires.most_legs_holds))

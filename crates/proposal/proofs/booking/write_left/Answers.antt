@@ -1,7 +1,7 @@
 use native.Mathlib.Omega.{arith}
 use mathlib.Core.Path.{sym, ap, subst, ◌∙◌}
 use lib.ListN.{length}
-use Rattle.proposal_check.specs.Columns.{PlacesFit}
+use Rattle.proposal_check.specs.Legs.{PlacesFit}
 use Rattle.proposal.specs.Booking.{left_after}
 use Rattle.proposal.proofs.Taken.{lots_length}
 use Rattle.proposal.proofs.booking.write_left.Goals as goal
@@ -14,4 +14,4 @@ take_lots-requires c =
 
 pub returns : goal.returns
 returns c =
-    let a = c.args in c.take_lots.ensures ∙ ap (left_after a.places.now a.lots.now (length a.places.now)) c.write_lots.ensures
+    let a = c.args in c.take_lots.ensures ∙ ap (left_after a.places.now a.legs.now (length a.places.now)) c.write_lots.ensures

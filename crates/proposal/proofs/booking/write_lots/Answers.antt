@@ -1,25 +1,20 @@
 use native.Mathlib.Omega.{arith}
 use mathlib.Core.Path.{refl, sym, ap, ◌∙◌}
-use lib.ListN.{length, length-set}
+use lib.ListN.{length}
 use Rattle.arith.proofs.Writes.{front_next, front_end}
 use Rattle.proposal.specs.Booking.{order_lots}
 use Rattle.proposal.proofs.Taken.{lots_length, lots_at_lem}
 use Rattle.proposal.proofs.booking.write_lots.Goals as goal
 
-pub loop-i-init : goal.loop-i-init
-loop-i-init c = (refl, omega arith, refl)
-
 pub loop-i-preserved : goal.loop-i-preserved
-loop-i-preserved c = let a = c.args in let n = length a.left.now in
-    let all = order_lots n a.book.now in
-    let here = ap (λ o. o.lots.0) c.order_at-order.ensures ∙ sym (lots_at_lem n a.book.now c.loop-i.i (omega (arith, c.loop-i-test.true, c.loop-i.invariant.0))) in (
-      length-set c.loop-i.left c.loop-i.i _
-          ∙ c.loop-i.invariant.0,
-      omega (arith, c.loop-i-test.true, c.loop-i.invariant.0),
-      rw (here, c.loop-i.invariant.2) (front_next c.loop-i.i all a.left.now 0 (omega (arith, lots_length n a.book.now, c.loop-i-test.true, c.loop-i.invariant.0))
-          (omega (arith, c.loop-i-test.true, c.loop-i.invariant.0))),
-    )
+loop-i-preserved c =
+    let a = c.args in
+    let n = length a.left.now in
+    let here = ap (λ o. o.lots.0) c.order_at.ensures ∙ sym (lots_at_lem n a.book.now c.loop-i.i (omega arith)) in
+    rw (here, c.loop-i.invariant) (front_next c.loop-i.i (order_lots n a.book.now) a.left.now 0 (omega (arith, lots_length n a.book.now)) (omega arith))
 
 pub returns : goal.returns
-returns c = let a = c.args in let n = length a.left.now in
-    c.loop-i.invariant.2 ∙ front_end c.loop-i.i (order_lots n a.book.now) a.left.now (omega (arith, lots_length n a.book.now, c.loop-i-test.false, c.loop-i.invariant.0)) (omega (arith, c.loop-i-test.false, c.loop-i.invariant.0))
+returns c =
+    let a = c.args in
+    let n = length a.left.now in
+    c.loop-i.invariant ∙ front_end c.loop-i.i (order_lots n a.book.now) a.left.now (omega (arith, lots_length n a.book.now)) (omega arith)

@@ -8,10 +8,9 @@ write_last_ranks-requires c =
 
 pub are_kept-requires : goal.are_kept-requires
 are_kept-requires c =
-    (c.requires.0, c.write_last_ranks.ensures.long, c.requires.2)
+    (c.requires.0, c.write_last_ranks.ensures.long)
 
 pub returns : goal.returns
 returns c =
     let a = c.args in
-    c.are_kept.ensures ∙ kept_last a.count a.book.now a.places.now c.requires.0 c.requires.1 _ c.write_last_ranks.ensures
-    a.orders.now a.lots.now
+    c.are_kept.ensures ∙ kept_last a.count a.book.now a.places.now c.requires.0 c.requires.1 _ c.write_last_ranks.ensures a.legs.now

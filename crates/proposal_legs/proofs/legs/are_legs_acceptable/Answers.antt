@@ -1,16 +1,25 @@
-use mathlib.Core.Path.{ap, ◌∙◌}
-use lib.ListN.{length}
-use Rattle.rules.specs.Ledger.{with_head, with_prices, with_book}
-use Rattle.codec.specs.Columns.{leg_rows}
-use Rattle.proposal_legs.specs.Proposals.{legs_acceptable}
-use Rattle.proposal_legs.proofs.LegColumns.{handed_over}
+use Rattle.arith.proofs.Tests.{asked_true, asked_false}
+use Rattle.rules.specs.Ledger.{members, with_head, with_prices, with_book}
+use Rattle.proposal_check.proofs.SoundLegs.{legs_fit}
+use Rattle.proposal_legs.proofs.Judged.{all_sound, unsound, judged}
 use Rattle.proposal_legs.proofs.legs.are_legs_acceptable.Goals as goal
 
--- What the check says of the columns it says of the legs that were copied into them.
+pub returns-then-not-is_proposal_sound : goal.returns-then-not-is_proposal_sound
+returns-then-not-is_proposal_sound c =
+    let a = c.args in
+    λ t.
+    let u = with_head a.head.now (with_prices a.prices.now (with_book a.book.now t)) in
+    unsound u _ a.legs.now (asked_false (all_sound (members u) a.legs.now (c.is_proposal_sound.ensures (members u))) c.if-not-is_proposal_sound.true)
+
+-- Past the first test the legs are those of a sound proposal, in a ledger of however many members.
+pub are_legs_acceptable-requires : goal.are_legs_acceptable-requires
+are_legs_acceptable-requires c =
+    let legs = c.args.legs.now in
+    record { head_fit = c.requires; legs_fit = legs_fit 0 _ legs (asked_true (all_sound 0 legs (c.is_proposal_sound.ensures 0)) c.if-not-is_proposal_sound.false) }
+
 pub returns : goal.returns
 returns c =
     let a = c.args in
-    let n = length a.legs.now in
     λ t.
     let u = with_head a.head.now (with_prices a.prices.now (with_book a.book.now t)) in
-    c.is_proposal_acceptable.ensures t ∙ (ap (λ x. legs_acceptable u n (leg_rows n x)) c.columns_of-columns.ensures ∙ handed_over u a.legs.now)
+    judged u _ a.legs.now (asked_true (all_sound (members u) a.legs.now (c.is_proposal_sound.ensures (members u))) c.if-not-is_proposal_sound.false) (c.are_legs_acceptable.ensures t)

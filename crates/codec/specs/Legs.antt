@@ -1,29 +1,18 @@
--- A proposal's legs as columns, and what a record's columns hold.
-use Rattle.std.specs.Prelude.{ℕ, ◌*◌, ◌-◌, ◌≤◌, cond, ◌&&◌, List, [], map, ◌≡◌, eqb, leb, length, get_or}
-use Rattle.arith.specs.Columns.{padded}
+-- A proposal's legs in an array of 12 places, and what a record holds of them.
+use Rattle.std.specs.Prelude.{ℕ, ◌*◌, ◌-◌, ◌≤◌, cond, ◌&&◌, List, [], ◌++◌, map, ◌≡◌, eqb, leb, length, get_or, replicate}
 use Rattle.arith.specs.Lists.{from}
 use Rattle.rules.specs.declared.event.Leg.{Leg}
 use Rattle.rules.specs.Ranges.{most_legs}
 use Rattle.rules.specs.Fields.{proposal_kind}
 use Rattle.rules.specs.Records.{kind_byte, proposal_legs_byte, leg_place, legs_of, leg_at}
-use Rattle.codec.specs.declared.legs.Legs.{Legs}
 
--- Leg i of the columns.
-abbrev pub leg_row : Legs → ℕ → Leg
-leg_row l i = record { order = get_or l.orders i 0; lots = record { 0 = get_or l.lots i 0 }; price = record { 0 = get_or l.prices i 0 } }
+-- What stands in the places past a proposal's legs.
+abbrev pub no_leg : Leg
+no_leg = record { order = 0; lots = record { 0 = 0 }; price = record { 0 = 0 } }
 
--- The first n legs of the columns.
-unfoldable pub leg_rows : ℕ → Legs → List Leg
-leg_rows n l = map (leg_row l) (from 0 n)
-
--- Legs as columns of 12 places.
-unfoldable pub leg_columns : List Leg → Legs
-leg_columns legs =
-    record {
-      orders = padded most_legs (map (λ g. g.order) legs);
-      lots = padded most_legs (map (λ g. g.lots.0) legs);
-      prices = padded most_legs (map (λ g. g.price.0) legs);
-    }
+-- Legs in 12 places.
+unfoldable pub in_places : List Leg → List Leg
+in_places legs = legs ++ replicate (most_legs - length legs) no_leg
 
 -- The legs that a record holds whole: those of a proposal of at most 12, with none cut and nothing past them.
 unfoldable pub held_legs : List ℕ → List Leg
