@@ -1,13 +1,14 @@
 -- The record at the front of some bytes, when more bytes come behind them. Assumes nothing.
 use Prim.Native.Nat.{ℕ, zero, suc, ◌+◌, ◌*◌, ◌<◌, ◌≤◌}
-use mathlib.Core.Bool.{Bool, true, false, cond}
+use mathlib.Core.Bool.{Bool, true, false, cond, not, ◌&&◌}
+use Rattle.std.specs.Prelude.{Some, None}
 use mathlib.Core.List.{List, [], ◌∷◌, ◌++◌, append-nil}
 use mathlib.Core.Path.{◌≡◌, refl, sym, ◌∙◌}
 use native.Mathlib.Omega.{arith}
 use borrow.Author.Tests.{le-leb, ne_eqb, eqb-true, eqb-false, leb-true}
 use lib.Dec.{eqb, leb}
 use lib.ListN.{length, get_or, length-append, get_or-append}
-use Rattle.arith.proofs.Tests.{never}
+use Rattle.arith.proofs.Tests.{never, true_or}
 use Rattle.rules.specs.declared.event.Front.{Front}
 use Rattle.rules.specs.declared.event.Front.TheVariants.{Whole, Cut, UnknownKind}
 use Rattle.rules.specs.Journal.{length_by_front, next_length}
@@ -117,15 +118,15 @@ by_front {P} s f g h = go (front_of s) refl
     go UnknownKind e = h e
 
 module _ (last : Bool) (s : List ℕ) where
-  now_whole : (n : ℕ) → front_of s ≡ Whole n → length_now last s ≡ n
+  now_whole : (n : ℕ) → front_of s ≡ Whole n → length_now last s ≡ Some n
   unfolding length_by_now
   now_whole n e = rw e refl
 
-  now_unknown : front_of s ≡ UnknownKind → length_now last s ≡ 1
+  now_unknown : front_of s ≡ UnknownKind → length_now last s ≡ Some 1
   unfolding length_by_now
   now_unknown e = rw e refl
 
-  now_cut : front_of s ≡ Cut → length_now last s ≡ cond last (length s) 0
+  now_cut : front_of s ≡ Cut → length_now last s ≡ cond (last && not (eqb (length s) 0)) (Some (length s)) None
   unfolding length_by_now
   now_cut e = rw e refl
 
@@ -146,32 +147,33 @@ pub next_some : (s : List ℕ) → 0 < length s → 0 < next_length s
 next_some s h =
     by_front s (λ n e. rw (next_whole s n e) (omega (arith, whole_fits s n e))) (λ e. rw (next_cut s e) h) (λ e. rw (next_unknown s e) (omega arith))
 
-at_the_last : (last : Bool) (n : ℕ) → 0 < cond last n 0 → last ≡ true
-at_the_last true n h = refl
-at_the_last false n h = absurd (omega arith)
+-- Of a cut record: all bytes, where they are the last, and none where more may come.
+all_left : (last : Bool) (n : ℕ) {m : ℕ} → cond (last && not (eqb n 0)) (Some n) None ≡ Some m → (last ≡ true) × (0 < n) × (n ≡ m)
+all_left true n h = true_or (eqb n 0) (λ e. let z = rw e at h in absurd cc) (λ e. let z = rw e at h in (refl, positive n (eqb-false n 0 e), cc))
+all_left false n h = absurd cc
 
-at_most_left : (last : Bool) (n : ℕ) → cond last n 0 ≤ n
-at_most_left true n = omega arith
-at_most_left false n = omega arith
+none_left : (n : ℕ) → cond (not (eqb n 0)) (Some n) None ≡ None → n ≡ 0
+none_left n h = true_or (eqb n 0) (λ e. eqb-true n 0 e) (λ e. let z = rw e at h in absurd cc)
 
 module _ (last : Bool) (s : List ℕ) where
-  pub now_fits : length_now last s ≤ length s
-  now_fits =
-      by_front s (λ n e. rw (now_whole last s n e) (whole_fits s n e).1) (λ e. rw (now_cut last s e) (at_most_left last (length s)))
-      (λ e. rw (now_unknown last s e) (omega (arith, unknown_fits s e)))
+  module _ {m : ℕ} (now : length_now last s ≡ Some m) where
+    pub now_fits : (0 < m) × (m ≤ length s)
+    now_fits =
+        by_front s (λ n e. let same : n ≡ m = let q = sym (now_whole last s n e) ∙ now in cc in let f = whole_fits s n e in (omega arith, omega arith))
+        (λ e. let all = all_left last (length s) (sym (now_cut last s e) ∙ now) in (omega (arith, all.1, all.2), omega (arith, all.2)))
+        (λ e. let same : 1 ≡ m = let q = sym (now_unknown last s e) ∙ now in cc in let f = unknown_fits s e in (omega arith, omega arith))
 
-  pub now_next : 0 < length_now last s → (more : List ℕ) → (last ≡ true → more ≡ []) → next_length (s ++ more) ≡ length_now last s
-  now_next h more ends =
-      by_front s (λ n e. rw (now_whole last s n e, next_whole (s ++ more) n (front_more s n e more)) refl)
-      (λ e. let yet : last ≡ true = at_the_last last (length s) (rw (now_cut last s e) at h) in
-      rw (ends yet, append-nil s, next_cut s e, now_cut last s e, yet) refl)
-      (λ e. rw (now_unknown last s e, next_unknown (s ++ more) (unknown_more s e more)) refl)
+    pub now_next : (more : List ℕ) → (last ≡ true → more ≡ []) → next_length (s ++ more) ≡ m
+    now_next more ends =
+        by_front s (λ n e. let same : n ≡ m = let q = sym (now_whole last s n e) ∙ now in cc in next_whole (s ++ more) n (front_more s n e more) ∙ same)
+        (λ e. let all = all_left last (length s) (sym (now_cut last s e) ∙ now) in rw (ends all.0, append-nil s) (next_cut s e ∙ all.2))
+        (λ e. let same : 1 ≡ m = let q = sym (now_unknown last s e) ∙ now in cc in next_unknown (s ++ more) (unknown_more s e more) ∙ same)
 
   -- One that cannot be run now is cut.
-  pub now_short : length_now last s ≡ 0 → front_of s ≡ Cut
+  pub now_short : length_now last s ≡ None → front_of s ≡ Cut
   now_short z =
-      by_front s (λ n e. let m : n ≡ 0 = sym (now_whole last s n e) ∙ z in absurd (omega (arith, (whole_fits s n e).0))) (λ e. e)
-      (λ e. let m : 1 ≡ 0 = sym (now_unknown last s e) ∙ z in absurd (omega arith))
+      by_front s (λ n e. let q = sym (now_whole last s n e) ∙ z in absurd cc) (λ e. e)
+      (λ e. let q = sym (now_unknown last s e) ∙ z in absurd cc)
 
-  pub now_none : length_now last s ≡ 0 → last ≡ true → length s ≡ 0
-  now_none z yet = let c : cond last (length s) 0 ≡ 0 = sym (now_cut last s (now_short z)) ∙ z in rw yet at c
+  pub now_none : length_now last s ≡ None → last ≡ true → length s ≡ 0
+  now_none z yet = let c = sym (now_cut last s (now_short z)) ∙ z in none_left (length s) (rw yet at c)

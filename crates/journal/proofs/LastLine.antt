@@ -2,7 +2,8 @@
 use Prim.Native.Nat.{ℕ, ◌+◌, ◌-◌, ◌<◌, ◌≤◌}
 use mathlib.Core.Bool.{Bool}
 use mathlib.Core.List.{List, append-nil}
-use mathlib.Core.Path.{◌≡◌, refl, sym}
+use mathlib.Core.Path.{◌≡◌, refl, sym, ap}
+use Rattle.std.proofs.Common.{◌⊎◌, inl, inr}
 use native.Mathlib.Omega.{arith}
 use lib.ListN.{length}
 use Rattle.rules.specs.Journal.{end_text}
@@ -84,3 +85,8 @@ module _ (t : Tables) (bytes : List ℕ) (last : Bool) (filled : ℕ) (entry exi
         tables = λ more ends. refl;
         ends = λ more ends. refl;
       })
+
+pub last_rank : {stage : Stage} → (stage ≡ ReadToEnd) ⊎ ((stage ≡ RecordUnsound) ⊎ (stage ≡ HeaderUnsound)) → rank stage ≡ 3
+last_rank (inl e) = ap rank e
+last_rank (inr (inl e)) = ap rank e
+last_rank (inr (inr e)) = ap rank e

@@ -31,7 +31,7 @@ few_lines t after bytes a number detail e f g z =
 module _ (o : Outcome Tables) (after : Tables) (a : Result ℕ Refusal) (number detail record-number place end : ℕ) (entry exit : List ℕ)
     (is : record { answer = a; after = after } ≡ o) (number_is : number ≡ (reply_of a).number) (detail_is : detail ≡ (reply_of a).detail) where
   pub printed_lines : number ≡ 0 → detail ≤ least_lines → Wrote place (flat_map deal_text (first_lines detail after.lines)) entry exit end × (end ≤ place + line_room * detail)
-      → RanOne record-number place o entry exit after (record { end = end; accepted = 1; is_unsound = false })
+      → RanOne record-number place o entry exit after (record { end = end; is_accepted = true; is_unsound = false })
   unfolding answer_text
   printed_lines z few w =
       let accepted : (reply_of a).number ≡ 0 = sym number_is ∙ z in
@@ -40,12 +40,12 @@ module _ (o : Outcome Tables) (after : Tables) (a : Result ℕ Refusal) (number 
         outcome = refl;
         wrote = rw (accepted, ← detail_is) w.0;
         room = omega (arith, w.1);
-        counted = rw accepted refl;
+        accepted = rw accepted refl;
         unsound = rw accepted refl;
       })
 
   pub printed_refusal : (unsound : Bool) → (number ≡ 0 → ⊥) → unsound ≡ eqb number 3 → Wrote place (refusal_text record-number number) entry exit end × (end ≤ place + line_room)
-      → RanOne record-number place o entry exit after (record { end = end; accepted = 0; is_unsound = unsound })
+      → RanOne record-number place o entry exit after (record { end = end; is_accepted = false; is_unsound = unsound })
   unfolding answer_text
   printed_refusal unsound z u w =
       let refused : eqb (reply_of a).number 0 ≡ false = ne_eqb (reply_of a).number 0 (λ y. z (number_is ∙ y)) in
@@ -54,6 +54,6 @@ module _ (o : Outcome Tables) (after : Tables) (a : Result ℕ Refusal) (number 
         outcome = refl;
         wrote = rw (refused, ← number_is) w.0;
         room = omega (arith, w.1);
-        counted = rw refused refl;
+        accepted = rw refused refl;
         unsound = rw (← number_is) u;
       })

@@ -6,6 +6,8 @@ use mathlib.Core.Path.{◌≡◌, refl, sym, ap, ◌∙◌}
 use native.Mathlib.Omega.{arith}
 use borrow.Author.Tests.{ltb-true, ltb-false, eq-eqb}
 use lib.Dec.{eqb, ltb}
+use mir.Val.{bool_byte}
+use Rattle.std.specs.Prelude.{Option, Some, None}
 use lib.ListN.{length, take, drop, length-append, length-drop}
 use lib.Seq.{take_all, take-append-le, drop-append-le, drop-drop}
 use Rattle.arith.proofs.Tests.{never, true_or, and_left, and_right}
@@ -31,23 +33,28 @@ use Rattle.journal.proofs.Texts.{records_none, records_next, ends_none, ends_nex
 rest_part : (i : ℕ) (s : List ℕ) → take (length s - i) (drop i s) ≡ drop i s
 rest_part i s = take_all (length s - i) (drop i s) (simp length-drop (omega arith))
 
-pub ready_of_rest : (last stopped : Bool) (room i : ℕ) (s : List ℕ) {r : ℕ} → r ≡ ready_length last stopped room (take (length s - i) (drop i s)) → r ≡ ready_length last stopped room (drop i s)
+ready_of_rest : (last stopped : Bool) (room i : ℕ) (s : List ℕ) {r : Option ℕ} → r ≡ ready_length last stopped room (take (length s - i) (drop i s)) → r ≡ ready_length last stopped room (drop i s)
 ready_of_rest last stopped room i s e = rw (rest_part i s) at e
 
-pub ran_part : (i m : ℕ) (s : List ℕ) (t : Tables) {number place : ℕ} {entry exit : List ℕ} {after : Tables} {r : Printed}
+ready_now : (last stopped : Bool) (room i : ℕ) (s : List ℕ) {r x : Option ℕ} → r ≡ ready_length last stopped room (take (length s - i) (drop i s)) → r ≡ x
+    → ready_length last stopped room (drop i s) ≡ x
+ready_now last stopped room i s e f = sym (ready_of_rest last stopped room i s e) ∙ f
+
+ran_part : (i m : ℕ) (s : List ℕ) (t : Tables) {number place : ℕ} {entry exit : List ℕ} {after : Tables} {r : Printed}
     → RanOne number place (apply_spec t (take ((i + m) - i) (drop i s))) entry exit after r → RanOne number place (apply_spec t (take m (drop i s))) entry exit after r
 ran_part i m s t w = let e : (i + m) - i ≡ m = omega arith in rw e at w
 
 -- ---- whether a record can be run
 -- A record can be run now.
-pub ready_says : (last stopped : Bool) (room : ℕ) (s : List ℕ) → 0 < ready_length last stopped room s → (stopped ≡ false) × (room_wanted ≤ room) × (ready_length last stopped room s ≡ length_now last s)
+pub ready_says : (last stopped : Bool) (room : ℕ) (s : List ℕ) {m : ℕ} → ready_length last stopped room s ≡ Some m
+    → (stopped ≡ false) × (room_wanted ≤ room) × (length_now last s ≡ Some m)
 unfolding ready_length
-ready_says last true room s h = absurd (omega arith)
+ready_says last true room s h = absurd cc
 ready_says last false room s h =
-    true_or (ltb room room_wanted) (λ e. let z = rw e at h in absurd (omega arith)) (λ e. (refl, ltb-false room room_wanted e, rw e refl))
+    true_or (ltb room room_wanted) (λ e. let z = rw e at h in absurd cc) (λ e. (refl, ltb-false room room_wanted e, rw e at h))
 
 -- None can: the journal was stopped, or room lacks, or none is there.
-pub ready_none : (last : Bool) (room : ℕ) (s : List ℕ) → ready_length last false room s ≡ 0 → ltb room room_wanted ≡ false → length_now last s ≡ 0
+pub ready_none : (last : Bool) (room : ℕ) (s : List ℕ) → ready_length last false room s ≡ None → ltb room room_wanted ≡ false → length_now last s ≡ None
 unfolding ready_length
 ready_none last room s z e = rw e at z
 
@@ -101,12 +108,21 @@ runs_start n k t bytes last filled entry b f =
       ends = λ more ends. refl;
     }
 
-at_most_one : (b : Bool) → cond b 1 0 ≤ 1
-at_most_one true = omega arith
-at_most_one false = omega arith
+-- 1 for an accepted record.
+abbrev pub added : Printed → ℕ
+added r = cond r.is_accepted 1 0
 
-pub one_at_most : {number place : ℕ} {o : Outcome Tables} {entry exit : List ℕ} {after : Tables} {r : Printed} → RanOne number place o entry exit after r → r.accepted ≤ 1
-one_at_most {o = o} w = rw w.counted (at_most_one (eqb (Rattle.rules.specs.Answers.reply_of o.answer).number 0))
+is_added : (b : Bool) {x : ℕ} → x ≡ bool_byte b → x ≡ cond b 1 0
+is_added true e = e
+is_added false e = e
+
+added_at_most : (b : Bool) → cond b 1 0 ≤ 1
+added_at_most true = omega arith
+added_at_most false = omega arith
+
+pub one_at_most : (b : Bool) {x : ℕ} → x ≡ bool_byte b → x ≤ 1
+one_at_most true e = omega arith
+one_at_most false e = omega arith
 
 module _ {n₀ k₀ : ℕ} {t₀ : Tables} {bytes : List ℕ} {last : Bool} {filled : ℕ} {entry out : List ℕ} {t : Tables} {place end n k : ℕ} {stopped : Bool}
     (w : Runs n₀ k₀ t₀ bytes last filled entry out t place end n k stopped) where
@@ -123,17 +139,17 @@ module _ {n₀ k₀ : ℕ} {t₀ : Tables} {bytes : List ℕ} {last : Bool} {fil
   going e more ends = rw e at (w.rest more ends)
 
   -- ---- one record more
-  module _ {m : ℕ} (room : ℕ) (is : m ≡ ready_length last stopped room left) (some : 0 < m) (roomy : end + room ≡ length out) where
-    ready : (stopped ≡ false) × (room_wanted ≤ room) × (ready_length last stopped room left ≡ length_now last left)
-    ready = ready_says last stopped room left (rw is at some)
+  module _ {m : ℕ} (room : ℕ) (is : ready_length last stopped room left ≡ Some m) (roomy : end + room ≡ length out) where
+    ready : (stopped ≡ false) × (room_wanted ≤ room) × (length_now last left ≡ Some m)
+    ready = ready_says last stopped room left is
 
-    now_is : m ≡ length_now last left
-    now_is = is ∙ ready.2
+    next_some : 0 < m
+    next_some = (now_fits last left ready.2).0
 
-    pub next_inside : place + m ≤ length bytes
-    next_inside = let f : m ≤ length left = rw now_is (now_fits last left) in omega (arith, rw (length-drop place bytes) at f, w.inside)
+    next_inside : place + m ≤ length bytes
+    next_inside = let f : m ≤ length left = (now_fits last left ready.2).1 in omega (arith, rw (length-drop place bytes) at f, w.inside)
 
-    pub next_room : end + room_wanted ≤ length out
+    next_room : end + room_wanted ≤ length out
     next_room = omega (arith, ready.1)
 
     module _ {t' : Tables} {out' : List ℕ} {r : Printed} (one : RanOne (n + 1) end (apply_spec t (take m left)) out out' t' r) (kept : length out' ≡ length out) where
@@ -145,13 +161,13 @@ module _ {n₀ k₀ : ℕ} {t₀ : Tables} {bytes : List ℕ} {last : Bool} {fil
         s = left ++ more
 
         fits : m ≤ length left
-        fits = rw now_is (now_fits last left)
+        fits = (now_fits last left ready.2).1
 
         long : 0 < length s
-        long = let f = fits in rw (length-append left more) (omega arith)
+        long = let f = fits in rw (length-append left more) (omega (arith, next_some))
 
         next : next_length s ≡ m
-        next = now_next last left (rw now_is at some) more ends ∙ sym now_is
+        next = now_next last left ready.2 more ends
 
         same_record : apply_spec t (take m s) ≡ o
         same_record = ap (apply_spec t) (take-append-le m left more fits)
@@ -160,8 +176,8 @@ module _ {n₀ k₀ : ℕ} {t₀ : Tables} {bytes : List ℕ} {last : Bool} {fil
         past = ap (drop m) (sym (here more)) ∙ drop-drop m place (bytes ++ more)
 
         behind : records_text n k t (drop place (bytes ++ more))
-            ≡ answer_text (n + 1) o ++ cond r.is_unsound (end_text (n + 1) (k + r.accepted) t') (records_text (n + 1) (k + r.accepted) t' (drop (place + m) (bytes ++ more)))
-        behind = rw (here more, ← past) (next_text m t t' s o next same_record one.outcome n k r.accepted r.is_unsound long one.counted one.unsound)
+            ≡ answer_text (n + 1) o ++ cond r.is_unsound (end_text (n + 1) (k + added r) t') (records_text (n + 1) (k + added r) t' (drop (place + m) (bytes ++ more)))
+        behind = rw (here more, ← past) (next_text m t t' s o next same_record one.outcome n k (added r) r.is_unsound long (ap (λ b. cond b 1 0) one.accepted) one.unsound)
 
         behind_end : records_end t (drop place (bytes ++ more))
             ≡ cond r.is_unsound (record { stage = RecordUnsound; tables = t' }) (records_end t' (drop (place + m) (bytes ++ more)))
@@ -173,7 +189,7 @@ module _ {n₀ k₀ : ℕ} {t₀ : Tables} {bytes : List ℕ} {last : Bool} {fil
             let one_more : n + 1 - n₀ ≡ suc (n - n₀) = omega (arith, w.grown) in
             rw (one_more, ← w.tables more ends, here more, ← past) (next_rest m t t' s o next same_record one.outcome)
 
-      pub runs_next : Runs n₀ k₀ t₀ bytes last filled entry out' t' (place + m) r.end (n + 1) (k + r.accepted) r.is_unsound
+      runs_next : Runs n₀ k₀ t₀ bytes last filled entry out' t' (place + m) r.end (n + 1) (k + added r) r.is_unsound
       runs_next =
           record {
             text = w.text ++ answer_text (n + 1) o;
@@ -181,8 +197,8 @@ module _ {n₀ k₀ : ℕ} {t₀ : Tables} {bytes : List ℕ} {last : Bool} {fil
             inside = next_inside;
             within = omega (arith, one.room, next_room, w.same);
             same = kept ∙ w.same;
-            below = omega (arith, w.below, one_at_most one);
-            few = omega (arith, w.few);
+            below = omega (arith, w.below, added_at_most r.is_accepted);
+            few = omega (arith, w.few, next_some);
             grown = omega (arith, w.grown);
             tables = behind_rest;
             ends = λ more ends. (rw ready.0 at (w.ends more ends)) ∙ behind_end more ends;
@@ -278,7 +294,7 @@ module _ {n₀ k₀ : ℕ} {t₀ : Tables} {bytes : List ℕ} {last : Bool} {fil
         rw (e, f, g)
         (end_read e (and_left last (eqb place (length bytes)) both) (borrow.Author.Tests.eqb-true place (length bytes) (and_right last (eqb place (length bytes)) both)))
 
-    told_bytes : stopped ≡ false → ltb room room_wanted ≡ false → read ≡ false → length_now last left ≡ 0 → End (stage_after n k stopped read room) (wants_after stopped read room)
+    told_bytes : stopped ≡ false → ltb room room_wanted ≡ false → read ≡ false → length_now last left ≡ None → End (stage_after n k stopped read room) (wants_after stopped read room)
     unfolding stage_after wants_after
     told_bytes e f g z = rw (e, f, g) (end_bytes e not_last (now_short last left z))
       where
@@ -292,8 +308,28 @@ module _ {n₀ k₀ : ℕ} {t₀ : Tables} {bytes : List ℕ} {last : Bool} {fil
     unfolding stage_after wants_after
     told_stopped e = rw e (end_stopped e)
 
-    pub runs_end : {stage : Stage} {wants : Wants} → ready_length last stopped room left ≡ 0 → stage ≡ stage_after n k stopped read room → wants ≡ wants_after stopped read room → End stage wants
+    runs_end : {stage : Stage} {wants : Wants} → ready_length last stopped room left ≡ None → stage ≡ stage_after n k stopped read room → wants ≡ wants_after stopped read room → End stage wants
     runs_end none es ew =
         rw (es, ew)
         (true_or stopped told_stopped (λ e. true_or (ltb room room_wanted) (told_room e)
         (λ f. true_or read (told_read e f) (λ g. told_bytes e f g (ready_none last room left (rw e at none) f)))))
+
+  -- ---- as the loop asks for the next record
+  module _ {r : Option ℕ} (asked : r ≡ ready_length last stopped (length out - end) (take (length bytes - place) (drop place bytes))) where
+    roomy : end + (length out - end) ≡ length out
+    roomy = omega (arith, w.within, w.same)
+
+    module _ {m : ℕ} (found : r ≡ Some m) where
+      is : ready_length last stopped (length out - end) left ≡ Some m
+      is = ready_now last stopped (length out - end) place bytes asked found
+
+      pub found_fits : (0 < m) × (place + m ≤ length bytes) × (end + room_wanted ≤ length out)
+      found_fits = (next_some (length out - end) is roomy, next_inside (length out - end) is roomy, next_room (length out - end) is roomy)
+
+      pub found_ran : {t' : Tables} {out' : List ℕ} {p : Printed} {more : ℕ} → RanOne (n + 1) end (apply_spec t (take (place + m - place) (drop place bytes))) out out' t' p
+          → length out' ≡ length out → more ≡ bool_byte p.is_accepted → Runs n₀ k₀ t₀ bytes last filled entry out' t' (place + m) p.end (n + 1) (k + more) p.is_unsound
+      found_ran {p = p} one kept same = rw (is_added p.is_accepted same) (runs_next (length out - end) is roomy (ran_part place m bytes t one) kept)
+
+    pub none_found : {read : Bool} {stage : Stage} {wants : Wants} → r ≡ None → read ≡ last && eqb place (length bytes)
+        → stage ≡ stage_after n k stopped read (length out - end) → wants ≡ wants_after stopped read (length out - end) → End stage wants
+    none_found {read} none e es ew = runs_end (length out - end) read roomy e (ready_now last stopped (length out - end) place bytes asked none) es ew

@@ -1,11 +1,11 @@
 -- A journal run stage by stage: what is still to be printed, and what one call promises.
-use Rattle.std.specs.Prelude.{ℕ, zero, suc, ◌+◌, ◌-◌, ◌≤◌, ◌<◌, Bool, true, false, cond, List, [], ◌++◌, ◌≡◌, eqb, ltb, length, take, drop}
+use Rattle.std.specs.Prelude.{ℕ, zero, suc, ◌+◌, ◌-◌, ◌≤◌, ◌<◌, Bool, true, false, cond, not, ◌&&◌, Option, Some, None, List, [], ◌++◌, ◌≡◌, eqb, ltb, length, take, drop}
 use Rattle.rules.specs.declared.event.Front.{Front}
 use Rattle.rules.specs.declared.event.Front.TheVariants.{Whole, Cut, UnknownKind}
 use Rattle.rules.specs.Answers.{Outcome}
 use Rattle.rules.specs.Header.{header_length}
 use Rattle.rules.specs.Accounts.{is_accepted}
-use Rattle.rules.specs.Journal.{end_text, answer_text, stops, accepted_by, next_length, records_text, journal_text_on}
+use Rattle.rules.specs.Journal.{end_text, answer_text, stops, next_length, records_text, journal_text_on}
 use Rattle.rules.specs.Ledger.{Tables, with_head}
 use Rattle.rules.specs.Records.{front_of}
 use Rattle.rules.specs.Refusals.{apply_spec, make_spec}
@@ -25,21 +25,21 @@ pub record RanOne (number place : ℕ) (o : Outcome Tables) (entry exit : List �
   pub outcome : after ≡ o.after
   pub wrote : Wrote place (answer_text number o) entry exit r.end
   pub room : r.end ≤ place + record_room
-  pub counted : r.accepted ≡ accepted_by o.answer
+  pub accepted : r.is_accepted ≡ is_accepted o.answer
   pub unsound : r.is_unsound ≡ stops o.answer
 
--- How many bytes the next record has, or 0 where it is cut and more bytes may come.
-unfoldable pub length_by_now : Bool → ℕ → Front → ℕ
-length_by_now last left (Whole n) = n
-length_by_now last left Cut = cond last left 0
-length_by_now last left UnknownKind = 1
+-- How many bytes the next record has: none where no byte is left, or it is cut and more bytes may come.
+unfoldable pub length_by_now : Bool → ℕ → Front → Option ℕ
+length_by_now last left (Whole n) = Some n
+length_by_now last left Cut = cond (last && not (eqb left 0)) (Some left) None
+length_by_now last left UnknownKind = Some 1
 
-abbrev pub length_now : Bool → List ℕ → ℕ
+abbrev pub length_now : Bool → List ℕ → Option ℕ
 length_now last s = length_by_now last (length s) (front_of s)
 
--- How many bytes the next record has, or 0 where it cannot be run now: it is cut, the journal was stopped, or the output may lack room.
-unfoldable pub ready_length : Bool → Bool → ℕ → List ℕ → ℕ
-ready_length last stopped room s = cond stopped 0 (cond (ltb room room_wanted) 0 (length_now last s))
+-- How many bytes the next record has: none where it cannot be run now, since the journal was stopped or the output may lack room.
+unfoldable pub ready_length : Bool → Bool → ℕ → List ℕ → Option ℕ
+ready_length last stopped room s = cond stopped None (cond (ltb room room_wanted) None (length_now last s))
 
 -- ---- where running some records ended
 unfoldable pub stage_after : ℕ → ℕ → Bool → Bool → ℕ → Stage

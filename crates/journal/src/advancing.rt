@@ -2,7 +2,6 @@
 ghost use Rattle.std.specs.Prelude.{◌+◌, ◌≤◌, ◌<◌, ◌^◌, length};
 ghost use Rattle.printing.specs.Room.{line_room};
 ghost use Rattle.rules.specs.Ledger.{lent, head_length, lines_length};
-ghost use Rattle.journal.specs.declared.stage.Stage.TheVariants.{ReadToEnd, RecordUnsound};
 ghost use Rattle.journal.specs.Stages.{EndPrinted, Advanced, Counts};
 
 use crate::beginning::begin;
@@ -10,22 +9,20 @@ use crate::run::run_records;
 use crate::stage::{Progress, ROOM, Stage, Wants, standing};
 use printing::put_end;
 
-// Prints E after the last record.
-fn end_read(out: &mut [u8], filled: usize, counted: u64, accepted: u64, head: &[u64]) -> Progress
+// Prints E, and the journal is at its last stage.
+fn end_at(
+    last: Stage,
+    out: &mut [u8],
+    filled: usize,
+    counted: u64,
+    accepted: u64,
+    head: &[u64],
+) -> Progress
     requires { (filled + line_room ≤ length out.old) × (accepted ≤ counted) × (head_length ≤ length head.now) }
-    ensures { EndPrinted ReadToEnd counted accepted head.now filled out.old out.new result }
+    ensures { EndPrinted last counted accepted head.now filled out.old out.new result }
 {
     let end = put_end(out, filled, counted, accepted, head);
-    standing(end, Stage::ReadToEnd, Wants::Nothing)
-}
-
-// Prints E after a record that was number 3.
-fn end_stopped(out: &mut [u8], filled: usize, counted: u64, accepted: u64, head: &[u64]) -> Progress
-    requires { (filled + line_room ≤ length out.old) × (accepted ≤ counted) × (head_length ≤ length head.now) }
-    ensures { EndPrinted RecordUnsound counted accepted head.now filled out.old out.new result }
-{
-    let end = put_end(out, filled, counted, accepted, head);
-    standing(end, Stage::RecordUnsound, Wants::Nothing)
+    standing(end, last, Wants::Nothing)
 }
 
 // Runs what can be run of these bytes at a stage. is_last says that they are the last of the journal.
@@ -53,15 +50,19 @@ pub fn advance(
     }
     match stage {
         Stage::Header => begin(
-            bytes, is_last, out, filled, head, prices, lots, value, &*book, &*lines,
+            bytes, is_last, out, filled, head, prices, lots, value, book, lines,
         ),
         Stage::Records { counted, accepted } => run_records(
             counted, accepted, bytes, is_last, out, filled, head, prices, lots, value, book, lines,
         ),
-        Stage::Read { counted, accepted } => end_read(out, filled, counted, accepted, &*head),
-        Stage::Stopped { counted, accepted } => end_stopped(out, filled, counted, accepted, &*head),
-        Stage::ReadToEnd => standing(filled, stage, Wants::Nothing),
-        Stage::RecordUnsound => standing(filled, stage, Wants::Nothing),
-        Stage::HeaderUnsound => standing(filled, stage, Wants::Nothing),
+        Stage::Read { counted, accepted } => {
+            end_at(Stage::ReadToEnd, out, filled, counted, accepted, head)
+        }
+        Stage::Stopped { counted, accepted } => {
+            end_at(Stage::RecordUnsound, out, filled, counted, accepted, head)
+        }
+        Stage::ReadToEnd | Stage::RecordUnsound | Stage::HeaderUnsound => {
+            standing(filled, stage, Wants::Nothing)
+        }
     }
 }

@@ -53,19 +53,12 @@ pub fn begin(
             wants: Wants::Bytes,
         };
     }
-    let answer = engine::make(
-        &mut *head,
-        &mut *prices,
-        &mut *lots,
-        &mut *value,
-        book,
-        bytes,
-    );
+    let answer = engine::make(head, prices, lots, value, book, bytes);
     let reply = reply_of(answer);
     if reply.number == ACCEPTED {
         return Progress {
             used: length,
-            end: put_head(out, filled, &*head),
+            end: put_head(out, filled, head),
             stage: Stage::Records {
                 counted: 0,
                 accepted: 0,

@@ -18,33 +18,34 @@ const UNSOUND: u64 = 3;
 #[derive(Clone, Copy)]
 pub struct Printed {
     pub end: usize,
-    // 1 if the record was accepted, else 0.
-    pub accepted: u64,
+    pub is_accepted: bool,
     // Whether the record was number 3.
     pub is_unsound: bool,
 }
 
-fn length_now(bytes: &[u8], is_last: bool) -> usize
+// How many bytes the record at the front has, where there is one and no more bytes may come to it.
+#[tactic(auto, unfolding(crate::specs::Stages::length_by_now))]
+fn length_now(bytes: &[u8], is_last: bool) -> Option<usize>
     ensures { result ≡ length_now is_last bytes.now }
 {
     match front_record(bytes) {
-        Front::Whole(n) => n as usize,
-        Front::UnknownKind => 1,
-        Front::Cut => if is_last { bytes.len() } else { 0 },
+        Front::Whole(n) => Some(n as usize),
+        Front::UnknownKind => Some(1),
+        Front::Cut if is_last && !bytes.is_empty() => Some(bytes.len()),
+        Front::Cut => None,
     }
 }
 
-// How many bytes the record at the front has, or 0 where it cannot be run now.
-pub fn ready_length(bytes: &[u8], is_last: bool, is_stopped: bool, room: usize) -> usize
+// The same, where it can be run now.
+#[tactic(auto, unfolding(crate::specs::Stages::ready_length))]
+pub fn ready_length(bytes: &[u8], is_last: bool, is_stopped: bool, room: usize) -> Option<usize>
     ensures { result ≡ ready_length is_last is_stopped room bytes.now }
 {
-    if is_stopped {
-        return 0;
+    if is_stopped || room < ROOM {
+        None
+    } else {
+        length_now(bytes, is_last)
     }
-    if room < ROOM {
-        return 0;
-    }
-    length_now(bytes, is_last)
 }
 
 // The record is applied; its deal lines are printed, or why it was turned back.
@@ -66,28 +67,18 @@ pub fn run_record(
         out.old out.new
         (lent head.new prices.new lots.new value.new book.new lines.new) result }
 {
-    let answer = engine::apply(
-        &mut *head,
-        &mut *prices,
-        &mut *lots,
-        &mut *value,
-        &mut *book,
-        &mut *lines,
-        bytes,
-    );
+    let answer = engine::apply(head, prices, lots, value, book, lines, bytes);
     let reply = reply_of(answer);
     if reply.number == ACCEPTED {
-        let end = put_deals(out, place, &*lines, reply.detail as usize);
         return Printed {
-            end: end,
-            accepted: 1,
+            end: put_deals(out, place, lines, reply.detail as usize),
+            is_accepted: true,
             is_unsound: false,
         };
     }
-    let end = put_refusal(out, place, number, reply.number);
     Printed {
-        end: end,
-        accepted: 0,
+        end: put_refusal(out, place, number, reply.number),
+        is_accepted: false,
         is_unsound: reply.number == UNSOUND,
     }
 }

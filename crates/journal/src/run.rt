@@ -7,46 +7,27 @@ ghost use Rattle.journal.specs.Stages.{Advanced, stage_after, wants_after};
 use crate::record::{ready_length, run_record};
 use crate::stage::{Progress, ROOM, Stage, Wants};
 
-fn stage_after(counted: u64, accepted: u64, is_stopped: bool, is_read: bool, room: usize) -> Stage
-    ensures { result ≡ stage_after counted accepted is_stopped is_read room }
+// Where running some records ended, and what is wanted to go on.
+#[tactic(auto, unfolding(crate::specs::Stages::stage_after, crate::specs::Stages::wants_after))]
+fn where_ended(
+    counted: u64,
+    accepted: u64,
+    is_stopped: bool,
+    is_read: bool,
+    room: usize,
+) -> (Stage, Wants)
+    ensures stage { result.0 ≡ stage_after counted accepted is_stopped is_read room }
+    ensures wants { result.1 ≡ wants_after is_stopped is_read room }
 {
     if is_stopped {
-        return Stage::Stopped {
-            counted: counted,
-            accepted: accepted,
-        };
+        (Stage::Stopped { counted, accepted }, Wants::Nothing)
+    } else if room < ROOM {
+        (Stage::Records { counted, accepted }, Wants::Room)
+    } else if is_read {
+        (Stage::Read { counted, accepted }, Wants::Nothing)
+    } else {
+        (Stage::Records { counted, accepted }, Wants::Bytes)
     }
-    if room < ROOM {
-        return Stage::Records {
-            counted: counted,
-            accepted: accepted,
-        };
-    }
-    if is_read {
-        return Stage::Read {
-            counted: counted,
-            accepted: accepted,
-        };
-    }
-    Stage::Records {
-        counted: counted,
-        accepted: accepted,
-    }
-}
-
-fn wants_after(is_stopped: bool, is_read: bool, room: usize) -> Wants
-    ensures { result ≡ wants_after is_stopped is_read room }
-{
-    if is_stopped {
-        return Wants::Nothing;
-    }
-    if room < ROOM {
-        return Wants::Room;
-    }
-    if is_read {
-        return Wants::Nothing;
-    }
-    Wants::Bytes
 }
 
 pub fn run_records(
@@ -74,34 +55,33 @@ pub fn run_records(
     let mut counted = counted_before;
     let mut accepted = accepted_before;
     let mut is_stopped = false;
-    let mut n = ready_length(bytes, is_last, false, out.len() - filled);
-    while n != 0 {
+    while let Some(n) = ready_length(&bytes[place..], is_last, is_stopped, out.len() - end) {
         let next = place + n;
         counted += 1;
         let done = run_record(
             &bytes[place..next],
             counted,
-            &mut *out,
+            out,
             end,
-            &mut *head,
-            &mut *prices,
-            &mut *lots,
-            &mut *value,
-            &mut *book,
-            &mut *lines,
+            head,
+            prices,
+            lots,
+            value,
+            book,
+            lines,
         );
         place = next;
         end = done.end;
-        accepted += done.accepted;
+        accepted += u64::from(done.is_accepted);
         is_stopped = done.is_unsound;
-        n = ready_length(&bytes[place..], is_last, is_stopped, out.len() - end);
     }
     let room = out.len() - end;
     let is_read = is_last & (place == bytes.len());
+    let (stage, wants) = where_ended(counted, accepted, is_stopped, is_read, room);
     Progress {
         used: place,
-        end: end,
-        stage: stage_after(counted, accepted, is_stopped, is_read, room),
-        wants: wants_after(is_stopped, is_read, room),
+        end,
+        stage,
+        wants,
     }
 }

@@ -51,8 +51,8 @@ pub fn standing(end: usize, stage: Stage, wants: Wants) -> Progress
 {
     Progress {
         used: 0,
-        end: end,
-        stage: stage,
-        wants: wants,
+        end,
+        stage,
+        wants,
     }
 }

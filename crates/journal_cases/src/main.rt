@@ -3,5 +3,5 @@
 #![tactic(auto)]
 
 fn main(rt: HostRuntime) {
-    journal_program::journal_run(&rt, &mut rt.stdin(), false, 0);
+    journal_program::journal_run(&rt, &mut rt.stdin(), false, None);
 }

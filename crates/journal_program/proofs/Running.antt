@@ -19,8 +19,7 @@ use Rattle.streams.specs.declared.ending.Ending.{Ending}
 use Rattle.streams.specs.declared.window.Window.{Window}
 use Rattle.streams.specs.Windows.{held}
 use Rattle.streams.proofs.Reading.{held_past, held_read, printed_on}
-use Rattle.journal_program.specs.declared.shell.Next.{Next}
-use Rattle.journal_program.specs.declared.shell.Next.TheVariants.{Going, Ended}
+use Rattle.std.specs.Prelude.{Result, Ok, Err}
 use Rattle.journal_program.specs.declared.shell.Place.{Place}
 use Rattle.journal_program.proofs.Ending.{wants_bytes}
 use Rattle.journal_program.specs.Runs.{Ends, read_to_end, header_unsound, record_unsound, not_written, not_read, Moves, stays, wrote, read, place_after, Turned, calls, Reached, TurnsEnd, with_last, too_many, RanTurns, WholeText, FirstText, prints_as, JournalRan}
@@ -76,7 +75,7 @@ moved (wrote m same) x = as_told m.last refl m.written (same_part m.from m.end s
 moved {r = r} (read not_last m) x = as_told refl refl m.written (held_read m) (more_came _ r.is_last (as_told (sym not_last) refl refl refl (handed x)))
 
 -- One turn more.
-module _ {t₀ t t' : Tables} {p : Place} {count : ℕ} {input output input' output' : List ℕ} {next : Next} (w : Turned p input output t input' output' t' next)
+module _ {t₀ t t' : Tables} {p : Place} {count : ℕ} {input output input' output' : List ℕ} {next : Result Place Ending} (w : Turned p input output t input' output' t' next)
     (x : Reached t₀ t output count p.window.is_last p.stage p.window.filled (held p.window input)) (fits : p.window.filled ≤ length output) where
   after_call : Reached t₀ t' output' (count + 1) p.window.is_last w.done.stage w.done.end (held (place_after p w.done).window input)
   after_call = as_told refl refl refl (held_past p.window input w.done.used w.ran.inside) (called x w.ran fits)
@@ -84,10 +83,10 @@ module _ {t₀ t t' : Tables} {p : Place} {count : ℕ} {input output input' out
   short : w.done.wants ≡ Bytes → (p.window.is_last ≡ false) × Short w.done.stage (held (place_after p w.done).window input)
   short e = let asked = wants_bytes w.ran e in (asked.0, rw (held_past p.window input w.done.used w.ran.inside) asked.1)
 
-  pub turned_on : {q : Place} → next ≡ Going q → Reached t₀ t' output' (count + 1) q.window.is_last q.stage q.window.filled (held q.window input')
+  pub turned_on : {q : Place} → next ≡ Ok q → Reached t₀ t' output' (count + 1) q.window.is_last q.stage q.window.filled (held q.window input')
   turned_on e = let f = rw e at w.follows in as_told refl f.0 refl refl (moved f.1 after_call)
 
-  pub turned_end : {ending : Ending} → next ≡ Ended ending → RanTurns t₀ t' output' ending
+  pub turned_end : {ending : Ending} → next ≡ Err ending → RanTurns t₀ t' output' ending
   turned_end e =
       record {
         count = count + 1;

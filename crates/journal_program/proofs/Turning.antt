@@ -8,12 +8,12 @@ use Rattle.journal.specs.declared.stage.Stage.{Stage}
 use Rattle.journal.specs.declared.stage.Stage.TheVariants.{Header, Records, Read, Stopped, ReadToEnd, RecordUnsound, HeaderUnsound}
 use Rattle.journal.specs.Stages.{Counts}
 use Rattle.streams.proofs.Reading.{part_length}
-use Rattle.journal_program.specs.declared.shell.Next.{Next}
-use Rattle.journal_program.specs.declared.shell.Next.TheVariants.{Going}
+use Rattle.std.specs.Prelude.{Result, Ok}
+use Rattle.streams.specs.declared.ending.Ending.{Ending}
 use Rattle.journal_program.specs.declared.shell.Place.{Place}
 use Rattle.journal_program.specs.Places.{buffer_length, most_turns, Stands, next_stands}
 
-pub going_stands : (turns : ℕ) (x : Next) (p : Place) → next_stands turns x → x ≡ Going p → Stands p × (p.turns ≡ turns)
+pub going_stands : (turns : ℕ) (x : Result Place Ending) (p : Place) → next_stands turns x → x ≡ Ok p → Stands p × (p.turns ≡ turns)
 going_stands turns x p h q = rw q at h
 
 -- More may be counted.

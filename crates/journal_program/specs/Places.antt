@@ -1,10 +1,9 @@
 -- Where the program stands.
-use Rattle.std.specs.Prelude.{ℕ, ◌+◌, ◌*◌, ◌≤◌, ◌≡◌}
+use Rattle.std.specs.Prelude.{ℕ, ◌+◌, ◌*◌, ◌≤◌, ◌≡◌, Result, Ok, Err}
 use Rattle.journal.specs.Stages.{Counts}
 use Rattle.rules.specs.Ledger.{rows_length}
+use Rattle.streams.specs.declared.ending.Ending.{Ending}
 use Rattle.streams.specs.Windows.{Within}
-use Rattle.journal_program.specs.declared.shell.Next.{Next}
-use Rattle.journal_program.specs.declared.shell.Next.TheVariants.{Going, Ended}
 use Rattle.journal_program.specs.declared.shell.Place.{Place}
 
 -- How long the buffers for input and output are.
@@ -25,6 +24,6 @@ pub record Stands (p : Place) : Type 0 where
   pub counts : Counts p.stage (buffer_length * p.turns)
   pub few : p.turns ≤ most_turns
 
-abbrev pub next_stands : ℕ → Next → Type 0
-next_stands turns (Going p) = Stands p × (p.turns ≡ turns)
-next_stands turns (Ended ending) = Unit {0}
+abbrev pub next_stands : ℕ → Result Place Ending → Type 0
+next_stands turns (Ok p) = Stands p × (p.turns ≡ turns)
+next_stands turns (Err ending) = Unit {0}

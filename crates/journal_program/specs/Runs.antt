@@ -1,5 +1,5 @@
 -- The turns of a run, its ending, and what it printed of the bytes that came.
-use Rattle.std.specs.Prelude.{ℕ, ◌+◌, ◌<◌, Bool, true, false, List, [], ◌++◌, ◌≡◌, take}
+use Rattle.std.specs.Prelude.{ℕ, ◌+◌, ◌<◌, Bool, true, false, List, [], ◌++◌, ◌≡◌, take, Result, Ok, Err}
 use Rattle.rules.specs.Journal.{journal_text_on}
 use Rattle.rules.specs.Ledger.{Tables}
 use Rattle.journal.specs.declared.stage.Progress.{Progress}
@@ -13,8 +13,6 @@ use Rattle.streams.specs.declared.ending.Ending.{Ending}
 use Rattle.streams.specs.declared.ending.Ending.TheVariants.{ReadToEnd as EndedRead, HeaderUnsound as EndedHeader, RecordUnsound as EndedRecord, ReadFailed, WriteFailed}
 use Rattle.streams.specs.declared.window.Window.{Window}
 use Rattle.streams.specs.Windows.{held, ReadMore, WroteOut}
-use Rattle.journal_program.specs.declared.shell.Next.{Next}
-use Rattle.journal_program.specs.declared.shell.Next.TheVariants.{Going, Ended}
 use Rattle.journal_program.specs.declared.shell.Place.{Place}
 use Rattle.journal_program.specs.Places.{most_turns}
 
@@ -42,9 +40,9 @@ pub data Moves (stage : Stage) (w r : Window) (input exit : List ℕ) : Wants �
   wrote : WroteOut w r → exit ≡ input → Moves stage w r input exit Room
 
 -- What follows a place where this is wanted.
-abbrev pub Follows : Wants → Place → List ℕ → List ℕ → Next → Type 0
-Follows wants p input exit (Going q) = (q.stage ≡ p.stage) × Moves p.stage p.window q.window input exit wants
-Follows wants p input exit (Ended ending) = Ends wants p.stage ending
+abbrev pub Follows : Wants → Place → List ℕ → List ℕ → Result Place Ending → Type 0
+Follows wants p input exit (Ok q) = (q.stage ≡ p.stage) × Moves p.stage p.window q.window input exit wants
+Follows wants p input exit (Err ending) = Ends wants p.stage ending
 
 -- The place after a call of `advance`.
 abbrev pub place_after : Place → Progress → Place
@@ -63,7 +61,7 @@ place_after p done =
     }
 
 -- The bytes that the window holds are run as far as they can be, then what this wants is done.
-pub record Turned (p : Place) (input output : List ℕ) (t : Tables) (input' output' : List ℕ) (t' : Tables) (next : Next) : Type 0 where
+pub record Turned (p : Place) (input output : List ℕ) (t : Tables) (input' output' : List ℕ) (t' : Tables) (next : Result Place Ending) : Type 0 where
   pub done : Progress
   pub ran : Advanced p.stage t (held p.window input) p.window.is_last p.window.filled output output' t' done
   pub follows : Follows done.wants (place_after p done) input input' next

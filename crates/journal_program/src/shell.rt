@@ -16,7 +16,7 @@ use rules::layout::{BOOK_LENGTH, HEAD_LENGTH, LINES_LENGTH, PRICES_LENGTH, ROWS_
 use std::io::{Eprint, Print, Read};
 use std::time::Clock;
 use streams::{
-    Ending, Moved, Progress, Window, finish, first_window, read_more, start, status, write_out,
+    Ending, Progress, Window, finish, first_window, read_more, start, status, write_out,
 };
 
 const BUFFER: usize = 65536;
@@ -34,12 +34,6 @@ struct Place {
     stage: Stage,
 }
 
-#[derive(Clone, Copy)]
-enum Next {
-    Going(Place),
-    Ended(Ending),
-}
-
 fn first_place(progress: Progress) -> Place
     ensures stands { Stands result × (result.turns ≡ 0) × (result.stage ≡ Header) }
     ensures from_value { (result.window.from ≡ 0) × (result.window.end ≡ 0) × (result.window.is_last ≡ false) × (result.window.filled ≡ 0) }
@@ -52,22 +46,14 @@ fn first_place(progress: Progress) -> Place
 }
 
 // How many records were run, for progress.
+#[tactic(auto, unfolding(journal::specs::Stages::counted_at))]
 fn counted_by(stage: Stage) -> u64
     ensures { result ≡ counted_at stage }
 {
     match stage {
-        Stage::Records {
-            counted,
-            accepted: _,
-        } => counted,
-        Stage::Read {
-            counted,
-            accepted: _,
-        } => counted,
-        Stage::Stopped {
-            counted,
-            accepted: _,
-        } => counted,
+        Stage::Records { counted, .. }
+        | Stage::Read { counted, .. }
+        | Stage::Stopped { counted, .. } => counted,
         _ => 0,
     }
 }
@@ -79,50 +65,35 @@ fn read_on(
     place: Place,
     input: &mut [u8],
     output: &[u8],
-) -> Next
+) -> Result<Place, Ending>
     requires { Stands place × (length input.old ≡ buffer_length) × (length output.now ≡ buffer_length) × (place.window.is_last ≡ false) }
     ensures { next_stands place.turns result × Follows Bytes place input.old input.new result }
 {
-    let stage = place.stage;
-    match read_more(rt, reader, place.window, counted_by(stage), input, output) {
-        Moved::On(window) => Next::Going(Place {
-            turns: place.turns,
-            window: window,
-            stage: stage,
-        }),
-        Moved::Ended(ending) => Next::Ended(ending),
-    }
+    let records = counted_by(place.stage);
+    let window = read_more(rt, reader, place.window, records, input, output)?;
+    Ok(Place { window, ..place })
 }
 
 // What is printed so far goes out.
-fn write_on(rt: &(impl Print + Eprint), place: Place, output: &[u8]) -> Next
+fn write_on(rt: &(impl Print + Eprint), place: Place, output: &[u8]) -> Result<Place, Ending>
     requires { Stands place × (length output.now ≡ buffer_length) }
     ensures { next_stands place.turns result × ((input : List ℕ) → Follows Room place input input result) }
 {
-    let stage = place.stage;
-    match write_out(rt, place.window, output) {
-        Moved::On(window) => Next::Going(Place {
-            turns: place.turns,
-            window: window,
-            stage: stage,
-        }),
-        Moved::Ended(ending) => Next::Ended(ending),
-    }
+    let window = write_out(rt, place.window, output)?;
+    Ok(Place { window, ..place })
 }
 
 // The next stage, or the end, when what is printed goes out.
-fn go_on(rt: &(impl Print + Eprint), place: Place, output: &[u8]) -> Next
+fn go_on(rt: &(impl Print + Eprint), place: Place, output: &[u8]) -> Result<Place, Ending>
     requires { Stands place × (length output.now ≡ buffer_length) }
     ensures { next_stands place.turns result × ((input : List ℕ) → Follows Nothing place input input result) }
 {
-    let window = place.window;
-    let filled = window.filled;
-    let stage = place.stage;
-    match stage {
-        Stage::ReadToEnd => Next::Ended(finish(rt, output, filled, Ending::ReadToEnd)),
-        Stage::RecordUnsound => Next::Ended(finish(rt, output, filled, Ending::RecordUnsound)),
-        Stage::HeaderUnsound => Next::Ended(finish(rt, output, filled, Ending::HeaderUnsound)),
-        _ => Next::Going(place),
+    let filled = place.window.filled;
+    match place.stage {
+        Stage::ReadToEnd => Err(finish(rt, output, filled, Ending::ReadToEnd)),
+        Stage::RecordUnsound => Err(finish(rt, output, filled, Ending::RecordUnsound)),
+        Stage::HeaderUnsound => Err(finish(rt, output, filled, Ending::HeaderUnsound)),
+        _ => Ok(place),
     }
 }
 
@@ -134,7 +105,7 @@ fn follow(
     place: Place,
     input: &mut [u8],
     output: &[u8],
-) -> Next
+) -> Result<Place, Ending>
     requires { Stands place × (length input.old ≡ buffer_length) × (length output.now ≡ buffer_length) × (wants ≡ Bytes → place.window.is_last ≡ false) }
     ensures { next_stands place.turns result × Follows wants place input.old input.new result }
 {
@@ -157,7 +128,7 @@ fn turn(
     value: &mut [i64],
     book: &mut [u64],
     lines: &mut [i64],
-) -> Next
+) -> Result<Place, Ending>
     requires { Stands place × (place.turns < most_turns) × (length input.old ≡ buffer_length) × (length output.old ≡ buffer_length)
         × (head_length ≤ length head.old) × (lines_length ≤ length lines.old) }
     ensures next_stands { next_stands (place.turns + 1) result }
@@ -167,14 +138,11 @@ fn turn(
         (lent head.new prices.new lots.new value.new book.new lines.new) result }
 {
     let window = place.window;
-    let from = window.from;
-    let end = window.end;
-    let before = place.stage;
     let done = advance(
-        before,
-        &input[from..end],
+        place.stage,
+        &input[window.from..window.end],
         window.is_last,
-        &mut *output,
+        output,
         window.filled,
         head,
         prices,
@@ -183,21 +151,16 @@ fn turn(
         book,
         lines,
     );
-    let stage = done.stage;
-    let progress = window.progress;
     let next = Place {
         turns: place.turns + 1,
         window: Window {
-            from: from + done.used,
-            end: end,
-            is_last: window.is_last,
+            from: window.from + done.used,
             filled: done.end,
-            progress: progress,
+            ..window
         },
-        stage: stage,
+        stage: done.stage,
     };
-    let wants = done.wants;
-    follow(rt, reader, wants, next, input, &*output)
+    follow(rt, reader, done.wants, next, input, output)
 }
 
 fn run_turns(
@@ -220,27 +183,13 @@ fn run_turns(
         output.new result }
 {
     let mut place = first_place(progress);
-    let mut turns: u64 = 0;
-    while turns < MOST_TURNS {
+    for _ in 0..MOST_TURNS {
         match turn(
-            rt,
-            &mut *reader,
-            place,
-            &mut *input,
-            &mut *output,
-            &mut *head,
-            &mut *prices,
-            &mut *lots,
-            &mut *value,
-            &mut *book,
-            &mut *lines,
+            rt, reader, place, input, output, head, prices, lots, value, book, lines,
         ) {
-            Next::Going(next) => {
-                place = next;
-            }
-            Next::Ended(ending) => return ending,
+            Ok(next) => place = next,
+            Err(ending) => return ending,
         }
-        turns += 1;
     }
     let _ = eprintln!(rt; "durskafn: standard input: too long");
     Ending::ReadFailed
@@ -315,13 +264,13 @@ fn run(rt: &(impl Clock + Print + Eprint), reader: &mut impl Read, progress: Pro
 // The exit status: 0 if the journal was read to its end, 2 after a header and 3 after a record that is unsound, and, with a
 // message on standard error, 4 if it could not be read, 5 if not written. The promise is one of these five: no contract of a
 // read says which bytes came, so `turn` and `run_turns` say which one it is of the bytes that the input holds.
-// If is_said, progress goes to standard error; size is how many bytes there are to read, 0 if not known.
+// If is_said, progress goes to standard error; size is how many bytes there are to read, if known.
 pub fn journal_run(
     rt: &(impl Clock + Print + Eprint),
     reader: &mut impl Read,
     is_said: bool,
-    size: u64,
-) -> i32
+    size: Option<u64>,
+) -> u8
     ensures { (ending : Ending) × (result ≡ status_of ending) × JournalRan zero_tables ending }
 {
     status(run(rt, reader, start(rt, is_said, size)))

@@ -100,7 +100,7 @@ module _ (n first : ℕ) where
 -- ---- the next piece is the next record, whatever comes
 module _ (last : Bool) (s : List ℕ) where
   abbrev PieceIs : Piece → Type 0
-  PieceIs (Record m) = (length_now last s ≡ m) × (1 ≤ m) × (m ≤ length s)
+  PieceIs (Record m) = (length_now last s ≡ Some m) × (1 ≤ m) × (m ≤ length s)
   PieceIs More = Unit {0}
   PieceIs End = (last ≡ true) × (length s ≡ 0)
 
@@ -122,7 +122,7 @@ module _ (last : Bool) (s : List ℕ) where
   -- With these bytes behind it.
   module _ (m : ℕ) (piece : piece_of last s ≡ Record m) (more : List ℕ) (ends : last ≡ true → more ≡ []) where
     pub piece_next : next_length (s ++ more) ≡ m
-    piece_next = let p = piece_is piece in now_next last s (rw p.0 p.1) more ends ∙ p.0
+    piece_next = let p = piece_is piece in now_next last s p.0 more ends
 
     pub piece_some : 0 < length (s ++ more)
     piece_some = let p = piece_is piece in rw (length-append s more) (omega (arith, p.1, p.2))

@@ -6,6 +6,7 @@ use mathlib.Core.Path.{◌≡◌, refl}
 use native.Mathlib.Omega.{arith}
 use lib.ListN.{length, take, drop}
 use lib.Seq.{take-take}
+use Rattle.std.specs.Prelude.{Result, Ok, Err}
 use Rattle.rules.specs.Header.{header_of}
 use Rattle.listing.specs.declared.pieces.Piece.TheVariants.{Record, More, End}
 use Rattle.listing.specs.declared.lines.Listed.{Listed}
@@ -15,13 +16,10 @@ use Rattle.listing_words.specs.Fields.{is_none, fault_of, header_fault}
 use Rattle.listing_words.specs.Words.{record_line}
 use Rattle.streams.specs.declared.ending.Ending.{Ending}
 use Rattle.streams.specs.declared.ending.Ending.TheVariants.{ReadToEnd, HeaderUnsound}
-use Rattle.streams.specs.declared.window.Moved.{Moved}
-use Rattle.streams.specs.declared.window.Moved.TheVariants.{Ended as MovedEnded}
+use Rattle.streams.specs.declared.window.Window.{Window}
 use Rattle.streams.specs.Windows.{held, failed, finished}
 use Rattle.streams.proofs.Reading.{part_length}
 use Rattle.listing_program.specs.declared.shell.Ledger.{Ledger}
-use Rattle.listing_program.specs.declared.shell.Next.{Next}
-use Rattle.listing_program.specs.declared.shell.Next.TheVariants.{Going, Ended}
 use Rattle.listing_program.specs.declared.shell.Place.{Place}
 use Rattle.listing_program.specs.Runs.{RecordsEnd, read_to_end, record_unsound, not_written, not_read, listed, wrote, read, line_listed, written_on, read_on, turned, header_ends, ListingEnds, header_unsound, records, listing_not_written, listing_not_read}
 
@@ -37,33 +35,33 @@ module _ (l : Ledger) (p : Place) (input : List ℕ) where
   ends_failed ending (true, e) = rw e not_read
   ends_failed ending (false, e) = rw e not_written
 
-  pub after_write : (output : List ℕ) (x : Next) → written_on p.window p.records p.base x → turned l p input input output output x
-  after_write output (Going q) h = wrote h.0 h.1 refl refl
-  after_write output (Ended ending) h = ends_failed ending h
+  pub after_write : (output : List ℕ) (x : Result Place Ending) → written_on p.window p.records p.base x → turned l p input input output output x
+  after_write output (Ok q) h = wrote h.0 h.1 refl refl
+  after_write output (Err ending) h = ends_failed ending h
 
-  pub after_read : (exit output : List ℕ) (x : Next) → piece_of p.window.is_last (held p.window input) ≡ More → read_on p.window p.records p.base input exit x
+  pub after_read : (exit output : List ℕ) (x : Result Place Ending) → piece_of p.window.is_last (held p.window input) ≡ More → read_on p.window p.records p.base input exit x
       → turned l p input exit output output x
-  after_read exit output (Going q) piece h = read piece h.0 h.1 refl
-  after_read exit output (Ended ending) piece h = ends_failed ending h
+  after_read exit output (Ok q) piece h = read piece h.0 h.1 refl
+  after_read exit output (Err ending) piece h = ends_failed ending h
 
   pub after_last : (ending : Ending) → piece_of p.window.is_last (held p.window input) ≡ End → finished ReadToEnd ending
       → RecordsEnd l.members p.window.is_last (held p.window input) ending
   after_last ending none (true, e) = rw e (read_to_end none)
   after_last ending none (false, e) = rw e not_written
 
-  by_record : (m : ℕ) (output after : List ℕ) (x : Next) → piece_of p.window.is_last (held p.window input) ≡ Record m
+  by_record : (m : ℕ) (output after : List ℕ) (x : Result Place Ending) → piece_of p.window.is_last (held p.window input) ≡ Record m
       → line_listed l p m (take m (held p.window input)) output after x → turned l p input input output after x
-  by_record m output after (Going q) piece h = listed m piece h refl
-  by_record m output after (Ended ending) piece (bad, (true, e)) = rw e (record_unsound m piece bad)
-  by_record m output after (Ended ending) piece (bad, (false, e)) = rw e not_written
+  by_record m output after (Ok q) piece h = listed m piece h refl
+  by_record m output after (Err ending) piece (bad, (true, e)) = rw e (record_unsound m piece bad)
+  by_record m output after (Err ending) piece (bad, (false, e)) = rw e not_written
 
-  pub after_record_lem : (m : ℕ) (output after : List ℕ) (x : Next) → m ≤ length (held p.window input) → piece_of p.window.is_last (held p.window input) ≡ Record m
+  pub after_record_lem : (m : ℕ) (output after : List ℕ) (x : Result Place Ending) → m ≤ length (held p.window input) → piece_of p.window.is_last (held p.window input) ≡ Record m
       → line_listed l p m (take m (drop p.window.from input)) output after x → turned l p input input output after x
   after_record_lem m output after x fits piece h =
       let same = take-take m (p.window.end - p.window.from) (drop p.window.from input) (omega (arith, fits, part_length p.window input)) in
       by_record m output after x piece (rw (← same) at h)
 
-  pub turn_ended : (exit output after : List ℕ) (x : Next) {ending : Ending} → turned l p input exit output after x → x ≡ Ended ending
+  pub turn_ended : (exit output after : List ℕ) (x : Result Place Ending) {ending : Ending} → turned l p input exit output after x → x ≡ Err ending
       → RecordsEnd l.members p.window.is_last (held p.window input) ending
   turn_ended exit output after x h q = rw q at h
 
@@ -72,7 +70,7 @@ pub header_finished : {s : List ℕ} {ending : Ending} → is_none (header_fault
 header_finished bad (true, e) = rw e (header_unsound bad)
 header_finished bad (false, e) = rw e listing_not_written
 
-pub header_ended : (x : Moved) {ending : Ending} → header_ends x → x ≡ MovedEnded ending → failed ending
+pub header_ended : (x : Result Window Ending) {ending : Ending} → header_ends x → x ≡ Err ending → failed ending
 header_ended x h q = rw q at h
 
 pub listing_failed : {s : List ℕ} {ending : Ending} → failed ending → ListingEnds s ending

@@ -1,12 +1,10 @@
 -- Where the program stands.
-use Rattle.std.specs.Prelude.{ℕ, ◌+◌, ◌*◌, ◌≤◌, List, ◌≡◌}
+use Rattle.std.specs.Prelude.{ℕ, ◌+◌, ◌*◌, ◌≤◌, List, ◌≡◌, Result, Ok, Err}
 use Rattle.rules.specs.Header.{header_length, header_of}
-use Rattle.streams.specs.declared.window.Moved.{Moved}
-use Rattle.streams.specs.declared.window.Moved.TheVariants.{On, Ended as MovedEnded}
+use Rattle.streams.specs.declared.ending.Ending.{Ending}
+use Rattle.streams.specs.declared.window.Window.{Window}
 use Rattle.streams.specs.Windows.{Within}
 use Rattle.listing_program.specs.declared.shell.Ledger.{Ledger}
-use Rattle.listing_program.specs.declared.shell.Next.{Next}
-use Rattle.listing_program.specs.declared.shell.Next.TheVariants.{Going, Ended}
 use Rattle.listing_program.specs.declared.shell.Place.{Place}
 
 -- How long the buffers are.
@@ -39,10 +37,10 @@ pub record Stands (p : Place) : Type 0 where
   pub passed : p.base ≤ input_length * (p.turns + 1)
   pub few : p.turns ≤ most_turns
 
-abbrev pub next_stands : ℕ → Next → Type 0
-next_stands turns (Going p) = Stands p × (p.turns ≡ turns)
-next_stands turns (Ended ending) = Unit {0}
+abbrev pub next_stands : ℕ → Result Place Ending → Type 0
+next_stands turns (Ok p) = Stands p × (p.turns ≡ turns)
+next_stands turns (Err ending) = Unit {0}
 
-abbrev pub moved_within : Moved → Type 0
-moved_within (On w) = Within input_length output_length w
-moved_within (MovedEnded ending) = Unit {0}
+abbrev pub moved_within : Result Window Ending → Type 0
+moved_within (Ok w) = Within input_length output_length w
+moved_within (Err ending) = Unit {0}

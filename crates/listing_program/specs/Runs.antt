@@ -1,5 +1,5 @@
 -- The turns of a listing, and how it ends.
-use Rattle.std.specs.Prelude.{ℕ, ◌+◌, Bool, true, false, List, ◌≡◌, take}
+use Rattle.std.specs.Prelude.{ℕ, ◌+◌, Bool, true, false, List, ◌≡◌, take, Result, Ok, Err}
 use Rattle.rules.specs.Header.{header_of}
 use Rattle.text.specs.Wrote.{Wrote}
 use Rattle.listing.specs.declared.pieces.Piece.TheVariants.{Record, More, End}
@@ -8,13 +8,9 @@ use Rattle.listing_words.specs.Fields.{is_none, fault_of, header_fault}
 use Rattle.listing_words.specs.Words.{record_line}
 use Rattle.streams.specs.declared.ending.Ending.{Ending}
 use Rattle.streams.specs.declared.ending.Ending.TheVariants.{ReadToEnd, HeaderUnsound, RecordUnsound, ReadFailed, WriteFailed}
-use Rattle.streams.specs.declared.window.Moved.{Moved}
-use Rattle.streams.specs.declared.window.Moved.TheVariants.{On, Ended as MovedEnded}
 use Rattle.streams.specs.declared.window.Window.{Window}
 use Rattle.streams.specs.Windows.{held, failed, ReadMore, WroteOut, finished}
 use Rattle.listing_program.specs.declared.shell.Ledger.{Ledger}
-use Rattle.listing_program.specs.declared.shell.Next.{Next}
-use Rattle.listing_program.specs.declared.shell.Next.TheVariants.{Going, Ended}
 use Rattle.listing_program.specs.declared.shell.Place.{Place}
 
 -- With these bytes left, the last or not, in a ledger of n members: no record is left, or a field of the next is at fault, or a write
@@ -56,27 +52,27 @@ pub data Goes (l : Ledger) (p q : Place) (input exit output after : List ℕ) : 
   read : piece_of p.window.is_last (held p.window input) ≡ More → ReadMore input exit p.window q.window → Counted p.records p.base q → after ≡ output
       → Goes l p q input exit output after
 
-abbrev pub line_listed : Ledger → Place → ℕ → List ℕ → List ℕ → List ℕ → Next → Type 0
-line_listed l p m bytes output after (Going q) = LineListed l p m bytes output after q
-line_listed l p m bytes output after (Ended ending) = (is_none (fault_of l.members bytes) ≡ false) × finished RecordUnsound ending
+abbrev pub line_listed : Ledger → Place → ℕ → List ℕ → List ℕ → List ℕ → Result Place Ending → Type 0
+line_listed l p m bytes output after (Ok q) = LineListed l p m bytes output after q
+line_listed l p m bytes output after (Err ending) = (is_none (fault_of l.members bytes) ≡ false) × finished RecordUnsound ending
 
 -- From a window, with so many records and bytes before it.
-abbrev pub written_on : Window → ℕ → ℕ → Next → Type 0
-written_on w records base (Going q) = WroteOut w q.window × Counted records base q
-written_on w records base (Ended ending) = failed ending
+abbrev pub written_on : Window → ℕ → ℕ → Result Place Ending → Type 0
+written_on w records base (Ok q) = WroteOut w q.window × Counted records base q
+written_on w records base (Err ending) = failed ending
 
-abbrev pub read_on : Window → ℕ → ℕ → List ℕ → List ℕ → Next → Type 0
-read_on w records base input exit (Going q) = ReadMore input exit w q.window × Counted records base q
-read_on w records base input exit (Ended ending) = failed ending
+abbrev pub read_on : Window → ℕ → ℕ → List ℕ → List ℕ → Result Place Ending → Type 0
+read_on w records base input exit (Ok q) = ReadMore input exit w q.window × Counted records base q
+read_on w records base input exit (Err ending) = failed ending
 
-abbrev pub turned : Ledger → Place → List ℕ → List ℕ → List ℕ → List ℕ → Next → Type 0
-turned l p input exit output after (Going q) = Goes l p q input exit output after
-turned l p input exit output after (Ended ending) = RecordsEnd l.members p.window.is_last (held p.window input) ending
+abbrev pub turned : Ledger → Place → List ℕ → List ℕ → List ℕ → List ℕ → Result Place Ending → Type 0
+turned l p input exit output after (Ok q) = Goes l p q input exit output after
+turned l p input exit output after (Err ending) = RecordsEnd l.members p.window.is_last (held p.window input) ending
 
 -- ---- the whole
-abbrev pub header_ends : Moved → Type 0
-header_ends (On w) = Unit {0}
-header_ends (MovedEnded ending) = failed ending
+abbrev pub header_ends : Result Window Ending → Type 0
+header_ends (Ok w) = Unit {0}
+header_ends (Err ending) = failed ending
 
 -- A listing of these bytes, and what came behind them: a field of the header is at fault, or the records end so with some bytes left.
 pub data ListingEnds (s : List ℕ) : Ending → Type 0 where

@@ -13,7 +13,7 @@ use listing::{Piece, ROOM, next_piece, put_header_line, put_record_line};
 use std::io::{Eprint, Print, Read};
 use std::time::Clock;
 use streams::{
-    Ending, Moved, Progress, Window, finish, first_window, read_more, start, status, write_out,
+    Ending, Progress, Window, finish, first_window, read_more, start, status, write_out,
 };
 
 const INPUT: usize = 65536;
@@ -42,12 +42,6 @@ struct Place {
     base: u64,
 }
 
-#[derive(Clone, Copy)]
-enum Next {
-    Going(Place),
-    Ended(Ending),
-}
-
 // What is printed goes out, then more bytes come.
 fn read_on(
     rt: &(impl Clock + Print + Eprint),
@@ -55,35 +49,21 @@ fn read_on(
     place: Place,
     input: &mut [u8],
     output: &[u8],
-) -> Next
+) -> Result<Place, Ending>
     requires { Stands place × (length input.old ≡ input_length) × (length output.now ≡ output_length) }
     ensures { next_stands place.turns result × read_on place.window place.records place.base input.old input.new result }
 {
-    match read_more(rt, reader, place.window, place.records, input, output) {
-        Moved::On(window) => Next::Going(Place {
-            turns: place.turns,
-            window: window,
-            records: place.records,
-            base: place.base,
-        }),
-        Moved::Ended(ending) => Next::Ended(ending),
-    }
+    let window = read_more(rt, reader, place.window, place.records, input, output)?;
+    Ok(Place { window, ..place })
 }
 
 // What is printed so far goes out.
-fn write_on(rt: &(impl Print + Eprint), place: Place, output: &[u8]) -> Next
+fn write_on(rt: &(impl Print + Eprint), place: Place, output: &[u8]) -> Result<Place, Ending>
     requires { Stands place × (length output.now ≡ output_length) }
     ensures { next_stands place.turns result × written_on place.window place.records place.base result }
 {
-    match write_out(rt, place.window, output) {
-        Moved::On(window) => Next::Going(Place {
-            turns: place.turns,
-            window: window,
-            records: place.records,
-            base: place.base,
-        }),
-        Moved::Ended(ending) => Next::Ended(ending),
-    }
+    let window = write_out(rt, place.window, output)?;
+    Ok(Place { window, ..place })
 }
 
 // The record of the first bytes; the program ends after one that is unsound, since no later record's place is known.
@@ -94,7 +74,7 @@ fn list_record(
     size: usize,
     input: &[u8],
     output: &mut [u8],
-) -> Next
+) -> Result<Place, Ending>
     requires stands { Stands place × (place.turns < most_turns) × (place.window.from + size ≤ place.window.end) × (place.window.filled + line_room ≤ output_length) }
     requires first_year_bound { (ledger.first_year ≤ most_in_two_bytes) × (length input.now ≡ input_length) × (length output.old ≡ output_length) }
     ensures { next_stands (place.turns + 1) result
@@ -110,21 +90,18 @@ fn list_record(
         number,
         place.base,
         &input[from..to],
-        &mut *output,
+        output,
         window.filled,
     );
     if !listed.is_sound {
-        return Next::Ended(finish(rt, &*output, listed.end, Ending::RecordUnsound));
+        return Err(finish(rt, output, listed.end, Ending::RecordUnsound));
     }
-    let progress = window.progress;
-    Next::Going(Place {
+    Ok(Place {
         turns: place.turns + 1,
         window: Window {
             from: to,
-            end: window.end,
-            is_last: window.is_last,
             filled: listed.end,
-            progress: progress,
+            ..window
         },
         records: number,
         base: place.base + size as u64,
@@ -138,26 +115,22 @@ fn turn(
     place: Place,
     input: &mut [u8],
     output: &mut [u8],
-) -> Next
+) -> Result<Place, Ending>
     requires { Stands place × (place.turns < most_turns) × (ledger.first_year ≤ most_in_two_bytes) × (length input.old ≡ input_length) × (length output.old ≡ output_length) }
     ensures { next_stands (place.turns + 1) result × turned ledger place input.old input.new output.old output.new result }
 {
     let window = place.window;
-    let from = window.from;
-    let end = window.end;
     let next = Place {
         turns: place.turns + 1,
-        window: window,
-        records: place.records,
-        base: place.base,
+        ..place
     };
     if OUTPUT - window.filled < ROOM {
-        return write_on(rt, next, &*output);
+        return write_on(rt, next, output);
     }
-    match next_piece(&input[from..end], window.is_last) {
-        Piece::Record(size) => list_record(rt, ledger, place, size, &*input, output),
-        Piece::More => read_on(rt, reader, next, input, &*output),
-        Piece::End => Next::Ended(finish(rt, &*output, window.filled, Ending::ReadToEnd)),
+    match next_piece(&input[window.from..window.end], window.is_last) {
+        Piece::Record(size) => list_record(rt, ledger, place, size, input, output),
+        Piece::More => read_on(rt, reader, next, input, output),
+        Piece::End => Err(finish(rt, output, window.filled, Ending::ReadToEnd)),
     }
 }
 
@@ -173,15 +146,11 @@ fn list_records(
     ensures { (last : Bool) × (left : List ℕ) × RecordsEnd ledger.members last left result }
 {
     let mut place = first;
-    let mut turns: u64 = 0;
-    while turns < MOST_TURNS {
-        match turn(rt, &mut *reader, ledger, place, &mut *input, &mut *output) {
-            Next::Going(next) => {
-                place = next;
-            }
-            Next::Ended(ending) => return ending,
+    for _ in 0..MOST_TURNS {
+        match turn(rt, reader, ledger, place, input, output) {
+            Ok(next) => place = next,
+            Err(ending) => return ending,
         }
-        turns += 1;
     }
     let _ = eprintln!(rt; "durskafn: standard input: too long");
     Ending::ReadFailed
@@ -193,7 +162,7 @@ fn ledger_of(bytes: &[u8]) -> Ledger
     let members = u8_or_zero(bytes, MEMBERS_BYTE);
     let holidays = u8_or_zero(bytes, HOLIDAY_COUNT_BYTE);
     Ledger {
-        members: members,
+        members,
         first_year: u8_or_zero(bytes, FIRST_YEAR_BYTE) * 256
             + u8_or_zero(bytes, FIRST_YEAR_BYTE + 1),
         header_size: header_length(members, holidays),
@@ -207,28 +176,19 @@ fn read_header(
     first: Window,
     input: &mut [u8],
     output: &[u8],
-) -> Moved
+) -> Result<Window, Ending>
     requires { Within input_length output_length first × (length input.old ≡ input_length) × (length output.now ≡ output_length) }
     ensures { moved_within result × header_ends result }
 {
     let mut window = first;
-    let mut turns = MOST_TURNS;
-    while 0 < turns {
-        let from = window.from;
-        let end = window.end;
-        let ledger = ledger_of(&input[from..end]);
-        if window.is_last | (ledger.header_size <= (end - from) as u64) {
-            return Moved::On(window);
+    for _ in 0..MOST_TURNS {
+        let bytes = &input[window.from..window.end];
+        if window.is_last | (ledger_of(bytes).header_size <= bytes.len() as u64) {
+            return Ok(window);
         }
-        match read_more(rt, &mut *reader, window, 0, &mut *input, output) {
-            Moved::On(next) => {
-                window = next;
-            }
-            Moved::Ended(ending) => return Moved::Ended(ending),
-        }
-        turns -= 1;
+        window = read_more(rt, reader, window, 0, input, output)?;
     }
-    Moved::On(window)
+    Ok(window)
 }
 
 // The header's line, then those of the records behind it.
@@ -242,23 +202,19 @@ fn list_from(
     requires { Within input_length output_length window × (length input.old ≡ input_length) × (length output.old ≡ output_length) }
     ensures { ListingEnds (held window input.old) result }
 {
-    let from = window.from;
-    let end = window.end;
-    let listed = put_header_line(&input[from..end], &mut *output, 0);
+    let bytes = &input[window.from..window.end];
+    let listed = put_header_line(bytes, output, 0);
     if !listed.is_sound {
-        return finish(rt, &*output, listed.end, Ending::HeaderUnsound);
+        return finish(rt, output, listed.end, Ending::HeaderUnsound);
     }
-    let ledger = ledger_of(&input[from..end]);
+    let ledger = ledger_of(bytes);
     let size = ledger.header_size;
-    let progress = window.progress;
     let first = Place {
         turns: 0,
         window: Window {
-            from: from + size as usize,
-            end: end,
-            is_last: window.is_last,
+            from: window.from + size as usize,
             filled: listed.end,
-            progress: progress,
+            ..window
         },
         records: 0,
         base: size,
@@ -273,27 +229,21 @@ fn run(rt: &(impl Clock + Print + Eprint), reader: &mut impl Read, progress: Pro
 {
     let mut input = [0u8; INPUT];
     let mut output = [0u8; OUTPUT];
-    match read_header(
-        rt,
-        &mut *reader,
-        first_window(progress),
-        &mut input,
-        &output,
-    ) {
-        Moved::On(window) => list_from(rt, reader, window, &mut input, &mut output),
-        Moved::Ended(ending) => ending,
+    match read_header(rt, reader, first_window(progress), &mut input, &output) {
+        Ok(window) => list_from(rt, reader, window, &mut input, &mut output),
+        Err(ending) => ending,
     }
 }
 
 // The exit status: 0 if the journal was listed to its end, 2 after a header and 3 after a record that is unsound, and, with a
 // message on standard error, 4 if it could not be read, 5 if not written. It is promised of the bytes that came, whichever these
-// are. If is_said, progress goes to standard error; size is how many bytes there are to read, 0 if not known.
+// are. If is_said, progress goes to standard error; size is how many bytes there are to read, if known.
 pub fn listing_run(
     rt: &(impl Clock + Print + Eprint),
     reader: &mut impl Read,
     is_said: bool,
-    size: u64,
-) -> i32
+    size: Option<u64>,
+) -> u8
     ensures { (ending : Ending) × (s : List ℕ) × (result ≡ status_of ending) × ListingEnds s ending }
 {
     status(run(rt, reader, start(rt, is_said, size)))

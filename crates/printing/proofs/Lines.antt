@@ -7,7 +7,8 @@ use native.Mathlib.Numerals.{add-one}
 use native.Mathlib.Omega.{arith}
 use lib.IntN.{ℤ, pos, nat_abs}
 use lib.Signed.{mag}
-use lib.ListN.{length, get_or, length-append}
+use lib.ListN.{length, take, get_or, length-append, length-map}
+use lib.Seq.{take-suc, take_all, length-take-le}
 use mir.Syntax.{w64}
 use mir.Val.{SFits}
 use mir.Facts.{to_z-of_z}
@@ -16,7 +17,7 @@ use Rattle.arith.proofs.Signed.{rd, back_mag}
 use Rattle.arith.proofs.Appends.{from_more, map_append, flat_append}
 use Rattle.rules.specs.Journal.{deal_text}
 use Rattle.rules.specs.Ledger.{line_at, first_lines}
-use Rattle.rules.specs.Text.{space, newline, signed_decimal, line_text}
+use Rattle.rules.specs.Text.{space, newline, decimal, signed_decimal, line_text}
 use Rattle.text.specs.Wrote.{Wrote}
 use Rattle.text.proofs.Writing.{then, wrote_none}
 
@@ -50,6 +51,30 @@ module _ {a letter i j : ℕ} {l m k : List ℕ} (room : a + 86 ≤ length l) wh
   ended {fields = fields} few b w =
       let fits : a + length (letter ∷ in_fields fields) ≤ length l = omega (arith, b.wrote.after, b.short) in
       (then b.wrote w fits, omega (arith, w.after, b.short))
+
+-- ---- fields of a slice, one after the other
+taken_length : (n : ℕ) (fields : List ℕ) → n ≤ length fields → length (map decimal (take n fields)) ≡ n
+taken_length n fields h = length-map (take n fields) decimal ∙ length-take-le n fields h
+
+module _ {a letter i : ℕ} {l m : List ℕ} (room : a + 86 ≤ length l) (n : ℕ) (fields : List ℕ) (few : length fields ≤ 4)
+    (begin : Begun a letter (map decimal (take n fields)) l m i) where
+  pub field_room : n < length fields → i + 21 ≤ length l
+  field_room h = let all = taken_length n fields (omega arith) in let short = rw all at begin.short in omega arith
+
+  pub next_field : {k : List ℕ} {j : ℕ} → n < length fields → Wrote i (space ∷ decimal (get_or fields n 0)) m k j × (j ≤ i + 21)
+      → Begun a letter (map decimal (take (n + 1) fields)) l k j
+  next_field h w =
+      rw (add-one n, take-suc fields n 0 h, map_append decimal (take n fields) (get_or fields n 0 ∷ []))
+      (field room (rw (taken_length n fields (omega arith)) (omega arith)) begin w)
+
+  pub end_room : n ≤ length fields → i < length l
+  end_room h = let all = taken_length n fields h in let short = rw all at begin.short in omega arith
+
+  pub all_fields : {k : List ℕ} {j : ℕ} → n ≤ length fields → length fields ≤ n → Wrote i (newline ∷ []) m k j
+      → Wrote a (line_text letter (map decimal fields)) l k j × (j ≤ a + 86)
+  all_fields h all w =
+      let whole : take n fields ≡ fields = take_all n fields all in
+      ended room (rw (length-map fields decimal) few) (rw whole at begin) w
 
 -- A signed field, as its writer was handed it.
 pub signed_field : (z : ℤ) → SFits w64 z → {a b r : ℕ} {l m : List ℕ}

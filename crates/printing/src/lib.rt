@@ -1,7 +1,7 @@
 // The lines that the journal program prints, over a lent slice of bytes. Each writer answers the place after its line.
 #![tactic(auto)]
 
-ghost use mathlib.Core.List.{[], ◌∷◌, flat_map};
+ghost use mathlib.Core.List.{map, flat_map};
 ghost use Rattle.std.specs.Prelude.{◌+◌, ◌*◌, ◌≤◌, length};
 ghost use Rattle.rules.specs.Journal.{head_text, deal_text, refusal_text, end_text};
 ghost use Rattle.rules.specs.Ledger.{Tables, line_width, head_length, with_head, first_lines};
@@ -9,7 +9,6 @@ ghost use Rattle.rules.specs.Text.{decimal, line_text};
 ghost use Rattle.text.specs.Wrote.{Wrote};
 ghost use Rattle.printing.specs.Room.{line_room};
 
-use numbers::size;
 use rules::layout::{
     DAY, FIRST_YEAR, LINE_CONTRACT, LINE_LOTS, LINE_MEMBER, LINE_PRICE, LINE_WIDTH, LOTS_RUN,
     MEMBERS,
@@ -19,24 +18,15 @@ use text::{put_byte, put_field, put_signed_field};
 // The most bytes of a line: a letter, four fields of 21 bytes and the end of the line.
 pub const LINE_ROOM: usize = 86;
 
-fn put_two(out: &mut [u8], place: usize, letter: u8, a: u64, b: u64) -> usize
-    requires { place + line_room ≤ length out.old }
-    ensures { Wrote place (line_text letter (decimal a ∷ decimal b ∷ [])) out.old out.new result × (result ≤ place + line_room) }
+// A letter and at most four fields.
+fn put_line(out: &mut [u8], place: usize, letter: u8, fields: &[u64]) -> usize
+    requires { (place + line_room ≤ length out.old) × (length fields.now ≤ 4) }
+    ensures { Wrote place (line_text letter (map decimal fields.now)) out.old out.new result × (result ≤ place + line_room) }
 {
-    let end = put_byte(&mut *out, place, letter);
-    let end = put_field(&mut *out, end, a);
-    let end = put_field(&mut *out, end, b);
-    put_byte(out, end, b'\n')
-}
-
-fn put_three(out: &mut [u8], place: usize, letter: u8, a: u64, b: u64, c: u64) -> usize
-    requires { place + line_room ≤ length out.old }
-    ensures { Wrote place (line_text letter (decimal a ∷ decimal b ∷ decimal c ∷ [])) out.old out.new result × (result ≤ place + line_room) }
-{
-    let end = put_byte(&mut *out, place, letter);
-    let end = put_field(&mut *out, end, a);
-    let end = put_field(&mut *out, end, b);
-    let end = put_field(&mut *out, end, c);
+    let mut end = put_byte(out, place, letter);
+    for field in fields {
+        end = put_field(out, end, *field);
+    }
     put_byte(out, end, b'\n')
 }
 
@@ -45,7 +35,12 @@ pub fn put_head(out: &mut [u8], place: usize, head: &[u64]) -> usize
     requires { (place + line_room ≤ length out.old) × (head_length ≤ length head.now) }
     ensures { ((t : Tables) → Wrote place (head_text (with_head head.now t)) out.old out.new result) × (result ≤ place + line_room) }
 {
-    put_three(out, place, b'H', head[FIRST_YEAR], head[DAY], head[MEMBERS])
+    put_line(
+        out,
+        place,
+        b'H',
+        &[head[FIRST_YEAR], head[DAY], head[MEMBERS]],
+    )
 }
 
 // R: the record, counted from 1, and the number of the cause.
@@ -53,7 +48,7 @@ pub fn put_refusal(out: &mut [u8], place: usize, record: u64, number: u64) -> us
     requires { place + line_room ≤ length out.old }
     ensures { Wrote place (refusal_text «record» number) out.old out.new result × (result ≤ place + line_room) }
 {
-    put_two(out, place, b'R', record, number)
+    put_line(out, place, b'R', &[record, number])
 }
 
 // E: accepted, refused, lots run.
@@ -61,13 +56,11 @@ pub fn put_end(out: &mut [u8], place: usize, counted: u64, accepted: u64, head: 
     requires { (place + line_room ≤ length out.old) × (accepted ≤ counted) × (head_length ≤ length head.now) }
     ensures { ((t : Tables) → Wrote place (end_text counted accepted (with_head head.now t)) out.old out.new result) × (result ≤ place + line_room) }
 {
-    put_three(
+    put_line(
         out,
         place,
         b'E',
-        accepted,
-        counted - accepted,
-        head[LOTS_RUN],
+        &[accepted, counted - accepted, head[LOTS_RUN]],
     )
 }
 
@@ -83,11 +76,11 @@ fn put_deal(
     requires { place + line_room ≤ length out.old }
     ensures { Wrote place (deal_text (record { member = member; contract = contract; lots = lots; price = price })) out.old out.new result × (result ≤ place + line_room) }
 {
-    let end = put_byte(&mut *out, place, b'D');
-    let end = put_field(&mut *out, end, member);
-    let end = put_field(&mut *out, end, contract);
-    let end = put_signed_field(&mut *out, end, lots);
-    let end = put_field(&mut *out, end, price);
+    let end = put_byte(out, place, b'D');
+    let end = put_field(out, end, member);
+    let end = put_field(out, end, contract);
+    let end = put_signed_field(out, end, lots);
+    let end = put_field(out, end, price);
     put_byte(out, end, b'\n')
 }
 
@@ -97,21 +90,16 @@ pub fn put_deals(out: &mut [u8], place: usize, lines: &[i64], count: usize) -> u
     ensures { Wrote place (flat_map deal_text (first_lines count lines.now)) out.old out.new result × (result ≤ place + line_room * count) }
 {
     let mut end = place;
-    let mut i: usize = 0;
-    while i < count {
+    for i in 0..count {
         let line = i * LINE_WIDTH;
-        let member = size(lines[line + LINE_MEMBER]);
-        let contract = size(lines[line + LINE_CONTRACT]);
-        let price = size(lines[line + LINE_PRICE]);
         end = put_deal(
-            &mut *out,
+            out,
             end,
-            member,
-            contract,
+            lines[line + LINE_MEMBER].unsigned_abs(),
+            lines[line + LINE_CONTRACT].unsigned_abs(),
             lines[line + LINE_LOTS],
-            price,
+            lines[line + LINE_PRICE].unsigned_abs(),
         );
-        i += 1;
     }
     end
 }

@@ -17,10 +17,7 @@ pub struct Reply {
 pub fn numbered(number: u64, detail: u64) -> Reply
     ensures { (result.number ≡ number) × (result.detail ≡ detail) }
 {
-    Reply {
-        number: number,
-        detail: detail,
-    }
+    Reply { number, detail }
 }
 
 pub fn reply_of(answer: Result<u64, Refusal>) -> Reply

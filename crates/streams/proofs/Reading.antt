@@ -1,29 +1,15 @@
 -- What a read leaves of the input, and places after a read or a write. Assumes nothing.
-use Rattle.std.proofs.Common.{◌≡◌, ℕ, ◌+◌, ◌-◌, ◌≤◌, List, ◌++◌, length, take, drop, sym, ap, ◌∙◌, arith, length-drop, take-append-drop, length-take, length-take-le, take-take, drop-drop, take_at, take-add, drop_at}
+use Rattle.std.proofs.Common.{◌≡◌, ℕ, ◌+◌, ◌-◌, ◌≤◌, List, ◌++◌, length, take, drop, sym, ap, ◌∙◌, arith, take-append-drop, length-take, length-take-le, take-take, drop-drop, take-add, drop_at}
 use native.Mathlib.Nat.{min-le_left, min-le_right}
 use lib.Seq.{take-append-add, take-append_seam}
 use Rattle.arith.specs.Lists.{over}
 use Rattle.text.specs.Wrote.{Wrote}
+use Rattle.std.specs.Prelude.{Result, Ok, Err}
 use Rattle.streams.specs.declared.ending.Ending.{Ending}
 use Rattle.streams.specs.declared.ending.Ending.TheVariants.{WriteFailed}
 use Rattle.streams.specs.declared.progress.Progress.{Progress}
-use Rattle.streams.specs.declared.window.Filled.{Filled}
-use Rattle.streams.specs.declared.window.Filled.TheVariants.{Until}
-use Rattle.streams.specs.declared.window.Moved.{Moved}
-use Rattle.streams.specs.declared.window.Moved.TheVariants.{On, Ended}
 use Rattle.streams.specs.declared.window.Window.{Window}
-use Rattle.streams.specs.Windows.{Within, held, filled_to, SameRun, failed, ReadMore, read_more, WroteOut, wrote_out}
-
-pub filled_until : (x : Filled) (end : ℕ) {from n : ℕ} → filled_to from n x → x ≡ Until end → (from ≤ end) × (end ≤ n)
-filled_until x end h q = rw q at h
-
--- The bytes from a place to end, moved to the front and kept by a read behind them.
-pub rest_kept : (from end : ℕ) (entry moved exit : List ℕ) → from ≤ end → end ≤ length entry
-    → moved ≡ take (end - from) (drop from entry) ++ drop (end - from) entry → take (end - from) exit ≡ take (end - from) moved
-    → take (end - from) exit ≡ take (end - from) (drop from entry)
-rest_kept from end entry moved exit h g e k =
-    k ∙ ap (take (end - from)) e
-    ∙ take_at (take (end - from) (drop from entry)) (drop (end - from) entry) (end - from) (length-take-le (end - from) (drop from entry) (rw length-drop (omega arith)))
+use Rattle.streams.specs.Windows.{Within, held, SameRun, failed, ReadMore, read_more, WroteOut, wrote_out}
 
 -- What a window holds of the input.
 pub part_length : (w : Window) (l : List ℕ) → length (held w l) ≤ w.end - w.from
@@ -65,24 +51,24 @@ pub same_run : {p q r : Progress} → SameRun p q → SameRun q r → SameRun p 
 same_run a b = record { said = b.said ∙ a.said; size = b.size ∙ a.size }
 
 -- ---- by what a read or a write answered
-pub read_moved : (x : Moved) (entry exit : List ℕ) (w : Window) {r : Window} → read_more entry exit w x → x ≡ On r → ReadMore entry exit w r
+pub read_moved : (x : Result Window Ending) (entry exit : List ℕ) (w : Window) {r : Window} → read_more entry exit w x → x ≡ Ok r → ReadMore entry exit w r
 read_moved x entry exit w h q = rw q at h
 
-pub read_ended : (x : Moved) (entry exit : List ℕ) (w : Window) {ending : Ending} → read_more entry exit w x → x ≡ Ended ending → failed ending
+pub read_ended : (x : Result Window Ending) (entry exit : List ℕ) (w : Window) {ending : Ending} → read_more entry exit w x → x ≡ Err ending → failed ending
 read_ended x entry exit w h q = rw q at h
 
-pub written_moved : (x : Moved) (w : Window) {r : Window} → wrote_out w x → x ≡ On r → WroteOut w r
+pub written_moved : (x : Result Window Ending) (w : Window) {r : Window} → wrote_out w x → x ≡ Ok r → WroteOut w r
 written_moved x w h q = rw q at h
 
-pub written_ended : (x : Moved) (w : Window) {ending : Ending} → wrote_out w x → x ≡ Ended ending → ending ≡ WriteFailed
+pub written_ended : (x : Result Window Ending) (w : Window) {ending : Ending} → wrote_out w x → x ≡ Err ending → ending ≡ WriteFailed
 written_ended x w h q = rw q at h
 
-pub read_within : (x : Moved) (entry exit : List ℕ) (w : Window) {r : Window} {inputs outputs : ℕ} → read_more entry exit w x → length entry ≡ inputs → x ≡ On r → Within inputs outputs r
+pub read_within : (x : Result Window Ending) (entry exit : List ℕ) (w : Window) {r : Window} {inputs outputs : ℕ} → read_more entry exit w x → length entry ≡ inputs → x ≡ Ok r → Within inputs outputs r
 read_within x entry exit w {r} h l q =
     let m = read_moved x entry exit w h q in
     record { before = omega (arith, m.front); inside = omega (arith, m.inside); printed = omega (arith, m.written) }
 
-pub written_within : (x : Moved) (w : Window) {r : Window} {inputs outputs : ℕ} → wrote_out w x → Within inputs outputs w → x ≡ On r → Within inputs outputs r
+pub written_within : (x : Result Window Ending) (w : Window) {r : Window} {inputs outputs : ℕ} → wrote_out w x → Within inputs outputs w → x ≡ Ok r → Within inputs outputs r
 written_within x w {r} h s q =
     let m = written_moved x w h q in
     record { before = omega (arith, m.from, m.end, s.before); inside = omega (arith, m.end, s.inside); printed = omega (arith, m.written) }

@@ -1,20 +1,16 @@
 -- Where a program stands in its buffers, and its exit status.
-use Rattle.std.specs.Prelude.{◌≡◌, ℕ, ◌-◌, ◌≤◌, Bool, true, cond, List, length, take, drop, ℤ, pos}
+use Rattle.std.specs.Prelude.{◌≡◌, ℕ, ◌-◌, ◌≤◌, Bool, true, cond, List, length, take, drop, Option, Some, None, Result, Ok, Err}
 use Rattle.streams.specs.declared.ending.Ending.{Ending}
 use Rattle.streams.specs.declared.ending.Ending.TheVariants.{ReadToEnd, HeaderUnsound, RecordUnsound, ReadFailed, WriteFailed}
 use Rattle.streams.specs.declared.progress.Progress.{Progress}
-use Rattle.streams.specs.declared.window.Filled.{Filled}
-use Rattle.streams.specs.declared.window.Filled.TheVariants.{Until, End, Failed}
-use Rattle.streams.specs.declared.window.Moved.{Moved}
-use Rattle.streams.specs.declared.window.Moved.TheVariants.{On, Ended}
 use Rattle.streams.specs.declared.window.Window.{Window}
 
-unfoldable pub status_of : Ending → ℤ
-status_of ReadToEnd = pos 0
-status_of HeaderUnsound = pos 2
-status_of RecordUnsound = pos 3
-status_of ReadFailed = pos 4
-status_of WriteFailed = pos 5
+unfoldable pub status_of : Ending → ℕ
+status_of ReadToEnd = 0
+status_of HeaderUnsound = 2
+status_of RecordUnsound = 3
+status_of ReadFailed = 4
+status_of WriteFailed = 5
 
 -- Its places lie in order within buffers of these lengths.
 pub record Within (inputs outputs : ℕ) (w : Window) : Type 0 where
@@ -31,10 +27,16 @@ pub record SameRun (p r : Progress) : Type 0 where
   pub said : r.is_said ≡ p.is_said
   pub size : r.size ≡ p.size
 
-abbrev pub filled_to : ℕ → ℕ → Filled → Type 0
-filled_to from n (Until end) = (from ≤ end) × (end ≤ n)
-filled_to from n End = Unit {0}
-filled_to from n Failed = Unit {0}
+-- Bytes up to a place from here on, or none; else the read failed.
+abbrev pub filled_to : ℕ → ℕ → Result (Option ℕ) Ending → Type 0
+filled_to from n (Ok (Some end)) = (from ≤ end) × (end ≤ n)
+filled_to from n (Ok None) = Unit {0}
+filled_to from n (Err ending) = ending ≡ ReadFailed
+
+-- All is written, or the write failed.
+abbrev pub flushed : Result Unit Ending → Type 0
+flushed (Ok done) = Unit {0}
+flushed (Err ending) = ending ≡ WriteFailed
 
 -- A read or a write failed.
 abbrev pub failed : Ending → Type 0
@@ -50,9 +52,9 @@ pub record ReadMore (entry exit : List ℕ) (w r : Window) : Type 0 where
   pub written : r.filled ≡ 0
   pub run : SameRun w.progress r.progress
 
-abbrev pub read_more : List ℕ → List ℕ → Window → Moved → Type 0
-read_more entry exit w (On r) = ReadMore entry exit w r
-read_more entry exit w (Ended ending) = failed ending
+abbrev pub read_more : List ℕ → List ℕ → Window → Result Window Ending → Type 0
+read_more entry exit w (Ok r) = ReadMore entry exit w r
+read_more entry exit w (Err ending) = failed ending
 
 pub record WroteOut (w r : Window) : Type 0 where
   pub from : r.from ≡ w.from
@@ -61,9 +63,9 @@ pub record WroteOut (w r : Window) : Type 0 where
   pub written : r.filled ≡ 0
   pub progress : r.progress ≡ w.progress
 
-abbrev pub wrote_out : Window → Moved → Type 0
-wrote_out w (On r) = WroteOut w r
-wrote_out w (Ended ending) = ending ≡ WriteFailed
+abbrev pub wrote_out : Window → Result Window Ending → Type 0
+wrote_out w (Ok r) = WroteOut w r
+wrote_out w (Err ending) = ending ≡ WriteFailed
 
 -- It ends so, or what was printed could not be written.
 abbrev pub finished : Ending → Ending → Type 0

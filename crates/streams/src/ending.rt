@@ -13,7 +13,7 @@ pub enum Ending {
 
 // The exit status.
 #[tactic(auto, unfolding(crate::specs::Windows::status_of))]
-pub fn status(ending: Ending) -> i32
+pub fn status(ending: Ending) -> u8
     ensures { result ≡ status_of ending }
 {
     match ending {

@@ -10,4 +10,4 @@ mod window;
 pub use ending::{Ending, status};
 pub use failure::fail;
 pub use progress::{Progress, start};
-pub use window::{Moved, Window, finish, first_window, read_more, write_out};
+pub use window::{Window, finish, first_window, read_more, write_out};

@@ -16,8 +16,8 @@ const ALL: u64 = 100;
 #[derive(Clone, Copy)]
 pub struct Progress {
     pub is_said: bool,
-    // How many bytes there are to read, or 0 where that is not known.
-    pub size: u64,
+    // How many bytes there are to read, where that is known.
+    pub size: Option<u64>,
     // How many were read.
     pub bytes: u64,
     // The second from which on it is said again.
@@ -26,19 +26,16 @@ pub struct Progress {
 
 // Seconds since 1970, or 0 where the clock cannot be read.
 fn seconds(rt: &impl Clock) -> u64 {
-    match rt.since_1970() {
-        Ok(time) => time.as_secs(),
-        Err(_) => 0,
-    }
+    rt.since_1970().map_or(0, |time| time.as_secs())
 }
 
 // Before the first byte.
-pub fn start(rt: &impl Clock, is_said: bool, size: u64) -> Progress
+pub fn start(rt: &impl Clock, is_said: bool, size: Option<u64>) -> Progress
     ensures { (result.is_said ≡ is_said) × (result.size ≡ size) × (result.bytes ≡ 0) }
 {
     Progress {
-        is_said: is_said,
-        size: size,
+        is_said,
+        size,
         bytes: 0,
         due: seconds(rt).wrapping_add(FIRST_WAIT),
     }
@@ -49,29 +46,29 @@ pub fn read_on(progress: Progress, more: u64) -> Progress
     ensures { SameRun progress result × (result.bytes ≡ (progress.bytes + more) % 2 ^ 64) }
 {
     Progress {
-        is_said: progress.is_said,
-        size: progress.size,
         bytes: progress.bytes.wrapping_add(more),
-        due: progress.due,
+        ..progress
     }
 }
 
 // A file may have grown.
 fn percent(bytes: u64, size: u64) -> u64 {
     if bytes < size {
-        return bytes / (size / ALL + 1);
+        bytes / (size / ALL + 1)
+    } else {
+        ALL
     }
-    ALL
 }
 
 // A line: bytes, records, and percent where the size is known. One that cannot be written is left out.
 fn put_line(rt: &impl Eprint, progress: Progress, records: u64) {
     let bytes = progress.bytes;
-    let _ = if 0 < progress.size {
-        let part = percent(bytes, progress.size);
-        eprintln!(rt; "durskafn: {bytes} bytes, {records} records, {part}%")
-    } else {
-        eprintln!(rt; "durskafn: {bytes} bytes, {records} records")
+    let _ = match progress.size {
+        Some(size) => {
+            let part = percent(bytes, size);
+            eprintln!(rt; "durskafn: {bytes} bytes, {records} records, {part}%")
+        }
+        None => eprintln!(rt; "durskafn: {bytes} bytes, {records} records"),
     };
 }
 
@@ -88,9 +85,7 @@ pub fn say(rt: &(impl Clock + Eprint), progress: Progress, records: u64) -> Prog
     }
     put_line(rt, progress, records);
     Progress {
-        is_said: progress.is_said,
-        size: progress.size,
-        bytes: progress.bytes,
         due: now.wrapping_add(WAIT),
+        ..progress
     }
 }

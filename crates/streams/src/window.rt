@@ -1,9 +1,9 @@
 // What a program holds of its input and output.
 ghost use Rattle.std.specs.Prelude.{◌≡◌, ◌≤◌, false, length, take};
-ghost use Rattle.streams.specs.Windows.{Within, filled_to, read_more, wrote_out, finished};
+ghost use Rattle.streams.specs.Windows.{Within, filled_to, flushed, read_more, wrote_out, finished};
 
 use crate::ending::Ending;
-use crate::failure::say_why;
+use crate::failure::fail;
 use crate::progress::{Progress, read_on, say};
 use std::io::{Eprint, ErrorKind, Print, Read};
 use std::time::Clock;
@@ -20,51 +20,36 @@ pub struct Window {
     pub progress: Progress,
 }
 
-#[derive(Clone, Copy)]
-pub enum Moved {
-    On(Window),
-    Ended(Ending),
-}
-
-// What a read of the input brought.
-#[derive(Clone, Copy)]
-enum Filled {
-    // Bytes came, and the buffer holds bytes up to here.
-    Until(usize),
-    // No more bytes come.
-    End,
-    Failed,
-}
-
-// One read, to the bytes from end on. A read that a signal broke off brings nothing.
-fn fill(rt: &impl Eprint, reader: &mut impl Read, input: &mut [u8], end: usize) -> Filled
+// One read, to the bytes from end on, and up to where the buffer then holds bytes; None where no more come. A read that a signal
+// broke off brings nothing.
+fn fill(
+    rt: &impl Eprint,
+    reader: &mut impl Read,
+    input: &mut [u8],
+    end: usize,
+) -> Result<Option<usize>, Ending>
     requires { end ≤ length input.old }
     ensures { filled_to end (length input.old) result × (take end input.new ≡ take end input.old) }
 {
     match reader.read(&mut input[end..]) {
-        Ok(0) => Filled::End,
-        Ok(got) => Filled::Until(end + got),
-        Err(error) => {
-            if error.kind() == ErrorKind::Interrupted {
-                return Filled::Until(end);
-            }
-            say_why(rt, "standard input", error);
-            Filled::Failed
-        }
+        Ok(0) => Ok(None),
+        Ok(got) => Ok(Some(end + got)),
+        Err(error) if error.kind() == ErrorKind::Interrupted => Ok(Some(end)),
+        Err(error) => Err(fail(rt, "standard input", error, Ending::ReadFailed)),
     }
 }
 
-// Whether all of the buffer's first bytes were written.
-fn flush(rt: &(impl Print + Eprint), output: &[u8], filled: usize) -> bool
+// The buffer's first bytes are written.
+fn flush(rt: &(impl Print + Eprint), output: &[u8], filled: usize) -> Result<(), Ending>
     requires { filled ≤ length output.now }
+    ensures { flushed result }
 {
-    match rt.write_all(&output[..filled]) {
-        Ok(()) => true,
-        Err(error) => {
-            say_why(rt, "standard output", error);
-            false
-        }
-    }
+    rt.write_all(&output[..filled]).map_err(|error| fail(
+        rt,
+        "standard output",
+        error,
+        Ending::WriteFailed,
+    ))
 }
 
 // Before the first read.
@@ -76,7 +61,7 @@ pub fn first_window(progress: Progress) -> Window
         end: 0,
         is_last: false,
         filled: 0,
-        progress: progress,
+        progress,
     }
 }
 
@@ -88,52 +73,46 @@ pub fn read_more(
     records: u64,
     input: &mut [u8],
     output: &[u8],
-) -> Moved
+) -> Result<Window, Ending>
     requires { Within (length input.old) (length output.now) window }
     ensures { read_more input.old input.new window result }
 {
-    if !flush(rt, output, window.filled) {
-        return Moved::Ended(Ending::WriteFailed);
-    }
-    let before = window.progress;
-    let progress = say(rt, before, records);
+    flush(rt, output, window.filled)?;
+    let progress = say(rt, window.progress, records);
     let rest = window.end - window.from;
-    shift(&mut *input, window.from, window.end);
-    match fill(rt, reader, input, rest) {
-        Filled::Until(end) => Moved::On(Window {
+    shift(input, window.from, window.end);
+    match fill(rt, reader, input, rest)? {
+        Some(end) => Ok(Window {
             from: 0,
-            end: end,
+            end,
             is_last: false,
             filled: 0,
             progress: read_on(progress, (end - rest) as u64),
         }),
-        Filled::End => Moved::On(Window {
+        None => Ok(Window {
             from: 0,
             end: rest,
             is_last: true,
             filled: 0,
-            progress: progress,
+            progress,
         }),
-        Filled::Failed => Moved::Ended(Ending::ReadFailed),
     }
 }
 
 // What is printed goes out.
-pub fn write_out(rt: &(impl Print + Eprint), window: Window, output: &[u8]) -> Moved
+pub fn write_out(
+    rt: &(impl Print + Eprint),
+    window: Window,
+    output: &[u8],
+) -> Result<Window, Ending>
     requires { window.filled ≤ length output.now }
     ensures { wrote_out window result }
 {
-    let progress = window.progress;
-    if flush(rt, output, window.filled) {
-        return Moved::On(Window {
-            from: window.from,
-            end: window.end,
-            is_last: window.is_last,
-            filled: 0,
-            progress: progress,
-        });
-    }
-    Moved::Ended(Ending::WriteFailed)
+    flush(rt, output, window.filled)?;
+    Ok(Window {
+        filled: 0,
+        ..window
+    })
 }
 
 // The same, and the program ends.
@@ -141,8 +120,8 @@ pub fn finish(rt: &(impl Print + Eprint), output: &[u8], filled: usize, ending: 
     requires { filled ≤ length output.now }
     ensures { finished ending result }
 {
-    if flush(rt, output, filled) {
-        return ending;
+    match flush(rt, output, filled) {
+        Ok(()) => ending,
+        Err(failed) => failed,
     }
-    Ending::WriteFailed
 }

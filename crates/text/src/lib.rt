@@ -5,8 +5,6 @@ ghost use Rattle.std.specs.Prelude.{[], ◌∷◌, ◌++◌, ◌≡◌, ◌+◌,
 ghost use Rattle.rules.specs.Text.{decimal, signed_decimal, space};
 ghost use Rattle.text.specs.Wrote.{Wrote};
 
-use numbers::size;
-
 pub fn put_byte(out: &mut [u8], place: usize, byte: u8) -> usize
     requires { place < length out.old }
     ensures { Wrote place (byte ∷ []) out.old out.new result }
@@ -19,12 +17,8 @@ pub fn put_bytes(out: &mut [u8], place: usize, bytes: &[u8]) -> usize
     requires { place + length bytes.now ≤ length out.old }
     ensures { Wrote place bytes.now out.old out.new result }
 {
-    let mut end = place;
-    let mut i: usize = 0;
-    while i < bytes.len() {
-        end = put_byte(&mut *out, end, bytes[i]);
-        i += 1;
-    }
+    let end = place + bytes.len();
+    out[place..end].copy_from_slice(bytes);
     end
 }
 
@@ -36,7 +30,7 @@ pub fn put_decimal(out: &mut [u8], place: usize, n: u64) -> usize
     if n < 10 {
         return put_byte(out, place, b'0' + n as u8);
     }
-    let end = put_decimal(&mut *out, place, n / 10);
+    let end = put_decimal(out, place, n / 10);
     put_byte(out, end, b'0' + (n % 10) as u8)
 }
 
@@ -45,9 +39,9 @@ fn put_signed(out: &mut [u8], place: usize, x: i64) -> usize
     requires { place + length (signed_decimal x) ≤ length out.old }
     ensures { Wrote place (signed_decimal x) out.old out.new result }
 {
-    let n = size(x);
+    let n = x.unsigned_abs();
     if x < 0 {
-        let digits = put_byte(&mut *out, place, b'-');
+        let digits = put_byte(out, place, b'-');
         return put_decimal(out, digits, n);
     }
     put_decimal(out, place, n)
@@ -58,7 +52,7 @@ pub fn put_field(out: &mut [u8], place: usize, n: u64) -> usize
     requires { place + 21 ≤ length out.old }
     ensures { Wrote place (space ∷ decimal n) out.old out.new result × (result ≤ place + 21) }
 {
-    let digits = put_byte(&mut *out, place, b' ');
+    let digits = put_byte(out, place, b' ');
     put_decimal(out, digits, n)
 }
 
@@ -67,7 +61,7 @@ pub fn put_signed_field(out: &mut [u8], place: usize, x: i64) -> usize
     requires { place + 21 ≤ length out.old }
     ensures { Wrote place (space ∷ signed_decimal x) out.old out.new result × (result ≤ place + 21) }
 {
-    let digits = put_byte(&mut *out, place, b' ');
+    let digits = put_byte(out, place, b' ');
     put_signed(out, digits, x)
 }
 
@@ -76,10 +70,5 @@ pub fn shift(bytes: &mut [u8], from: usize, end: usize)
     requires { (from ≤ end) × (end ≤ length bytes.old) }
     ensures { bytes.new ≡ take (end - from) (drop from bytes.old) ++ drop (end - from) bytes.old }
 {
-    let n = end - from;
-    let mut i: usize = 0;
-    while i < n {
-        bytes[i] = bytes[from + i];
-        i += 1;
-    }
+    bytes.copy_within(from..end, 0);
 }

@@ -3,4 +3,4 @@ use Rattle.printing.proofs.put_end.Goals as goal
 
 pub returns : goal.returns
 unfolding end_text
-returns c = (λ t. c.put_three.ensures.0, c.put_three.ensures.1)
+returns c = (λ t. c.put_line.ensures.0, c.put_line.ensures.1)

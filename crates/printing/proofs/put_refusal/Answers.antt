@@ -3,4 +3,4 @@ use Rattle.printing.proofs.put_refusal.Goals as goal
 
 pub returns : goal.returns
 unfolding refusal_text
-returns c = c.put_two.ensures
+returns c = c.put_line.ensures

@@ -1,22 +1,10 @@
-use borrow.Author.Rules.{rules}
-use native.Mathlib.Omega.{arith}
-use Rattle.text.proofs.Writing.{wrote_none, wrote_next, wrote_all, copied}
+use Rattle.std.proofs.Common.{◌≡◌, ◌+◌, ◌-◌, length, refl, arith, drop-drop}
+use Rattle.arith.specs.Lists.{over}
 use Rattle.text.proofs.put_bytes.Goals as goal
 
-pub loop-i-init : goal.loop-i-init
-loop-i-init c = (omega arith, omega arith, wrote_none _ _)
-
-pub put_byte-end-requires : goal.put_byte-end-requires
-put_byte-end-requires c = omega (arith, copied _ c.loop-i.i _ c.loop-i.invariant.2 c.loop-i.invariant.0)
-
-pub loop-i-preserved : goal.loop-i-preserved
-loop-i-preserved c = (
-  search rules,
-  search rules,
-  wrote_next _ c.loop-i.i _
-      c.loop-i.invariant.2 c.loop-i-test.true
-      c.requires c.put_byte-end.ensures,
-)
-
 pub returns : goal.returns
-returns c = wrote_all _ c.loop-i.i _ c.loop-i.invariant.2 c.loop-i-test.false
+unfolding over
+returns c =
+    let a = c.args in
+    let whole : a.place + length a.bytes.now - a.place ≡ length a.bytes.now = omega arith in
+    record { after = refl; bytes = rw (whole, c.copy_from_slice.ensures.after, drop-drop (length a.bytes.now) a.place a.out.now) refl }

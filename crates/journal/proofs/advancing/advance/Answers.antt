@@ -1,7 +1,5 @@
-use mathlib.Core.Path.{ap}
 use native.Mathlib.Omega.{arith}
-use Rattle.journal.specs.Stages.{rank}
-use Rattle.journal.proofs.LastLine.{records_counts, read_counts, stopped_counts, waits, all_printed_lem, read_line, stopped_line}
+use Rattle.journal.proofs.LastLine.{records_counts, read_counts, stopped_counts, waits, all_printed_lem, last_rank, read_line, stopped_line}
 use Rattle.journal.proofs.advancing.advance.Goals as goal
 
 pub returns-then-out-filled-lt-ROOM : goal.returns-then-out-filled-lt-ROOM
@@ -18,13 +16,13 @@ run_records-requires c =
       c.requires.4,
     )
 
-pub end_read-requires : goal.end_read-requires
-end_read-requires c =
+pub end_at-requires : goal.end_at-requires
+end_at-requires c =
     let given = c.requires in
     (omega (arith, c.if-out-filled-lt-ROOM.false, given.2), (read_counts c.in-Read.is given.0).0, given.3)
 
-pub end_stopped-requires : goal.end_stopped-requires
-end_stopped-requires c =
+pub end_at-requires-in-Stopped : goal.end_at-requires-in-Stopped
+end_at-requires-in-Stopped c =
     let given = c.requires in
     (omega (arith, c.if-out-filled-lt-ROOM.false, given.2), (stopped_counts c.in-Stopped.is given.0).0, given.3)
 
@@ -44,26 +42,14 @@ returns-in-Read c =
     let left = c.if-out-filled-lt-ROOM.false in
     let given = c.requires in
     read_line _ _ _ _ _ _ _ _ (omega (arith, left, given.2))
-    c.in-Read.is c.end_read.ensures
+    c.in-Read.is c.end_at.ensures
 
 pub returns-in-Stopped : goal.returns-in-Stopped
 returns-in-Stopped c =
     let left = c.if-out-filled-lt-ROOM.false in
     let given = c.requires in
     stopped_line _ _ _ _ _ _ _ _ (omega (arith, left, given.2))
-    c.in-Stopped.is c.end_stopped.ensures
+    c.in-Stopped.is c.end_at-in-Stopped.ensures
 
 pub returns-in-ReadToEnd : goal.returns-in-ReadToEnd
-returns-in-ReadToEnd c =
-    all_printed_lem _ _ _ _ _ _ c.requires.2 (ap rank c.in-ReadToEnd.is)
-    c.standing-in-ReadToEnd.ensures
-
-pub returns-in-RecordUnsound : goal.returns-in-RecordUnsound
-returns-in-RecordUnsound c =
-    all_printed_lem _ _ _ _ _ _ c.requires.2 (ap rank c.in-RecordUnsound.is)
-    c.standing-in-RecordUnsound.ensures
-
-pub returns-in-HeaderUnsound : goal.returns-in-HeaderUnsound
-returns-in-HeaderUnsound c =
-    all_printed_lem _ _ _ _ _ _ c.requires.2 (ap rank c.in-HeaderUnsound.is)
-    c.standing-in-HeaderUnsound.ensures
+returns-in-ReadToEnd c = all_printed_lem _ _ _ _ _ _ c.requires.2 (last_rank c.in-ReadToEnd.is) c.standing-in-ReadToEnd.ensures

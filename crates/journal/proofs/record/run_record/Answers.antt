@@ -3,8 +3,8 @@ use Rattle.journal.proofs.OneRecord.{few_lines, printed_lines, printed_refusal}
 use borrow.Author.Rules.{rules}
 use Rattle.journal.proofs.record.run_record.Goals as goal
 
-pub put_deals-end-requires : goal.put_deals-end-requires
-put_deals-end-requires c =
+pub put_deals-requires : goal.put_deals-requires
+put_deals-requires c =
     let pre = c.requires in
     let few = few_lines _ _ _ _ _ _
     c.apply-answer.ensures
@@ -30,7 +30,7 @@ returns-then-reply-eq-ACCEPTED c =
     c.apply-answer.ensures
     c.reply_of-reply.ensures.0
     c.reply_of-reply.ensures.1 c.if-reply-eq-ACCEPTED.true few
-    c.put_deals-end.ensures
+    c.put_deals.ensures
 
 pub returns : goal.returns
 returns c =
@@ -38,4 +38,4 @@ returns c =
     c.apply-answer.ensures
     c.reply_of-reply.ensures.0
     c.reply_of-reply.ensures.1 _ c.if-reply-eq-ACCEPTED.false (search rules)
-    c.put_refusal-end.ensures
+    c.put_refusal.ensures

@@ -1,11 +1,12 @@
-use native.Mathlib.Omega.{arith}
-use Rattle.streams.proofs.Reading.{read_ended, read_within}
+use Rattle.std.proofs.Common.{◌∙◌}
+use Rattle.std.proofs.lemmas.Result.{err_from_is_err_and}
+use Rattle.streams.proofs.Reading.{read_within}
 use Rattle.listing_program.proofs.shell.read_header.Goals as goal
 
-pub loop-turns-preserved : goal.loop-turns-preserved
-loop-turns-preserved g c =
-    let inv = c.loop-turns.invariant in
-    (read_within _ _ _ _ c.read_more.ensures inv.1 c.in-On.is, omega (arith, c.read_more.auto.input, inv.1))
+pub loop-preserved : goal.loop-preserved
+loop-preserved g c = read_within _ _ _ _ c.read_more-window.ensures (c.loop.auto.input ∙ c.requires.1) c.in_ok-window.was
 
-pub returns-in-Ended : goal.returns-in-Ended
-returns-in-Ended g c = (tt, read_ended _ _ _ _ c.read_more.ensures c.in-Ended.is)
+pub returns-in_err-window : goal.returns-in_err-window
+returns-in_err-window g c =
+    let p = err_from_is_err_and c.from_residual.result c.from_residual.ensures.1 in
+    rw (p.1, p.2) (tt, c.in_err-window.ensures)

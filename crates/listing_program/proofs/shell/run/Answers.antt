@@ -4,10 +4,10 @@ use Rattle.listing_program.proofs.Endings.{header_ended, listing_failed}
 use Rattle.listing_program.proofs.shell.run.Goals as goal
 
 pub list_from-requires : goal.list_from-requires
-list_from-requires g c = (rw c.in-On.is at c.read_header.ensures.0, omega arith, omega arith)
+list_from-requires g c = (rw c.in-Ok.is at c.read_header.ensures.0, omega arith, omega arith)
 
-pub returns-in-On : goal.returns-in-On
-returns-in-On g c = (_, c.list_from.ensures)
+pub returns-in-Ok : goal.returns-in-Ok
+returns-in-Ok g c = (_, c.list_from.ensures)
 
-pub returns-in-Ended : goal.returns-in-Ended
-returns-in-Ended g c = ([], listing_failed (header_ended _ c.read_header.ensures.1 c.in-Ended.is))
+pub returns-in-Err : goal.returns-in-Err
+returns-in-Err g c = ([], listing_failed (header_ended _ c.read_header.ensures.1 c.in-Err.is))
