@@ -8,8 +8,6 @@ use Rattle.arith.proofs.Runs.{length_run}
 use Rattle.rules.specs.declared.refusal.Refusal.TheVariants.{TableUnsound, RecordUnsound}
 use Rattle.rules.specs.declared.event.Event.{Event}
 use Rattle.rules.specs.declared.event.Leg.{Leg}
-use Rattle.rules.specs.declared.event.Reading.{Reading}
-use Rattle.rules.specs.declared.event.Reading.TheVariants.{Sound, None}
 use Rattle.rules.specs.Answers.{Outcome}
 use Rattle.rules.specs.Ranges.{most_legs}
 use Rattle.rules.specs.Records.{leg_in, write_spec, legs_of, read_of}

@@ -10,7 +10,6 @@ use lib.Seq.{get_or-set_other, set_comm}
 use borrow.Author.Tests.{lt-ltb, le-ltb}
 use Rattle.arith.specs.Lists.{All, every, total}
 use Rattle.arith.proofs.Tests.{never, true_or}
-use Rattle.rules.specs.declared.refusal.Refusal.TheVariants.{Accepted}
 use Rattle.rules.specs.declared.event.Leg.{Leg}
 use Rattle.rules.specs.declared.order.Order.{Order}
 use Rattle.rules.specs.Ranges.{most_lots_run}
