@@ -8,7 +8,6 @@ use Rattle.std.proofs.Common.{Option, Some, None}
 use lib.Dec.{eqb, leb}
 use lib.ListN.{length, take, get_or, length-map}
 use borrow.Author.Tests.{leb-true}
-use Rattle.std.specs.Prelude.{Ok}
 use Rattle.arith.specs.Lists.{every, from}
 use Rattle.arith.proofs.Tests.{and_left, and_right}
 use Rattle.rules.specs.Days.{in_span}

@@ -10,7 +10,6 @@ use borrow.Author.Tests.{le-leb, leb-true, ltb-true, eqb-true}
 use lib.Dec.{eqb, leb, ltb}
 use lib.Seq.{take_at}
 use lib.ListN.{length, get_or, take, drop, length-append, take-append-drop}
-use Rattle.std.specs.Prelude.{Ok, Err}
 use Rattle.arith.specs.Lists.{All, from, every, total, over}
 use Rattle.arith.proofs.Alls.{every_all, all_map}
 use Rattle.arith.proofs.Writes.{over_front}
@@ -19,7 +18,7 @@ use Rattle.rules.specs.Ranges.{most_first_year, most_limit}
 use Rattle.rules.specs.Days.{Calendar, leap_year, year_start, month_start, span_start, day_after_span, in_span}
 use Rattle.rules.specs.Header.{Header, u16_at, u32_at, u16_bytes, u32_bytes, u16s_at, u32s_at, letters_and_version, same_bytes, header_length, header_of, header_bytes, calendar_of}
 use Rattle.rules.specs.Header.{calendar_sound, limit_sound, day_sound, header_sound, begins_with_header, write_header_spec}
-use Rattle.rules.proofs.Writing.{written, not_header_refused}
+use Rattle.rules.proofs.Writing.{written}
 use Rattle.rules.specs.declared.refusal.Refusal.TheVariants.{HeaderUnsound}
 use Rattle.header.proofs.Headers.{same_true, length_u16s, columns_read, reading_sound, write_header_whole}
 use Rattle.header.specs.Journal.{header_from, header_columns, header_reading}
