@@ -1,9 +1,6 @@
-use mathlib.Core.Path.{refl, sym, ◌∙◌}
+use mathlib.Core.Path.{sym, ◌∙◌}
 use Rattle.calendar.proofs.Steps.{back_last, back_more, back_idle, back_end}
 use Rattle.calendar.proofs.days.business_day_before.Goals as goal
-
-pub loop-x-init : goal.loop-x-init
-loop-x-init c = λ y. refl
 
 pub returns-then-to_count-le1 : goal.returns-then-to_count-le1
 returns-then-to_count-le1 c =

@@ -1,9 +1,6 @@
-use mathlib.Core.Path.{refl, sym, ◌∙◌}
+use mathlib.Core.Path.{sym, ◌∙◌}
 use Rattle.calendar.proofs.Steps.{next_here, next_more, next_end}
 use Rattle.calendar.proofs.days.first_business_day.Goals as goal
-
-pub loop-x-init : goal.loop-x-init
-loop-x-init c = λ y. refl
 
 pub returns-then-is_business_day : goal.returns-then-is_business_day
 returns-then-is_business_day c = λ y. sym (next_here _ _ _ c.loop-x-test.true (sym (c.is_business_day.ensures y) ∙ c.if-is_business_day.true)) ∙ c.loop-x.invariant y
