@@ -70,7 +70,11 @@ fn show_again(rt: &impl Print, out: &[u8], bytes: &[u8]) -> io::Result<()> {
     if out.len() < bytes.len() {
         return rt.print(" short");
     }
-    rt.print(if out.starts_with(bytes) { " again" } else { " differs" })
+    rt.print(if out.starts_with(bytes) {
+        " again"
+    } else {
+        " differs"
+    })
 }
 
 fn record(rt: &impl Print, members: u64, bytes: &[u8]) -> io::Result<()> {
