@@ -17,7 +17,7 @@ ghost use Rattle.tables.specs.Fit.{HeadFit, PricesFit, members_in, lots_run_in};
 ghost use Rattle.deal_lines.specs.Room.{Bookable};
 
 use dealing::sum_of;
-use defaulted::find_defaulted;
+use defaulted::{Netting, find_defaulted};
 use rules::layout::{GGF, LOTS_RUN, MEMBERS, PRICE_WIDTH, ROW_WIDTH};
 use rules::ranges::MOST_LOTS_RUN;
 use rules::{CloseOutTerms, Kurus, Refusal};
@@ -45,9 +45,7 @@ fn close_out_lots(
         ≡ close_out_spec (with_head head.old (with_rows lots.old value.old (with_lines lines.old t))) e }
 {
     let contract = e.contract;
-    let found = find_defaulted(head, lots, contract, longs, shorts);
-    let netted = found.netted;
-    let remaining = found.remaining;
+    let Netting { netted, remaining } = find_defaulted(head, lots, contract, longs, shorts);
     if netted + remaining == 0 {
         return Err(Refusal::NoDefaultedLots);
     }

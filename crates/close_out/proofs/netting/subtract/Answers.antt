@@ -1,9 +1,7 @@
-use Prim.Native.Nat.{◌-◌}
-use mathlib.Core.Path.{refl}
 use native.Mathlib.Omega.{arith}
 use lib.ListN.{length-set}
 use Rattle.arith.proofs.Columns.{written_next, written_end}
-use Rattle.close_out_weights.proofs.Still.{still_at, still_after}
+use Rattle.close_out_weights.proofs.Still.{still_after}
 use Rattle.close_out.proofs.StepColumns.{less_end, remaining_next}
 use Rattle.close_out.proofs.netting.subtract.Goals as goal
 

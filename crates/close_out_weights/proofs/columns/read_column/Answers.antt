@@ -1,7 +1,6 @@
-use Prim.Native.Nat.{ℕ, ◌+◌, ◌-◌}
-use mathlib.Core.Path.{refl, ap, ◌∙◌}
+use Prim.Native.Nat.{ℕ, ◌+◌}
+use mathlib.Core.Path.{ap, ◌∙◌}
 use native.Mathlib.Omega.{arith}
-use native.Mathlib.Nat.{sub-zero}
 use lib.Dec.{eqb}
 use lib.IntN.{pos}
 use lib.ListN.{length, get_or, length-set}
@@ -28,4 +27,3 @@ returns c =
     let pre = c.requires in
     λ t v. rw (← pre.column_len.0) (written_end c.loop-i.column c.loop-i.i _ _ (omega arith) (mapped_end _ c.loop-i.i _ (omega arith))
     c.loop-i.invariant.2)
-

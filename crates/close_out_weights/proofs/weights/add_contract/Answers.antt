@@ -1,7 +1,7 @@
-use Prim.Native.Nat.{ℕ, ◌+◌, ◌*◌, ◌-◌, ◌≤◌}
-use mathlib.Core.Path.{◌≡◌, refl, ap, ◌∙◌}
+use Prim.Native.Nat.{ℕ, ◌+◌, ◌*◌, ◌≤◌}
+use mathlib.Core.Path.{◌≡◌, ap, ◌∙◌}
 use native.Mathlib.Omega.{arith}
-use native.Mathlib.Nat.{mul-le-mul, sub-zero}
+use native.Mathlib.Nat.{mul-le-mul}
 use lib.IntN.{pos, nat_abs}
 use lib.ListN.{length, get_or, length-set}
 use Rattle.arith.proofs.Signed.{back}
@@ -40,4 +40,3 @@ loop-i-preserved c =
 
 pub returns : goal.returns
 returns c = written_end c.loop-i.sums c.loop-i.i _ _ (omega arith) (mapped_end _ c.loop-i.i _ (omega arith)) c.loop-i.invariant.3
-

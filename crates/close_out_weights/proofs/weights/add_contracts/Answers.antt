@@ -1,9 +1,7 @@
-use Prim.Native.Nat.{◌-◌}
-use mathlib.Core.Path.{◌≡◌, refl, ap, ◌∙◌}
+use mathlib.Core.Path.{refl, ap, ◌∙◌}
 use native.Mathlib.Omega.{arith}
 use lib.ListN.{length}
 use Rattle.arith.proofs.Columns.{mapped_length}
-use Rattle.rules.specs.Ranges.{term_count}
 use Rattle.close_out_weights.proofs.DayWeights.{sums_start, sums_next}
 use Rattle.close_out_weights.proofs.ColumnFits.{sums_most}
 use Rattle.close_out_weights.proofs.weights.add_contracts.Goals as goal
@@ -23,4 +21,3 @@ loop-contract-preserved c =
     let added = rw c.loop-contract.invariant.1 at c.add_if_open.ensures in
     let next = sums_next a.days.now a.lots.now (length a.sums.now) c.loop-contract.contract c.loop-contract.sums _ c.loop-contract.invariant.2 added in
     (omega arith, ap length next ∙ mapped_length _ 0 (length a.sums.now), next)
-

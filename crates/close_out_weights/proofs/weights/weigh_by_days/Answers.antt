@@ -1,7 +1,7 @@
 use Prim.Native.Nat.{◌+◌, ◌-◌}
 use mathlib.Core.Path.{◌≡◌, ap, ◌∙◌}
 use native.Mathlib.Omega.{arith}
-use lib.ListN.{length, get_or, length-take}
+use lib.ListN.{length, get_or}
 use Rattle.rules.specs.Ledger.{with_head, with_rows}
 use Rattle.close_out_weights.proofs.Still.{zeros_front}
 use Rattle.close_out_weights.proofs.DayWeights.{open_days_length, open_days_most, weights_by_days}
