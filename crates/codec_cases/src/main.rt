@@ -275,10 +275,7 @@ fn short(rt: &impl Print) -> io::Result<()> {
         codec::write_record(3, Event::CloseOfDay(86400), &[], &mut out),
     )?;
     show_again(rt, &out, b"\x09\x09\x09\x09")?;
-    show_answer(
-        rt,
-        codec::write_record(3, Event::Default(2), &[], &mut out),
-    )?;
+    show_answer(rt, codec::write_record(3, Event::Default(2), &[], &mut out))?;
     show_again(rt, &out, b"\x05\x02\x09\x09")?;
     rt.println("")
 }
