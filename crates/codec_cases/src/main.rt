@@ -5,10 +5,9 @@
 ghost use Rattle.std.specs.Prelude.{◌≡◌};
 ghost use Rattle.rules.specs.Records.{reply_of_reading, reply_of_front};
 
-use codec::Legs;
 use header::JournalHeader;
 use record_kinds::places::MOST_NUMBERS;
-use rules::{Event, Front, Refusal};
+use rules::{Answer, Event, Front, Kurus, Leg, Lots, Reading};
 use std::io;
 use std::io::Print;
 
@@ -59,10 +58,10 @@ fn show_event(rt: &impl Print, event: Event) -> io::Result<()> {
     Ok(())
 }
 
-fn show_last_leg(rt: &impl Print, legs: Legs) -> io::Result<()> {
-    number(rt, legs.orders[1])?;
-    number(rt, legs.lots[1])?;
-    number(rt, legs.prices[1])
+fn show_leg(rt: &impl Print, leg: Leg) -> io::Result<()> {
+    number(rt, leg.order)?;
+    number(rt, leg.lots.0)?;
+    number(rt, leg.price.0)
 }
 
 // Whether the record that is written begins as the bytes do.
@@ -83,9 +82,9 @@ fn record(rt: &impl Print, members: u64, bytes: &[u8]) -> io::Result<()> {
         Some(event) => {
             let legs = codec::read_legs(bytes);
             show_event(rt, event)?;
-            show_last_leg(rt, legs)?;
+            show_leg(rt, legs[1])?;
             let mut out = [0u8; 128];
-            show_answer(rt, codec::write_record(members, event, legs, &mut out))?;
+            show_answer(rt, codec::write_record(members, event, &legs, &mut out))?;
             show_again(rt, &out, bytes)?;
         }
         None => number(rt, reading_number(reading))?,
@@ -224,17 +223,17 @@ fn proposals(rt: &impl Print) -> io::Result<()> {
     record(rt, 3, b"\x04")
 }
 
-// Proposals of as many legs, from columns.
+// Proposals of as many legs.
 fn legs(rt: &impl Print, count: u64) -> io::Result<()> {
     let mut out = [0u8; 128];
-    let columns = Legs {
-        orders: [7; 12],
-        lots: [1; 12],
-        prices: [256; 12],
+    let leg = Leg {
+        order: 7,
+        lots: Lots(1),
+        price: Kurus(256),
     };
     show_answer(
         rt,
-        codec::write_record(3, Event::Proposal(count), columns, &mut out),
+        codec::write_record(3, Event::Proposal(count), &[leg; 12], &mut out),
     )?;
     number(rt, u64::from(out[1]))?;
     rt.println("")
@@ -262,21 +261,17 @@ fn others(rt: &impl Print) -> io::Result<()> {
 // A record that has room for it but one byte.
 fn short(rt: &impl Print) -> io::Result<()> {
     let mut out = [9u8; 4];
-    let columns = codec::read_legs(b"");
     show_answer(
         rt,
-        codec::write_record(3, Event::CloseOfDay(61200), columns, &mut out),
+        codec::write_record(3, Event::CloseOfDay(61200), &[], &mut out),
     )?;
     show_again(rt, &out, b"\x09\x09\x09\x09")?;
     show_answer(
         rt,
-        codec::write_record(3, Event::CloseOfDay(86400), columns, &mut out),
+        codec::write_record(3, Event::CloseOfDay(86400), &[], &mut out),
     )?;
     show_again(rt, &out, b"\x09\x09\x09\x09")?;
-    show_answer(
-        rt,
-        codec::write_record(3, Event::Default(2), columns, &mut out),
-    )?;
+    show_answer(rt, codec::write_record(3, Event::Default(2), &[], &mut out))?;
     show_again(rt, &out, b"\x05\x02\x09\x09")?;
     rt.println("")
 }

@@ -12,9 +12,9 @@ ghost use Rattle.proposal_check.specs.Legs.{LegsFit, places_of};
 
 use crate::booking::{book_legs, total_lots, use_orders};
 use proposal_check::{is_acceptable, write_places};
-use rules::{Leg, Refusal};
 use rules::layout::{LEG_PLACES, LOTS_RUN, ORDER_COUNT};
 use rules::ranges::MOST_LOTS_RUN;
+use rules::{Answer, Leg};
 
 // Applies the proposal whose legs name the orders at these places.
 fn apply_at(

@@ -36,9 +36,9 @@ fn resting(order: u64, contract: u64, side: Side, price: u64, lots: u64) -> Subm
     };
     Submission {
         time: 36000 + order,
-        member: member,
-        contract: contract,
-        side: side,
+        member,
+        contract,
+        side,
         kind: OrderKind::Resting,
         price: Kurus(price),
         lots: Lots(lots),
@@ -60,17 +60,15 @@ fn three_quarters() -> [Submission; 12] {
     let mut orders = [resting(0, 2, Side::Buy, 31000, 1); 12];
     orders[1] = resting(1, 3, Side::Buy, 31000, 1);
     orders[2] = resting(2, 4, Side::Buy, 31000, 1);
-    let mut i: usize = 3;
-    while i < 12 {
+    for i in 3..12 {
         orders[i] = resting(i as u64, i as u64 + 5, Side::Sell, 30000, 1);
-        i += 1;
     }
     orders
 }
 
 fn leg(order: u64, lots: u64, price: u64) -> Leg {
     Leg {
-        order: order,
+        order,
         lots: Lots(lots),
         price: Kurus(price),
     }
@@ -79,10 +77,8 @@ fn leg(order: u64, lots: u64, price: u64) -> Leg {
 // A leg of each order, of the same lots and price.
 fn each(lots: u64, price: u64) -> [Leg; 12] {
     let mut legs = [leg(0, lots, price); 12];
-    let mut i: usize = 1;
-    while i < 12 {
-        legs[i] = leg(i as u64, lots, price);
-        i += 1;
+    for i in 1..12 {
+        legs[i].order = i as u64;
     }
     legs
 }
@@ -91,21 +87,19 @@ fn each(lots: u64, price: u64) -> [Leg; 12] {
 fn put_leg(out: &mut [u8], at: usize, leg: Leg)
     requires { at + 10 ≤ length out.old }
 {
-    big_endian::put_u32(&mut *out, at, leg.order);
-    big_endian::put_u16(&mut *out, at + 4, leg.lots.0);
-    big_endian::put_u32(&mut *out, at + 6, leg.price.0);
+    big_endian::put_u32(out, at, leg.order);
+    big_endian::put_u16(out, at + 4, leg.lots.0);
+    big_endian::put_u32(out, at + 6, leg.price.0);
 }
 
 // The bytes of a proposal, sound or not: the writer of records writes only sound ones. A thirteenth leg is zeros.
 fn put_legs(out: &mut [u8], legs: [Leg; 12], count: u64)
     requires { (length out.old ≡ 132) × (count ≤ 13) }
 {
-    big_endian::put_u8(&mut *out, 0, PROPOSAL);
-    big_endian::put_u8(&mut *out, 1, count);
-    let mut i: usize = 0;
-    while i < 12 {
-        put_leg(&mut *out, 2 + 10 * i, legs[i]);
-        i += 1;
+    big_endian::put_u8(out, 0, PROPOSAL);
+    big_endian::put_u8(out, 1, count);
+    for i in 0..12 {
+        put_leg(out, 2 + 10 * i, legs[i]);
     }
 }
 
@@ -119,9 +113,8 @@ fn submit(
     order: Submission,
 ) -> Result<u64, Refusal> {
     let mut out = [0u8; 15];
-    let no_legs = codec::read_legs(b"");
-    codec::write_record(MEMBERS, Event::Submit(order), no_legs, &mut out)?;
-    engine::apply(head, prices, lots, value, book, lines, &out)
+    codec::write_record(MEMBERS, Event::Submit(order), &[], &mut out);
+    engine::apply(head, prices, lots, value, book, lines, &out);
 }
 
 // A ledger of first year 2021, start day 369, two members, no holidays and limits 1000, where the first orders rest.
@@ -138,38 +131,28 @@ fn make_ledger(
     requires { count ≤ 12 }
 {
     engine::make(
-        &mut *head,
-        &mut *prices,
-        &mut *lots,
-        &mut *value,
-        &*book,
+        head,
+        prices,
+        lots,
+        value,
+        book,
         b"VJR\x00\x01\x07\xe5\x01\x71\x02\x00\x00\x00\x03\xe8\x00\x00\x03\xe8",
-    )?;
-    let mut i: usize = 0;
-    while i < count {
-        submit(
-            &mut *head,
-            &mut *prices,
-            &mut *lots,
-            &mut *value,
-            &mut *book,
-            &mut *lines,
-            orders[i],
-        )?;
-        i += 1;
+    );
+    for order in &orders[..count] {
+        submit(head, prices, lots, value, book, lines, *order);
     }
     Ok(())
 }
 
 // The check asks for tables that are long enough and not damaged, so they are tested first.
-fn show_check<'t>(
+fn show_check(
     rt: &impl Print,
-    head: &'t [u64],
-    prices: &'t [u64],
-    lots: &'t [i64],
-    value: &'t [i64],
-    book: &'t [u64],
-    lines: &'t [i64],
+    head: &[u64],
+    prices: &[u64],
+    lots: &[i64],
+    value: &[i64],
+    book: &[u64],
+    lines: &[i64],
     legs: [Leg; 12],
     count: usize,
 ) -> io::Result<()> {

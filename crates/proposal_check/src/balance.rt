@@ -10,10 +10,10 @@ ghost use Rattle.proposal_check.specs.Sums.{amount_of, SumsTo, SumsFit, month_su
 
 use crate::side_places::{SIDE_PLACES, SIDES, side_place};
 use order_book::order_at;
+use rules::Leg;
 use rules::ranges::{
     CONTRACTS_IN_YEAR, FIRST_QUARTER, JANUARY, MONTHS_IN_QUARTER, MONTHS_IN_SPAN, MONTHS_IN_YEAR,
 };
-use rules::Leg;
 
 // What a lot adds to a sum beside its price: more than the values of all legs together, so that sums are equal exactly if
 // lots and values both are.

@@ -53,12 +53,7 @@ fn is_price_allowed(prices: &[u64], leg: Leg, order: Order) -> bool
 }
 
 // Whether each leg's order has its lots and allows its price.
-pub fn are_within(
-    prices: &[u64],
-    book: &[u64],
-    places: &[usize],
-    legs: &[Leg],
-) -> bool
+pub fn are_within(prices: &[u64], book: &[u64], places: &[usize], legs: &[Leg]) -> bool
     requires prices_length_in_bounds { (prices_length ≤ length prices.now) × PlacesFit most_orders places.now × ContractsFit book.now places.now }
     requires legs_fit { length places.now ≡ length legs.now }
     ensures { (t : Tables) → result ≡ every (λ n. has_lots n && price_allowed (with_prices prices.now t) n)

@@ -58,12 +58,7 @@ fn are_kept(book: &[u64], count: usize, lasts: &[u64], legs: &[Leg]) -> bool
 }
 
 // Whether each order of the book that is ahead of a leg is a leg in full.
-pub fn is_priority_kept(
-    book: &[u64],
-    count: usize,
-    places: &[usize],
-    legs: &[Leg],
-) -> bool
+pub fn is_priority_kept(book: &[u64], count: usize, places: &[usize], legs: &[Leg]) -> bool
     requires { OrdersRanked count book.now × PlacesFit count places.now }
     ensures { result ≡ every (λ o. not (is_ahead book.now places.now o) || is_full_leg legs.now o) (orders_in count book.now) }
 {
