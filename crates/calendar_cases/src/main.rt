@@ -45,12 +45,10 @@ fn print_next(rt: &impl Print, holidays: &[u64], day: DayNo) -> io::Result<()> {
 // The last day up to 700 on which a contract of a ledger that begins in 2020 is open: its closing day.
 fn print_closing(rt: &impl Print, holidays: &[u64], contract: u64) -> io::Result<()> {
     let mut last = None;
-    let mut day: u64 = 0;
-    while day <= 700 {
-        if contracts::is_open(2020, holidays, DayNo(day), contract) {
-            last = Some(DayNo(day));
+    for day in (0..=700).map(DayNo) {
+        if contracts::is_open(2020, holidays, day, contract) {
+            last = Some(day);
         }
-        day += 1;
     }
     print_day(rt, last)
 }
@@ -59,49 +57,44 @@ fn print_closing(rt: &impl Print, holidays: &[u64], contract: u64) -> io::Result
 fn print_open(rt: &impl Print, holidays: &[u64], day: DayNo) -> io::Result<()> {
     let mut days = [0u64; TERMS];
     open_days::find_open_days(2020, holidays, day, &mut days);
-    let mut c: usize = 0;
-    while c < TERMS {
-        if 0 < days[c] {
-            println!(rt; "{c} {}", days[c])?;
+    for (contract, count) in days.iter().enumerate() {
+        if 0 < *count {
+            println!(rt; "{contract} {count}")?;
         }
-        c += 1;
     }
     Ok(())
 }
 
 // A 1 for each business day from `from` up to but not including `end`, a 0 for each other day.
 fn print_business_days(rt: &impl Print, holidays: &[u64], from: u64, end: u64) -> io::Result<()> {
-    let mut day = from;
-    while day < end {
-        if calendar::is_business_day(holidays, DayNo(day)) {
-            rt.print("1")?;
+    for day in from..end {
+        let digit = if calendar::is_business_day(holidays, DayNo(day)) {
+            "1"
         } else {
-            rt.print("0")?;
-        }
-        day += 1;
+            "0"
+        };
+        rt.print(digit)?;
     }
     rt.println("")
 }
 
 fn main(rt: HostRuntime) -> io::Result<()> {
-    let holidays = HOLIDAYS;
     // Year 2021, its January, its four quarters; the year 2020 closed before day 0.
-    print_closing(&rt, &holidays[..0], 17)?;
-    print_closing(&rt, &holidays[..0], 22)?;
-    print_closing(&rt, &holidays[..0], 18)?;
-    print_closing(&rt, &holidays[..0], 19)?;
-    print_closing(&rt, &holidays[..0], 20)?;
-    print_closing(&rt, &holidays[..0], 21)?;
-    print_closing(&rt, &holidays[..0], 0)?;
-    print_closing(&rt, &holidays, 17)?;
-    print_closing(&rt, &holidays, 22)?;
+    print_closing(&rt, &[], 17)?;
+    print_closing(&rt, &[], 22)?;
+    print_closing(&rt, &[], 18)?;
+    print_closing(&rt, &[], 19)?;
+    print_closing(&rt, &[], 20)?;
+    print_closing(&rt, &[], 21)?;
+    print_closing(&rt, &[], 0)?;
+    print_closing(&rt, &HOLIDAYS, 17)?;
+    print_closing(&rt, &HOLIDAYS, 22)?;
     // After Friday, 3 January 2020; after 24 December 2020; after the span's last business day.
-    print_next(&rt, &holidays, DayNo(2))?;
-    print_next(&rt, &holidays, DayNo(358))?;
-    print_next(&rt, &holidays, DayNo(2191))?;
+    print_next(&rt, &HOLIDAYS, DayNo(2))?;
+    print_next(&rt, &HOLIDAYS, DayNo(358))?;
+    print_next(&rt, &HOLIDAYS, DayNo(2191))?;
     // A February of 29 days and a year of 366 among them; then the day on which January and first quarter 2021 close.
-    print_open(&rt, &holidays[..0], DayNo(1))?;
-    print_open(&rt, &holidays[..0], DayNo(363))?;
-    let feasts = FEASTS;
-    print_business_days(&rt, &feasts, 366, 731)
+    print_open(&rt, &[], DayNo(1))?;
+    print_open(&rt, &[], DayNo(363))?;
+    print_business_days(&rt, &FEASTS, 366, 731)
 }

@@ -2,11 +2,10 @@
 use crate::argument::{Argument, LONGEST, is_option, read_argument, too_long, wrong};
 use crate::help::{print_help, print_version, print_word};
 use crate::input::{Source, run_on};
-use crate::statuses::status_byte;
 use crate::word::Word;
 use std::io;
 use std::io::IsTerminal;
-use streams::{Ending, fail};
+use streams::{Ending, fail, status};
 
 // What stands behind a word.
 #[derive(Clone, Copy)]
@@ -58,7 +57,7 @@ fn run_option(rt: &HostRuntime, text: &[u8]) -> u8 {
 
 // The status after help was printed.
 fn status_of_printing(rt: &HostRuntime, printed: io::Result<()>) -> u8 {
-    status_byte(match printed {
+    status(match printed {
         Ok(()) => Ending::ReadToEnd,
         Err(error) => fail(rt, "standard output", error, Ending::WriteFailed),
     })

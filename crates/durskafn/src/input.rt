@@ -1,10 +1,10 @@
 // A program on the file of a call, or on standard input.
-ghost use Rattle.std.specs.Prelude.{◌≡◌, pos};
+ghost use Rattle.std.specs.Prelude.{◌≡◌};
 ghost use Rattle.streams.specs.declared.ending.Ending.{Ending};
 ghost use Rattle.streams.specs.Windows.{status_of};
 
 use crate::argument::{Argument, LONGEST, read_argument, tell, wrong};
-use crate::statuses::{WRONG_CALL, status_byte};
+use crate::statuses::WRONG_CALL;
 use crate::system::{STACK_KIB, has_stack, input_size};
 use crate::word::Word;
 use journal_program::journal_run;
@@ -12,7 +12,7 @@ use listing_program::listing_run;
 use std::fs::File;
 use std::io::{Eprint, Read};
 use std::{fs, io};
-use streams::{Ending, fail};
+use streams::{Ending, fail, status};
 
 // What the system says where a folder is read, and of a name that is longer than any path.
 const IS_A_FOLDER: i32 = 21;
@@ -46,7 +46,7 @@ pub fn run_on(rt: &HostRuntime, word: Word, source: Source, is_said: bool) -> u8
                 Argument::Missing => wrong(rt, "the file's name is gone", b""),
                 Argument::TooLong => {
                     let error = io::Error::from_raw_os_error(NAME_IS_TOO_LONG);
-                    status_byte(fail(rt, "an argument", error, Ending::ReadFailed))
+                    status(fail(rt, "an argument", error, Ending::ReadFailed))
                 }
             }
         }
@@ -60,12 +60,12 @@ fn run_on_file(rt: &HostRuntime, word: Word, name: &[u8], is_said: bool) -> u8 {
                 let size = file_size(&file);
                 run_on_reader(rt, word, &mut file, is_said, size)
             }
-            Err(error) => status_byte(fail(rt, path, error, Ending::ReadFailed)),
+            Err(error) => status(fail(rt, path, error, Ending::ReadFailed)),
         },
         Err(_) => {
             // std's paths are text.
             tell(rt, "", name, ": the name is not UTF-8");
-            status_byte(Ending::ReadFailed)
+            status(Ending::ReadFailed)
         }
     }
 }
@@ -79,18 +79,13 @@ fn open(rt: &HostRuntime, path: &str) -> io::Result<File> {
 }
 
 fn is_folder(file: &File) -> bool {
-    match file.metadata() {
-        Ok(found) => found.is_dir(),
-        Err(_) => false,
-    }
+    file.metadata().is_ok_and(|found| found.is_dir())
 }
 
-// How many bytes the file has, or 0 where that is not known.
-fn file_size(file: &File) -> u64 {
-    match file.metadata() {
-        Ok(found) if found.is_file() => found.len(),
-        _ => 0,
-    }
+// How many bytes the file has, where that is known.
+fn file_size(file: &File) -> Option<u64> {
+    let found = file.metadata().ok()?;
+    found.is_file().then_some(found.len())
 }
 
 fn run_on_reader(
@@ -98,12 +93,12 @@ fn run_on_reader(
     word: Word,
     reader: &mut impl Read,
     is_said: bool,
-    size: u64,
+    size: Option<u64>,
 ) -> u8
-    ensures { (ending : Ending) × (pos result ≡ status_of ending) }
+    ensures { (ending : Ending) × (result ≡ status_of ending) }
 {
     match word {
-        Word::Journal => journal_run(rt, reader, is_said, size) as u8,
-        Word::Listing => listing_run(rt, reader, is_said, size) as u8,
+        Word::Journal => journal_run(rt, reader, is_said, size),
+        Word::Listing => listing_run(rt, reader, is_said, size),
     }
 }

@@ -24,19 +24,16 @@ fn number_in(rt: &impl Files, path: &str, name: &str) -> Option<u64> {
 
 // Whether the stack may become as large. Where no number stands, no limit is known.
 pub fn has_stack(rt: &impl Files) -> bool {
-    match number_in(rt, "/proc/self/limits", "Max stack size") {
-        Some(bytes) => bytes >= STACK_KIB * BYTES_OF_KIB,
-        None => true,
-    }
+    number_in(rt, "/proc/self/limits", "Max stack size").is_none_or(|bytes| bytes
+        >= STACK_KIB * BYTES_OF_KIB)
 }
 
-// How many bytes standard input still has, or 0 where that is not known.
-pub fn input_size(rt: &impl Files) -> u64 {
-    match fs::metadata(rt, "/proc/self/fd/0") {
-        Ok(found) if found.is_file() => match number_in(rt, "/proc/self/fdinfo/0", "pos:") {
-            Some(passed) => found.len().saturating_sub(passed),
-            None => 0,
-        },
-        _ => 0,
+// How many bytes standard input still has, where that is known.
+pub fn input_size(rt: &impl Files) -> Option<u64> {
+    let found = fs::metadata(rt, "/proc/self/fd/0").ok()?;
+    if !found.is_file() {
+        return None;
     }
+    let passed = number_in(rt, "/proc/self/fdinfo/0", "pos:")?;
+    Some(found.len().saturating_sub(passed))
 }

@@ -14,6 +14,7 @@ use Rattle.rules.specs.declared.event.Front.TheVariants.{Whole, Cut, UnknownKind
 use Rattle.rules.specs.Header.{header_of, header_length}
 use Rattle.rules.specs.Journal.{next_length}
 use Rattle.rules.specs.Records.{front_of}
+use Rattle.std.specs.Prelude.{Some}
 use Rattle.journal.specs.Stages.{length_by_now, length_now}
 use Rattle.journal.proofs.Fronts.{next_some, now_next}
 use Rattle.journal.proofs.Headers.{length_more, header_more}

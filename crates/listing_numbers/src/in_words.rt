@@ -15,7 +15,7 @@ fn put_two_digits(out: &mut [u8], place: usize, n: u64) -> usize
 {
     let tens = n / 10 % 10;
     let ones = n % 10;
-    let next = put_byte(&mut *out, place, b'0' + tens as u8);
+    let next = put_byte(out, place, b'0' + tens as u8);
     put_byte(out, next, b'0' + ones as u8)
 }
 
@@ -24,11 +24,11 @@ pub fn put_time(out: &mut [u8], place: usize, seconds: u64) -> usize
     requires { place + 9 ≤ length out.old }
     ensures { Short 9 place (space ∷ time_text seconds) out.old out.new result }
 {
-    let i = put_byte(&mut *out, place, b' ');
-    let i = put_two_digits(&mut *out, i, seconds / 3600);
-    let i = put_byte(&mut *out, i, b':');
-    let i = put_two_digits(&mut *out, i, seconds / 60 % 60);
-    let i = put_byte(&mut *out, i, b':');
+    let i = put_byte(out, place, b' ');
+    let i = put_two_digits(out, i, seconds / 3600);
+    let i = put_byte(out, i, b':');
+    let i = put_two_digits(out, i, seconds / 60 % 60);
+    let i = put_byte(out, i, b':');
     put_two_digits(out, i, seconds % 60)
 }
 
@@ -37,8 +37,8 @@ pub fn put_price(out: &mut [u8], place: usize, kurus: u64) -> usize
     requires { place + 24 ≤ length out.old }
     ensures { Short 24 place (space ∷ price_text kurus) out.old out.new result }
 {
-    let i = put_field(&mut *out, place, kurus / 100);
-    let i = put_byte(&mut *out, i, b'.');
+    let i = put_field(out, place, kurus / 100);
+    let i = put_byte(out, i, b'.');
     put_two_digits(out, i, kurus % 100)
 }
 
@@ -47,8 +47,8 @@ fn put_quarter(out: &mut [u8], place: usize, index: u64) -> usize
     ensures { Short 3 place (quarter_text index) out.old out.new result }
 {
     let quarter = 1 + index % QUARTERS_IN_YEAR;
-    let i = put_byte(&mut *out, place, b' ');
-    let i = put_byte(&mut *out, i, b'Q');
+    let i = put_byte(out, place, b' ');
+    let i = put_byte(out, i, b'Q');
     put_byte(out, i, b'0' + quarter as u8)
 }
 
@@ -56,7 +56,7 @@ fn put_month(out: &mut [u8], place: usize, index: u64) -> usize
     requires { place + 3 ≤ length out.old }
     ensures { Short 3 place (month_text index) out.old out.new result }
 {
-    let i = put_byte(&mut *out, place, b'-');
+    let i = put_byte(out, place, b'-');
     put_two_digits(out, i, 1 + index % MONTHS_IN_YEAR)
 }
 
@@ -67,11 +67,11 @@ fn put_term(out: &mut [u8], place: usize, first_year: u64, kind: ContractKind, i
     match kind {
         ContractKind::Year => put_decimal(out, place, first_year + index),
         ContractKind::Quarter => {
-            let i = put_decimal(&mut *out, place, first_year + index / QUARTERS_IN_YEAR);
+            let i = put_decimal(out, place, first_year + index / QUARTERS_IN_YEAR);
             put_quarter(out, i, index)
         }
         ContractKind::Month => {
-            let i = put_decimal(&mut *out, place, first_year + index / MONTHS_IN_YEAR);
+            let i = put_decimal(out, place, first_year + index / MONTHS_IN_YEAR);
             put_month(out, i, index)
         }
     }
@@ -82,13 +82,12 @@ pub fn put_contract(out: &mut [u8], place: usize, first_year: u64, contract: u64
     requires { (place + 47 ≤ length out.old) × (first_year ≤ 2 ^ 32) × (contract < 2 ^ 32) }
     ensures { Short 47 place (contract_text first_year contract) out.old out.new result }
 {
-    let i = put_field(&mut *out, place, contract);
+    let i = put_field(out, place, contract);
     if TERM_COUNT <= contract {
         return i;
     }
     let term = term_of(contract);
-    let kind = term.kind;
-    let i = put_bytes(&mut *out, i, b" (");
-    let i = put_term(&mut *out, i, first_year, kind, term.index);
+    let i = put_bytes(out, i, b" (");
+    let i = put_term(out, i, first_year, term.kind, term.index);
     put_byte(out, i, b')')
 }

@@ -5,4 +5,4 @@ mod field;
 mod names;
 
 pub use field::{Quantity, Range, Shape, Verdict};
-pub use names::{Word, kind_word, name_of, order_kind_word, put_word, side_word};
+pub use names::{kind_word, name_of, order_kind_word, put_word, side_word};

@@ -1,5 +1,5 @@
 // The names of fields, and the words for what a byte stands for.
-ghost use Rattle.std.specs.Prelude.{◌≡◌, ◌+◌, ◌≤◌, length, take};
+ghost use Rattle.std.specs.Prelude.{◌+◌, ◌≤◌, length};
 ghost use Rattle.listing_numbers.specs.Short.{Short};
 ghost use Rattle.listing_words.specs.Word.{IsWord};
 ghost use Rattle.listing_words.specs.Words.{name_of, kind_word, side_word, order_kind_word};
@@ -8,90 +8,74 @@ use rules::Field;
 use rules::kinds::{CANCEL, CLOSE_OUT, DAY_LIMITS, DEFAULT, PROPOSAL, SUBMIT};
 use text::put_bytes;
 
-// At most 24 letters; the places past them are blank.
-#[derive(Clone, Copy)]
-pub struct Word {
-    pub letters: [u8; 24],
-    pub length: usize,
-}
-
-fn spelled(letters: [u8; 24], length: usize) -> Word
-    ensures { (result.letters ≡ letters) × (result.length ≡ length) }
-{
-    Word {
-        letters: letters,
-        length: length,
-    }
-}
-
-pub fn name_of(field: Field) -> Word
-    ensures { IsWord (name_of field) result }
+// Each word has at most 24 letters.
+pub fn name_of(field: Field) -> &'static [u8]
+    ensures { IsWord (name_of field) result.now }
 {
     match field {
-        Field::LetterV => spelled(*b" letter                 ", 7),
-        Field::LetterJ => spelled(*b" letter                 ", 7),
-        Field::LetterR => spelled(*b" letter                 ", 7),
-        Field::Version => spelled(*b" version                ", 8),
-        Field::FirstYear => spelled(*b" first year             ", 11),
-        Field::StartDay => spelled(*b" start day              ", 10),
-        Field::Members => spelled(*b" members                ", 8),
-        Field::HolidayCount => spelled(*b" holidays               ", 9),
-        Field::Holiday => spelled(*b" holiday                ", 8),
-        Field::Limit => spelled(*b" limit                  ", 6),
-        Field::Kind => spelled(*b" kind                   ", 5),
-        Field::Time => spelled(*b" time                   ", 5),
-        Field::Member => spelled(*b" member                 ", 7),
-        Field::Contract => spelled(*b" contract               ", 9),
-        Field::Side => spelled(*b" side                   ", 5),
-        Field::OrderKind => spelled(*b" order kind             ", 11),
-        Field::Price => spelled(*b" price                  ", 6),
-        Field::Lots => spelled(*b" lots                   ", 5),
-        Field::Order => spelled(*b" order                  ", 6),
-        Field::Low => spelled(*b" low                    ", 4),
-        Field::High => spelled(*b" high                   ", 5),
-        Field::Legs => spelled(*b" legs                   ", 5),
-        Field::Ratio => spelled(*b" ratio                  ", 6),
+        Field::LetterV | Field::LetterJ | Field::LetterR => b" letter",
+        Field::Version => b" version",
+        Field::FirstYear => b" first year",
+        Field::StartDay => b" start day",
+        Field::Members => b" members",
+        Field::HolidayCount => b" holidays",
+        Field::Holiday => b" holiday",
+        Field::Limit => b" limit",
+        Field::Kind => b" kind",
+        Field::Time => b" time",
+        Field::Member => b" member",
+        Field::Contract => b" contract",
+        Field::Side => b" side",
+        Field::OrderKind => b" order kind",
+        Field::Price => b" price",
+        Field::Lots => b" lots",
+        Field::Order => b" order",
+        Field::Low => b" low",
+        Field::High => b" high",
+        Field::Legs => b" legs",
+        Field::Ratio => b" ratio",
     }
 }
 
-pub fn kind_word(kind: u64) -> Word
-    ensures { IsWord (kind_word kind) result }
+#[tactic(auto, unfolding(crate::specs::Words::kind_word))]
+pub fn kind_word(kind: u64) -> &'static [u8]
+    ensures { IsWord (kind_word kind) result.now }
 {
     match kind {
-        SUBMIT => spelled(*b" submit                 ", 7),
-        CANCEL => spelled(*b" cancel                 ", 7),
-        DAY_LIMITS => spelled(*b" day limits             ", 11),
-        PROPOSAL => spelled(*b" proposal               ", 9),
-        DEFAULT => spelled(*b" default                ", 8),
-        CLOSE_OUT => spelled(*b" close-out              ", 10),
-        _ => spelled(*b" close of day           ", 13),
+        SUBMIT => b" submit",
+        CANCEL => b" cancel",
+        DAY_LIMITS => b" day limits",
+        PROPOSAL => b" proposal",
+        DEFAULT => b" default",
+        CLOSE_OUT => b" close-out",
+        _ => b" close of day",
     }
 }
 
-pub fn side_word(side: u64) -> Word
-    ensures { IsWord (side_word side) result }
+#[tactic(auto, unfolding(crate::specs::Words::side_word))]
+pub fn side_word(side: u64) -> &'static [u8]
+    ensures { IsWord (side_word side) result.now }
 {
     match side {
-        0 => spelled(*b" buy                    ", 4),
-        _ => spelled(*b" sell                   ", 5),
+        0 => b" buy",
+        _ => b" sell",
     }
 }
 
-pub fn order_kind_word(kind: u64) -> Word
-    ensures { IsWord (order_kind_word kind) result }
+#[tactic(auto, unfolding(crate::specs::Words::order_kind_word))]
+pub fn order_kind_word(kind: u64) -> &'static [u8]
+    ensures { IsWord (order_kind_word kind) result.now }
 {
     match kind {
-        0 => spelled(*b" resting                ", 8),
-        1 => spelled(*b" OEYE                   ", 5),
-        _ => spelled(*b" TEYE                   ", 5),
+        0 => b" resting",
+        1 => b" OEYE",
+        _ => b" TEYE",
     }
 }
 
-pub fn put_word(out: &mut [u8], place: usize, word: Word) -> usize
-    requires { (place + 24 ≤ length out.old) × (word.length ≤ 24) × (length word.letters ≡ 24) }
-    ensures { Short 24 place (take word.length word.letters) out.old out.new result }
+pub fn put_word(out: &mut [u8], place: usize, word: &[u8]) -> usize
+    requires { (place + 24 ≤ length out.old) × (length word.now ≤ 24) }
+    ensures { Short 24 place word.now out.old out.new result }
 {
-    let letters = word.letters;
-    let length = word.length;
-    put_bytes(out, place, &letters[..length])
+    put_bytes(out, place, word)
 }

@@ -4,7 +4,9 @@ use Rattle.streams.proofs.Reading.{read_within}
 use Rattle.listing_program.proofs.shell.read_header.Goals as goal
 
 pub loop-preserved : goal.loop-preserved
-loop-preserved g c = read_within _ _ _ _ c.read_more-window.ensures (c.loop.auto.input ∙ c.requires.1) c.in_ok-window.was
+loop-preserved g c =
+    let w = c.loop.invariant in
+    (read_within _ _ _ _ c.read_more.ensures w.1 c.in_ok-window.was, c.read_more.auto.input ∙ w.1)
 
 pub returns-in_err-window : goal.returns-in_err-window
 returns-in_err-window g c =
