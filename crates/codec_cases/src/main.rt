@@ -7,7 +7,7 @@ ghost use Rattle.rules.specs.Records.{reply_of_reading, reply_of_front};
 
 use header::JournalHeader;
 use record_kinds::places::MOST_NUMBERS;
-use rules::{Answer, Event, Front, Kurus, Leg, Lots, Reading};
+use rules::{Event, Front, Kurus, Leg, Lots, Refusal};
 use std::io;
 use std::io::Print;
 

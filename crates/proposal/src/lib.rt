@@ -14,7 +14,7 @@ use crate::booking::{book_legs, total_lots, use_orders};
 use proposal_check::{is_acceptable, write_places};
 use rules::layout::{LEG_PLACES, LOTS_RUN, ORDER_COUNT};
 use rules::ranges::MOST_LOTS_RUN;
-use rules::{Answer, Leg};
+use rules::{Leg, Refusal};
 
 // Applies the proposal whose legs name the orders at these places.
 fn apply_at(

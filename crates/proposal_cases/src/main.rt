@@ -113,8 +113,8 @@ fn submit(
     order: Submission,
 ) -> Result<u64, Refusal> {
     let mut out = [0u8; 15];
-    codec::write_record(MEMBERS, Event::Submit(order), &[], &mut out);
-    engine::apply(head, prices, lots, value, book, lines, &out);
+    codec::write_record(MEMBERS, Event::Submit(order), &[], &mut out)?;
+    engine::apply(head, prices, lots, value, book, lines, &out)
 }
 
 // A ledger of first year 2021, start day 369, two members, no holidays and limits 1000, where the first orders rest.
@@ -137,9 +137,9 @@ fn make_ledger(
         value,
         book,
         b"VJR\x00\x01\x07\xe5\x01\x71\x02\x00\x00\x00\x03\xe8\x00\x00\x03\xe8",
-    );
+    )?;
     for order in &orders[..count] {
-        submit(head, prices, lots, value, book, lines, *order);
+        submit(head, prices, lots, value, book, lines, *order)?;
     }
     Ok(())
 }
