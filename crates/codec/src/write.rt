@@ -66,7 +66,12 @@ fn put_fields(out: &mut [u8], event: Event, legs: &[Leg])
 }
 
 // The record of an event, with its legs, the first ones of a slice: RecordUnsound before TableUnsound, and nothing written on either.
-pub fn write_record(members: u64, event: Event, legs: &[Leg], out: &mut [u8]) -> Result<u64, Refusal>
+pub fn write_record(
+    members: u64,
+    event: Event,
+    legs: &[Leg],
+    out: &mut [u8],
+) -> Result<u64, Refusal>
     ensures { record { answer = result; after = out.new } ≡ write_spec members event (take (leg_count event) legs.now) out.old }
 {
     if !is_member_count_sound(members) {
