@@ -1,9 +1,8 @@
 // The header of a journal, and which are sound.
-ghost use Rattle.std.specs.Prelude.{◌≡◌, ◌<◌, ◌≤◌};
+ghost use Rattle.std.specs.Prelude.{◌≡◌, ◌<◌};
 ghost use Rattle.arith.specs.Lists.{every};
-ghost use Rattle.rules.specs.Ranges.{most_members, most_holidays};
 ghost use Rattle.rules.specs.Header.{length_of_header, members_sound, limit_sound, header_sound};
-ghost use Rattle.header.specs.Journal.{firsts, days_sound, header_from};
+ghost use Rattle.header.specs.Journal.{days_sound, header_from};
 
 use rules::DayNo;
 use rules::layout::{HOLIDAY_PLACES, MEMBER_PLACES};
