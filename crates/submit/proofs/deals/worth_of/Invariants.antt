@@ -1,4 +1,4 @@
-use Prim.Native.Nat.{◌≤◌, ◌-◌}
+use Prim.Native.Nat.{◌≤◌}
 use Rattle.submit.proofs.Kept.{WorthTo}
 use Rattle.submit.proofs.deals.worth_of.Given as goal
 
