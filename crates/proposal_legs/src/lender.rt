@@ -24,6 +24,5 @@ pub fn are_first_acceptable(
     if MOST_LEGS < count as u64 {
         return false;
     }
-    let first = &legs[..count];
-    are_legs_acceptable(first, head, prices, book)
+    are_legs_acceptable(&legs[..count], head, prices, book)
 }

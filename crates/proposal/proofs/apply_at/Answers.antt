@@ -3,8 +3,7 @@ use lib.IntN.{ℤ}
 use mathlib.Core.List.{List}
 use mathlib.Core.Path.{◌≡◌, sym, ap, subst, ◌∙◌}
 use native.Mathlib.Omega.{arith}
-use lib.ListN.{length, get_or}
-use Rattle.arith.specs.Lists.{total, from}
+use lib.ListN.{length}
 use Rattle.rules.specs.Ledger.{Tables, Line, zero_tables, order_count, with_head, with_prices, with_rows, with_book, with_lines, with_orders, orders, booked}
 use Rattle.rules.specs.Synthetic.{proposal_lines, used_by_legs, proposal_booked}
 use Rattle.rules.specs.Refusals.{proposal_spec}

@@ -1,11 +1,8 @@
 use native.Mathlib.Omega.{arith}
 use mathlib.Core.Path.{◌≡◌}
-use native.Mathlib.Numerals.{add-one}
-use Prim.Native.Nat.{◌+◌}
-use lib.ListN.{drop, get_or, drop_of_length-le}
-use lib.Seq.{drop-cons}
+use lib.ListN.{drop_of_length-le}
 use Rattle.arith.specs.Lists.{total}
-use Rattle.proposal_check.specs.Legs.{no_leg, lots_of}
+use Rattle.proposal_check.specs.Legs.{lots_of}
 use Rattle.proposal.proofs.LegLines.{lots_first}
 use Rattle.proposal.proofs.booking.total_lots.Goals as goal
 
