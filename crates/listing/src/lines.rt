@@ -129,11 +129,9 @@ fn fault_place(bytes: &[u8], place: usize, verdict: Verdict) -> u64
     ensures { result ≡ fault_place bytes.now place verdict }
 {
     match verdict {
-        Verdict::Passes => place as u64,
         Verdict::Cut => bytes.len() as u64,
-        Verdict::OutOfRange => place as u64,
-        Verdict::NoBusinessDay => place as u64,
-        Verdict::OnStartDay => place as u64,
+        Verdict::Passes | Verdict::OutOfRange | Verdict::NoBusinessDay | Verdict::OnStartDay =>
+            place as u64,
     }
 }
 
@@ -234,7 +232,7 @@ pub fn put_header_line(bytes: &[u8], out: &mut [u8], start: usize) -> Listed
     let listed = put_fields(shape, count, 0, 0, 0, bytes, out, start);
     Listed {
         end: put_byte(out, listed.end, b'\n'),
-        is_sound: listed.is_sound,
+        ..listed
     }
 }
 
@@ -260,6 +258,6 @@ pub fn put_record_line(
     let listed = put_fields(shape, count, members, first_year, base, bytes, out, i);
     Listed {
         end: put_byte(out, listed.end, b'\n'),
-        is_sound: listed.is_sound,
+        ..listed
     }
 }

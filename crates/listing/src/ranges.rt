@@ -192,14 +192,14 @@ fn day_verdict(bytes: &[u8], quantity: Quantity, number: u64) -> Verdict
                 Verdict::Passes
             }
         }
-        Quantity::Letter => Verdict::Passes,
-        Quantity::Number => Verdict::Passes,
-        Quantity::KindNumber => Verdict::Passes,
-        Quantity::SideNumber => Verdict::Passes,
-        Quantity::OrderKindNumber => Verdict::Passes,
-        Quantity::Seconds => Verdict::Passes,
-        Quantity::ContractNumber => Verdict::Passes,
-        Quantity::Kurus => Verdict::Passes,
+        Quantity::Letter
+        | Quantity::Number
+        | Quantity::KindNumber
+        | Quantity::SideNumber
+        | Quantity::OrderKindNumber
+        | Quantity::Seconds
+        | Quantity::ContractNumber
+        | Quantity::Kurus => Verdict::Passes,
     }
 }
 
