@@ -14,10 +14,6 @@ use Rattle.listing_words.specs.declared.field.Shape.TheVariants.{Header}
 use Rattle.rules.specs.Fields.{proposal_kind, has_legs, leg_fields, kind_fields, times_over, fields_of_kind}
 use Rattle.listing_words.specs.Fields.{fixed_fields, fields_in}
 
--- The last of numbers of which all others are ruled out.
-pub last_of_five : (i : ℕ) → 3 ≤ i → i < 8 → (i ≡ 3 → ⊥) → (i ≡ 4 → ⊥) → (i ≡ 5 → ⊥) → (i ≡ 6 → ⊥) → i ≡ 7
-last_of_five i h k a b c d = omega arith
-
 -- ---- a kind's own fields, then those of the legs
 legs_length_lem : (n : ℕ) → length (times_over n leg_fields) ≡ 3 * n
 unfolding times_over

@@ -28,7 +28,7 @@ fn put_named(out: &mut [u8], place: usize, field: Field, number: u64) -> usize
     requires { place + 45 ≤ length out.old }
     ensures { Short 45 place (name_of field ++ (space ∷ decimal number)) out.old out.new result }
 {
-    let i = put_word(&mut *out, place, name_of(field));
+    let i = put_word(out, place, name_of(field));
     put_field(out, i, number)
 }
 
@@ -36,7 +36,7 @@ fn put_priced(out: &mut [u8], place: usize, field: Field, kurus: u64) -> usize
     requires { place + 48 ≤ length out.old }
     ensures { Short 48 place (name_of field ++ (space ∷ price_text kurus)) out.old out.new result }
 {
-    let i = put_word(&mut *out, place, name_of(field));
+    let i = put_word(out, place, name_of(field));
     put_price(out, i, kurus)
 }
 
@@ -50,7 +50,7 @@ fn put_named_contract(
     requires { (place + 71 ≤ length out.old) × (first_year ≤ 2 ^ 32) × (contract < 2 ^ 32) }
     ensures { Short 71 place (name_of field ++ contract_text first_year contract) out.old out.new result }
 {
-    let i = put_word(&mut *out, place, name_of(field));
+    let i = put_word(out, place, name_of(field));
     put_contract(out, i, first_year, contract)
 }
 
@@ -80,7 +80,7 @@ fn put_hint(out: &mut [u8], place: usize, range: Range, size: usize, number: u64
 {
     let turned = other_way_round(size, number);
     if is_within(range, turned) {
-        let i = put_bytes(&mut *out, place, b"; the other way round");
+        let i = put_bytes(out, place, b"; the other way round");
         return put_field(out, i, turned);
     }
     place
@@ -90,11 +90,11 @@ fn put_out_of_range(out: &mut [u8], place: usize, range: Range, size: usize, num
     requires { place + 118 ≤ length out.old }
     ensures { Short 118 place (out_of_range range size number) out.old out.new result }
 {
-    let i = put_field(&mut *out, place, number);
-    let i = put_bytes(&mut *out, i, b" out of");
-    let i = put_field(&mut *out, i, range.least);
-    let i = put_bytes(&mut *out, i, b" to");
-    let i = put_field(&mut *out, i, range.most);
+    let i = put_field(out, place, number);
+    let i = put_bytes(out, i, b" out of");
+    let i = put_field(out, i, range.least);
+    let i = put_bytes(out, i, b" to");
+    let i = put_field(out, i, range.most);
     put_hint(out, i, range, size, number)
 }
 
@@ -114,11 +114,11 @@ fn put_reason(
         Verdict::Cut => put_bytes(out, place, b" cut off"),
         Verdict::OutOfRange => put_out_of_range(out, place, range, size, number),
         Verdict::NoBusinessDay => {
-            let i = put_field(&mut *out, place, number);
+            let i = put_field(out, place, number);
             put_bytes(out, i, b" is no business day")
         }
         Verdict::OnStartDay => {
-            let i = put_field(&mut *out, place, number);
+            let i = put_field(out, place, number);
             put_bytes(out, i, b" is the start day")
         }
     }
@@ -129,11 +129,9 @@ fn fault_place(bytes: &[u8], place: usize, verdict: Verdict) -> u64
     ensures { result ≡ fault_place bytes.now place verdict }
 {
     match verdict {
-        Verdict::Passes => place as u64,
         Verdict::Cut => bytes.len() as u64,
-        Verdict::OutOfRange => place as u64,
-        Verdict::NoBusinessDay => place as u64,
-        Verdict::OnStartDay => place as u64,
+        Verdict::Passes | Verdict::OutOfRange | Verdict::NoBusinessDay | Verdict::OnStartDay =>
+            place as u64,
     }
 }
 
@@ -150,10 +148,10 @@ fn put_fault_text(
     requires { place + 170 ≤ length out.old }
     ensures { Short 170 place (fault_text byte field (reason range size number verdict)) out.old out.new result }
 {
-    let i = put_bytes(&mut *out, place, b"; byte");
-    let i = put_field(&mut *out, i, byte);
-    let i = put_byte(&mut *out, i, b':');
-    let i = put_word(&mut *out, i, name_of(field));
+    let i = put_bytes(out, place, b"; byte");
+    let i = put_field(out, i, byte);
+    let i = put_byte(out, i, b':');
+    let i = put_word(out, i, name_of(field));
     put_reason(out, i, range, size, number, verdict)
 }
 
@@ -202,8 +200,7 @@ fn put_fields(
 {
     let mut place: usize = 0;
     let mut end = start;
-    let mut i: u64 = 0;
-    while i < count {
+    for i in 0..count {
         let field = field_at(shape, i);
         if !does_pass(verdict_of(members, bytes, place, field)) {
             return Listed {
@@ -212,18 +209,11 @@ fn put_fields(
             };
         }
         let size = width_of(field);
-        end = put_quantity(
-            &mut *out,
-            end,
-            first_year,
-            field,
-            number_at(bytes, place, size),
-        );
+        end = put_quantity(out, end, first_year, field, number_at(bytes, place, size));
         place += size;
-        i += 1;
     }
     Listed {
-        end: end,
+        end,
         is_sound: true,
     }
 }
@@ -238,14 +228,11 @@ pub fn put_header_line(bytes: &[u8], out: &mut [u8], start: usize) -> Listed
     let members = u8_or_zero(bytes, MEMBERS_BYTE);
     let holidays = u8_or_zero(bytes, HOLIDAY_COUNT_BYTE);
     let count = FIXED_FIELDS + (holidays + members);
-    let shape = Shape::Header {
-        holidays: holidays,
-        members: members,
-    };
-    let listed = put_fields(shape, count, 0, 0, 0, bytes, &mut *out, start);
+    let shape = Shape::Header { holidays, members };
+    let listed = put_fields(shape, count, 0, 0, 0, bytes, out, start);
     Listed {
         end: put_byte(out, listed.end, b'\n'),
-        is_sound: listed.is_sound,
+        ..listed
     }
 }
 
@@ -266,14 +253,11 @@ pub fn put_record_line(
     let kind = u8_or_zero(bytes, KIND_BYTE);
     let legs = u8_or_zero(bytes, PROPOSAL_LEGS_BYTE);
     let count = 1 + count_of_kind(kind, legs);
-    let i = put_decimal(&mut *out, start, number);
-    let shape = Shape::Record {
-        kind: kind,
-        legs: legs,
-    };
-    let listed = put_fields(shape, count, members, first_year, base, bytes, &mut *out, i);
+    let i = put_decimal(out, start, number);
+    let shape = Shape::Record { kind, legs };
+    let listed = put_fields(shape, count, members, first_year, base, bytes, out, i);
     Listed {
         end: put_byte(out, listed.end, b'\n'),
-        is_sound: listed.is_sound,
+        ..listed
     }
 }

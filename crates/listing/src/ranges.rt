@@ -40,29 +40,25 @@ pub fn quantity_of(field: Field) -> Quantity
     ensures { result ≡ quantity_of field }
 {
     match field {
-        Field::LetterV => Quantity::Letter,
-        Field::LetterJ => Quantity::Letter,
-        Field::LetterR => Quantity::Letter,
-        Field::Version => Quantity::Number,
-        Field::FirstYear => Quantity::Number,
+        Field::LetterV | Field::LetterJ | Field::LetterR => Quantity::Letter,
         Field::StartDay => Quantity::StartDayNumber,
-        Field::Members => Quantity::Number,
-        Field::HolidayCount => Quantity::Number,
         Field::Holiday => Quantity::HolidayNumber,
-        Field::Limit => Quantity::Number,
         Field::Kind => Quantity::KindNumber,
         Field::Time => Quantity::Seconds,
-        Field::Member => Quantity::Number,
         Field::Contract => Quantity::ContractNumber,
         Field::Side => Quantity::SideNumber,
         Field::OrderKind => Quantity::OrderKindNumber,
-        Field::Price => Quantity::Kurus,
-        Field::Lots => Quantity::Number,
-        Field::Order => Quantity::Number,
-        Field::Low => Quantity::Kurus,
-        Field::High => Quantity::Kurus,
-        Field::Legs => Quantity::Number,
-        Field::Ratio => Quantity::Number,
+        Field::Price | Field::Low | Field::High => Quantity::Kurus,
+        Field::Version
+        | Field::FirstYear
+        | Field::Members
+        | Field::HolidayCount
+        | Field::Limit
+        | Field::Member
+        | Field::Lots
+        | Field::Order
+        | Field::Legs
+        | Field::Ratio => Quantity::Number,
     }
 }
 
@@ -97,10 +93,7 @@ fn u32_or_zero(bytes: &[u8], place: usize) -> u64
 fn range(least: u64, most: u64) -> Range
     ensures { result ≡ rangeFrom least most }
 {
-    Range {
-        least: least,
-        most: most,
-    }
+    Range { least, most }
 }
 
 // The days of the span; none where the first year is out of its range.
@@ -129,10 +122,7 @@ fn holiday_range(bytes: &[u8], place: usize) -> Range
 fn last_member(members: u64) -> u64
     ensures { result ≡ members - 1 }
 {
-    if members == 0 {
-        return 0;
-    }
-    members - 1
+    members.saturating_sub(1)
 }
 
 pub fn range_of(members: u64, bytes: &[u8], place: usize, field: Field) -> Range
@@ -169,13 +159,7 @@ pub fn range_of(members: u64, bytes: &[u8], place: usize, field: Field) -> Range
 pub fn does_pass(verdict: Verdict) -> bool
     ensures { result ≡ passes verdict }
 {
-    match verdict {
-        Verdict::Passes => true,
-        Verdict::Cut => false,
-        Verdict::OutOfRange => false,
-        Verdict::NoBusinessDay => false,
-        Verdict::OnStartDay => false,
-    }
+    matches!(verdict, Verdict::Passes)
 }
 
 pub fn is_within(range: Range, number: u64) -> bool
@@ -208,14 +192,14 @@ fn day_verdict(bytes: &[u8], quantity: Quantity, number: u64) -> Verdict
                 Verdict::Passes
             }
         }
-        Quantity::Letter => Verdict::Passes,
-        Quantity::Number => Verdict::Passes,
-        Quantity::KindNumber => Verdict::Passes,
-        Quantity::SideNumber => Verdict::Passes,
-        Quantity::OrderKindNumber => Verdict::Passes,
-        Quantity::Seconds => Verdict::Passes,
-        Quantity::ContractNumber => Verdict::Passes,
-        Quantity::Kurus => Verdict::Passes,
+        Quantity::Letter
+        | Quantity::Number
+        | Quantity::KindNumber
+        | Quantity::SideNumber
+        | Quantity::OrderKindNumber
+        | Quantity::Seconds
+        | Quantity::ContractNumber
+        | Quantity::Kurus => Verdict::Passes,
     }
 }
 

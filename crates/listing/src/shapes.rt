@@ -30,14 +30,10 @@ fn fixed_field(i: u64) -> Field
     requires { i < length fixed_fields }
     ensures { result ≡ get_or fixed_fields i firstField }
 {
-    if i < 3 {
-        return match i {
-            0 => Field::LetterV,
-            1 => Field::LetterJ,
-            _ => Field::LetterR,
-        };
-    }
     match i {
+        0 => Field::LetterV,
+        1 => Field::LetterJ,
+        2 => Field::LetterR,
         3 => Field::Version,
         4 => Field::FirstYear,
         5 => Field::StartDay,

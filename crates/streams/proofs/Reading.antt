@@ -54,14 +54,8 @@ same_run a b = record { said = b.said ∙ a.said; size = b.size ∙ a.size }
 pub read_moved : (x : Result Window Ending) (entry exit : List ℕ) (w : Window) {r : Window} → read_more entry exit w x → x ≡ Ok r → ReadMore entry exit w r
 read_moved x entry exit w h q = rw q at h
 
-pub read_ended : (x : Result Window Ending) (entry exit : List ℕ) (w : Window) {ending : Ending} → read_more entry exit w x → x ≡ Err ending → failed ending
-read_ended x entry exit w h q = rw q at h
-
 pub written_moved : (x : Result Window Ending) (w : Window) {r : Window} → wrote_out w x → x ≡ Ok r → WroteOut w r
 written_moved x w h q = rw q at h
-
-pub written_ended : (x : Result Window Ending) (w : Window) {ending : Ending} → wrote_out w x → x ≡ Err ending → ending ≡ WriteFailed
-written_ended x w h q = rw q at h
 
 pub read_within : (x : Result Window Ending) (entry exit : List ℕ) (w : Window) {r : Window} {inputs outputs : ℕ} → read_more entry exit w x → length entry ≡ inputs → x ≡ Ok r → Within inputs outputs r
 read_within x entry exit w {r} h l q =

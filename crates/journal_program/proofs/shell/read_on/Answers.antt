@@ -2,7 +2,7 @@ use Rattle.std.proofs.lemmas.Result.{err_from_is_err_and}
 use mathlib.Core.Path.{refl}
 use Rattle.journal_program.specs.Runs.{read}
 use Rattle.journal_program.proofs.Ending.{ends_failed}
-use Rattle.streams.proofs.Reading.{read_moved, read_ended, read_within}
+use Rattle.streams.proofs.Reading.{read_moved, read_within}
 use Rattle.journal_program.proofs.shell.read_on.Goals as goal
 
 pub returns : goal.returns

@@ -2,7 +2,7 @@ use Rattle.std.proofs.lemmas.Result.{err_from_is_err_and}
 use mathlib.Core.Path.{refl}
 use Rattle.journal_program.specs.Runs.{wrote}
 use Rattle.journal_program.proofs.Ending.{ends_unwritten}
-use Rattle.streams.proofs.Reading.{written_moved, written_ended, written_within}
+use Rattle.streams.proofs.Reading.{written_moved, written_within}
 use Rattle.journal_program.proofs.shell.write_on.Goals as goal
 
 pub returns : goal.returns

@@ -16,7 +16,6 @@ put_word-i-requires c = (
     c.put_byte-i.ensures.after,
   ),
   c.name_of.ensures.fits,
-  c.name_of.ensures.places,
 )
 
 pub put_reason-requires : goal.put_reason-requires

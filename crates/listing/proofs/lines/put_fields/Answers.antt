@@ -66,9 +66,3 @@ returns c = going_end _ _ _ _ _ c.loop-i.invariant _ (omega arith) (omega (arith
 
 pub field_at-field-requires : goal.field_at-field-requires
 field_at-field-requires c = omega arith
-
-pub overflow_add-i : goal.overflow_add-i
-overflow_add-i c = omega arith
-
-pub loop-i-smaller : goal.loop-i-smaller
-loop-i-smaller c = omega arith
