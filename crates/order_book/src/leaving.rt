@@ -13,8 +13,8 @@ use crate::orders::{order_at, put_order};
 use rules::layout::{ORDER_COUNT, ORDER_LOTS, ORDER_WIDTH, ORDERS};
 use rules::{Lots, Order};
 
-// Which orders leave the book: the one of a number if it is the member's, or all of a member. A cancel asks the same of two
-// functions, and the slip of_any_member stands on `does_leave`: so a name and no closure.
+// Which orders leave the book: the one of a number if it is the member's, or all of a member. A name and no closure: a
+// cancel asks the same of two functions, and the slip of_any_member stands on `does_leave`.
 #[derive(Clone, Copy)]
 pub enum Leaving {
     Numbered { number: u64, member: u64 },
