@@ -1,16 +1,6 @@
 use mathlib.Core.Path.{◌∙◌}
-use native.Mathlib.Omega.{arith}
 use Rattle.contract_phases.proofs.Phases.{phase_by_first}
 use Rattle.contract_phases.proofs.by_contract.phase_of.Goals as goal
-
-pub overflow_mul-first : goal.overflow_mul-first
-overflow_mul-first c = rw c.months_in.ensures (omega arith)
-
-pub offset_bounds-starts-months_in : goal.offset_bounds-starts-months_in
-offset_bounds-starts-months_in c = rw c.months_in.ensures (omega arith)
-
-pub bounds-starts-months_in : goal.bounds-starts-months_in
-bounds-starts-months_in c = rw c.months_in.ensures (omega arith)
 
 pub returns : goal.returns
 returns c =

@@ -28,6 +28,3 @@ loop-contract-preserved c = (
 pub returns : goal.returns
 returns c =
     λ k d e g h. written_end c.loop-contract.column c.loop-contract.contract _ _ (omega arith) (mapped_end term_count c.loop-contract.contract _ (omega arith)) (c.loop-contract.invariant.1 k d e g h)
-
-pub shape_of-column : goal.shape_of-column
-shape_of-column c = omega arith

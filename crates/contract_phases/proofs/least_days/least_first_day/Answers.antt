@@ -1,12 +1,9 @@
 use Prim.Native.Nat.{◌-◌}
-use mathlib.Core.Path.{◌≡◌, refl, sym, ◌∙◌}
+use mathlib.Core.Path.{◌≡◌, sym, ◌∙◌}
 use native.Mathlib.Omega.{arith}
 use Rattle.contract_phases.proofs.Least.{none_to_count, idle_day, counted_day, nth_day}
 use Rattle.contract_phases.proofs.least_days.least_first_day.Goals as goal
 use Rattle.contract_phases.proofs.least_days.least_first_day.Goals.{then-is_business_day+else-to_count-le1, else-is_business_day}
-
-pub loop-x-init : goal.loop-x-init
-loop-x-init c = (c.requires.0, λ y. refl)
 
 pub returns-then-to_count-le1 : goal.returns-then-to_count-le1
 returns-then-to_count-le1 c =

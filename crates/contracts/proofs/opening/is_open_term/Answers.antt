@@ -1,8 +1,6 @@
 use mathlib.Core.Path.{sym, ap, ◌∙◌}
 use mathlib.Core.Bool.{not}
-use native.Mathlib.Omega.{arith}
 use Rattle.rules.proofs.CalendarLaws.{open_closed, open_first, open_rank}
-use Rattle.contracts.proofs.InLedger.{earlier}
 use Rattle.contracts.proofs.opening.is_open_term.Goals as goal
 
 pub returns-then-not-still_to_close : goal.returns-then-not-still_to_close
@@ -10,10 +8,6 @@ returns-then-not-still_to_close c = sym (open_closed _ _ _ (sym c.still_to_close
 
 pub returns-then-t-n : goal.returns-then-t-n
 returns-then-t-n c = sym (open_first _ _ _ (sym c.still_to_close.ensures ∙ c.if-not-still_to_close.false) (rw c.open_count-n.ensures at c.if-t-n.true))
-
-pub still_to_close-requires-2 : goal.still_to_close-requires-2
-still_to_close-requires-2 c =
-    (c.requires.0, earlier c.args.t _ (omega arith) c.requires.1)
 
 pub returns : goal.returns
 returns c =

@@ -3,9 +3,6 @@ use native.Mathlib.Omega.{arith}
 use Rattle.rules.specs.ContractTerms.{term_first_day}
 use Rattle.contracts.proofs.opening.term_first_day.Goals as goal
 
-pub overflow_mul-months_in : goal.overflow_mul-months_in
-overflow_mul-months_in c = rw c.months_in.ensures (omega arith)
-
 pub overflow_add-first_month : goal.overflow_add-first_month
 overflow_add-first_month c = rw c.months_in.ensures (omega (arith, c.first_month.ensures []))
 

@@ -17,9 +17,6 @@ pub loop-contract-init : goal.loop-contract-init
 unfolding in_each_block
 loop-contract-init c = (refl, refl)
 
-pub bounds-prices-at-in-loop-contract : goal.bounds-prices-at-in-loop-contract
-bounds-prices-at-in-loop-contract c = simp length-set (omega arith)
-
 pub loop-contract-preserved : goal.loop-contract-preserved
 loop-contract-preserved c =
     let d = c.args.prices.now in
@@ -30,9 +27,6 @@ loop-contract-preserved c =
       simp length-set (omega arith),
       both ∙ rw (c.loop-contract.invariant.1, add-one c.loop-contract.contract) (inside_written 5 3 none (omega arith) c.loop-contract.contract d (omega arith)),
     )
-
-pub shape_of-prices : goal.shape_of-prices
-shape_of-prices c = c.loop-contract.invariant.0
 
 pub returns : goal.returns
 unfolding without_deals

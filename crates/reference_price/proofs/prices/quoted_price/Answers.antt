@@ -1,5 +1,3 @@
-use Rattle.reference_price.proofs.Ggfs.{quoted_most}
-use native.Mathlib.Omega.{arith}
 use borrow.Author.Tests.{lt-ltb, le-ltb}
 use Rattle.reference_price.specs.Columns.{quoted_from}
 use Rattle.reference_price.proofs.prices.quoted_price.Goals as goal
@@ -7,22 +5,6 @@ use Rattle.reference_price.proofs.prices.quoted_price.Goals as goal
 pub returns-then-buy-sell : goal.returns-then-buy-sell
 unfolding quoted_from
 returns-then-buy-sell c = rw c.if-buy-sell.true
-
-pub times-requires : goal.times-requires
-times-requires c =
-    let a = c.args in
-    omega (arith, quoted_most a.lots.0 a.buy.0 a.sell.0 (omega arith) (omega arith) (omega arith))
-
-pub overflow_add-worth : goal.overflow_add-worth
-overflow_add-worth c =
-    let a = c.args in
-    omega (arith, c.times.ensures, quoted_most a.lots.0 a.buy.0 a.sell.0 (omega arith) (omega arith) (omega arith))
-
-pub rounded-requires : goal.rounded-requires
-rounded-requires c =
-    let a = c.args in
-    let times = c.times.ensures in
-    let most = quoted_most a.lots.0 a.buy.0 a.sell.0 (omega arith) (omega arith) (omega arith) in (omega arith, omega arith, omega arith)
 
 pub returns-then-lots-gt0 : goal.returns-then-lots-gt0
 unfolding quoted_from

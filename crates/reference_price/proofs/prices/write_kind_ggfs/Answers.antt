@@ -13,7 +13,6 @@ use Rattle.rules.specs.OtherForms.{contract_of, contracts_in}
 use Rattle.rules.proofs.CalendarLaws.{contracts_of_lem}
 use Rattle.contract_phases.specs.Phases.{waits, open_in}
 use Rattle.reference_price.specs.Columns.{ggf_from, ggfs_from}
-use Rattle.contract_phases.proofs.Phases.{number_below}
 use Rattle.reference_price.proofs.Ggfs.{deals_if, open_next}
 use Rattle.reference_price.proofs.prices.write_kind_ggfs.Goals as goal
 
@@ -22,21 +21,6 @@ unfolding open_in
 loop-i-init c =
     let kind = c.args.kind in
     (c.requires.0, refl, rw (c.open_count-more.ensures, contracts_of_lem kind, sub-zero (contracts_in kind)))
-
-pub contract_of-contract-requires : goal.contract_of-contract-requires
-contract_of-contract-requires c = omega (arith, c.contracts_in-i-end.ensures)
-
-pub bounds-column-contract : goal.bounds-column-contract
-bounds-column-contract c =
-    let args = c.args in
-    let b = number_below args.kind c.loop-i.i (omega (arith, c.contracts_in-i-end.ensures)) in omega (arith, c.contract_of-contract.ensures)
-
-pub write_if_open-more-requires : goal.write_if_open-more-requires
-write_if_open-more-requires c =
-    let pre = c.requires in
-    let args = c.args in
-    let b = number_below args.kind c.loop-i.i (omega (arith, c.contracts_in-i-end.ensures)) in
-    (c.loop-i.invariant.0, pre.1, pre.2, omega (arith, c.contract_of-contract.ensures))
 
 pub loop-i-preserved : goal.loop-i-preserved
 loop-i-preserved c =
@@ -52,9 +36,6 @@ loop-i-preserved c =
       rw (c.write_if_open-more.ensures.value, c.write_if_open-more.ensures.prices_after, c.contract_of-contract.ensures)
           (open_next a.buys.now a.sells.now c.loop-i.prices _ (waits a.column.now) c.loop-i.more x rest known),
     )
-
-pub shape_of-prices : goal.shape_of-prices
-shape_of-prices c = c.loop-i.invariant.1
 
 pub returns : goal.returns
 unfolding ggfs_from kept

@@ -3,7 +3,6 @@ use mathlib.Core.Path.{◌≡◌, sym, ap, ◌∙◌}
 use mathlib.Core.List.{map}
 use Prim.Native.Nat.{ℕ, ◌+◌, ◌-◌, ◌≤◌}
 use native.Mathlib.Omega.{arith}
-use native.Mathlib.Nat.{sub-zero}
 use lib.ListN.{get_or-replicate, length-replicate}
 use Rattle.arith.specs.Lists.{from}
 use Rattle.arith.proofs.Scans.{from_next, from_end}
@@ -21,14 +20,6 @@ loop-i-init c =
       λ x h. rw (pre.1, get_or-replicate {A = ℕ} contract_count x 0 0 h, from_end n n (omega arith)) (sym (quotes_none a.day.0 a.time a.side x)),
     )
 
-pub order_at-o-requires : goal.order_at-o-requires
-order_at-o-requires c = (omega (arith, c.requires.0.most_orders_holds), c.requires.0.long)
-
-pub note_quote-requires : goal.note_quote-requires
-note_quote-requires c =
-    let fit = c.requires.0 in
-    rw c.order_at-o.ensures (fit.most_time (c.loop-i.i - 1) (omega arith), omega (arith, fit.contract_below (c.loop-i.i - 1) (omega arith)))
-
 pub loop-i-preserved : goal.loop-i-preserved
 loop-i-preserved c =
     let pre = c.requires in
@@ -45,9 +36,3 @@ loop-i-preserved c =
           (all_from_place (λ o. 1 ≤ o.price.0) (order_at b) c.loop-i.i (a.count - c.loop-i.i) (λ j u v. fit.least_price j (omega arith)))
           (omega (arith, fit.contract_below i (omega arith))) c.loop-i.invariant.1 x h),
     )
-
-pub returns : goal.returns
-returns c =
-    let a = c.args in
-    let e : c.loop-i.i ≡ 0 = omega arith in
-    rw (e, sub-zero a.count) at c.loop-i.invariant.1
