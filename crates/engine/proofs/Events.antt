@@ -1,6 +1,6 @@
 -- What a record that was read gives the code of its kind. Assumes nothing.
 use Prim.Native.Nat.{ℕ, ◌+◌, ◌≤◌, ◌<◌}
-use mathlib.Core.Path.{◌≡◌, sym, ap, ◌∙◌}
+use mathlib.Core.Path.{◌≡◌, ap, ◌∙◌}
 use mathlib.Core.Bool.{◌&&◌}
 use mathlib.Core.List.{List}
 use native.Mathlib.Omega.{arith}
@@ -13,7 +13,7 @@ use Rattle.rules.specs.declared.event.Event.TheVariants.{Submit, DayLimits, Prop
 use Rattle.rules.specs.declared.event.Leg.{Leg}
 use Rattle.rules.specs.declared.event.NewDayLimits.{NewDayLimits}
 use Rattle.rules.specs.declared.event.Submission.{Submission}
-use Rattle.rules.specs.Ranges.{contract_count, most_legs, most_ratio, most_lots_run}
+use Rattle.rules.specs.Ranges.{contract_count, most_ratio, most_lots_run}
 use Rattle.rules.specs.Records.{contract_sound, legs_of, event_sound, read_of}
 use Rattle.rules.proofs.SoundEvents.{submission, new_day_limits, proposal, default_member, close_out_contract}
 use Rattle.codec.specs.Legs.{in_places, held_legs}

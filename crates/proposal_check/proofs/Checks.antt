@@ -7,7 +7,7 @@ use native.Mathlib.Omega.{arith}
 use lib.Dec.{eqb, ltb}
 use lib.ListN.{length, get_or, length-map}
 use borrow.Author.Tests.{eq-eqb}
-use Rattle.arith.specs.Lists.{every, any, total, from, all_of}
+use Rattle.arith.specs.Lists.{every, any, from, all_of}
 use Rattle.arith.proofs.Tests.{and_false, and_true}
 use Rattle.arith.proofs.Runs.{length_run, run_of}
 use Rattle.arith.proofs.Scans.{every_both, every_same}

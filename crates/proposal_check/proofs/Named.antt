@@ -23,7 +23,7 @@ use Rattle.rules.specs.Ledger.{Tables, order_at}
 use Rattle.rules.specs.Synthetic.{Named, numbered, named_legs, has_lots, price_allowed}
 use Rattle.tables.specs.Fit.{BookFit, order_count_in, orders_in}
 use Rattle.order_book.proofs.Left.{orders_length}
-use Rattle.proposal_check.specs.Legs.{PlacesFit, ContractsFit, no_leg, place_of, places_of, named_at, named_to}
+use Rattle.proposal_check.specs.Legs.{PlacesFit, ContractsFit, no_leg, place_of, places_of, named_to}
 use Rattle.proposal_check.proofs.Lists.{map_from}
 
 -- ---- one leg

@@ -1,5 +1,5 @@
 -- A proposal's legs, and the resting orders that they name as places of the book.
-use Rattle.std.specs.Prelude.{ℕ, suc, ◌*◌, ◌≤◌, ◌<◌, ◌≡◌, Bool, cond, ◌&&◌, List, [], ◌∷◌, map, eqb, length, get_or}
+use Rattle.std.specs.Prelude.{ℕ, suc, ◌*◌, ◌≤◌, ◌<◌, Bool, cond, ◌&&◌, List, [], ◌∷◌, map, eqb, length, get_or}
 use Rattle.std.specs.List.{list_any}
 use Rattle.arith.specs.Lists.{every, any, total, from}
 use Rattle.rules.specs.declared.event.Leg.{Leg}

@@ -1,5 +1,5 @@
 use native.Mathlib.Omega.{arith}
-use mathlib.Core.Path.{◌≡◌, refl, ap, ◌∙◌}
+use mathlib.Core.Path.{◌≡◌, ap, ◌∙◌}
 use Rattle.arith.specs.Lists.{from}
 use Rattle.rules.specs.Records.{leg_place, leg_at}
 use Rattle.codec.proofs.PlacedLegs.{none_placed, leg_placed}
