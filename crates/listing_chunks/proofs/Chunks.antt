@@ -14,7 +14,7 @@ use Rattle.rules.specs.declared.event.Front.TheVariants.{Whole, Cut, UnknownKind
 use Rattle.rules.specs.Header.{header_of, header_length}
 use Rattle.rules.specs.Journal.{next_length}
 use Rattle.rules.specs.Records.{front_of}
-use Rattle.std.specs.Prelude.{Some}
+use Rattle.std.specs.Prelude.{Some, None, not}
 use Rattle.journal.specs.Stages.{length_by_now, length_now}
 use Rattle.journal.proofs.Fronts.{next_some, now_next}
 use Rattle.journal.proofs.Headers.{length_more, header_more}
@@ -108,7 +108,7 @@ module _ (last : Bool) (s : List ℕ) where
   cut_piece : (b z : Bool) → last ≡ b → eqb (length s) 0 ≡ z → front_of s ≡ Cut → PieceIs (piece_of last s)
   unfolding piece_of length_by_now
   cut_piece true true e g f = rw (f, e, g) (refl, eqb-true (length s) 0 g)
-  cut_piece true false e g f = let some : length s ≡ 0 → ⊥ = eqb-false (length s) 0 g in rw (f, e, g) (rw f refl, omega arith, omega arith)
+  cut_piece true false e g f = let some : length s ≡ 0 → ⊥ = eqb-false (length s) 0 g in rw (f, e, g) (rw f (ap (λ b. cond (not b) (Some (length s)) None) g), omega arith, omega arith)
   cut_piece false z e g f = rw (f, e) tt
 
   by_front : (x : Front) → front_of s ≡ x → PieceIs (piece_of last s)

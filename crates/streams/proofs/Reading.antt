@@ -4,12 +4,11 @@ use native.Mathlib.Nat.{min-le_left, min-le_right}
 use lib.Seq.{take-append-add, take-append_seam}
 use Rattle.arith.specs.Lists.{over}
 use Rattle.text.specs.Wrote.{Wrote}
-use Rattle.std.specs.Prelude.{Result, Ok, Err}
+use Rattle.std.specs.Prelude.{Result, Ok}
 use Rattle.streams.specs.declared.ending.Ending.{Ending}
-use Rattle.streams.specs.declared.ending.Ending.TheVariants.{WriteFailed}
 use Rattle.streams.specs.declared.progress.Progress.{Progress}
 use Rattle.streams.specs.declared.window.Window.{Window}
-use Rattle.streams.specs.Windows.{Within, held, SameRun, failed, ReadMore, read_more, WroteOut, wrote_out}
+use Rattle.streams.specs.Windows.{Within, held, SameRun, ReadMore, read_more, WroteOut, wrote_out}
 
 -- What a window holds of the input.
 pub part_length : (w : Window) (l : List ℕ) → length (held w l) ≤ w.end - w.from

@@ -1,5 +1,4 @@
 use native.Mathlib.Omega.{arith}
-use Prim.Native.Nat.{◌-◌}
 use Rattle.arith.proofs.Tests.{asked_true, asked_false}
 use Rattle.listing.proofs.Goings.{going_start, going_next, going_fault, going_end}
 use Rattle.listing.proofs.lines.put_fields.Goals as goal
