@@ -19,7 +19,7 @@ pub fn apply(
     ensures { Applies (lent head.old prices.old lots.old value.old book.old lines.old) bytes.now result
         (lent head.new prices.new lots.new value.new book.new lines.new) }
 {
-    if damage::is_unsound(&*head, &*prices, &*lots, &*value, &*book, &*lines) {
+    if damage::is_unsound(head, prices, lots, value, book, lines) {
         return Err(Refusal::TableUnsound);
     }
     match codec::read_record(head[MEMBERS], bytes) {

@@ -26,12 +26,10 @@ pub fn apply_event(
     match event {
         Event::Submit(e) => submit::apply(head, prices, lots, value, book, lines, e),
         Event::Cancel(e) => cancel::apply(head, book, e),
-        Event::DayLimits(e) => day_limits::apply(&*head, prices, e),
-        Event::Proposal(count) => apply_legs(
-            head, &*prices, lots, value, book, lines, count, bytes,
-        ),
+        Event::DayLimits(e) => day_limits::apply(head, prices, e),
+        Event::Proposal(count) => apply_legs(head, prices, lots, value, book, lines, count, bytes),
         Event::Default(member) => default::apply(head, book, member),
-        Event::CloseOut(e) => close_out::apply(head, &*prices, lots, value, lines, e),
+        Event::CloseOut(e) => close_out::apply(head, prices, lots, value, lines, e),
         Event::CloseOfDay(time) => close_of_day::apply(head, prices, lots, value, book, time),
     }
 }

@@ -18,7 +18,7 @@ pub fn make(
     ensures { (n : List ℤ) → Makes (lent head.old prices.old lots.old value.old book.now n) bytes.now result
         (lent head.new prices.new lots.new value.new book.now n) }
 {
-    if tables::is_ledger_short(&*head, &*prices, &*lots, &*value, book) {
+    if tables::is_ledger_short(head, prices, lots, value, book) {
         return Err(Refusal::TableUnsound);
     }
     let Some(ReadHeader { header, .. }) = header::read_header(bytes) else {

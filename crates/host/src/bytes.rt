@@ -19,7 +19,7 @@ pub extern "C" fn ledger_read_record(
 ) -> u64
     ensures { record { number = result; detail = detail.new; after = fields.new } ≡ sent (read_fields members bytes.now fields.old) }
 {
-    let reply = reply_of(number_fields::read_record_fields(members, bytes, &mut *fields));
+    let reply = reply_of(number_fields::read_record_fields(members, bytes, fields));
     *detail = reply.detail;
     reply.number
 }
@@ -35,7 +35,7 @@ pub extern "C" fn ledger_write_record(
 ) -> u64
     ensures { record { number = result; detail = detail.new; after = bytes.new } ≡ sent (write_fields members fields.now bytes.old) }
 {
-    let reply = reply_of(number_fields::write_record_fields(members, fields, &mut *bytes));
+    let reply = reply_of(number_fields::write_record_fields(members, fields, bytes));
     *detail = reply.detail;
     reply.number
 }
@@ -46,7 +46,7 @@ pub extern "C" fn ledger_write_record(
 pub extern "C" fn ledger_read_header(bytes: &[u8], fields: &mut [u64], detail: &mut u64) -> u64
     ensures { record { number = result; detail = detail.new; after = fields.new } ≡ sent (read_header_fields bytes.now fields.old) }
 {
-    let reply = reply_of(number_fields::read_header_fields(bytes, &mut *fields));
+    let reply = reply_of(number_fields::read_header_fields(bytes, fields));
     *detail = reply.detail;
     reply.number
 }
@@ -57,7 +57,7 @@ pub extern "C" fn ledger_read_header(bytes: &[u8], fields: &mut [u64], detail: &
 pub extern "C" fn ledger_write_header(fields: &[u64], bytes: &mut [u8], detail: &mut u64) -> u64
     ensures { record { number = result; detail = detail.new; after = bytes.new } ≡ sent (write_header_fields fields.now bytes.old) }
 {
-    let reply = reply_of(number_fields::write_header_fields(fields, &mut *bytes));
+    let reply = reply_of(number_fields::write_header_fields(fields, bytes));
     *detail = reply.detail;
     reply.number
 }

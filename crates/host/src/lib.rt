@@ -27,14 +27,7 @@ pub extern "C" fn ledger_make(
     ensures { (n : List ℤ) → Makes (lent head.old prices.old lots.old value.old book.now n) header.now result
         (lent head.new prices.new lots.new value.new book.now n) }
 {
-    let answer = engine::make(
-        &mut *head,
-        &mut *prices,
-        &mut *lots,
-        &mut *value,
-        book,
-        header,
-    );
+    let answer = engine::make(head, prices, lots, value, book, header);
     reply_of(answer).number
 }
 
@@ -72,15 +65,7 @@ pub extern "C" fn ledger_apply(
     ensures { Applies (lent head.old prices.old lots.old value.old book.old lines.old) bytes.now result detail.new
         (lent head.new prices.new lots.new value.new book.new lines.new) }
 {
-    let answer = engine::apply(
-        &mut *head,
-        &mut *prices,
-        &mut *lots,
-        &mut *value,
-        &mut *book,
-        &mut *lines,
-        bytes,
-    );
+    let answer = engine::apply(head, prices, lots, value, book, lines, bytes);
     let reply = reply_of(answer);
     *detail = reply.detail;
     reply.number

@@ -38,18 +38,9 @@ pub fn apply(
         ≡ submit_spec (with_head head.old (with_prices prices.old (with_rows lots.old value.old
         (with_book book.old (with_lines lines.old t))))) e }
 {
-    first_cause(&*head, &*prices, e)?;
+    first_cause(head, prices, e)?;
     let count = head[ORDER_COUNT] as usize;
-    let found = matching::measure(&*book, count, order_of(&*head, e));
-    measured_cause(&*head, &*lots, e, found)?;
-    book_submit(
-        &mut *head,
-        &mut *prices,
-        &mut *lots,
-        &mut *value,
-        &mut *book,
-        &mut *lines,
-        e,
-        found.lots,
-    )
+    let found = matching::measure(book, count, order_of(head, e));
+    measured_cause(head, lots, e, found)?;
+    book_submit(head, prices, lots, value, book, lines, e, found.lots)
 }
