@@ -22,8 +22,8 @@ import re
 import sys
 
 ROOT = pathlib.Path(__file__).resolve().parents[2]
-# docs/PORT.md tells what was renamed, by the names that were.
-DOCS = sorted(path for path in (ROOT / "docs").rglob("*.md") if path.name != "PORT.md")
+# docs/PORT.md and docs/DESIGN-PASS.md tell what was renamed, by the names that were.
+DOCS = sorted(path for path in (ROOT / "docs").rglob("*.md") if path.name not in ("PORT.md", "DESIGN-PASS.md"))
 STORIES = sorted((ROOT / "examples").glob("*.md"))
 PAGES = [ROOT / "README.md", *DOCS, *STORIES]
 DECISIONS = ROOT / "docs" / "DECISIONS.md"
