@@ -161,12 +161,6 @@ module _ (t : Tables) (f : Takes 0 t) (e : CloseOutTerms) (below : e.contract < 
   all_lots : sum_of longs + sum_of shorts ≡ (q + q) + l
   all_lots = omega (arith, remaining_is, remaining_sum q longs, remaining_sum q shorts, netted_is)
 
-  pub most_netted : q ≤ most_members * most_lots_run
-  most_netted = omega (arith, netted_is, longs_read.most)
-
-  pub most_remaining : l ≤ most_members * most_lots_run
-  most_remaining = omega (arith, all_lots, netted_is, longs_read.most, shorts_read.most)
-
   apart : Apart shorts longs
   apart = rw (longs_here, shorts_here) at (columns_apart t c)
 

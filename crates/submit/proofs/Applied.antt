@@ -28,6 +28,13 @@ pub record Judged (t : Tables) (e : Submission) (first second : Result ⊤ Refus
   pub verdict : (x : Outcome Tables) → outcome first t (outcome second t x) ≡ decide (submit_causes t e) t x
   pub accepts : first ≡ Ok tt → second ≡ Ok tt → Acceptable t e crossing
 
+-- The verdict of the measured causes, with the head and the lots as they were read.
+pub second_read : (t : Tables) (e : Submission) (head : List ℕ) (lots : List ℤ) (own crossing : ℕ) (second : Result ⊤ Refusal) → head ≡ t.head → lots ≡ t.lots
+    → ((x : Outcome Tables) → outcome second (with_head head (with_rows lots t.value t)) x
+    ≡ decide (measured_causes own crossing (with_head head (with_rows lots t.value t)) e) (with_head head (with_rows lots t.value t)) x)
+    → (x : Outcome Tables) → outcome second t x ≡ decide (measured_causes own crossing t e) t x
+second_read t e head lots own crossing second p q k = rw (p, q) at k
+
 module _ (t : Tables) (e : Submission) (h : HeadFit t.head) (b : BookFit t.head t.book) (f : SubmissionFit t.head e) where
   ranked : All Ranked (orders t)
   unfolding orders
@@ -49,13 +56,6 @@ module _ (t : Tables) (e : Submission) (h : HeadFit t.head) (b : BookFit t.head 
       → record { answer = Err a; after = t } ≡ submit_spec t e
   unfolding submit_spec
   refused_first first k a s = rw s at (judged_first t e ranked numbers has_lots_holds f.least_lots many h.most_orders_holds first k (submit_booked t e))
-
-  -- the verdict of the measured causes, with the head and the lots as they were read
-  pub second_read : (head : List ℕ) (lots : List ℤ) (own crossing : ℕ) (second : Result ⊤ Refusal) → head ≡ t.head → lots ≡ t.lots
-      → ((x : Outcome Tables) → outcome second (with_head head (with_rows lots t.value t)) x
-      ≡ decide (measured_causes own crossing (with_head head (with_rows lots t.value t)) e) (with_head head (with_rows lots t.value t)) x)
-      → (x : Outcome Tables) → outcome second t x ≡ decide (measured_causes own crossing t e) t x
-  second_read head lots own crossing second p q k = rw (p, q) at k
 
   -- with what the book tells of the order
   module _ (o : Order) (same : o ≡ incoming t e) (own crossing : ℕ) (own_is : own ≡ own_in o (orders_in (order_count_in t.head) t.book))

@@ -1,12 +1,12 @@
 -- The deals booked one after the other: what holds when those before deal k are booked. Assumes nothing.
 use mathlib.Core.Path.{◌≡◌, refl, sym, ap, subst, ◌∙◌}
 use mathlib.Core.List.{List, [], ◌∷◌, ◌++◌, flat_map}
-use Prim.Native.Nat.{ℕ, ◌+◌, ◌*◌, ◌-◌, ◌<◌}
+use Prim.Native.Nat.{ℕ, ◌+◌, ◌*◌, ◌-◌, ◌≤◌, ◌<◌}
 use native.Mathlib.Omega.{arith}
 use lib.ListN.{length, length-append}
 use Rattle.arith.specs.Lists.{from, total}
 use Rattle.rules.specs.declared.order.Order.{Order}
-use Rattle.rules.specs.Ranges.{most_lots}
+use Rattle.rules.specs.Ranges.{contract_count, most_lots, most_price}
 use Rattle.rules.specs.Ledger.{Tables, lots_run_place, booked}
 use Rattle.rules.specs.Sides.{other_side}
 use Rattle.rules.proofs.LinesRun.{booked_none}
@@ -17,7 +17,7 @@ use Rattle.matching.specs.Deals.{deal_at, deals_in, line_in, line_out, lines_wit
 use Rattle.deal_lines.specs.Lines.{LineFit, with_line}
 use Rattle.deal_lines.proofs.Booked.{booked_more}
 use Rattle.deal_lines.proofs.Takes.{Takes, takes_line, less_room, line_members}
-use Rattle.submit.specs.Deals.{lots_dealt}
+use Rattle.submit.specs.Deals.{DealColumnFit, lots_dealt}
 use Rattle.submit.proofs.Kept.{total_next, total_prefix, lines_next, lines_length_lem}
 
 -- ---- one deal
@@ -55,16 +55,30 @@ module _ (o : Order) (deals : List ℕ) (count : ℕ) (t₀ : Tables) where
   unfolding deals_in from total flat_map
   booking_start able = record { able = less_room _ _ (omega arith) able; members_same = refl; same = sym (ap (λ x. x.after) (booked_none t₀)) }
 
-  module _ (k : ℕ) (below : k < count) (t : Tables) (g : Booking k t) (d : Counterparty) (e : d ≡ deal_at deals k) where
+  -- the next deal, of a column and an order that fit
+  module _ (column : DealColumnFit count deals)
+      (fit : (o.member < members_in t₀.head) × (o.contract < contract_count) × ((j : ℕ) → j < count → (deal_at deals j).member < members_in t₀.head))
+      (k : ℕ) (below : k < count) (t : Tables) (g : Booking k t) (d : Counterparty) (e : d ≡ deal_at deals k) where
+    few : k < most_lots
+    few = omega (arith, column.most)
+
+    priced : d.price.0 ≤ most_price
+    priced = rw e (column.most_price_holds k below)
+
+    incoming : LineFit t.head (line_in o d)
+    incoming = record { member_below = omega (arith, g.members_same, fit.0); contract_below = fit.1; most_price_holds = priced }
+
+    resting : LineFit t.head (line_out o d)
+    resting = record { member_below = rw e (omega (arith, g.members_same, fit.2 k below)); contract_below = fit.1; most_price_holds = priced }
+
     room_next : to_book k ≡ 2 * d.lots.0 + to_book (k + 1)
     room_next = omega (arith, total_next deals lots_dealt k, total_prefix deals lots_dealt (k + 1) count (omega arith), ap lots_dealt e)
 
-    pub deal_takes : Takes (2 * d.lots.0) t
-    deal_takes = less_room _ _ (omega (arith, room_next)) g.able
+    pub deal_fits : (Takes (2 * d.lots.0) t × (k < most_lots)) × (LineFit t.head (line_in o d) × LineFit t.head (line_out o d))
+    deal_fits = ((less_room _ _ (omega (arith, room_next)) g.able, few), (incoming, resting))
 
-    pub booking_next : (t' : Tables) → lots_run_place < length t₀.head → k < most_lots → LineFit t.head (line_in o d) → LineFit t.head (line_out o d)
-        → t' ≡ with_line (k * 2 + 1) (line_out o d) (with_line (k * 2) (line_in o d) t) → Booking (k + 1) t'
-    booking_next t' long few incoming resting after =
+    pub booking_next : (t' : Tables) → lots_run_place < length t₀.head → t' ≡ with_line (k * 2 + 1) (line_out o d) (with_line (k * 2) (line_in o d) t) → Booking (k + 1) t'
+    booking_next t' long after =
         let ls = flat_map (lines_with o) (deals_in k deals) in
         let many = lines_length_lem deals o k in
         record {

@@ -34,7 +34,7 @@ returns-in_err-measured_cause-clause-answer c =
     let order = rw c.head-2.ensures at (c.order_of-o.ensures u) in
     let own = rw c.book.ensures at c.measure-found.ensures.own_value in
     let lots = rw c.book.ensures at c.measure-found.ensures.lots_value in
-    let second = second_read u a.e f.0 f.2 f.3 _ _ _ _ _ c.head-3.ensures c.lots.ensures (c.measured_cause.ensures u) in
+    let second = second_read u a.e _ _ _ _ _ c.head-3.ensures c.lots.ensures (c.measured_cause.ensures u) in
     let judged = judged_both u a.e f.0 f.2 f.3 _ order _ _ own lots _ _ first second in
     let p = err_from_is_err_and c.from_residual-in_err-measured_cause.result c.from_residual-in_err-measured_cause.ensures.1 in
     rw (p.1, p.2) (refused_second judged c.in_ok-first_cause.was _ c.in_err-measured_cause.was)
@@ -48,7 +48,7 @@ book_submit-requires-clause-acceptable c =
     let order = rw c.head-2.ensures at (c.order_of-o.ensures u) in
     let own = rw c.book.ensures at c.measure-found.ensures.own_value in
     let lots = rw c.book.ensures at c.measure-found.ensures.lots_value in
-    let second = second_read u a.e f.0 f.2 f.3 _ _ _ _ _ c.head-3.ensures c.lots.ensures (c.measured_cause.ensures u) in
+    let second = second_read u a.e _ _ _ _ _ c.head-3.ensures c.lots.ensures (c.measured_cause.ensures u) in
     let judged = judged_both u a.e f.0 f.2 f.3 _ order _ _ own lots _ _ first second in
     judged.accepts c.in_ok-first_cause.was c.in_ok-measured_cause.was
 
@@ -61,6 +61,6 @@ returns-clause-answer c =
     let order = rw c.head-2.ensures at (c.order_of-o.ensures u) in
     let own = rw c.book.ensures at c.measure-found.ensures.own_value in
     let lots = rw c.book.ensures at c.measure-found.ensures.lots_value in
-    let second = second_read u a.e f.0 f.2 f.3 _ _ _ _ _ c.head-3.ensures c.lots.ensures (c.measured_cause.ensures u) in
+    let second = second_read u a.e _ _ _ _ _ c.head-3.ensures c.lots.ensures (c.measured_cause.ensures u) in
     let judged = judged_both u a.e f.0 f.2 f.3 _ order _ _ own lots _ _ first second in
     c.book_submit.ensures.answer ∙ accepted judged c.in_ok-first_cause.was c.in_ok-measured_cause.was
