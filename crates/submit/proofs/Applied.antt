@@ -10,7 +10,7 @@ use Rattle.arith.specs.Lists.{All}
 use Rattle.rules.specs.declared.event.Submission.{Submission}
 use Rattle.rules.specs.declared.order.Order.{Order}
 use Rattle.rules.specs.Answers.{Outcome, decide}
-use Rattle.rules.specs.Ledger.{Tables, with_head, with_rows, orders, order_count}
+use Rattle.rules.specs.Ledger.{Tables, with_head, with_prices, with_rows, orders, order_count}
 use Rattle.rules.specs.Matching.{incoming, submit_booked}
 use Rattle.rules.specs.Refusals.{submit_causes, submit_spec}
 use Rattle.tables.specs.Fit.{HeadFit, BookFit, order_count_in, orders_in}
@@ -27,13 +27,6 @@ use Rattle.rules.specs.declared.refusal.Refusal.{Refusal}
 pub record Judged (t : Tables) (e : Submission) (first second : Result ⊤ Refusal) (crossing : ℕ) : Type 0 where
   pub verdict : (x : Outcome Tables) → outcome first t (outcome second t x) ≡ decide (submit_causes t e) t x
   pub accepts : first ≡ Ok tt → second ≡ Ok tt → Acceptable t e crossing
-
--- The verdict of the measured causes, with the head and the lots as they were read.
-pub second_read : (t : Tables) (e : Submission) (head : List ℕ) (lots : List ℤ) (own crossing : ℕ) (second : Result ⊤ Refusal) → head ≡ t.head → lots ≡ t.lots
-    → ((x : Outcome Tables) → outcome second (with_head head (with_rows lots t.value t)) x
-    ≡ decide (measured_causes own crossing (with_head head (with_rows lots t.value t)) e) (with_head head (with_rows lots t.value t)) x)
-    → (x : Outcome Tables) → outcome second t x ≡ decide (measured_causes own crossing t e) t x
-second_read t e head lots own crossing second p q k = rw (p, q) at k
 
 module _ (t : Tables) (e : Submission) (h : HeadFit t.head) (b : BookFit t.head t.book) (f : SubmissionFit t.head e) where
   ranked : All Ranked (orders t)
@@ -73,12 +66,24 @@ module _ (t : Tables) (e : Submission) (h : HeadFit t.head) (b : BookFit t.head 
     reply_of : (x : Outcome Tables) → outcome second t x ≡ decide (measured_causes (own_in (incoming t e) (orders t)) (crossing_in (incoming t e) (orders t)) t e) t x
     reply_of x = l x ∙ ap (λ n. decide (measured_causes n crossing t e) t x) own_same ∙ ap (λ n. decide (measured_causes (own_in (incoming t e) (orders t)) n t e) t x) crossing_same
 
-    pub judged_both : Judged t e first second crossing
+    judged_both : Judged t e first second crossing
     judged_both =
         record {
           verdict = judged t e ranked numbers has_lots_holds f.least_lots many h.most_orders_holds first second k reply_of;
           accepts = λ s r. subst (Acceptable t e) (sym crossing_same) (acceptable t e ranked numbers has_lots_holds f.least_lots many h.most_orders_holds first second k reply_of s r);
         }
+
+  -- the same of lists that were read, where each read tells what it gave
+  pub judged_read : {head₁ prices₁ head₂ book₂ head₃ : List ℕ} {lots₃ : List ℤ} → head₁ ≡ t.head → prices₁ ≡ t.prices → head₂ ≡ t.head → book₂ ≡ t.book → head₃ ≡ t.head → lots₃ ≡ t.lots
+      → (o : Order) → o ≡ incoming (with_head head₂ t) e → (own crossing : ℕ) → own ≡ own_in o (orders_in (order_count_in t.head) book₂)
+      → crossing ≡ crossing_in o (orders_in (order_count_in t.head) book₂) → (first second : Result ⊤ Refusal)
+      → ((x : Outcome Tables) → outcome first (with_head head₁ (with_prices prices₁ t)) x
+      ≡ decide (first_causes (with_head head₁ (with_prices prices₁ t)) e) (with_head head₁ (with_prices prices₁ t)) x)
+      → ((x : Outcome Tables) → outcome second (with_head head₃ (with_rows lots₃ t.value t)) x
+      ≡ decide (measured_causes own crossing (with_head head₃ (with_rows lots₃ t.value t)) e) (with_head head₃ (with_rows lots₃ t.value t)) x)
+      → Judged t e first second crossing
+  judged_read p q r s u v o same own crossing own_is crossing_is first second k l =
+      judged_both o (rw r at same) own crossing (rw s at own_is) (rw s at crossing_is) first second (rw (p, q) at k) (rw (u, v) at l)
 
 module _ {t : Tables} {e : Submission} {first second : Result ⊤ Refusal} {crossing : ℕ} (j : Judged t e first second crossing) (s : first ≡ Ok tt) where
   pub refused_second : (a : Refusal) → second ≡ Err a → record { answer = Err a; after = t } ≡ submit_spec t e

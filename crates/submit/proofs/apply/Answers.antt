@@ -1,8 +1,7 @@
 use mathlib.Core.Path.{◌∙◌}
-use native.Mathlib.Omega.{arith}
 use Rattle.std.proofs.lemmas.Result.{err_from_is_err_and}
 use Rattle.tables.specs.Lent.{tables_of}
-use Rattle.submit.proofs.Applied.{refused_first, second_read, judged_both, refused_second, accepted}
+use Rattle.submit.proofs.Applied.{refused_first, judged_read, refused_second, accepted}
 use Rattle.submit.proofs.apply.Goals as goal
 
 pub returns-in_err-first_cause-clause-answer : goal.returns-in_err-first_cause-clause-answer
@@ -14,28 +13,14 @@ returns-in_err-first_cause-clause-answer c =
     let p = err_from_is_err_and c.from_residual.result c.from_residual.ensures.1 in
     rw (p.1, p.2) (refused_first u a.e f.0 f.2 f.3 _ first _ c.in_err-first_cause.was)
 
-pub measure-found-requires : goal.measure-found-requires
-measure-found-requires c =
-    let f = c.requires.head_fit in
-    rw c.book.ensures (record { count_le_most_orders = (f.0.most_orders_holds, f.2.long); by_index = λ i k. (f.2.order_fit i k).most_lots_holds })
-
-pub measured_cause-requires : goal.measured_cause-requires
-measured_cause-requires c =
-    let f = c.requires.head_fit in
-    rw (c.head-3.ensures, c.lots.ensures)
-    (record { head_fit = (f.0, c.requires.rows_fit.0, f.3); own_bound = omega (arith, c.measure-found.ensures.own_bound, f.0.most_orders_holds) })
-
 pub returns-in_err-measured_cause-clause-answer : goal.returns-in_err-measured_cause-clause-answer
 returns-in_err-measured_cause-clause-answer c =
     let a = c.args in
     let f = c.requires.head_fit in
     let u = tables_of a.tables.now in
-    let first = rw (c.head.ensures, c.prices.ensures) at (c.first_cause.ensures u) in
-    let order = rw c.head-2.ensures at (c.order_of-o.ensures u) in
-    let own = rw c.book.ensures at c.measure-found.ensures.own_value in
-    let lots = rw c.book.ensures at c.measure-found.ensures.lots_value in
-    let second = second_read u a.e _ _ _ _ _ c.head-3.ensures c.lots.ensures (c.measured_cause.ensures u) in
-    let judged = judged_both u a.e f.0 f.2 f.3 _ order _ _ own lots _ _ first second in
+    let found = c.measure-found.ensures in
+    let judged = judged_read u a.e f.0 f.2 f.3 c.head.ensures c.prices.ensures c.head-2.ensures c.book.ensures c.head-3.ensures c.lots.ensures
+    _ (c.order_of-o.ensures u) _ _ found.own_value found.lots_value _ _ (c.first_cause.ensures u) (c.measured_cause.ensures u) in
     let p = err_from_is_err_and c.from_residual-in_err-measured_cause.result c.from_residual-in_err-measured_cause.ensures.1 in
     rw (p.1, p.2) (refused_second judged c.in_ok-first_cause.was _ c.in_err-measured_cause.was)
 
@@ -44,12 +29,9 @@ book_submit-requires-clause-acceptable c =
     let a = c.args in
     let f = c.requires.head_fit in
     let u = tables_of a.tables.now in
-    let first = rw (c.head.ensures, c.prices.ensures) at (c.first_cause.ensures u) in
-    let order = rw c.head-2.ensures at (c.order_of-o.ensures u) in
-    let own = rw c.book.ensures at c.measure-found.ensures.own_value in
-    let lots = rw c.book.ensures at c.measure-found.ensures.lots_value in
-    let second = second_read u a.e _ _ _ _ _ c.head-3.ensures c.lots.ensures (c.measured_cause.ensures u) in
-    let judged = judged_both u a.e f.0 f.2 f.3 _ order _ _ own lots _ _ first second in
+    let found = c.measure-found.ensures in
+    let judged = judged_read u a.e f.0 f.2 f.3 c.head.ensures c.prices.ensures c.head-2.ensures c.book.ensures c.head-3.ensures c.lots.ensures
+    _ (c.order_of-o.ensures u) _ _ found.own_value found.lots_value _ _ (c.first_cause.ensures u) (c.measured_cause.ensures u) in
     judged.accepts c.in_ok-first_cause.was c.in_ok-measured_cause.was
 
 pub returns-clause-answer : goal.returns-clause-answer
@@ -57,10 +39,7 @@ returns-clause-answer c =
     let a = c.args in
     let f = c.requires.head_fit in
     let u = tables_of a.tables.now in
-    let first = rw (c.head.ensures, c.prices.ensures) at (c.first_cause.ensures u) in
-    let order = rw c.head-2.ensures at (c.order_of-o.ensures u) in
-    let own = rw c.book.ensures at c.measure-found.ensures.own_value in
-    let lots = rw c.book.ensures at c.measure-found.ensures.lots_value in
-    let second = second_read u a.e _ _ _ _ _ c.head-3.ensures c.lots.ensures (c.measured_cause.ensures u) in
-    let judged = judged_both u a.e f.0 f.2 f.3 _ order _ _ own lots _ _ first second in
+    let found = c.measure-found.ensures in
+    let judged = judged_read u a.e f.0 f.2 f.3 c.head.ensures c.prices.ensures c.head-2.ensures c.book.ensures c.head-3.ensures c.lots.ensures
+    _ (c.order_of-o.ensures u) _ _ found.own_value found.lots_value _ _ (c.first_cause.ensures u) (c.measured_cause.ensures u) in
     c.book_submit.ensures.answer ∙ accepted judged c.in_ok-first_cause.was c.in_ok-measured_cause.was

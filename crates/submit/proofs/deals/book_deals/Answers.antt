@@ -1,4 +1,3 @@
-use mathlib.Core.Path.{◌≡◌}
 use native.Mathlib.Omega.{arith}
 use Rattle.tables.proofs.Same.{same_none, same_then}
 use Rattle.submit.proofs.Lines.{booking_start, deal_fits, booking_next}
@@ -6,9 +5,6 @@ use Rattle.submit.proofs.deals.book_deals.Goals as goal
 
 pub loop-k-init : goal.loop-k-init
 loop-k-init c = (omega arith, booking_start _ _ _ _ c.requires.bookable.0, same_none)
-
-pub deal_at-requires : goal.deal_at-requires
-deal_at-requires c = let f = c.requires.bookable.1 in (omega (arith, f.most), f.room)
 
 pub book_deal-requires : goal.book_deal-requires
 book_deal-requires c =
@@ -25,8 +21,3 @@ loop-k-preserved c =
       booking_next _ _ _ _ pre.bookable.1 pre.member_bound _ (omega arith) _ booking _ c.deal_at.ensures _ (omega (arith, pre.bookable.0.long)) after.booked,
       same_then c.loop-k.invariant.2 after.same,
     )
-
-pub returns : goal.returns
-returns c =
-    let end : c.loop-k.k ≡ c.args.count = omega arith in
-    record { booked = rw end at c.loop-k.invariant.1.same; same = c.loop-k.invariant.2 }
