@@ -1,9 +1,10 @@
 -- Each answer of a close-out, from the numbers that the code has at hand. Assumes nothing.
 use Prim.Native.Nat.{ℕ, zero, suc, ◌+◌, ◌*◌, ◌-◌, ◌≤◌, ◌<◌, min}
-use mathlib.Core.Path.{◌≡◌, refl, sym, ◌∙◌}
+use mathlib.Core.Path.{◌≡◌, refl, sym, ap, ◌∙◌}
 use mathlib.Core.Bool.{Bool, true, false, cond, ◌&&◌}
 use mathlib.Core.List.{List, [], ◌∷◌, ◌++◌, map}
 use native.Mathlib.Omega.{arith}
+use native.Mathlib.Nat.{add-zero}
 use lib.Dec.{eqb, ltb}
 use lib.IntN.{ℤ, pos, negsuc}
 use lib.ListN.{length, get_or}
@@ -16,7 +17,7 @@ use Rattle.rules.specs.declared.refusal.Refusal.TheVariants.{ContractNotOpen, No
 use Rattle.rules.specs.declared.event.CloseOutTerms.{CloseOutTerms}
 use Rattle.rules.specs.Default.{sum_of, given_up, less, defaulted_longs, defaulted_shorts, smaller_total, netted_longs, netted_shorts, netting_changes, longs_remaining, shorts_remaining, lots_remaining}
 use Rattle.rules.specs.Default.{weights, taken, defaulted_changes, taker_changes, close_out_lines, close_out_booked}
-use Rattle.rules.specs.Ledger.{Tables, members, lots_run, defaulted, lots_at, is_open, ggf, line_run, booked, with_head, with_rows}
+use Rattle.rules.specs.Ledger.{Tables, price_width, ggf_place, members, lots_run, defaulted, lots_at, is_open, ggf, line_run, booked, with_head, with_rows}
 use Rattle.rules.specs.Ranges.{contract_count, most_members, most_lots_run}
 use Rattle.rules.specs.Refusals.{close_out_spec}
 use Rattle.rules.proofs.Netting.{given_sum, given_length, given_le}
@@ -249,6 +250,10 @@ module _ (t : Tables) (f : Takes 0 t) (e : CloseOutTerms) (below : e.contract < 
             (rw (opened, no_price, longs_here, shorts_here, some_lots, remaining_here, weights_here, ← summed, taker, run_is, le-ltb most_lots_run (lots_run t + ((q + q) + (l + l))) k))
 
 -- ---- the causes that need no lots
+-- A contract's GGF stands first of its prices.
+pub first_price : (prices : List ℕ) (c : ℕ) → get_or prices (c * price_width + 0) 0 ≡ get_or prices (ggf_place c) 0
+first_price prices c = ap (λ i. get_or prices i 0) (add-zero (c * price_width))
+
 pub not_open : (t : Tables) (e : CloseOutTerms) → is_open t e.contract ≡ false → record { answer = Err (ContractNotOpen e.contract); after = t } ≡ close_out_spec t e
 unfolding close_out_spec
 not_open t e h = rw h

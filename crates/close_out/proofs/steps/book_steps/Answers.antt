@@ -1,14 +1,7 @@
 use native.Mathlib.Omega.{arith}
 use Rattle.tables.proofs.Same.{same_then}
-use Rattle.deal_lines.proofs.Takes.{less_room}
 use Rattle.close_out.proofs.StepBooking.{remaining_column, second_requires, takers_requires, finish, done}
 use Rattle.close_out.proofs.steps.book_steps.Goals as goal
-
-pub book_netting-first-requires : goal.book_netting-first-requires
-book_netting-first-requires c =
-    let pre = c.requires in
-    let d = pre.dealable in
-    record { bookable = less_room _ _ (omega arith) pre.bookable.0; contract_lt_contract_count = (pre.bookable.1, pre.bookable.2, d.longs_length, d.shorts_length) }
 
 pub book_changes-second-requires : goal.book_changes-second-requires
 book_changes-second-requires c =

@@ -1,4 +1,3 @@
-use native.Mathlib.Omega.{arith}
 use Rattle.submit.proofs.OrderBooked.{bookable, booked_is}
 use Rattle.submit.proofs.placing.trade.Goals as goal
 
