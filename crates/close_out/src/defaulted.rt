@@ -1,6 +1,6 @@
 // What the defaulted hold of a contract.
-ghost use Rattle.std.specs.Prelude.{◌≡◌, ◌<◌, length};
-ghost use Rattle.rules.specs.Ranges.{contract_count, most_lots_run};
+ghost use Rattle.std.specs.Prelude.{◌≡◌, ◌*◌, ◌≤◌, ◌<◌, length};
+ghost use Rattle.rules.specs.Ranges.{contract_count, most_members, most_lots_run};
 ghost use Rattle.tables.specs.Fit.{HeadFit, RowsFit, members_in};
 ghost use Rattle.close_out.specs.Booking.{Defaulted};
 
@@ -24,7 +24,8 @@ pub fn find_defaulted(
 ) -> Netting
     requires head_fit { HeadFit head.now × RowsFit (members_in head.now) most_lots_run lots.now × (contract < contract_count) }
     requires longs_len { (length longs.old ≡ members_in head.now) × (length shorts.old ≡ members_in head.now) }
-    ensures { Defaulted head.now lots.now contract result.netted result.remaining longs.new shorts.new }
+    ensures found { Defaulted head.now lots.now contract result.netted result.remaining longs.new shorts.new }
+    ensures most { (result.netted ≤ most_members * most_lots_run) × (result.remaining ≤ most_members * most_lots_run) }
 {
     read_column(Part::DefaultedLongs, head, lots, contract, longs);
     read_column(Part::DefaultedShorts, head, lots, contract, shorts);

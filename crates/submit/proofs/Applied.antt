@@ -1,14 +1,16 @@
 -- A submit applied to undamaged tables: refused by its first causes, by those that the book tells, or booked. Assumes nothing.
 use mathlib.Core.Path.{◌≡◌, sym, ap, subst, ◌∙◌}
+use mathlib.Core.List.{List}
 use Prim.Native.Nat.{ℕ, ◌<◌}
 use native.Mathlib.Omega.{arith}
+use lib.IntN.{ℤ}
 use lib.ListN.{length}
 use Rattle.std.specs.Prelude.{Result, Ok, Err, ⊤}
 use Rattle.arith.specs.Lists.{All}
 use Rattle.rules.specs.declared.event.Submission.{Submission}
 use Rattle.rules.specs.declared.order.Order.{Order}
 use Rattle.rules.specs.Answers.{Outcome, decide}
-use Rattle.rules.specs.Ledger.{Tables, orders, order_count}
+use Rattle.rules.specs.Ledger.{Tables, with_head, with_prices, with_rows, orders, order_count}
 use Rattle.rules.specs.Matching.{incoming, submit_booked}
 use Rattle.rules.specs.Refusals.{submit_causes, submit_spec}
 use Rattle.tables.specs.Fit.{HeadFit, BookFit, order_count_in, orders_in}
@@ -64,12 +66,24 @@ module _ (t : Tables) (e : Submission) (h : HeadFit t.head) (b : BookFit t.head 
     reply_of : (x : Outcome Tables) → outcome second t x ≡ decide (measured_causes (own_in (incoming t e) (orders t)) (crossing_in (incoming t e) (orders t)) t e) t x
     reply_of x = l x ∙ ap (λ n. decide (measured_causes n crossing t e) t x) own_same ∙ ap (λ n. decide (measured_causes (own_in (incoming t e) (orders t)) n t e) t x) crossing_same
 
-    pub judged_both : Judged t e first second crossing
+    judged_both : Judged t e first second crossing
     judged_both =
         record {
           verdict = judged t e ranked numbers has_lots_holds f.least_lots many h.most_orders_holds first second k reply_of;
           accepts = λ s r. subst (Acceptable t e) (sym crossing_same) (acceptable t e ranked numbers has_lots_holds f.least_lots many h.most_orders_holds first second k reply_of s r);
         }
+
+  -- the same of lists that were read, where each read tells what it gave
+  pub judged_read : {head₁ prices₁ head₂ book₂ head₃ : List ℕ} {lots₃ : List ℤ} → head₁ ≡ t.head → prices₁ ≡ t.prices → head₂ ≡ t.head → book₂ ≡ t.book → head₃ ≡ t.head → lots₃ ≡ t.lots
+      → (o : Order) → o ≡ incoming (with_head head₂ t) e → (own crossing : ℕ) → own ≡ own_in o (orders_in (order_count_in t.head) book₂)
+      → crossing ≡ crossing_in o (orders_in (order_count_in t.head) book₂) → (first second : Result ⊤ Refusal)
+      → ((x : Outcome Tables) → outcome first (with_head head₁ (with_prices prices₁ t)) x
+      ≡ decide (first_causes (with_head head₁ (with_prices prices₁ t)) e) (with_head head₁ (with_prices prices₁ t)) x)
+      → ((x : Outcome Tables) → outcome second (with_head head₃ (with_rows lots₃ t.value t)) x
+      ≡ decide (measured_causes own crossing (with_head head₃ (with_rows lots₃ t.value t)) e) (with_head head₃ (with_rows lots₃ t.value t)) x)
+      → Judged t e first second crossing
+  judged_read p q r s u v o same own crossing own_is crossing_is first second k l =
+      judged_both o (rw r at same) own crossing (rw s at own_is) (rw s at crossing_is) first second (rw (p, q) at k) (rw (u, v) at l)
 
 module _ {t : Tables} {e : Submission} {first second : Result ⊤ Refusal} {crossing : ℕ} (j : Judged t e first second crossing) (s : first ≡ Ok tt) where
   pub refused_second : (a : Refusal) → second ≡ Err a → record { answer = Err a; after = t } ≡ submit_spec t e

@@ -5,7 +5,9 @@
 mod clearing;
 mod head;
 mod lengths;
+mod lent;
 
 pub use clearing::{clear_at, clear_rows};
 pub use head::{is_contract_open, set_time};
 pub use lengths::{is_ledger_short, is_lines_short};
+pub use lent::LentTables;

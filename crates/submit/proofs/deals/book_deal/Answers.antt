@@ -1,28 +1,25 @@
 use mathlib.Core.Path.{sym, subst}
 use native.Mathlib.Omega.{arith}
-use Rattle.rules.specs.Ledger.{Tables, with_head, with_rows, with_lines, zero_tables}
+use Rattle.rules.specs.Ledger.{Tables}
+use Rattle.tables.specs.Lent.{tables_of}
 use Rattle.matching.specs.Deals.{line_out}
 use Rattle.deal_lines.specs.Lines.{LineFit}
 use Rattle.deal_lines.proofs.Takes.{Takes, less_room}
 use Rattle.submit.proofs.Lines.{resting_fit, first_takes}
 use Rattle.submit.proofs.deals.book_deal.Goals as goal
 
-pub book_line-requires : goal.book_line-requires
-book_line-requires c =
-    let pre = c.requires in
-    record { bookable = less_room _ _ (omega arith) pre.bookable.0; line_fit = (pre.line_fit.0, omega (arith, pre.bookable.1)) }
-
-pub book_line-requires-2 : goal.book_line-requires-2
-book_line-requires-2 c =
+pub book_line-requires-2-clause-bookable : goal.book_line-requires-2-clause-bookable
+book_line-requires-2-clause-bookable c =
     let a = c.args in
+    let able = c.requires.bookable in
     let q = c.requires.line_fit in
-    let small = c.requires.bookable.1 in
-    let u = with_head a.head.now (with_rows a.lots.now a.value.now (with_lines a.lines.now zero_tables)) in
-    let after = c.book_line.ensures u in
-    let other = c.other_side.ensures in
-    let takes = first_takes a.o a.d a.k small u q.0 q.1 a.d.lots.0 (less_room _ _ (omega arith) c.requires.bookable.0) in
-    let fits = resting_fit a.o a.d a.k small u q.0 q.1 in record { bookable = subst (λ (x : Tables). Takes a.d.lots.0 x) (sym after) takes; line_fit = (rw other (subst (λ (x : Tables). LineFit x.head (line_out a.o a.d)) (sym after) fits), omega (arith, small)) }
+    subst (λ (x : Tables). Takes a.d.lots.0 x) (sym c.book_line.ensures.booked)
+    (first_takes a.o a.d a.k able.1 (tables_of a.tables.now) q.0 q.1 a.d.lots.0 (less_room _ _ (omega arith) able.0))
 
-pub returns : goal.returns
-returns c =
-    λ t. rw (← c.other_side.ensures, ← (c.book_line.ensures t)) (c.book_line-2.ensures t)
+pub book_line-requires-2-clause-line_fit : goal.book_line-requires-2-clause-line_fit
+book_line-requires-2-clause-line_fit c =
+    let a = c.args in
+    let small = c.requires.bookable.1 in
+    let q = c.requires.line_fit in
+    let fits = resting_fit a.o a.d a.k small (tables_of a.tables.now) q.0 q.1 in
+    (rw c.other_side.ensures (subst (λ (x : Tables). LineFit x.head (line_out a.o a.d)) (sym c.book_line.ensures.booked) fits), omega (arith, small))
