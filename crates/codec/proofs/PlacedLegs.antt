@@ -8,6 +8,7 @@ use native.Mathlib.Numerals.{add-one}
 use native.Mathlib.Omega.{arith}
 use borrow.Author.Tests.{le-leb, lt-leb, eq-eqb, ne_eqb}
 use lib.Dec.{eqb, leb}
+use Rattle.std.specs.Prelude.{Some}
 use lib.ListN.{length, get_or, set, take, replicate, length-append, length-replicate}
 use lib.Seq.{set_at, take_all, take-append_seam, length-take-le}
 use Rattle.std.specs.List.{list_all}

@@ -65,7 +65,8 @@ fn put_fields(out: &mut [u8], event: Event, legs: &[Leg])
     }
 }
 
-// The record of an event, with its legs, the first ones of a slice: RecordUnsound before TableUnsound, and nothing written on either.
+// The record of an event, with its legs, the first ones of a slice: RecordUnsound before TableUnsound, and nothing written
+// on either.
 pub fn write_record(
     members: u64,
     event: Event,

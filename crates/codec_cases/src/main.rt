@@ -4,8 +4,9 @@
 
 ghost use Rattle.std.specs.Prelude.{◌≡◌};
 ghost use Rattle.rules.specs.Records.{reply_of_reading, reply_of_front};
+ghost use Rattle.header.specs.Journal.{reply_of_header_reading};
 
-use header::JournalHeader;
+use header::{JournalHeader, ReadHeader};
 use record_kinds::places::MOST_NUMBERS;
 use rules::{Event, Front, Kurus, Leg, Lots, Refusal};
 use std::io;
@@ -32,6 +33,16 @@ fn reading_number(reading: Option<Event>) -> u64
     match reading {
         Some(_) => 0,
         None => 3,
+    }
+}
+
+// The same of a header.
+fn header_number(read: Option<ReadHeader>) -> u64
+    ensures { result ≡ (reply_of_header_reading read).number }
+{
+    match read {
+        Some(_) => 0,
+        None => 2,
     }
 }
 
@@ -287,7 +298,8 @@ fn show_header(rt: &impl Print, h: JournalHeader) -> io::Result<()> {
 }
 
 fn header(rt: &impl Print, bytes: &[u8]) -> io::Result<()> {
-    match header::read_header(bytes) {
+    let read = header::read_header(bytes);
+    match read {
         Some(read) => {
             show_header(rt, read.header)?;
             number(rt, read.length)?;
@@ -295,7 +307,10 @@ fn header(rt: &impl Print, bytes: &[u8]) -> io::Result<()> {
             show_answer(rt, header::write_header(read.header, &mut out))?;
             show_again(rt, &out, bytes)?;
         }
-        None => rt.print("2")?,
+        None => {
+            let number = header_number(read);
+            print!(rt; "{number}")?;
+        }
     }
     rt.println("")
 }

@@ -82,10 +82,10 @@ fn is_folder(file: &File) -> bool {
     file.metadata().is_ok_and(|found| found.is_dir())
 }
 
-// How many bytes the file has, where that is known.
+// How many bytes the file has, where that is known. One that says 0 may be of /proc, or still grow.
 fn file_size(file: &File) -> Option<u64> {
     let found = file.metadata().ok()?;
-    found.is_file().then_some(found.len())
+    (found.is_file() && 0 < found.len()).then_some(found.len())
 }
 
 fn run_on_reader(

@@ -28,12 +28,13 @@ pub fn has_stack(rt: &impl Files) -> bool {
         >= STACK_KIB * BYTES_OF_KIB)
 }
 
-// How many bytes standard input still has, where that is known.
+// How many bytes standard input still has, where that is known. A file that is read to its end may still grow.
 pub fn input_size(rt: &impl Files) -> Option<u64> {
     let found = fs::metadata(rt, "/proc/self/fd/0").ok()?;
     if !found.is_file() {
         return None;
     }
     let passed = number_in(rt, "/proc/self/fdinfo/0", "pos:")?;
-    Some(found.len().saturating_sub(passed))
+    let left = found.len().saturating_sub(passed);
+    (0 < left).then_some(left)
 }

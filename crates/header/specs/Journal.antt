@@ -1,6 +1,8 @@
 -- A journal's header with its lists in columns, and what reading one answers.
-use Rattle.std.specs.Prelude.{ℕ, Bool, cond, ◌&&◌, List, map, length, get_or, Option, Some, None}
+use Rattle.std.specs.Prelude.{ℕ, Bool, cond, ◌&&◌, List, map, length, get_or, Option, Some, None, Err, ◌≡◌, refl}
 use Rattle.arith.specs.Lists.{from}
+use Rattle.rules.specs.declared.refusal.Refusal.TheVariants.{HeaderUnsound}
+use Rattle.rules.specs.Answers.{Reply, reply_of}
 use Rattle.rules.specs.Ranges.{most_members, most_holidays}
 use Rattle.rules.specs.Days.{Calendar}
 use Rattle.rules.specs.Header.{Header, calendar_sound, day_sound, header_of, header_length, begins_with_header}
@@ -37,3 +39,11 @@ header_columns h =
 -- What reading answers: the header and its length if the bytes begin with a sound one.
 unfoldable pub header_reading : List ℕ → Option ReadHeader
 header_reading s = cond (begins_with_header s) (Some (record { length = header_length s; header = header_columns (header_of s) })) None
+
+-- The paper's number for what reading a header answers, with its length: bytes that begin with no sound header are 2.
+abbrev pub reply_of_header_reading : Option ReadHeader → Reply
+reply_of_header_reading (Some r) = record { number = 0; detail = r.length }
+reply_of_header_reading None = reply_of (Err HeaderUnsound)
+
+no_header_read : reply_of_header_reading None ≡ record { number = 2; detail = 0 }
+no_header_read = refl

@@ -8,6 +8,7 @@ use borrow.Author.Tests.{lt-ltb, le-ltb, lt-leb}
 use lib.Dec.{leb}
 use lib.ListN.{length, get_or, set, take, drop, replicate, length-drop}
 use lib.Seq.{length-take-le, get_or-take, get_or-drop}
+use Rattle.std.specs.Prelude.{Result, Ok, Err}
 use Rattle.arith.specs.Columns.{padded}
 use Rattle.arith.specs.Lists.{from}
 use Rattle.arith.specs.Lists.{over}

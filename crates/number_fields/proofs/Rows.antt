@@ -7,6 +7,7 @@ use native.Mathlib.Omega.{arith}
 use borrow.Author.Tests.{eq-eqb}
 use lib.ListN.{length, take, drop, length-append, take-append-drop}
 use lib.Seq.{paste, take-length, length-take-le}
+use Rattle.std.specs.Prelude.{Ok}
 use Rattle.arith.specs.Lists.{over}
 use Rattle.arith.proofs.Appends.{flat_length}
 use Rattle.arith.proofs.Beside.{over_then}

@@ -30,7 +30,8 @@ fn put_legs(row: &mut [u64], legs: &[Leg])
     }
 }
 
-// The event's legs are the first ones of the slice. Answers how many numbers it put: the kind, one for each of its fields, and the legs'.
+// The event's legs are the first ones of the slice. Answers how many numbers it put: the kind, one for each of its fields,
+// and the legs'.
 pub fn put_event(row: &mut [u64], event: Event, legs: &[Leg]) -> u64
     requires { (record_fields ≤ length row.old) × (leg_count event ≤ most_legs) × (leg_count event ≤ length legs.now) }
     ensures { record { answer = Ok result; after = row.new } ≡ with_numbers event (take (leg_count event) legs.now) row.old }

@@ -8,6 +8,7 @@ use lib.Dec.{ltb}
 use lib.ListN.{length}
 use lib.Seq.{get_or-set_other, set_comm}
 use borrow.Author.Tests.{lt-ltb, le-ltb}
+use Rattle.std.specs.Prelude.{Ok}
 use Rattle.arith.specs.Lists.{All, every, total}
 use Rattle.arith.proofs.Tests.{never, true_or}
 use Rattle.rules.specs.declared.event.Leg.{Leg}

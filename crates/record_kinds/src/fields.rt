@@ -11,7 +11,7 @@ use rules::kinds::{CANCEL, CLOSE_OF_DAY, CLOSE_OUT, DAY_LIMITS, DEFAULT, PROPOSA
 // How many fields a leg has.
 pub const LEG_FIELDS: usize = 3;
 
-// After a record's kind, those of its legs aside.
+// The fields of each kind after the kind itself, and those of a leg.
 const SUBMIT_FIELDS: [Field; 7] = [
     Field::Time,
     Field::Member,

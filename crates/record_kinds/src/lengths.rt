@@ -27,8 +27,8 @@ fn fields_length(kind: u64) -> usize
     length
 }
 
-// By its kind and, of a proposal, its number of legs; 0 where no kind has that number, as the definition of rules says
-// that front_of and fields_of cite.
+// By its kind and, of a proposal, its number of legs; 0 where no kind has that number, since the definition `record_length`
+// of rules, on which the theorems about records stand, says so.
 pub fn record_length(kind: u64, legs: u64) -> u64
     requires { legs < 256 }
     ensures { result ≡ record_length kind legs }

@@ -13,4 +13,4 @@ sum-requires-clause-fits c =
     fits_from_yields_list c.iter.result _ (YieldsList-from_slice l cc) (omega (arith, sum_is l, c.requires.few, sum_most l most_weight c.requires.each))
 
 pub returns : goal.returns
-returns c = sum_from_yields_List c.iter.result c.sum.result c.sum.ensures.ran (YieldsList-from_slice c.args.numbers.now cc) ∙ sum_is _
+returns c = omega (arith, sum_from_yields_List c.iter.result c.sum.result c.sum.ensures.ran (YieldsList-from_slice c.args.numbers.now cc) ∙ sum_is c.args.numbers.now)

@@ -8,7 +8,7 @@ returns-then-row-lt-RECORD_FIELDS c = let a = c.args in read_short a.members a.b
 pub put_event-requires : goal.put_event-requires
 put_event-requires c =
     let a = c.args in
-    let few = few_read a.members a.bytes.now a.row.now c.read_record.ensures c.in-Sound.is in
+    let few = few_read a.members a.bytes.now a.row.now c.read_record.ensures c.in-Some.is in
     (c.if-row-lt-RECORD_FIELDS.false, few, omega arith)
 
 pub returns-in-Some : goal.returns-in-Some
