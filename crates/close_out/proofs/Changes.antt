@@ -54,8 +54,8 @@ module _ (c p m : ℕ) where
   change_one z h = rw (ne_eqb (nat_abs z) 0 h)
 
   module _ (gain loss : ℕ) where
-    pub same_none : gain ≡ loss → change_lines c p m ((pos gain -ℤ pos loss) ∷ []) ≡ []
-    same_none e = change_none (pos gain -ℤ pos loss) (rw (minus_same gain loss e))
+    pub no_change : gain ≡ loss → change_lines c p m ((pos gain -ℤ pos loss) ∷ []) ≡ []
+    no_change e = change_none (pos gain -ℤ pos loss) (rw (minus_same gain loss e))
 
     pub more_bought : loss < gain → change_lines c p m ((pos gain -ℤ pos loss) ∷ []) ≡ line (signed Buy (gain - loss)) ∷ []
     more_bought h = rw (minus_more gain loss h) (change_one (pos (gain - loss)) (λ e. omega arith))

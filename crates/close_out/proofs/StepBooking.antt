@@ -4,7 +4,7 @@ use mathlib.Core.Path.{◌≡◌, refl, sym, ap, subst, ◌∙◌}
 use mathlib.Core.List.{List, [], ◌∷◌, ◌++◌, zip_with, append-nil, append_assoc}
 use native.Mathlib.Omega.{arith}
 use native.Mathlib.Nat.{zero-add}
-use lib.IntN.{ℤ, pos, ◌-ℤ◌}
+use lib.IntN.{pos, ◌-ℤ◌}
 use lib.ListN.{length, get_or, length-append}
 use Rattle.arith.proofs.Overs.{zip_length}
 use Rattle.rules.specs.Default.{sum_of, given_up, less, change_lines}
@@ -13,12 +13,10 @@ use Rattle.rules.specs.Ranges.{contract_count, most_price, least_lines, most_mem
 use Rattle.rules.proofs.Netting.{given_length}
 use Rattle.tables.specs.Fit.{members_in}
 use Rattle.dealing.specs.Levels.{most_weight, MemberColumn}
-use Rattle.deal_lines.specs.Room.{Bookable}
 use Rattle.close_out.specs.Booking.{with_each, changes, netting_lines, defaulted_lines, taker_lines, step_lines, Dealable}
 use Rattle.close_out.proofs.Changes.{each_append}
 use Rattle.deal_lines.proofs.Takes.{Takes, less_room}
 use Rattle.close_out.proofs.Takes.{each_members}
-use Rattle.close_out.proofs.Running.{put, blank}
 use Rattle.close_out.proofs.StepColumns.{netting_room}
 use Rattle.close_out.proofs.Runs.{change_length, most_run, no_takers, takes_lines}
 
@@ -43,13 +41,12 @@ remaining_column q held remaining e f =
     record { few = omega (arith, ap length e, remaining_length q held, f.few); each = λ i. rw e (omega (arith, less_le held (given_up q held) i, f.each i)) }
 
 -- ---- tables after lines
-module _ (head head' : List ℕ) (lots lots' value value' lines lines' : List ℤ) (i : ℕ) (ls : List Line)
-    (same : (t : Tables) → put head' lots' value' lines' t ≡ with_each i ls (put head lots value lines t)) where
-  carried : (room : ℕ) → Takes room (with_each i ls (put head lots value lines blank)) → Bookable room head' lots' value' lines'
-  carried room f = subst (λ (s : Tables). Takes room s) (sym (same blank)) f
+module _ (t t' : Tables) (i : ℕ) (ls : List Line) (same : t' ≡ with_each i ls t) where
+  carried : (room : ℕ) → Takes room (with_each i ls t) → Takes room t'
+  carried room f = subst (λ (s : Tables). Takes room s) (sym same) f
 
-  members_same : members_in head' ≡ members_in head
-  members_same = ap (λ (s : Tables). members_in s.head) (same blank) ∙ each_members i ls (put head lots value lines blank)
+  members_same : members_in t'.head ≡ members_in t.head
+  members_same = ap (λ (s : Tables). members_in s.head) same ∙ each_members i ls t
 
 -- Changes of two columns take at most their sums.
 takes_columns : (c p : ℕ) → c < contract_count → p ≤ most_price → (gains losses : List ℕ) (room i : ℕ) (t : Tables) → length gains ≡ members t → length losses ≡ length gains
@@ -58,12 +55,12 @@ takes_columns c p hc hp gains losses room i t a b k f =
     let long = changes_length gains losses (sym b) in
     takes_lines c p hc hp (changes gains losses) room i 0 t (omega arith) (omega arith) (less_room _ _ (omega (arith, most_run gains losses (sym b))) f)
 
-module _ (c p q l : ℕ) (longs shorts ws : List ℕ) (hc : c < contract_count) (hp : p ≤ most_price) (head : List ℕ) (lots value lines : List ℤ)
-    (f : Bookable ((q + q) + (l + l)) head lots value lines) (d : Dealable q l (members_in head) longs shorts ws) where
-  few : members_in head ≤ most_members
+module _ (c p q l : ℕ) (longs shorts ws : List ℕ) (hc : c < contract_count) (hp : p ≤ most_price) (t : Tables)
+    (f : Takes ((q + q) + (l + l)) t) (d : Dealable q l (members_in t.head) longs shorts ws) where
+  few : members_in t.head ≤ most_members
   few = f.most_members_holds
 
-  netting_few : length (netting_lines c p q longs shorts) ≤ members_in head
+  netting_few : length (netting_lines c p q longs shorts) ≤ members_in t.head
   unfolding netting_lines
   netting_few =
       let gs = given_up q shorts in
@@ -76,29 +73,29 @@ module _ (c p q l : ℕ) (longs shorts ws : List ℕ) (hc : c < contract_count) 
         d.shorts_length,
       )
 
-  netted : Takes (l + l) (with_each 0 (netting_lines c p q longs shorts) (put head lots value lines blank))
+  netted : Takes (l + l) (with_each 0 (netting_lines c p q longs shorts) t)
   unfolding netting_lines
   netted =
       let gs = given_up q shorts in
       let gl = given_up q longs in
       let wide = given_length q shorts ∙ d.shorts_length in
-      takes_columns c p hc hp gs gl (l + l) 0 (put head lots value lines blank) wide (given_length q longs ∙ d.longs_length ∙ sym wide) (omega (arith, few))
+      takes_columns c p hc hp gs gl (l + l) 0 t wide (given_length q longs ∙ d.longs_length ∙ sym wide) (omega (arith, few))
       (less_room _ _ (omega (arith, netting_room c p q longs shorts gl gs refl refl)) f)
 
   -- after step 1
-  module _ (head1 : List ℕ) (lots1 value1 lines1 : List ℤ) (first : ℕ) (longs1 shorts1 : List ℕ) (count1 : first ≡ length (netting_lines c p q longs shorts))
+  module _ (t1 : Tables) (first : ℕ) (longs1 shorts1 : List ℕ) (count1 : first ≡ length (netting_lines c p q longs shorts))
       (el : longs1 ≡ less longs (given_up q longs)) (es : shorts1 ≡ less shorts (given_up q shorts))
-      (same1 : (t : Tables) → put head1 lots1 value1 lines1 t ≡ with_each 0 (netting_lines c p q longs shorts) (put head lots value lines t)) where
-    ready1 : Bookable (l + l) head1 lots1 value1 lines1
-    ready1 = carried head head1 lots lots1 value value1 lines lines1 0 (netting_lines c p q longs shorts) same1 (l + l) netted
+      (same1 : t1 ≡ with_each 0 (netting_lines c p q longs shorts) t) where
+    ready1 : Takes (l + l) t1
+    ready1 = carried t t1 0 (netting_lines c p q longs shorts) same1 (l + l) netted
 
-    members1 : members_in head1 ≡ members_in head
-    members1 = members_same head head1 lots lots1 value value1 lines lines1 0 (netting_lines c p q longs shorts) same1
+    members1 : members_in t1.head ≡ members_in t.head
+    members1 = members_same t t1 0 (netting_lines c p q longs shorts) same1
 
     sums1 : sum_of shorts1 + sum_of longs1 ≡ l
     sums1 = omega (arith, ap sum_of el, ap sum_of es, d.remaining)
 
-    shorts_wide : length shorts1 ≡ members_in head1
+    shorts_wide : length shorts1 ≡ members_in t1.head
     shorts_wide = ap length es ∙ remaining_length q shorts ∙ d.shorts_length ∙ sym members1
 
     longs_wide : length longs1 ≡ length shorts1
@@ -107,13 +104,13 @@ module _ (c p q l : ℕ) (longs shorts ws : List ℕ) (hc : c < contract_count) 
     first_few : first + length shorts1 ≤ least_lines
     first_few = omega (arith, count1, netting_few, few, shorts_wide, members1)
 
-    pub second_requires : Bookable (sum_of shorts1 + sum_of longs1) head1 lots1 value1 lines1
-        × (((first + length shorts1 ≤ least_lines) × (c < contract_count) × (p ≤ most_price)) × ((length shorts1 ≡ members_in head1) × (length longs1 ≡ length shorts1)))
+    pub second_requires : Takes (sum_of shorts1 + sum_of longs1) t1
+        × (((first + length shorts1 ≤ least_lines) × (c < contract_count) × (p ≤ most_price)) × ((length shorts1 ≡ members_in t1.head) × (length longs1 ≡ length shorts1)))
     second_requires = (less_room _ _ (omega (arith, sums1)) ready1, ((first_few, hc, hp), (shorts_wide, longs_wide)))
 
     -- after the defaulted of step 2
-    module _ (head2 : List ℕ) (lots2 value2 lines2 : List ℤ) (second : ℕ) (count2 : second ≡ first + length (change_lines c p 0 (changes shorts1 longs1)))
-        (same2 : (t : Tables) → put head2 lots2 value2 lines2 t ≡ with_each first (change_lines c p 0 (changes shorts1 longs1)) (put head1 lots1 value1 lines1 t)) where
+    module _ (t2 : Tables) (second : ℕ) (count2 : second ≡ first + length (change_lines c p 0 (changes shorts1 longs1)))
+        (same2 : t2 ≡ with_each first (change_lines c p 0 (changes shorts1 longs1)) t1) where
       abbrev netting : List Line
       netting = netting_lines c p q longs shorts
 
@@ -124,50 +121,50 @@ module _ (c p q l : ℕ) (longs shorts ws : List ℕ) (hc : c < contract_count) 
       unfolding defaulted_lines
       defaulted_is = rw (es, el)
 
-      ready2 : Bookable l head2 lots2 value2 lines2
+      ready2 : Takes l t2
       ready2 =
-          carried head1 head2 lots1 lots2 value1 value2 lines1 lines2 first (change_lines c p 0 (changes shorts1 longs1)) same2 l
-          (takes_columns c p hc hp shorts1 longs1 l first (put head1 lots1 value1 lines1 blank) shorts_wide longs_wide first_few (less_room _ _ (omega (arith, sums1)) ready1))
+          carried t1 t2 first (change_lines c p 0 (changes shorts1 longs1)) same2 l
+          (takes_columns c p hc hp shorts1 longs1 l first t1 shorts_wide longs_wide first_few (less_room _ _ (omega (arith, sums1)) ready1))
 
-      members2 : members_in head2 ≡ members_in head
-      members2 = members_same head1 head2 lots1 lots2 value1 value2 lines1 lines2 first (change_lines c p 0 (changes shorts1 longs1)) same2 ∙ members1
+      members2 : members_in t2.head ≡ members_in t.head
+      members2 = members_same t1 t2 first (change_lines c p 0 (changes shorts1 longs1)) same2 ∙ members1
 
-      second_few : second ≤ members_in head + members_in head
+      second_few : second ≤ members_in t.head + members_in t.head
       second_few = omega (arith, count1, count2, netting_few, change_length c p 0 (changes shorts1 longs1), changes_length shorts1 longs1 (sym longs_wide), shorts_wide, members1)
 
-      pub takers_requires : 0 < l → (Bookable l head2 lots2 value2 lines2 × MemberColumn most_weight ws × (0 < sum_of ws))
-          × ((c < contract_count) × (p ≤ most_price) × (second + length ws ≤ least_lines) × (length ws ≡ members_in head2))
+      pub takers_requires : 0 < l → (Takes l t2 × MemberColumn most_weight ws × (0 < sum_of ws))
+          × ((c < contract_count) × (p ≤ most_price) × (second + length ws ≤ least_lines) × (length ws ≡ members_in t2.head))
       takers_requires h = ((ready2, d.weights_column, d.takers h), (hc, hp, omega (arith, second_few, d.weights_length, few), d.weights_length ∙ sym members2))
 
       -- both steps as lines of one list
-      both : (t : Tables) → put head2 lots2 value2 lines2 t ≡ with_each (0 + length netting) defaulted (with_each 0 netting (put head lots value lines t))
-      both t = same2 t ∙ rw (defaulted_is, same1 t, count1, zero-add (length netting))
+      both : t2 ≡ with_each (0 + length netting) defaulted (with_each 0 netting t)
+      both = same2 ∙ rw (defaulted_is, same1, count1, zero-add (length netting))
 
       counted : second ≡ length (netting ++ defaulted)
       counted = omega (arith, count1, count2, ap length defaulted_is, length-append netting defaulted)
 
-      together : (t : Tables) → put head2 lots2 value2 lines2 t ≡ with_each 0 (netting ++ defaulted) (put head lots value lines t)
-      together t = both t ∙ sym (each_append 0 netting defaulted (put head lots value lines t))
+      together : t2 ≡ with_each 0 (netting ++ defaulted) t
+      together = both ∙ sym (each_append 0 netting defaulted t)
 
       steps_are : (long : ℕ) → long ≡ sum_of longs1 → (netting ++ defaulted) ++ taker_lines c p long l ws ≡ step_lines c p q l longs shorts ws
       unfolding step_lines
       steps_are long e = append_assoc netting defaulted (taker_lines c p long l ws) ∙ rw (e, el)
 
-      pub finish : (long : ℕ) → long ≡ sum_of longs1 → (head3 : List ℕ) (lots3 value3 lines3 : List ℤ) (r : ℕ) → r ≡ second + length (taker_lines c p long l ws)
-          → ((t : Tables) → put head3 lots3 value3 lines3 t ≡ with_each second (taker_lines c p long l ws) (put head2 lots2 value2 lines2 t))
-          → (r ≡ length (step_lines c p q l longs shorts ws)) × ((t : Tables) → put head3 lots3 value3 lines3 t ≡ with_each 0 (step_lines c p q l longs shorts ws) (put head lots value lines t))
-      finish long e head3 lots3 value3 lines3 r er same3 =
+      pub finish : (long : ℕ) → long ≡ sum_of longs1 → (t3 : Tables) (r : ℕ) → r ≡ second + length (taker_lines c p long l ws)
+          → t3 ≡ with_each second (taker_lines c p long l ws) t2
+          → (r ≡ length (step_lines c p q l longs shorts ws)) × (t3 ≡ with_each 0 (step_lines c p q l longs shorts ws) t)
+      finish long e t3 r er same3 =
           let takers = taker_lines c p long l ws in
           let all = steps_are long e in (
             er ∙ ap (λ n. n + length takers) counted ∙ sym (length-append (netting ++ defaulted) takers) ∙ ap length all,
-            λ t. same3 t ∙ rw (together t, counted)
-                (sym (rw (zero-add (length (netting ++ defaulted))) at (each_append 0 (netting ++ defaulted) takers (put head lots value lines t)))
-                ∙ ap (λ ls. with_each 0 ls (put head lots value lines t)) all),
+            same3 ∙ rw (together, counted)
+                (sym (rw (zero-add (length (netting ++ defaulted))) at (each_append 0 (netting ++ defaulted) takers t))
+                ∙ ap (λ ls. with_each 0 ls t) all),
           )
 
       pub done : l ≡ 0 → (second ≡ length (step_lines c p q l longs shorts ws))
-          × ((t : Tables) → put head2 lots2 value2 lines2 t ≡ with_each 0 (step_lines c p q l longs shorts ws) (put head lots value lines t))
+          × (t2 ≡ with_each 0 (step_lines c p q l longs shorts ws) t)
       done z =
           let none : taker_lines c p (sum_of longs1) l ws ≡ [] = rw z (no_takers c p (sum_of longs1) ws) in
           let all : netting ++ defaulted ≡ step_lines c p q l longs shorts ws = sym (append-nil (netting ++ defaulted)) ∙ (rw none at (steps_are (sum_of longs1) refl)) in
-          (counted ∙ ap length all, λ t. together t ∙ ap (λ ls. with_each 0 ls (put head lots value lines t)) all)
+          (counted ∙ ap length all, together ∙ ap (λ ls. with_each 0 ls t) all)

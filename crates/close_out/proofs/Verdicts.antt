@@ -16,7 +16,7 @@ use Rattle.rules.specs.declared.refusal.Refusal.TheVariants.{ContractNotOpen, No
 use Rattle.rules.specs.declared.event.CloseOutTerms.{CloseOutTerms}
 use Rattle.rules.specs.Default.{sum_of, given_up, less, defaulted_longs, defaulted_shorts, smaller_total, netted_longs, netted_shorts, netting_changes, longs_remaining, shorts_remaining, lots_remaining}
 use Rattle.rules.specs.Default.{weights, taken, defaulted_changes, taker_changes, close_out_lines, close_out_booked}
-use Rattle.rules.specs.Ledger.{Tables, members, lots_run, defaulted, lots_at, is_open, ggf, line_run, booked, with_head, with_rows, with_lines}
+use Rattle.rules.specs.Ledger.{Tables, members, lots_run, defaulted, lots_at, is_open, ggf, line_run, booked, with_head, with_rows}
 use Rattle.rules.specs.Ranges.{contract_count, most_members, most_lots_run}
 use Rattle.rules.specs.Refusals.{close_out_spec}
 use Rattle.rules.proofs.Netting.{given_sum, given_length, given_le}
@@ -28,8 +28,8 @@ use Rattle.close_out_weights.specs.Columns.{column_of}
 use Rattle.deal_lines.specs.Room.{Bookable}
 use Rattle.close_out.specs.Booking.{with_each, changes, netting_lines, defaulted_lines, taker_lines, step_lines, Defaulted, Dealable}
 use Rattle.close_out.proofs.Changes.{each_booked}
-use Rattle.deal_lines.proofs.Takes.{rows_wider}
-use Rattle.close_out.proofs.Running.{put, blank}
+use Rattle.deal_lines.proofs.Takes.{Takes, rows_wider}
+use Rattle.close_out.proofs.Running.{blank}
 use Rattle.close_out.proofs.Runs.{remaining_sum, change_run, Apart, apart_run, takers_run}
 use Rattle.close_out.proofs.StepBooking.{remaining_length, less_le}
 use Rattle.close_out_weights.proofs.ColumnFits.{column_length, column_fits, column_sum}
@@ -88,6 +88,16 @@ module _ (head : List ℕ) (lots : List ℤ) (c : ℕ) (longs shorts : List ℕ)
   pub defaulted_found : Defaulted head lots c q ((long - q) + (short - q)) longs shorts
   defaulted_found = record { longs_are = longs_of; shorts_are = shorts_of; netted = netted_of; remaining = remaining_of }
 
+-- What was found with the head and the lots of tables, as they were read.
+module _ (t : Tables) (head : List ℕ) (lots : List ℤ) (p : head ≡ t.head) (r : lots ≡ t.lots) where
+  pub found_at : {c q l : ℕ} {longs shorts : List ℕ} → Defaulted head lots c q l longs shorts → Defaulted t.head t.lots c q l longs shorts
+  found_at d = rw (p, r) at d
+
+  pub weighed_at : (e : CloseOutTerms) (l : ℕ) (ws : List ℕ)
+      → ((s : Tables) (v : List ℤ) → lots_remaining (with_head head (with_rows lots v s)) e.contract ≡ l → ws ≡ weights (with_head head (with_rows lots v s)) e)
+      → lots_remaining t e.contract ≡ l → ws ≡ weights t e
+  weighed_at e l ws k = rw (p, r) at (k t t.value)
+
 -- ---- longs and shorts apart
 up_or_dn : (z : ℤ) → min (dn z) (up z) ≡ 0
 unfolding up dn
@@ -117,27 +127,36 @@ spec_lines : (t : Tables) (e : CloseOutTerms) → close_out_lines t e
 unfolding close_out_lines netting_changes defaulted_changes taker_changes taken netted_longs netted_shorts longs_remaining shorts_remaining step_lines netting_lines defaulted_lines taker_lines
 spec_lines t e = refl
 
-module _ (head : List ℕ) (lots value lines : List ℤ) (f : Bookable 0 head lots value lines) (e : CloseOutTerms) (below : e.contract < contract_count)
-    (q l : ℕ) (longs shorts : List ℕ) (d : Defaulted head lots e.contract q l longs shorts) where
+module _ (t : Tables) (f : Takes 0 t) (e : CloseOutTerms) (below : e.contract < contract_count)
+    (q l : ℕ) (longs shorts : List ℕ) (d : Defaulted t.head t.lots e.contract q l longs shorts) where
   abbrev c : ℕ
   c = e.contract
 
-  abbrev here : Tables
-  here = with_head head (with_rows lots [] blank)
+  longs_here : defaulted_longs t c ≡ longs
+  longs_here = d.longs_are t t.value
 
-  longs_read : Read head longs
-  longs_read = read_fits DefaultedLongs head lots c longs f.most_members_holds (rows_fit f) below (λ t v. sym (d.longs_are t v) ∙ longs_column _ c)
+  shorts_here : defaulted_shorts t c ≡ shorts
+  shorts_here = d.shorts_are t t.value
 
-  shorts_read : Read head shorts
-  shorts_read = read_fits DefaultedShorts head lots c shorts f.most_members_holds (rows_fit f) below (λ t v. sym (d.shorts_are t v) ∙ shorts_column _ c)
+  netted_here : smaller_total t c ≡ q
+  netted_here = d.netted t t.value
+
+  remaining_here : lots_remaining t c ≡ l
+  remaining_here = d.remaining t t.value
+
+  longs_read : Read t.head longs
+  longs_read = read_fits DefaultedLongs t.head t.lots c longs f.most_members_holds (rows_fit f) below (λ s v. sym (d.longs_are s v) ∙ longs_column _ c)
+
+  shorts_read : Read t.head shorts
+  shorts_read = read_fits DefaultedShorts t.head t.lots c shorts f.most_members_holds (rows_fit f) below (λ s v. sym (d.shorts_are s v) ∙ shorts_column _ c)
 
   netted_is : min (sum_of longs) (sum_of shorts) ≡ q
   unfolding smaller_total
-  netted_is = rw (d.longs_are blank [], d.shorts_are blank []) at (d.netted blank [])
+  netted_is = rw (longs_here, shorts_here) at netted_here
 
   remaining_is : sum_of (less longs (given_up q longs)) + sum_of (less shorts (given_up q shorts)) ≡ l
   unfolding lots_remaining longs_remaining shorts_remaining netted_longs netted_shorts
-  remaining_is = rw (d.netted blank [], d.longs_are blank [], d.shorts_are blank []) at (d.remaining blank [])
+  remaining_is = rw (netted_here, longs_here, shorts_here) at remaining_here
 
   all_lots : sum_of longs + sum_of shorts ≡ (q + q) + l
   all_lots = omega (arith, remaining_is, remaining_sum q longs, remaining_sum q shorts, netted_is)
@@ -149,7 +168,7 @@ module _ (head : List ℕ) (lots value lines : List ℤ) (f : Bookable 0 head lo
   most_remaining = omega (arith, all_lots, netted_is, longs_read.most, shorts_read.most)
 
   apart : Apart shorts longs
-  apart = rw (d.longs_are blank [], d.shorts_are blank []) at (columns_apart here c)
+  apart = rw (longs_here, shorts_here) at (columns_apart t c)
 
   wide : length shorts ≡ length longs
   wide = shorts_read.long ∙ sym longs_read.long
@@ -176,7 +195,7 @@ module _ (head : List ℕ) (lots value lines : List ℤ) (f : Bookable 0 head lo
   takers_there : (ws : List ℕ) (sum : ℕ) → sum ≡ sum_of ws → ltb 0 l && eqb sum 0 ≡ false → 0 < l → 0 < sum_of ws
   takers_there ws sum e h k = le_or_lt 1 (sum_of ws) (λ p. p) (λ p. never (rw (lt-ltb 0 l k, eq-eqb sum 0 (omega arith)) at h))
 
-  pub dealable : (ws : List ℕ) (sum : ℕ) → sum ≡ sum_of ws → ltb 0 l && eqb sum 0 ≡ false → length ws ≡ members_in head → MemberColumn most_weight ws → Dealable q l (members_in head) longs shorts ws
+  pub dealable : (ws : List ℕ) (sum : ℕ) → sum ≡ sum_of ws → ltb 0 l && eqb sum 0 ≡ false → length ws ≡ members_in t.head → MemberColumn most_weight ws → Dealable q l (members_in t.head) longs shorts ws
   dealable ws sum e h long g =
       record {
         longs_length = longs_read.long;
@@ -188,45 +207,33 @@ module _ (head : List ℕ) (lots value lines : List ℤ) (f : Bookable 0 head lo
         takers = takers_there ws sum e h;
       }
 
-  -- for every t, with the lent tables put into it
-  module _ (price : ℕ) (some : 0 < price) (t : Tables) (opened : is_open (put head lots value lines t) e.contract ≡ true) (priced : ggf t e.contract ≡ price) where
-    abbrev lent : Tables
-    lent = put head lots value lines t
-
-    longs_here : defaulted_longs lent c ≡ longs
-    longs_here = d.longs_are (with_lines lines t) value
-
-    shorts_here : defaulted_shorts lent c ≡ shorts
-    shorts_here = d.shorts_are (with_lines lines t) value
-
-    remaining_here : lots_remaining lent c ≡ l
-    remaining_here = d.remaining (with_lines lines t) value
-
-    no_price : eqb (ggf lent c) 0 ≡ false
+  -- for an open contract that has a price
+  module _ (price : ℕ) (some : 0 < price) (opened : is_open t e.contract ≡ true) (priced : ggf t e.contract ≡ price) where
+    no_price : eqb (ggf t c) 0 ≡ false
     no_price = rw priced (ne_eqb price 0 (λ z. omega arith))
 
-    pub no_lots : q + l ≡ 0 → record { answer = Err NoDefaultedLots; after = lent } ≡ close_out_spec lent e
+    pub no_lots : q + l ≡ 0 → record { answer = Err NoDefaultedLots; after = t } ≡ close_out_spec t e
     unfolding close_out_spec
     no_lots h = rw (opened, no_price, longs_here, shorts_here, eq-eqb (sum_of longs + sum_of shorts) 0 (omega (arith, all_lots)))
 
     -- there are lots of the defaulted, and ws are the weights
     module _ (there : q + l ≡ 0 → ⊥) (ws : List ℕ) (sum : ℕ) (summed : sum ≡ sum_of ws)
-        (weighed : (s : Tables) (v : List ℤ) → lots_remaining (with_head head (with_rows lots v s)) e.contract ≡ l → ws ≡ weights (with_head head (with_rows lots v s)) e) where
-      weights_here : weights lent e ≡ ws
-      weights_here = sym (weighed (with_lines lines t) value remaining_here)
+        (weighed : lots_remaining t e.contract ≡ l → ws ≡ weights t e) where
+      weights_here : weights t e ≡ ws
+      weights_here = sym (weighed remaining_here)
 
       some_lots : eqb (sum_of longs + sum_of shorts) 0 ≡ false
       some_lots = ne_eqb (sum_of longs + sum_of shorts) 0 (λ z. there (omega (arith, all_lots)))
 
-      lines_are : close_out_lines lent e ≡ step_lines c price q l longs shorts ws
-      lines_are = spec_lines lent e ∙ rw (priced, d.netted (with_lines lines t) value, remaining_here, longs_here, shorts_here, weights_here)
+      lines_are : close_out_lines t e ≡ step_lines c price q l longs shorts ws
+      lines_are = spec_lines t e ∙ rw (priced, netted_here, remaining_here, longs_here, shorts_here, weights_here)
 
-      pub no_taker : ltb 0 l && eqb sum 0 ≡ true → record { answer = Err NoTaker; after = lent } ≡ close_out_spec lent e
+      pub no_taker : ltb 0 l && eqb sum 0 ≡ true → record { answer = Err NoTaker; after = t } ≡ close_out_spec t e
       unfolding close_out_spec
       no_taker h = rw (opened, no_price, longs_here, shorts_here, some_lots, remaining_here, weights_here, ← summed, h)
 
       module _ (taker : ltb 0 l && eqb sum 0 ≡ false) where
-        run_is : line_run (close_out_lines lent e) ≡ (q + q) + (l + l)
+        run_is : line_run (close_out_lines t e) ≡ (q + q) + (l + l)
         unfolding step_lines
         run_is =
             let ns = netting_lines c price q longs shorts in
@@ -236,16 +243,16 @@ module _ (head : List ℕ) (lots value lines : List ℤ) (f : Bookable 0 head lo
             rw lines_are
             (omega (arith, run_append ns (fs ++ ts), run_append fs ts, netting_run price, defaulted_run price, takers_run c price long l ws (takers_there ws sum summed taker)))
 
-        pub passed : most_lots_run < lots_run lent + ((q + q) + (l + l)) → record { answer = Err TotalPassed; after = lent } ≡ close_out_spec lent e
+        pub passed : most_lots_run < lots_run t + ((q + q) + (l + l)) → record { answer = Err TotalPassed; after = t } ≡ close_out_spec t e
         unfolding close_out_spec
-        passed k = rw (opened, no_price, longs_here, shorts_here, some_lots, remaining_here, weights_here, ← summed, taker, run_is, lt-ltb most_lots_run (lots_run lent + ((q + q) + (l + l))) k)
+        passed k = rw (opened, no_price, longs_here, shorts_here, some_lots, remaining_here, weights_here, ← summed, taker, run_is, lt-ltb most_lots_run (lots_run t + ((q + q) + (l + l))) k)
 
-        pub booked_so : lots_run lent + ((q + q) + (l + l)) ≤ most_lots_run → (n : ℕ) (t' : Tables) → n ≡ length (step_lines c price q l longs shorts ws)
-            → t' ≡ with_each 0 (step_lines c price q l longs shorts ws) lent → record { answer = Ok n; after = t' } ≡ close_out_spec lent e
+        pub booked_so : lots_run t + ((q + q) + (l + l)) ≤ most_lots_run → (n : ℕ) (t' : Tables) → n ≡ length (step_lines c price q l longs shorts ws)
+            → t' ≡ with_each 0 (step_lines c price q l longs shorts ws) t → record { answer = Ok n; after = t' } ≡ close_out_spec t e
         unfolding close_out_spec close_out_booked booked
         booked_so k n t' en et =
-            rw (en, et, each_booked (step_lines c price q l longs shorts ws) lent (omega (arith, f.long)), ← lines_are)
-            (rw (opened, no_price, longs_here, shorts_here, some_lots, remaining_here, weights_here, ← summed, taker, run_is, le-ltb most_lots_run (lots_run lent + ((q + q) + (l + l))) k))
+            rw (en, et, each_booked (step_lines c price q l longs shorts ws) t (omega (arith, f.long)), ← lines_are)
+            (rw (opened, no_price, longs_here, shorts_here, some_lots, remaining_here, weights_here, ← summed, taker, run_is, le-ltb most_lots_run (lots_run t + ((q + q) + (l + l))) k))
 
 -- ---- the causes that need no lots
 pub not_open : (t : Tables) (e : CloseOutTerms) → is_open t e.contract ≡ false → record { answer = Err (ContractNotOpen e.contract); after = t } ≡ close_out_spec t e

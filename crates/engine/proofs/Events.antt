@@ -1,10 +1,11 @@
 -- What a record that was read gives the code of its kind. Assumes nothing.
 use Prim.Native.Nat.{ℕ, ◌+◌, ◌≤◌, ◌<◌}
-use mathlib.Core.Path.{◌≡◌, ap, ◌∙◌}
+use mathlib.Core.Path.{◌≡◌, refl, ap, ◌∙◌}
 use mathlib.Core.Bool.{◌&&◌}
 use mathlib.Core.List.{List}
 use native.Mathlib.Omega.{arith}
 use lib.Dec.{eqb, leb}
+use lib.IntN.{ℤ}
 use lib.ListN.{length, take}
 use borrow.Author.Tests.{leb-true}
 use Rattle.std.specs.Prelude.{Some}
@@ -20,7 +21,8 @@ use Rattle.rules.proofs.SoundEvents.{submission, new_day_limits, proposal, defau
 use Rattle.codec.specs.Legs.{in_places, held_legs}
 use Rattle.codec.proofs.Fields.{said}
 use Rattle.codec.proofs.PlacedLegs.{placed, places_length, legs_said}
-use Rattle.rules.specs.Ledger.{Tables}
+use Rattle.rules.specs.Ledger.{Tables, lent}
+use Rattle.rules.specs.Refusals.{unsound}
 use Rattle.tables.specs.Fit.{members_in, lots_run_in, Fits}
 use Rattle.submit_causes.specs.Fit.{SubmissionFit}
 use Rattle.proposal_check.specs.Legs.{LegsFit}
@@ -57,6 +59,11 @@ module _ (head s : List ℕ) where
 -- Nothing is kept free of the lots run before a close-out.
 pub most_run_left : (t : Tables) → Fits t → lots_run_in t.head + 0 ≤ most_lots_run
 most_run_left t f = omega (arith, f.head_fit.most_run)
+
+-- The tables as they were read for the test.
+pub unsound_of : (t : Tables) {head prices book : List ℕ} {lots value lines : List ℤ} → head ≡ t.head → prices ≡ t.prices → lots ≡ t.lots → value ≡ t.value → book ≡ t.book
+    → lines ≡ t.lines → unsound (lent head prices lots value book lines) ≡ unsound t
+unsound_of t h p l v b n = rw (h, p, l, v, b, n) refl
 
 -- ---- the legs of a proposal
 -- What the legs that were read of a sound proposal are: l is what `read_legs` promises.

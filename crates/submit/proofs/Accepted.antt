@@ -91,7 +91,7 @@ module _ (t : Tables) (e : Submission)
 
     placeable : (lotsCrossing : ℕ) → Acceptable t e lotsCrossing → RowsFit (members_in t.head) (lots_run_in t.head) t.lots
         → RowsFit (members_in t.head) (most_price * lots_run_in t.head) t.value → lines_length ≤ length t.lines
-        → Placeable head₁ t.prices t.lots t.value t.book t.lines e.kind o
+        → Placeable (with_head head₁ t) e.kind o
     unfolding orders submit_matched submit_lines would_rest
     placeable lotsCrossing a l v n =
         record {
@@ -117,9 +117,9 @@ module _ (t : Tables) (e : Submission)
     module _ (o' : Order) (s : o' ≡ o) where
       pub placed : (lotsCrossing : ℕ) → Acceptable t e lotsCrossing → RowsFit (members_in t.head) (lots_run_in t.head) t.lots
           → RowsFit (members_in t.head) (most_price * lots_run_in t.head) t.value → lines_length ≤ length t.lines
-          → Placeable head₁ t.prices t.lots t.value t.book t.lines e.kind o' × (lotsCrossing ≡ crossing_in o' (orders_in (order_count_in head₁) t.book))
+          → Placeable (with_head head₁ t) e.kind o' × (lotsCrossing ≡ crossing_in o' (orders_in (order_count_in head₁) t.book))
       placed lotsCrossing a l v n =
-          subst (λ y. Placeable head₁ t.prices t.lots t.value t.book t.lines e.kind y × (lotsCrossing ≡ crossing_in y (orders_in (order_count_in head₁) t.book))) (sym s)
+          subst (λ y. Placeable (with_head head₁ t) e.kind y × (lotsCrossing ≡ crossing_in y (orders_in (order_count_in head₁) t.book))) (sym s)
           (placeable lotsCrossing a l v n, crosses lotsCrossing a)
 
       -- what is booked with the time and the counts is what the rules book

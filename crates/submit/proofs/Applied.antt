@@ -1,14 +1,16 @@
 -- A submit applied to undamaged tables: refused by its first causes, by those that the book tells, or booked. Assumes nothing.
 use mathlib.Core.Path.{◌≡◌, sym, ap, subst, ◌∙◌}
+use mathlib.Core.List.{List}
 use Prim.Native.Nat.{ℕ, ◌<◌}
 use native.Mathlib.Omega.{arith}
+use lib.IntN.{ℤ}
 use lib.ListN.{length}
 use Rattle.std.specs.Prelude.{Result, Ok, Err, ⊤}
 use Rattle.arith.specs.Lists.{All}
 use Rattle.rules.specs.declared.event.Submission.{Submission}
 use Rattle.rules.specs.declared.order.Order.{Order}
 use Rattle.rules.specs.Answers.{Outcome, decide}
-use Rattle.rules.specs.Ledger.{Tables, orders, order_count}
+use Rattle.rules.specs.Ledger.{Tables, with_head, with_rows, orders, order_count}
 use Rattle.rules.specs.Matching.{incoming, submit_booked}
 use Rattle.rules.specs.Refusals.{submit_causes, submit_spec}
 use Rattle.tables.specs.Fit.{HeadFit, BookFit, order_count_in, orders_in}
@@ -47,6 +49,13 @@ module _ (t : Tables) (e : Submission) (h : HeadFit t.head) (b : BookFit t.head 
       → record { answer = Err a; after = t } ≡ submit_spec t e
   unfolding submit_spec
   refused_first first k a s = rw s at (judged_first t e ranked numbers has_lots_holds f.least_lots many h.most_orders_holds first k (submit_booked t e))
+
+  -- the verdict of the measured causes, with the head and the lots as they were read
+  pub second_read : (head : List ℕ) (lots : List ℤ) (own crossing : ℕ) (second : Result ⊤ Refusal) → head ≡ t.head → lots ≡ t.lots
+      → ((x : Outcome Tables) → outcome second (with_head head (with_rows lots t.value t)) x
+      ≡ decide (measured_causes own crossing (with_head head (with_rows lots t.value t)) e) (with_head head (with_rows lots t.value t)) x)
+      → (x : Outcome Tables) → outcome second t x ≡ decide (measured_causes own crossing t e) t x
+  second_read head lots own crossing second p q k = rw (p, q) at k
 
   -- with what the book tells of the order
   module _ (o : Order) (same : o ≡ incoming t e) (own crossing : ℕ) (own_is : own ≡ own_in o (orders_in (order_count_in t.head) t.book))

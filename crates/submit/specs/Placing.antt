@@ -1,5 +1,5 @@
 -- An order that is placed, and the tables after it.
-use Rattle.std.specs.Prelude.{ℕ, ◌+◌, ◌≤◌, ◌<◌, ◌≡◌, true, cond, ◌&&◌, ltb, ℤ, length}
+use Rattle.std.specs.Prelude.{ℕ, ◌+◌, ◌≤◌, ◌<◌, ◌≡◌, true, cond, ◌&&◌, ltb, length}
 use mathlib.Core.List.{List, [], ◌∷◌, ◌++◌, flat_map}
 use Rattle.rules.specs.declared.event.OrderKind.{OrderKind}
 use Rattle.rules.specs.declared.order.Order.{Order}
@@ -20,10 +20,10 @@ order_booked kind o t =
     (with_orders (cond rests (m.resting ++ (with_lots m.left o ∷ [])) m.resting) (with_deals o.contract m.deals t))
 
 -- There is room for the lots of its deal lines in the lots run and for what rests of it.
-pub record Placeable (head prices : List ℕ) (lots value : List ℤ) (book : List ℕ) (lines : List ℤ) (kind : OrderKind) (o : Order) : Type 0 where
-  pub tradable : Tradable head prices book o
-  pub bookable : Bookable (line_run (flat_map (deal_lines o) (matched o (orders_in (order_count_in head) book)).deals)) head lots value lines
-  pub member_below : o.member < members_in head
-  pub members_below : (i : ℕ) → i < order_count_in head → (order_at book i).member < members_in head
-  pub place : is_resting kind && ltb 0 (matched o (orders_in (order_count_in head) book)).left ≡ true
-      → length (matched o (orders_in (order_count_in head) book)).resting < most_orders
+pub record Placeable (t : Tables) (kind : OrderKind) (o : Order) : Type 0 where
+  pub tradable : Tradable t.head t.prices t.book o
+  pub bookable : Bookable (line_run (flat_map (deal_lines o) (matched o (orders_in (order_count_in t.head) t.book)).deals)) t.head t.lots t.value t.lines
+  pub member_below : o.member < members_in t.head
+  pub members_below : (i : ℕ) → i < order_count_in t.head → (order_at t.book i).member < members_in t.head
+  pub place : is_resting kind && ltb 0 (matched o (orders_in (order_count_in t.head) t.book)).left ≡ true
+      → length (matched o (orders_in (order_count_in t.head) t.book)).resting < most_orders

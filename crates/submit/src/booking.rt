@@ -1,14 +1,16 @@
 // An accepted submit is booked.
 ghost use Rattle.std.specs.Prelude.{◌≡◌, ◌+◌, ◌*◌, ◌≤◌, ◌<◌, length, get_or};
 ghost use Rattle.rules.specs.Ranges.{most_members, most_price, most_submits_in_second, most_accepted_submits};
-ghost use Rattle.rules.specs.Ledger.{Tables, with_head, with_prices, with_rows, with_book, with_lines, with_accepted_submits, with_submits_this_second, submits_from, head_length, lines_length};
+ghost use Rattle.rules.specs.Ledger.{Tables, with_head, with_accepted_submits, with_submits_this_second, submits_from, head_length, lines_length};
 ghost use Rattle.rules.specs.Matching.{incoming, submit_booked};
 ghost use Rattle.tables.specs.Fit.{HeadFit, PricesFit, RowsFit, BookFit, members_in, accepted_in, lots_run_in};
+ghost use Rattle.tables.specs.Lent.{tables_of, SameTables};
 ghost use Rattle.submit_causes.specs.Fit.{SubmissionFit, Acceptable};
 
 use crate::placing::place_order;
 use rules::layout::{ACCEPTED_SUBMITS, DAY, SUBMITS};
 use rules::{DayNo, Lots, Order, Refusal, Submission};
+use tables::LentTables;
 
 // The order that comes in; its number is the accepted submits before it.
 pub fn order_of(head: &[u64], e: Submission) -> Order
@@ -39,28 +41,18 @@ fn count_submit(head: &mut [u64], member: u64)
 
 // The tables after an accepted submit, step by step as the rules have them.
 pub fn book_submit(
-    head: &mut [u64],
-    prices: &mut [u64],
-    lots: &mut [i64],
-    value: &mut [i64],
-    book: &mut [u64],
-    lines: &mut [i64],
+    tables: &mut LentTables<'_>,
     e: Submission,
     crossing: Lots,
 ) -> Result<u64, Refusal>
-    requires head_fit { HeadFit head.old × PricesFit (lots_run_in head.old) prices.old × BookFit head.old book.old × SubmissionFit head.old e × (lines_length ≤ length lines.old) }
-    requires rows_fit { RowsFit (members_in head.old) (lots_run_in head.old) lots.old × RowsFit (members_in head.old) (most_price * lots_run_in head.old) value.old }
-    requires acceptable { (t : Tables) → Acceptable (with_head head.old (with_prices prices.old (with_rows lots.old value.old (with_book book.old (with_lines lines.old t))))) e crossing.0 }
-    ensures { (t : Tables) → record {
-      answer = result;
-      after = with_head head.new (with_prices prices.new (with_rows lots.new value.new
-          (with_book book.new (with_lines lines.new t))));
-    }
-        ≡ submit_booked (with_head head.old (with_prices prices.old (with_rows lots.old value.old
-        (with_book book.old (with_lines lines.old t))))) e }
+    requires head_fit { HeadFit tables.old.head.now × PricesFit (lots_run_in tables.old.head.now) tables.old.prices.now × BookFit tables.old.head.now tables.old.book.now × SubmissionFit tables.old.head.now e × (lines_length ≤ length tables.old.lines.now) }
+    requires rows_fit { RowsFit (members_in tables.old.head.now) (lots_run_in tables.old.head.now) tables.old.lots.now × RowsFit (members_in tables.old.head.now) (most_price * lots_run_in tables.old.head.now) tables.old.value.now }
+    requires acceptable { Acceptable (tables_of tables.old) e crossing.0 }
+    ensures answer { record { answer = result; after = tables_of tables.new } ≡ submit_booked (tables_of tables.old) e }
+    ensures same { SameTables tables.old tables.new }
 {
-    let o = order_of(head, e);
-    tables::set_time(head, e.time);
-    count_submit(head, e.member);
-    place_order(head, prices, lots, value, book, lines, e.kind, o, crossing)
+    let o = order_of(tables.head(), e);
+    tables::set_time(tables.head, e.time);
+    count_submit(tables.head, e.member);
+    place_order(tables, e.kind, o, crossing)
 }

@@ -3,8 +3,9 @@ ghost use Rattle.std.specs.Prelude.{◌≡◌, ℕ, ◌+◌, ◌*◌, ◌≤◌,
 ghost use mathlib.Core.List.{flat_map};
 ghost use Rattle.arith.specs.Lists.{total};
 ghost use Rattle.rules.specs.Ranges.{contract_count, most_lots, most_price};
-ghost use Rattle.rules.specs.Ledger.{Tables, with_head, with_rows, with_lines, booked};
+ghost use Rattle.rules.specs.Ledger.{booked};
 ghost use Rattle.tables.specs.Fit.{members_in};
+ghost use Rattle.tables.specs.Lent.{tables_of, SameTables};
 ghost use Rattle.matching.specs.Deals.{deal_at, deals_in, line_in, line_out, lines_with};
 ghost use Rattle.deal_lines.specs.Lines.{LineFit, with_line};
 ghost use Rattle.deal_lines.specs.Room.{Bookable};
@@ -14,6 +15,7 @@ use deal_lines::{DealLine, book_line};
 use matching::{Counterparty, deal_at};
 use rules::{Order, Worth};
 use sides::other_side;
+use tables::LentTables;
 
 // Lots times price over all deals.
 pub fn worth_of(deals: &[u64], count: usize) -> Worth
@@ -29,20 +31,11 @@ pub fn worth_of(deals: &[u64], count: usize) -> Worth
 }
 
 // The incoming member's line, then the resting member's.
-fn book_deal(
-    head: &mut [u64],
-    lots: &mut [i64],
-    value: &mut [i64],
-    lines: &mut [i64],
-    k: usize,
-    o: Order,
-    d: Counterparty,
-)
-    requires bookable { Bookable (2 * d.lots.0) head.old lots.old value.old lines.old × (k < most_lots) }
-    requires line_fit { LineFit head.old (line_in o d) × LineFit head.old (line_out o d) }
-    ensures { (t : Tables) → with_head head.new (with_rows lots.new value.new (with_lines lines.new t))
-        ≡ with_line (k * 2 + 1) (line_out o d) (with_line (k * 2) (line_in o d)
-        (with_head head.old (with_rows lots.old value.old (with_lines lines.old t)))) }
+fn book_deal(tables: &mut LentTables<'_>, k: usize, o: Order, d: Counterparty)
+    requires bookable { Bookable (2 * d.lots.0) tables.old.head.now tables.old.lots.now tables.old.value.now tables.old.lines.now × (k < most_lots) }
+    requires line_fit { LineFit tables.old.head.now (line_in o d) × LineFit tables.old.head.now (line_out o d) }
+    ensures booked { tables_of tables.new ≡ with_line (k * 2 + 1) (line_out o d) (with_line (k * 2) (line_in o d) (tables_of tables.old)) }
+    ensures same { SameTables tables.old tables.new }
 {
     let incoming = DealLine {
         member: o.member,
@@ -56,27 +49,18 @@ fn book_deal(
         side: other_side(o.side),
         ..incoming
     };
-    book_line(head, lots, value, lines, k * 2, incoming);
-    book_line(head, lots, value, lines, k * 2 + 1, resting);
+    book_line(tables, k * 2, incoming);
+    book_line(tables, k * 2 + 1, resting);
 }
 
 // Both lines of every deal, in the order of the deals.
-pub fn book_deals(
-    head: &mut [u64],
-    lots: &mut [i64],
-    value: &mut [i64],
-    lines: &mut [i64],
-    o: Order,
-    deals: &[u64],
-    count: usize,
-)
-    requires bookable { Bookable (2 * total lots_dealt (deals_in count deals.now)) head.old lots.old value.old lines.old × DealColumnFit count deals.now }
-    requires member_bound { (o.member < members_in head.old) × (o.contract < contract_count) × ((j : ℕ) → j < count → (deal_at deals.now j).member < members_in head.old) }
-    ensures { (t : Tables) → with_head head.new (with_rows lots.new value.new (with_lines lines.new t))
-        ≡ (booked (flat_map (lines_with o) (deals_in count deals.now))
-        (with_head head.old (with_rows lots.old value.old (with_lines lines.old t)))).after }
+pub fn book_deals(tables: &mut LentTables<'_>, o: Order, deals: &[u64], count: usize)
+    requires bookable { Bookable (2 * total lots_dealt (deals_in count deals.now)) tables.old.head.now tables.old.lots.now tables.old.value.now tables.old.lines.now × DealColumnFit count deals.now }
+    requires member_bound { (o.member < members_in tables.old.head.now) × (o.contract < contract_count) × ((j : ℕ) → j < count → (deal_at deals.now j).member < members_in tables.old.head.now) }
+    ensures booked { tables_of tables.new ≡ (booked (flat_map (lines_with o) (deals_in count deals.now)) (tables_of tables.old)).after }
+    ensures same { SameTables tables.old tables.new }
 {
     for k in 0..count {
-        book_deal(head, lots, value, lines, k, o, deal_at(deals, k));
+        book_deal(tables, k, o, deal_at(deals, k));
     }
 }

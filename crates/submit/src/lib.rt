@@ -8,39 +8,29 @@ mod trade;
 
 ghost use Rattle.std.specs.Prelude.{◌≡◌, ◌*◌, ◌≤◌, length};
 ghost use Rattle.rules.specs.Ranges.{most_price};
-ghost use Rattle.rules.specs.Ledger.{Tables, with_head, with_prices, with_rows, with_book, with_lines, lines_length};
+ghost use Rattle.rules.specs.Ledger.{lines_length};
 ghost use Rattle.rules.specs.Refusals.{submit_spec};
 ghost use Rattle.tables.specs.Fit.{HeadFit, PricesFit, RowsFit, BookFit, members_in, lots_run_in};
+ghost use Rattle.tables.specs.Lent.{tables_of, SameTables};
 ghost use Rattle.submit_causes.specs.Fit.{SubmissionFit};
 
 use booking::{book_submit, order_of};
 use rules::layout::ORDER_COUNT;
 use rules::{Refusal, Submission};
 use submit_causes::{first_cause, measured_cause};
+use tables::LentTables;
 
 // What refuses a submit is known before anything is written.
-pub fn apply(
-    head: &mut [u64],
-    prices: &mut [u64],
-    lots: &mut [i64],
-    value: &mut [i64],
-    book: &mut [u64],
-    lines: &mut [i64],
-    e: Submission,
-) -> Result<u64, Refusal>
-    requires head_fit { HeadFit head.old × PricesFit (lots_run_in head.old) prices.old × BookFit head.old book.old × SubmissionFit head.old e × (lines_length ≤ length lines.old) }
-    requires rows_fit { RowsFit (members_in head.old) (lots_run_in head.old) lots.old × RowsFit (members_in head.old) (most_price * lots_run_in head.old) value.old }
-    ensures { (t : Tables) → record {
-      answer = result;
-      after = with_head head.new (with_prices prices.new (with_rows lots.new value.new
-          (with_book book.new (with_lines lines.new t))));
-    }
-        ≡ submit_spec (with_head head.old (with_prices prices.old (with_rows lots.old value.old
-        (with_book book.old (with_lines lines.old t))))) e }
+pub fn apply(tables: &mut LentTables<'_>, e: Submission) -> Result<u64, Refusal>
+    requires head_fit { HeadFit tables.old.head.now × PricesFit (lots_run_in tables.old.head.now) tables.old.prices.now × BookFit tables.old.head.now tables.old.book.now × SubmissionFit tables.old.head.now e × (lines_length ≤ length tables.old.lines.now) }
+    requires rows_fit { RowsFit (members_in tables.old.head.now) (lots_run_in tables.old.head.now) tables.old.lots.now × RowsFit (members_in tables.old.head.now) (most_price * lots_run_in tables.old.head.now) tables.old.value.now }
+    ensures answer { record { answer = result; after = tables_of tables.new } ≡ submit_spec (tables_of tables.old) e }
+    ensures same { SameTables tables.old tables.new }
 {
-    first_cause(head, prices, e)?;
-    let count = head[ORDER_COUNT] as usize;
-    let found = matching::measure(book, count, order_of(head, e));
-    measured_cause(head, lots, e, found)?;
-    book_submit(head, prices, lots, value, book, lines, e, found.lots)
+    first_cause(tables.head(), tables.prices(), e)?;
+    let count = tables.head[ORDER_COUNT] as usize;
+    let o = order_of(tables.head(), e);
+    let found = matching::measure(tables.book(), count, o);
+    measured_cause(tables.head(), tables.lots(), e, found)?;
+    book_submit(tables, e, found.lots)
 }

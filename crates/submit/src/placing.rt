@@ -2,9 +2,10 @@
 ghost use Rattle.std.specs.Prelude.{◌≡◌, cond, true, ◌&&◌, ◌+◌, ◌*◌, ◌≤◌, ◌<◌, ltb, length};
 ghost use Rattle.arith.specs.Lists.{over};
 ghost use Rattle.rules.specs.Ranges.{most_orders};
-ghost use Rattle.rules.specs.Ledger.{Tables, with_head, with_prices, with_rows, with_book, with_lines, with_order_count, head_length, book_length, order_width, order_places};
+ghost use Rattle.rules.specs.Ledger.{with_order_count, head_length, book_length, order_width, order_places};
 ghost use Rattle.rules.specs.Matching.{is_resting, with_lots};
 ghost use Rattle.tables.specs.Fit.{order_count_in, orders_in};
+ghost use Rattle.tables.specs.Lent.{tables_of, SameTables};
 ghost use Rattle.matching.specs.Crossing.{crossing_in};
 ghost use Rattle.submit.specs.Placing.{Placeable, order_booked};
 
@@ -15,6 +16,7 @@ use rules::layout::{ORDER_COUNT, ORDERS};
 use rules::ranges::MOST_LOTS;
 use rules::{Lots, Order, OrderKind, Refusal};
 use submit_causes::is_resting;
+use tables::LentTables;
 
 // Places for the deals of an order: each takes one lot at least.
 const DEAL_PLACES: usize = MOST_LOTS as usize * DEAL_WIDTH;
@@ -34,58 +36,41 @@ fn rest_order(head: &mut [u64], book: &mut [u64], kind: OrderKind, o: Order, lef
 }
 
 // Places an order of which some lots cross. Only then are there columns to write: what is left of each order, and the deals.
-fn trade(
-    head: &mut [u64],
-    prices: &mut [u64],
-    lots: &mut [i64],
-    value: &mut [i64],
-    book: &mut [u64],
-    lines: &mut [i64],
-    kind: OrderKind,
-    o: Order,
-) -> Result<u64, Refusal>
-    requires { Placeable head.old prices.old lots.old value.old book.old lines.old kind o }
-    ensures { (t : Tables) → record {
-      answer = result;
-      after = with_head head.new (with_prices prices.new (with_rows lots.new value.new
-          (with_book book.new (with_lines lines.new t))));
-    }
-        ≡ order_booked kind o (with_head head.old (with_prices prices.old (with_rows lots.old value.old
-        (with_book book.old (with_lines lines.old t))))) }
+fn trade(tables: &mut LentTables<'_>, kind: OrderKind, o: Order) -> Result<u64, Refusal>
+    requires { Placeable (tables_of tables.old) kind o }
+    ensures answer { record { answer = result; after = tables_of tables.new } ≡ order_booked kind o (tables_of tables.old) }
+    ensures same { SameTables tables.old tables.new }
 {
-    let orders = head[ORDER_COUNT] as usize;
+    let orders = tables.head[ORDER_COUNT] as usize;
     let mut left = [0u64; ORDERS];
     let mut deals = [0u64; DEAL_PLACES];
-    let m = settle(head, prices, book, o, &mut left[..orders], &mut deals);
-    rest_order(head, book, kind, o, m.left);
-    book_deals(head, lots, value, lines, o, &deals, m.deals);
+    let m = settle(
+        tables.head,
+        tables.prices,
+        tables.book,
+        o,
+        &mut left[..orders],
+        &mut deals,
+    );
+    rest_order(tables.head, tables.book, kind, o, m.left);
+    book_deals(tables, o, &deals, m.deals);
     Ok(m.deals as u64 * 2)
 }
 
 // Places an order of which so many lots cross.
 pub fn place_order(
-    head: &mut [u64],
-    prices: &mut [u64],
-    lots: &mut [i64],
-    value: &mut [i64],
-    book: &mut [u64],
-    lines: &mut [i64],
+    tables: &mut LentTables<'_>,
     kind: OrderKind,
     o: Order,
     crossing: Lots,
 ) -> Result<u64, Refusal>
-    requires { Placeable head.old prices.old lots.old value.old book.old lines.old kind o × (crossing.0 ≡ crossing_in o (orders_in (order_count_in head.old) book.old)) }
-    ensures { (t : Tables) → record {
-      answer = result;
-      after = with_head head.new (with_prices prices.new (with_rows lots.new value.new
-          (with_book book.new (with_lines lines.new t))));
-    }
-        ≡ order_booked kind o (with_head head.old (with_prices prices.old (with_rows lots.old value.old
-        (with_book book.old (with_lines lines.old t))))) }
+    requires { Placeable (tables_of tables.old) kind o × (crossing.0 ≡ crossing_in o (orders_in (order_count_in tables.old.head.now) tables.old.book.now)) }
+    ensures answer { record { answer = result; after = tables_of tables.new } ≡ order_booked kind o (tables_of tables.old) }
+    ensures same { SameTables tables.old tables.new }
 {
     if crossing.0 == 0 {
-        rest_order(head, book, kind, o, o.lots);
+        rest_order(tables.head, tables.book, kind, o, o.lots);
         return Ok(0);
     }
-    trade(head, prices, lots, value, book, lines, kind, o)
+    trade(tables, kind, o)
 }

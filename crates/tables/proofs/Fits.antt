@@ -18,7 +18,7 @@ use Rattle.arith.proofs.Tests.{and_left, and_right, passed, passes}
 use Rattle.rules.specs.Ledger.{price_width, row_width}
 use Rattle.rules.specs.Ranges.{contract_count}
 use Rattle.rules.specs.Ranges.{most_price}
-use Rattle.rules.specs.Ledger.{Tables, calendar, members, lots_run, order_count, limit, mark, rows_length, side_at, order_at, orders}
+use Rattle.rules.specs.Ledger.{Tables, calendar, members, lots_run, order_count, rows_length, side_at, order_at, orders}
 use Rattle.rules.specs.Records.{side_sound}
 use Rattle.rules.specs.Refusals.{contract_prices_sound, prices_sound, every_row, rows_sound, order_sound, sides_sound, book_sound, unsound}
 use Rattle.tables.specs.Fit.{HeadFit, ContractFit, PricesFit, RowsFit, OrderFit, BookFit, Fits}

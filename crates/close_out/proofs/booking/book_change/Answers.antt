@@ -1,13 +1,15 @@
 use mathlib.Core.Path.{sym, ◌∙◌}
 use native.Mathlib.Omega.{arith}
 use Rattle.deal_lines.proofs.Takes.{less_room}
-use Rattle.close_out.proofs.Changes.{same_none, each_none, each_one}
+use Rattle.tables.proofs.Same.{same_none}
+use Rattle.close_out.proofs.Changes.{no_change, each_none, each_one}
 use Rattle.close_out.proofs.booking.book_change.Goals as goal
 
 pub returns-then-gain-loss : goal.returns-then-gain-loss
-returns-then-gain-loss c = let a = c.args in
-    let none = same_none a.contract a.price.0 a.member a.gain a.loss c.if-gain-loss.true in
-    record { value = rw none (omega arith); t_after = λ t. rw none (sym (each_none a.i _)) }
+returns-then-gain-loss c =
+    let a = c.args in
+    let none = no_change a.contract a.price.0 a.member a.gain a.loss c.if-gain-loss.true in
+    record { value = rw none (omega arith); booked = rw none (sym (each_none a.i _)); same = same_none }
 
 pub book_line-requires : goal.book_line-requires
 book_line-requires c =
@@ -29,4 +31,4 @@ pub returns : goal.returns
 returns c =
     let a = c.args in
     let one = c.change_line-line.ensures.line in
-    record { value = rw one (omega arith); t_after = λ t. rw one (c.book_line.ensures t ∙ sym (each_one a.i _ _)) }
+    record { value = rw one (omega arith); booked = rw one (c.book_line.ensures.booked ∙ sym (each_one a.i _ _)); same = c.book_line.ensures.same }

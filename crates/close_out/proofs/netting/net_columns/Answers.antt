@@ -25,4 +25,4 @@ pub returns : goal.returns
 returns c =
     let a = c.args in
     let gl = c.give_up.ensures in
-    let gs = c.give_up-2.ensures in record { value = netting_count a.contract a.price.0 _ _ _ _ _ gl gs _ c.book_changes-count.ensures.value; longs_after = remaining_is _ _ _ _ gl c.subtract.ensures; shorts_after = remaining_is _ _ _ _ gs c.subtract-2.ensures; t_after = λ t. netting_tables a.contract a.price.0 _ _ _ _ _ gl gs _ _ (c.book_changes-count.ensures.t_after t) }
+    let gs = c.give_up-2.ensures in record { value = netting_count a.contract a.price.0 _ _ _ _ _ gl gs _ c.book_changes-count.ensures.value; longs_after = remaining_is _ _ _ _ gl c.subtract.ensures; shorts_after = remaining_is _ _ _ _ gs c.subtract-2.ensures; booked = netting_tables a.contract a.price.0 _ _ _ _ _ gl gs _ _ c.book_changes-count.ensures.booked; same = c.book_changes-count.ensures.same }

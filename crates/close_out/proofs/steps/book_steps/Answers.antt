@@ -1,4 +1,5 @@
 use native.Mathlib.Omega.{arith}
+use Rattle.tables.proofs.Same.{same_then}
 use Rattle.deal_lines.proofs.Takes.{less_room}
 use Rattle.close_out.proofs.StepBooking.{remaining_column, second_requires, takers_requires, finish, done}
 use Rattle.close_out.proofs.steps.book_steps.Goals as goal
@@ -15,8 +16,8 @@ book_changes-second-requires c =
     let a = c.args in
     let n = c.book_netting-first.ensures in
     let all =
-    second_requires a.contract a.price.0 a.netted a.remaining a.longs.now a.shorts.now a.weights.now pre.bookable.1 pre.bookable.2 _ _ _ _ pre.bookable.0 pre.dealable
-    _ _ _ _ _ _ _ n.value n.longs_after n.shorts_after n.t_after in
+    second_requires a.contract a.price.0 a.netted a.remaining a.longs.now a.shorts.now a.weights.now pre.bookable.1 pre.bookable.2 _ pre.bookable.0 pre.dealable
+    _ _ _ _ n.value n.longs_after n.shorts_after n.booked in
     record { bookable = all.0; gains_bound = all.1.0; gains_len = all.1.1 }
 
 pub returns-then-remaining-eq0 : goal.returns-then-remaining-eq0
@@ -26,9 +27,9 @@ returns-then-remaining-eq0 c =
     let n = c.book_netting-first.ensures in
     let b = c.book_changes-second.ensures in
     let all =
-    done a.contract a.price.0 a.netted a.remaining a.longs.now a.shorts.now a.weights.now pre.bookable.1 pre.bookable.2 _ _ _ _ pre.bookable.0 pre.dealable
-    _ _ _ _ _ _ _ n.value n.longs_after n.shorts_after n.t_after _ _ _ _ _ b.value b.t_after c.if-remaining-eq0.true in
-    record { value = all.0; longs_after = n.longs_after; shorts_after = n.shorts_after; t_after = all.1 }
+    done a.contract a.price.0 a.netted a.remaining a.longs.now a.shorts.now a.weights.now pre.bookable.1 pre.bookable.2 _ pre.bookable.0 pre.dealable
+    _ _ _ _ n.value n.longs_after n.shorts_after n.booked _ _ b.value b.booked c.if-remaining-eq0.true in
+    record { value = all.0; longs_after = n.longs_after; shorts_after = n.shorts_after; booked = all.1; same = same_then n.same b.same }
 
 pub sum_of-long-requires : goal.sum_of-long-requires
 sum_of-long-requires c =
@@ -42,8 +43,8 @@ book_takers-requires c =
     let n = c.book_netting-first.ensures in
     let b = c.book_changes-second.ensures in
     let all =
-    takers_requires a.contract a.price.0 a.netted a.remaining a.longs.now a.shorts.now a.weights.now pre.bookable.1 pre.bookable.2 _ _ _ _ pre.bookable.0 pre.dealable
-    _ _ _ _ _ _ _ n.value n.longs_after n.shorts_after n.t_after _ _ _ _ _ b.value b.t_after (omega (arith, c.if-remaining-eq0.false)) in
+    takers_requires a.contract a.price.0 a.netted a.remaining a.longs.now a.shorts.now a.weights.now pre.bookable.1 pre.bookable.2 _ pre.bookable.0 pre.dealable
+    _ _ _ _ n.value n.longs_after n.shorts_after n.booked _ _ b.value b.booked (omega (arith, c.if-remaining-eq0.false)) in
     record { bookable = all.0; contract_lt_contract_count = all.1 }
 
 pub returns : goal.returns
@@ -54,6 +55,6 @@ returns c =
     let b = c.book_changes-second.ensures in
     let k = c.book_takers.ensures in
     let all =
-    finish a.contract a.price.0 a.netted a.remaining a.longs.now a.shorts.now a.weights.now pre.bookable.1 pre.bookable.2 _ _ _ _ pre.bookable.0 pre.dealable
-    _ _ _ _ _ _ _ n.value n.longs_after n.shorts_after n.t_after _ _ _ _ _ b.value b.t_after _ c.sum_of-long.ensures _ _ _ _ _ k.value k.t_after in
-    record { value = all.0; longs_after = n.longs_after; shorts_after = n.shorts_after; t_after = all.1 }
+    finish a.contract a.price.0 a.netted a.remaining a.longs.now a.shorts.now a.weights.now pre.bookable.1 pre.bookable.2 _ pre.bookable.0 pre.dealable
+    _ _ _ _ n.value n.longs_after n.shorts_after n.booked _ _ b.value b.booked _ c.sum_of-long.ensures _ _ k.value k.booked in
+    record { value = all.0; longs_after = n.longs_after; shorts_after = n.shorts_after; booked = all.1; same = same_then (same_then n.same b.same) k.same }

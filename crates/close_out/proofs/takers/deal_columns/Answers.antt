@@ -19,7 +19,7 @@ book_changes-requires c =
     let pre = c.requires in
     let a = c.args in
     let d = ap sum_of c.deal_out.ensures ∙ all_dealt a.remaining a.weights.now pre.bookable.2 in
-    let n = members_in a.head.now in
+    let n = members_in a.tables.now.head.now in
     let z : sum_of a.nothing.now ≡ 0 = ap sum_of pre.taken_len.1 ∙ sum_zeros n in
     let wide = c.deal_out.auto.received ∙ pre.taken_len.0 in
     let none : length a.nothing.now ≡ n = ap length pre.taken_len.1 ∙ length-replicate n 0 in
@@ -31,14 +31,14 @@ returns-then-long-gt0 c =
     let a = c.args in
     let wide = c.deal_out.auto.received ∙ pre.taken_len.0 in
     let e = takers_buy a.contract a.price.0 a.long a.remaining a.weights.now _ _ _ c.deal_out.ensures pre.taken_len.1 wide c.if-long-gt0.true in
-    record { value = rw (← e) c.book_changes.ensures.value; t_after = λ t. rw (← e) (c.book_changes.ensures.t_after t) }
+    record { value = rw (← e) c.book_changes.ensures.value; booked = rw (← e) c.book_changes.ensures.booked; same = c.book_changes.ensures.same }
 
 pub book_changes-requires-2 : goal.book_changes-requires-2
 book_changes-requires-2 c =
     let pre = c.requires in
     let a = c.args in
     let d = ap sum_of c.deal_out.ensures ∙ all_dealt a.remaining a.weights.now pre.bookable.2 in
-    let n = members_in a.head.now in
+    let n = members_in a.tables.now.head.now in
     let z : sum_of a.nothing.now ≡ 0 = ap sum_of pre.taken_len.1 ∙ sum_zeros n in
     let wide = c.deal_out.auto.received ∙ pre.taken_len.0 in
     let none : length a.nothing.now ≡ n = ap length pre.taken_len.1 ∙ length-replicate n 0 in
@@ -50,4 +50,4 @@ returns c =
     let a = c.args in
     let wide = c.deal_out.auto.received ∙ pre.taken_len.0 in
     let e = takers_sell a.contract a.price.0 a.long a.remaining a.weights.now _ _ _ c.deal_out.ensures pre.taken_len.1 wide c.if-long-gt0.false in
-    record { value = rw (← e) c.book_changes-2.ensures.value; t_after = λ t. rw (← e) (c.book_changes-2.ensures.t_after t) }
+    record { value = rw (← e) c.book_changes-2.ensures.value; booked = rw (← e) c.book_changes-2.ensures.booked; same = c.book_changes-2.ensures.same }

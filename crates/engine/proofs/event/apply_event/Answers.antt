@@ -1,7 +1,7 @@
 use mathlib.Core.Path.{ap, ◌∙◌}
 use Rattle.std.specs.Prelude.{Some}
-use Rattle.rules.specs.Ledger.{lent}
 use Rattle.rules.specs.Refusals.{event_spec, submit_spec, cancel_spec, day_limits_spec, proposal_spec, default_spec, close_out_spec, close_spec}
+use Rattle.tables.specs.Lent.{tables_of}
 use Rattle.engine.proofs.Events.{submission_fits, limits_contract, member_below, close_out_contract_below, close_out_ratio, most_run_left}
 use Rattle.engine.proofs.event.apply_event.Goals as goal
 
@@ -10,7 +10,7 @@ apply-requires c =
     let pre = c.requires in
     let a = c.args in
     let f = pre.0 in
-    let e = submission_fits a.head.now a.bytes.now _ (pre.1 ∙ ap Some c.in-Submit.is) in
+    let e = submission_fits a.tables.now.head.now a.bytes.now _ (pre.1 ∙ ap Some c.in-Submit.is) in
     record { head_fit = (f.head_fit, f.prices_fit, f.book_fit, e, f.lines_long); rows_fit = (f.lots_fit, f.value_fit) }
 
 pub apply-requires-in-DayLimits : goal.apply-requires-in-DayLimits
@@ -18,7 +18,7 @@ apply-requires-in-DayLimits c =
     let pre = c.requires in
     let a = c.args in
     let f = pre.0 in
-    (f.head_fit, f.prices_fit.long, limits_contract a.head.now a.bytes.now _ (pre.1 ∙ ap Some c.in-DayLimits.is))
+    (f.head_fit, f.prices_fit.long, limits_contract a.tables.now.head.now a.bytes.now _ (pre.1 ∙ ap Some c.in-DayLimits.is))
 
 pub apply_legs-requires : goal.apply_legs-requires
 apply_legs-requires c =
@@ -30,7 +30,7 @@ apply-requires-in-Default c =
     let pre = c.requires in
     let a = c.args in
     let f = pre.0 in
-    (f.head_fit, f.book_fit, member_below a.head.now a.bytes.now _ (pre.1 ∙ ap Some c.in-Default.is))
+    (f.head_fit, f.book_fit, member_below a.tables.now.head.now a.bytes.now _ (pre.1 ∙ ap Some c.in-Default.is))
 
 pub apply-requires-in-CloseOut : goal.apply-requires-in-CloseOut
 apply-requires-in-CloseOut c =
@@ -39,13 +39,13 @@ apply-requires-in-CloseOut c =
     let f = pre.0 in
     let h = f.head_fit in
     let r = pre.1 ∙ ap Some c.in-CloseOut.is in
-    let run = most_run_left (lent a.head.now a.prices.now a.lots.now a.value.now a.book.now a.lines.now) f in record {
+    let run = most_run_left (tables_of a.tables.now) f in record {
       head_fit = (
         h,
         record { long = h.long; most_members_holds = h.most_members_holds; lots_fit = f.lots_fit; value_fit = f.value_fit; lines_long = f.lines_long; most_run = run },
         f.prices_fit,
       );
-      contract_lt_contract_count = (close_out_contract_below a.head.now a.bytes.now _ r, close_out_ratio a.head.now a.bytes.now _ r);
+      contract_lt_contract_count = (close_out_contract_below a.tables.now.head.now a.bytes.now _ r, close_out_ratio a.tables.now.head.now a.bytes.now _ r);
     }
 
 pub apply-requires-in-CloseOfDay : goal.apply-requires-in-CloseOfDay
@@ -55,40 +55,34 @@ apply-requires-in-CloseOfDay c = let f = c.requires.0 in
 pub returns-in-Submit : goal.returns-in-Submit
 unfolding event_spec submit_spec
 returns-in-Submit c =
-    let a = c.args in
-    rw c.in-Submit.is (c.apply.ensures (lent a.head.now a.prices.now a.lots.now a.value.now a.book.now a.lines.now))
+    record { answer = rw c.in-Submit.is c.apply.ensures.answer; same = c.apply.ensures.same }
 
-pub returns-in-Cancel : goal.returns-in-Cancel
+pub returns-in-Cancel-clause-answer : goal.returns-in-Cancel-clause-answer
 unfolding event_spec cancel_spec
-returns-in-Cancel c =
-    let a = c.args in
-    rw c.in-Cancel.is (c.apply-in-Cancel.ensures (lent a.head.now a.prices.now a.lots.now a.value.now a.book.now a.lines.now))
+returns-in-Cancel-clause-answer c =
+    rw c.in-Cancel.is (c.apply-in-Cancel.ensures (tables_of c.args.tables.now))
 
-pub returns-in-DayLimits : goal.returns-in-DayLimits
+pub returns-in-DayLimits-clause-answer : goal.returns-in-DayLimits-clause-answer
 unfolding event_spec day_limits_spec
-returns-in-DayLimits c =
-    let a = c.args in
-    rw c.in-DayLimits.is (c.apply-in-DayLimits.ensures (lent a.head.now a.prices.now a.lots.now a.value.now a.book.now a.lines.now))
+returns-in-DayLimits-clause-answer c =
+    rw c.in-DayLimits.is (c.apply-in-DayLimits.ensures (tables_of c.args.tables.now))
 
 pub returns-in-Proposal : goal.returns-in-Proposal
 unfolding event_spec proposal_spec
 returns-in-Proposal c =
-    rw c.in-Proposal.is c.apply_legs.ensures
+    record { answer = rw c.in-Proposal.is c.apply_legs.ensures.answer; same = c.apply_legs.ensures.same }
 
-pub returns-in-Default : goal.returns-in-Default
+pub returns-in-Default-clause-answer : goal.returns-in-Default-clause-answer
 unfolding event_spec default_spec
-returns-in-Default c =
-    let a = c.args in
-    rw c.in-Default.is (c.apply-in-Default.ensures (lent a.head.now a.prices.now a.lots.now a.value.now a.book.now a.lines.now))
+returns-in-Default-clause-answer c =
+    rw c.in-Default.is (c.apply-in-Default.ensures (tables_of c.args.tables.now))
 
 pub returns-in-CloseOut : goal.returns-in-CloseOut
 unfolding event_spec close_out_spec
 returns-in-CloseOut c =
-    let a = c.args in
-    rw c.in-CloseOut.is (c.apply-in-CloseOut.ensures (lent a.head.now a.prices.now a.lots.now a.value.now a.book.now a.lines.now))
+    record { answer = rw c.in-CloseOut.is c.apply-in-CloseOut.ensures.answer; same = c.apply-in-CloseOut.ensures.same }
 
 pub returns-in-CloseOfDay : goal.returns-in-CloseOfDay
 unfolding event_spec close_spec
 returns-in-CloseOfDay c =
-    let a = c.args in
-    rw c.in-CloseOfDay.is (c.apply-in-CloseOfDay.ensures (lent a.head.now a.prices.now a.lots.now a.value.now a.book.now a.lines.now))
+    record { answer = rw c.in-CloseOfDay.is c.apply-in-CloseOfDay.ensures.answer; same = c.apply-in-CloseOfDay.ensures.same }

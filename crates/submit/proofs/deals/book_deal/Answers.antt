@@ -1,6 +1,7 @@
 use mathlib.Core.Path.{sym, subst}
 use native.Mathlib.Omega.{arith}
-use Rattle.rules.specs.Ledger.{Tables, with_head, with_rows, with_lines, zero_tables}
+use Rattle.rules.specs.Ledger.{Tables}
+use Rattle.tables.specs.Lent.{tables_of}
 use Rattle.matching.specs.Deals.{line_out}
 use Rattle.deal_lines.specs.Lines.{LineFit}
 use Rattle.deal_lines.proofs.Takes.{Takes, less_room}
@@ -17,12 +18,15 @@ book_line-requires-2 c =
     let a = c.args in
     let q = c.requires.line_fit in
     let small = c.requires.bookable.1 in
-    let u = with_head a.head.now (with_rows a.lots.now a.value.now (with_lines a.lines.now zero_tables)) in
-    let after = c.book_line.ensures u in
-    let other = c.other_side.ensures in
+    let u = tables_of a.tables.now in
+    let after = c.book_line.ensures.booked in
     let takes = first_takes a.o a.d a.k small u q.0 q.1 a.d.lots.0 (less_room _ _ (omega arith) c.requires.bookable.0) in
-    let fits = resting_fit a.o a.d a.k small u q.0 q.1 in record { bookable = subst (λ (x : Tables). Takes a.d.lots.0 x) (sym after) takes; line_fit = (rw other (subst (λ (x : Tables). LineFit x.head (line_out a.o a.d)) (sym after) fits), omega (arith, small)) }
+    let fits = resting_fit a.o a.d a.k small u q.0 q.1 in
+    record {
+      bookable = subst (λ (x : Tables). Takes a.d.lots.0 x) (sym after) takes;
+      line_fit = (rw c.other_side.ensures (subst (λ (x : Tables). LineFit x.head (line_out a.o a.d)) (sym after) fits), omega (arith, small));
+    }
 
-pub returns : goal.returns
-returns c =
-    λ t. rw (← c.other_side.ensures, ← (c.book_line.ensures t)) (c.book_line-2.ensures t)
+pub returns-clause-booked : goal.returns-clause-booked
+returns-clause-booked c =
+    rw (← c.other_side.ensures, ← c.book_line.ensures.booked) c.book_line-2.ensures.booked
