@@ -13,6 +13,7 @@ pub use bytes::{
     ledger_write_record,
 };
 use reply::reply_of;
+use tables::LentTables;
 
 // Makes a ledger in the lent tables: 0, or the number of the cause, 1 or 2, and then every table is as it was.
 #[unsafe(no_mangle)]
@@ -65,7 +66,15 @@ pub extern "C" fn ledger_apply(
     ensures { Applies (lent head.old prices.old lots.old value.old book.old lines.old) bytes.now result detail.new
         (lent head.new prices.new lots.new value.new book.new lines.new) }
 {
-    let answer = engine::apply(head, prices, lots, value, book, lines, bytes);
+    let mut tables = LentTables {
+        head,
+        prices,
+        lots,
+        value,
+        book,
+        lines,
+    };
+    let answer = engine::apply(&mut tables, bytes);
     let reply = reply_of(answer);
     *detail = reply.detail;
     reply.number

@@ -2,6 +2,7 @@ pub mod Fronts
 pub mod Texts
 pub mod OneRecord
 pub mod Headers
+pub mod Lengths
 pub mod Running
 pub mod Starts
 pub mod LastLine

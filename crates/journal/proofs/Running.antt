@@ -26,6 +26,8 @@ use Rattle.journal.specs.declared.stage.Stage.TheVariants.{Records, Read, Stoppe
 use Rattle.journal.specs.declared.stage.Wants.{Wants}
 use Rattle.journal.specs.declared.stage.Wants.TheVariants.{Nothing, Bytes, Room}
 use Rattle.journal.specs.Stages.{RanOne, length_now, ready_length, stage_after, wants_after, remaining, records_end, end_from, after_record, after_records, counted_at, after_stage, Advanced}
+use Rattle.accounts.specs.Lengths.{SameLengths}
+use Rattle.journal.proofs.Lengths.{ran_keeps}
 use Rattle.journal.proofs.Fronts.{now_fits, now_next, now_short, now_none}
 use Rattle.journal.proofs.Texts.{records_none, records_next, ends_none, ends_next}
 
@@ -134,6 +136,9 @@ module _ {n₀ k₀ : ℕ} {t₀ : Tables} {bytes : List ℕ} {last : Bool} {fil
 
   covered : filled + length w.text ≤ length entry
   covered = omega (arith, w.wrote.after, w.within)
+
+  pub lengths_kept : SameLengths t₀ t
+  lengths_kept = ran_keeps (n - n₀) t₀ t (bytes ++ []) (drop place (bytes ++ [])) (w.tables [] (λ e. refl))
 
   going : stopped ≡ false → (more : List ℕ) → (last ≡ true → more ≡ []) → records_text n₀ k₀ t₀ (bytes ++ more) ≡ w.text ++ records_text n k t (drop place (bytes ++ more))
   going e more ends = rw e at (w.rest more ends)

@@ -1,13 +1,15 @@
 // One stage of a journal after the other.
 ghost use Rattle.std.specs.Prelude.{◌+◌, ◌≤◌, ◌<◌, ◌^◌, length};
 ghost use Rattle.printing.specs.Room.{line_room};
-ghost use Rattle.rules.specs.Ledger.{lent, head_length, lines_length};
+ghost use Rattle.rules.specs.Ledger.{head_length, lines_length};
+ghost use Rattle.tables.specs.Lent.{tables_of, SameTables};
 ghost use Rattle.journal.specs.Stages.{EndPrinted, Advanced, Counts};
 
 use crate::beginning::begin;
 use crate::run::run_records;
 use crate::stage::{Progress, ROOM, Stage, Wants, standing};
 use printing::put_end;
+use tables::LentTables;
 
 // Prints E, and the journal is at its last stage.
 fn end_at(
@@ -32,34 +34,25 @@ pub fn advance(
     is_last: bool,
     out: &mut [u8],
     filled: usize,
-    head: &mut [u64],
-    prices: &mut [u64],
-    lots: &mut [i64],
-    value: &mut [i64],
-    book: &mut [u64],
-    lines: &mut [i64],
+    tables: &mut LentTables<'_>,
 ) -> Progress
-    requires { Counts stage (2 ^ 62) × (length bytes.now < 2 ^ 62) × (filled ≤ length out.old) × (head_length ≤ length head.old) × (lines_length ≤ length lines.old) }
-    ensures { Advanced stage
-        (lent head.old prices.old lots.old value.old book.old lines.old)
-        bytes.now is_last filled out.old out.new
-        (lent head.new prices.new lots.new value.new book.new lines.new) result }
+    requires { Counts stage (2 ^ 62) × (length bytes.now < 2 ^ 62) × (filled ≤ length out.old) × (head_length ≤ length tables.old.head.now) × (lines_length ≤ length tables.old.lines.now) }
+    ensures advanced { Advanced stage (tables_of tables.old) bytes.now is_last filled out.old out.new (tables_of tables.new) result }
+    ensures same { SameTables tables.old tables.new }
 {
     if out.len() - filled < ROOM {
         return standing(filled, stage, Wants::Room);
     }
     match stage {
-        Stage::Header => begin(
-            bytes, is_last, out, filled, head, prices, lots, value, book, lines,
-        ),
-        Stage::Records { counted, accepted } => run_records(
-            counted, accepted, bytes, is_last, out, filled, head, prices, lots, value, book, lines,
-        ),
+        Stage::Header => begin(bytes, is_last, out, filled, tables),
+        Stage::Records { counted, accepted } => {
+            run_records(counted, accepted, bytes, is_last, out, filled, tables)
+        }
         Stage::Read { counted, accepted } => {
-            end_at(Stage::ReadToEnd, out, filled, counted, accepted, head)
+            end_at(Stage::ReadToEnd, out, filled, counted, accepted, tables.head())
         }
         Stage::Stopped { counted, accepted } => {
-            end_at(Stage::RecordUnsound, out, filled, counted, accepted, head)
+            end_at(Stage::RecordUnsound, out, filled, counted, accepted, tables.head())
         }
         Stage::ReadToEnd | Stage::RecordUnsound | Stage::HeaderUnsound => {
             standing(filled, stage, Wants::Nothing)

@@ -2,7 +2,8 @@
 ghost use Rattle.std.specs.Prelude.{◌≡◌, ◌+◌, ◌≤◌, ◌<◌, length};
 ghost use Rattle.printing.specs.Room.{line_room};
 ghost use Rattle.rules.specs.Header.{header_length, length_of_header};
-ghost use Rattle.rules.specs.Ledger.{lent, head_length};
+ghost use Rattle.rules.specs.Ledger.{head_length};
+ghost use Rattle.tables.specs.Lent.{tables_of, SameTables};
 ghost use Rattle.journal.specs.declared.stage.Stage.TheVariants.{Header};
 ghost use Rattle.journal.specs.Stages.{Advanced};
 
@@ -11,6 +12,7 @@ use big_endian::u8_or_zero;
 use header::{HOLIDAY_COUNT_BYTE, MEMBERS_BYTE, header_length};
 use printing::{put_head, put_refusal};
 use reply::reply_of;
+use tables::LentTables;
 
 const ACCEPTED: u64 = 0;
 
@@ -31,18 +33,11 @@ pub fn begin(
     is_last: bool,
     out: &mut [u8],
     filled: usize,
-    head: &mut [u64],
-    prices: &mut [u64],
-    lots: &mut [i64],
-    value: &mut [i64],
-    book: &[u64],
-    lines: &[i64],
+    tables: &mut LentTables<'_>,
 ) -> Progress
-    requires { (filled + line_room ≤ length out.old) × (head_length ≤ length head.old) }
-    ensures { Advanced Header
-        (lent head.old prices.old lots.old value.old book.now lines.now)
-        bytes.now is_last filled out.old out.new
-        (lent head.new prices.new lots.new value.new book.now lines.now) result }
+    requires { (filled + line_room ≤ length out.old) × (head_length ≤ length tables.old.head.now) }
+    ensures begun { Advanced Header (tables_of tables.old) bytes.now is_last filled out.old out.new (tables_of tables.new) result }
+    ensures same { SameTables tables.old tables.new }
 {
     let length = length_of(bytes);
     if !is_last & (bytes.len() < length) {
@@ -53,12 +48,19 @@ pub fn begin(
             wants: Wants::Bytes,
         };
     }
-    let answer = engine::make(head, prices, lots, value, book, bytes);
+    let answer = engine::make(
+        tables.head,
+        tables.prices,
+        tables.lots,
+        tables.value,
+        tables.book,
+        bytes,
+    );
     let reply = reply_of(answer);
     if reply.number == ACCEPTED {
         return Progress {
             used: length,
-            end: put_head(out, filled, head),
+            end: put_head(out, filled, tables.head()),
             stage: Stage::Records {
                 counted: 0,
                 accepted: 0,

@@ -1,7 +1,8 @@
 // One record: where it ends, and what it prints.
 ghost use Rattle.std.specs.Prelude.{◌≡◌, ◌+◌, ◌≤◌, length};
-ghost use Rattle.rules.specs.Ledger.{lent, lines_length};
+ghost use Rattle.rules.specs.Ledger.{lines_length};
 ghost use Rattle.rules.specs.Refusals.{apply_spec};
+ghost use Rattle.tables.specs.Lent.{tables_of, SameTables};
 ghost use Rattle.journal.specs.Room.{record_room};
 ghost use Rattle.journal.specs.Stages.{RanOne, length_now, ready_length};
 
@@ -10,6 +11,7 @@ use codec::front_record;
 use printing::{put_deals, put_refusal};
 use reply::reply_of;
 use rules::Front;
+use tables::LentTables;
 
 const ACCEPTED: u64 = 0;
 
@@ -54,24 +56,17 @@ pub fn run_record(
     number: u64,
     out: &mut [u8],
     place: usize,
-    head: &mut [u64],
-    prices: &mut [u64],
-    lots: &mut [i64],
-    value: &mut [i64],
-    book: &mut [u64],
-    lines: &mut [i64],
+    tables: &mut LentTables<'_>,
 ) -> Printed
-    requires { (place + record_room ≤ length out.old) × (lines_length ≤ length lines.old) }
-    ensures { RanOne number place
-        (apply_spec (lent head.old prices.old lots.old value.old book.old lines.old) bytes.now)
-        out.old out.new
-        (lent head.new prices.new lots.new value.new book.new lines.new) result }
+    requires { (place + record_room ≤ length out.old) × (lines_length ≤ length tables.old.lines.now) }
+    ensures ran { RanOne number place (apply_spec (tables_of tables.old) bytes.now) out.old out.new (tables_of tables.new) result }
+    ensures same { SameTables tables.old tables.new }
 {
-    let answer = engine::apply(head, prices, lots, value, book, lines, bytes);
+    let answer = engine::apply(tables, bytes);
     let reply = reply_of(answer);
     if reply.number == ACCEPTED {
         return Printed {
-            end: put_deals(out, place, lines, reply.detail as usize),
+            end: put_deals(out, place, tables.lines(), reply.detail as usize),
             is_accepted: true,
             is_unsound: false,
         };

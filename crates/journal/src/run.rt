@@ -1,11 +1,13 @@
 // The records of some bytes, one after the other.
 ghost use Rattle.std.specs.Prelude.{◌≡◌, ◌+◌, ◌≤◌, ◌<◌, ◌^◌, length};
-ghost use Rattle.rules.specs.Ledger.{lent, lines_length};
+ghost use Rattle.rules.specs.Ledger.{lines_length};
+ghost use Rattle.tables.specs.Lent.{tables_of, SameTables};
 ghost use Rattle.journal.specs.declared.stage.Stage.TheVariants.{Records};
 ghost use Rattle.journal.specs.Stages.{Advanced, stage_after, wants_after};
 
 use crate::record::{ready_length, run_record};
 use crate::stage::{Progress, ROOM, Stage, Wants};
+use tables::LentTables;
 
 // Where running some records ended, and what is wanted to go on.
 #[tactic(auto, unfolding(crate::specs::Stages::stage_after, crate::specs::Stages::wants_after))]
@@ -37,18 +39,11 @@ pub fn run_records(
     is_last: bool,
     out: &mut [u8],
     filled: usize,
-    head: &mut [u64],
-    prices: &mut [u64],
-    lots: &mut [i64],
-    value: &mut [i64],
-    book: &mut [u64],
-    lines: &mut [i64],
+    tables: &mut LentTables<'_>,
 ) -> Progress
-    requires { (accepted_before ≤ counted_before) × (counted_before + length bytes.now < 2 ^ 63) × (filled ≤ length out.old) × (lines_length ≤ length lines.old) }
-    ensures { Advanced (Records counted_before accepted_before)
-        (lent head.old prices.old lots.old value.old book.old lines.old)
-        bytes.now is_last filled out.old out.new
-        (lent head.new prices.new lots.new value.new book.new lines.new) result }
+    requires { (accepted_before ≤ counted_before) × (counted_before + length bytes.now < 2 ^ 63) × (filled ≤ length out.old) × (lines_length ≤ length tables.old.lines.now) }
+    ensures records_run { Advanced (Records counted_before accepted_before) (tables_of tables.old) bytes.now is_last filled out.old out.new (tables_of tables.new) result }
+    ensures same { SameTables tables.old tables.new }
 {
     let mut place: usize = 0;
     let mut end = filled;
@@ -58,18 +53,7 @@ pub fn run_records(
     while let Some(n) = ready_length(&bytes[place..], is_last, is_stopped, out.len() - end) {
         let next = place + n;
         counted += 1;
-        let done = run_record(
-            &bytes[place..next],
-            counted,
-            out,
-            end,
-            head,
-            prices,
-            lots,
-            value,
-            book,
-            lines,
-        );
+        let done = run_record(&bytes[place..next], counted, out, end, tables);
         place = next;
         end = done.end;
         accepted += u64::from(done.is_accepted);

@@ -3,6 +3,7 @@
 // these are, and how the run ends.
 ghost use Rattle.std.specs.Prelude.{◌≡◌, List, ℕ, ◌+◌, ◌≤◌, ◌<◌, length, take, drop, false};
 ghost use Rattle.rules.specs.Ledger.{lent, head_length, lines_length, rows_length, zero_tables};
+ghost use Rattle.tables.specs.Lent.{tables_of, SameTables};
 ghost use Rattle.journal.specs.declared.stage.Stage.TheVariants.{Header};
 ghost use Rattle.journal.specs.declared.stage.Wants.TheVariants.{Nothing, Bytes, Room};
 ghost use Rattle.journal.specs.Stages.{counted_at};
@@ -18,6 +19,7 @@ use std::time::Clock;
 use streams::{
     Ending, Progress, Window, finish, first_window, read_more, start, status, write_out,
 };
+use tables::LentTables;
 
 const BUFFER: usize = 65536;
 
@@ -122,20 +124,13 @@ fn turn(
     place: Place,
     input: &mut [u8],
     output: &mut [u8],
-    head: &mut [u64],
-    prices: &mut [u64],
-    lots: &mut [i64],
-    value: &mut [i64],
-    book: &mut [u64],
-    lines: &mut [i64],
+    tables: &mut LentTables<'_>,
 ) -> Result<Place, Ending>
     requires { Stands place × (place.turns < most_turns) × (length input.old ≡ buffer_length) × (length output.old ≡ buffer_length)
-        × (head_length ≤ length head.old) × (lines_length ≤ length lines.old) }
+        × (head_length ≤ length tables.old.head.now) × (lines_length ≤ length tables.old.lines.now) }
     ensures next_stands { next_stands (place.turns + 1) result }
-    ensures turned { Turned place input.old output.old
-        (lent head.old prices.old lots.old value.old book.old lines.old)
-        input.new output.new
-        (lent head.new prices.new lots.new value.new book.new lines.new) result }
+    ensures turned { Turned place input.old output.old (tables_of tables.old) input.new output.new (tables_of tables.new) result }
+    ensures same { SameTables tables.old tables.new }
 {
     let window = place.window;
     let done = advance(
@@ -144,12 +139,7 @@ fn turn(
         window.is_last,
         output,
         window.filled,
-        head,
-        prices,
-        lots,
-        value,
-        book,
-        lines,
+        tables,
     );
     let next = Place {
         turns: place.turns + 1,
@@ -169,24 +159,15 @@ fn run_turns(
     progress: Progress,
     input: &mut [u8],
     output: &mut [u8],
-    head: &mut [u64],
-    prices: &mut [u64],
-    lots: &mut [i64],
-    value: &mut [i64],
-    book: &mut [u64],
-    lines: &mut [i64],
+    tables: &mut LentTables<'_>,
 ) -> Ending
-    requires { (length input.old ≡ buffer_length) × (length output.old ≡ buffer_length) × (head_length ≤ length head.old) × (lines_length ≤ length lines.old) }
-    ensures { RanTurns
-        (lent head.old prices.old lots.old value.old book.old lines.old)
-        (lent head.new prices.new lots.new value.new book.new lines.new)
-        output.new result }
+    requires { (length input.old ≡ buffer_length) × (length output.old ≡ buffer_length) × (head_length ≤ length tables.old.head.now) × (lines_length ≤ length tables.old.lines.now) }
+    ensures ran { RanTurns (tables_of tables.old) (tables_of tables.new) output.new result }
+    ensures same { SameTables tables.old tables.new }
 {
     let mut place = first_place(progress);
     for _ in 0..MOST_TURNS {
-        match turn(
-            rt, reader, place, input, output, head, prices, lots, value, book, lines,
-        ) {
+        match turn(rt, reader, place, input, output, tables) {
             Ok(next) => place = next,
             Err(ending) => return ending,
         }
