@@ -4,7 +4,7 @@ use mathlib.Core.Path.{◌≡◌, refl, sym, ap, ap₂, ◌∙◌}
 use mathlib.Core.List.{List, [], ◌∷◌, ◌++◌}
 use lib.IntN.{ℤ, pos, ◌+ℤ◌, ◌*ℤ◌, zero-*ℤ, +ℤ_idl, +ℤ_assoc}
 use Rattle.arith.specs.Ints.{when}
-use Rattle.arith.proofs.Sums.{*ℤ-distrib, when_zero, when_add}
+use Rattle.arith.proofs.Sums.{*ℤ_distrib, when_zero, when_add}
 use Rattle.arith.specs.Lists.{All}
 use Rattle.rules.specs.Days.{Calendar}
 use Rattle.rules.specs.ContractTerms.{holds_hour}
@@ -33,7 +33,7 @@ worth_zero value p = zero-*ℤ (pos p)
 
 worth_add : (x : Column) (p : ℕ) (a b : ℤ) → worth x p (a +ℤ b) ≡ worth x p a +ℤ worth x p b
 worth_add lots p a b = refl
-worth_add value p a b = *ℤ-distrib a b (pos p)
+worth_add value p a b = *ℤ_distrib a b (pos p)
 
 line_worth : (x : Column) (p : ℕ) (l : Line) → l.price ≡ p → amount x l ≡ worth x p l.lots
 line_worth lots p l e = refl

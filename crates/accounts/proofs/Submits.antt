@@ -11,7 +11,7 @@ use Rattle.arith.specs.Ints.{when}
 use Rattle.arith.specs.Lists.{All}
 use Rattle.arith.proofs.Alls.{all_always, all_map, all_append}
 use Rattle.arith.proofs.Tests.{by_bool, and_false}
-use Rattle.arith.proofs.Sums.{sorted, *ℤ-distrib}
+use Rattle.arith.proofs.Sums.{sorted, *ℤ_distrib}
 use Rattle.rules.specs.Ledger.{submits_from}
 use Rattle.rules.specs.Ranges.{contract_count}
 use Rattle.rules.specs.declared.event.Submission.{Submission}
@@ -43,7 +43,7 @@ pair_cancels : (x : Column) (o : Order) (d : Deal) → amount x (record { member
     +ℤ amount x (record { member = d.resting.member; contract = o.contract; lots = signed (other_side o.side) d.lots; price = d.resting.price.0 }) ≡ pos 0
 pair_cancels lots o d = sides_cancel o.side d.lots
 pair_cancels value o d =
-    sym (*ℤ-distrib (signed o.side d.lots) (signed (other_side o.side) d.lots) (pos d.resting.price.0))
+    sym (*ℤ_distrib (signed o.side d.lots) (signed (other_side o.side) d.lots) (pos d.resting.price.0))
     ∙ ap (λ z. z *ℤ pos d.resting.price.0) (sides_cancel o.side d.lots) ∙ zero-*ℤ (pos d.resting.price.0)
 
 both_when : (b : Bool) (v w r : ℤ) → v +ℤ w ≡ pos 0 → r ≡ pos 0 → when b v +ℤ (when b w +ℤ r) ≡ pos 0

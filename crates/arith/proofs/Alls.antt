@@ -5,7 +5,8 @@ use mathlib.Core.List.{List, [], ◌∷◌, ◌++◌, Memᴰ}
 use Prim.Native.Nat.{ℕ, zero, suc, ◌<◌}
 use native.Mathlib.Omega.{arith}
 use lib.ListN.{length, get_or}
-use Rattle.arith.specs.Lists.{every, kept, all_of, All}
+use Rattle.std.specs.List.{list_all, list_any}
+use Rattle.arith.specs.Lists.{every, any, kept, all_of, All}
 use Rattle.arith.proofs.Tests.{by_bool, and_left, and_right}
 
 -- tests, and what passes them
@@ -64,6 +65,17 @@ module _ {A : Type 0} where
   all_kept P p (x ∷ l) h =
       by_bool (λ b. All (λ a. P a × (p a ≡ true)) (cond b (x ∷ kept p l) (kept p l))) (p x) (λ e. ((h.0, e), all_kept P p l h.1))
       (λ _. all_kept P p l h.1)
+
+-- std's words for tests of a list
+pub every_is_all : {A : Type 0} (p : A → Bool) (l : List A) → list_all p l ≡ every p l
+unfolding every
+every_is_all p [] = refl
+every_is_all p (x ∷ l) = rw (every_is_all p l) refl
+
+pub any_is_any : {A : Type 0} (p : A → Bool) (l : List A) → list_any p l ≡ any p l
+unfolding any
+any_is_any p [] = refl
+any_is_any p (x ∷ l) = rw (any_is_any p l) refl
 
 -- what holds of each element, by where an element stands
 module _ {A : Type 0} where

@@ -2,7 +2,7 @@
 use mathlib.Core.Path.{◌≡◌, refl, sym, ap, ◌∙◌}
 use mathlib.Core.Bool.{Bool}
 use mathlib.Core.List.{List, [], ◌∷◌, ◌++◌, map, flat_map, append_assoc, append-nil}
-use Prim.Native.Nat.{ℕ, zero, suc, ◌+◌, ◌*◌, ◌≤◌, ◌<◌}
+use Prim.Native.Nat.{ℕ, zero, suc, ◌+◌, ◌*◌, ◌<◌}
 use native.Mathlib.Omega.{arith}
 use native.Mathlib.Nat.{add-suc, suc-add, add-zero, suc-mul, zero-mul}
 use lib.ListN.{length, get_or, length-append}
@@ -42,11 +42,6 @@ module _ {A : Type 0} (p : A → Bool) where
   unfolding kept
   kept_append [] m = refl
   kept_append (x ∷ l) m = true_or (p x) (λ e. rw (e, kept_append l m)) (λ e. rw (e, kept_append l m))
-
-  pub kept_most : (l : List A) → length (kept p l) ≤ length l
-  unfolding kept
-  kept_most [] = omega arith
-  kept_most (x ∷ l) = true_or (p x) (λ e. rw e (omega (arith, kept_most l))) (λ e. rw e (omega (arith, kept_most l)))
 
 -- ---- place by place
 pub map_at : {A B : Type 0} (f : A → B) (l : List A) (i : ℕ) (y : A) (z : B) → i < length l → get_or (map f l) i z ≡ f (get_or l i y)

@@ -1,49 +1,16 @@
--- The bits of signed numbers, of an or, and of a wrapped difference. Assumes nothing.
-use mathlib.Core.Path.{◌≡◌, refl, sym, ap, ◌∙◌}
-use mathlib.Core.Bool.{true, false, ◌&&◌, and_assoc}
+-- The bits of an or, a window of signed numbers, and a wrapped difference. Assumes nothing.
+use mathlib.Core.Path.{◌≡◌}
+use mathlib.Core.Bool.{true, ◌&&◌, and_assoc}
 use Prim.Native.Nat.{ℕ, suc, ◌+◌, ◌*◌, ◌-◌, ◌/◌, ◌%◌, ◌<◌, ◌≤◌, ◌^◌}
 use native.Mathlib.Omega.{arith}
-use borrow.Author.Tests.{le-leb, lt-ltb, le-ltb, leb-true, ltb-true, leb-false}
+use borrow.Author.Tests.{le-leb, lt-ltb, le-ltb, leb-true, ltb-true}
 use lib.Bits.{bit_or, bit_and, or_lt, or_add_and, and_le_l, and_le_r}
-use lib.Dec.{T, leb, ltb}
+use lib.Dec.{leb, ltb}
 use lib.Pow.{pow_mono, pow_pos}
-use lib.IntN.{ℤ, pos, negsuc, nat_abs, pred_ℤ, ◌-ℤ◌, pred_ℤ-+ℤ, +ℤ_idl}
-use lib.Signed.{mag, le_z, non_neg}
-use mir.Syntax.{w64}
-use mir.Val.{Fits, SFits, to_z, of_z}
-use mir.Facts.{to_z-of_z}
+use lib.IntN.{ℤ, pos, negsuc, nat_abs}
+use lib.Signed.{mag}
 use Rattle.arith.specs.Bits.{bits_of, in_window}
-use Rattle.arith.proofs.Tests.{never, by_leb}
-
--- ---- a signed number's bits
-minus_one : (n : ℕ) → negsuc 0 -ℤ negsuc n ≡ pos n
-minus_one n = pred_ℤ-+ℤ (pos 0) (pos (suc n)) ∙ ap pred_ℤ (+ℤ_idl (pos (suc n)))
-
-pub up_cast : (x : ℤ) → mag x < 2 ^ 63 → le_z (pos 0) x ≡ true → T (non_neg x) × Fits w64 (nat_abs x)
-up_cast (pos n) h t = (tt, record { fits = omega arith })
-up_cast (negsuc n) h t = never (sym t)
-
-pub up_bits : (x : ℤ) → le_z (pos 0) x ≡ true → nat_abs x ≡ bits_of x
-unfolding bits_of
-up_bits (pos n) t = refl
-up_bits (negsuc n) t = never (sym t)
-
-pub below_sub : (x : ℤ) → mag x < 2 ^ 63 → le_z (pos 0) x ≡ false → SFits w64 (negsuc 0 -ℤ x)
-below_sub (pos n) h t = absurd (omega (arith, leb-false 0 n t))
-below_sub (negsuc n) h t = rw (minus_one n) (record { sfits = h })
-
-pub below_is : (x : ℤ) → mag x < 2 ^ 63 → le_z (pos 0) x ≡ false → to_z w64 (of_z w64 (negsuc 0 -ℤ x)) ≡ pos (mag x)
-below_is (pos n) h t = absurd (omega (arith, leb-false 0 n t))
-below_is (negsuc n) h t = rw (minus_one n) (to_z-of_z {w = w64} {z = pos n} (record { sfits = h }))
-
-pub below_bits : (x : ℤ) → mag x < 2 ^ 63 → le_z (pos 0) x ≡ false → 18446744073709551615 - mag x ≡ bits_of x
-unfolding bits_of
-below_bits (pos n) h t = absurd (omega (arith, leb-false 0 n t))
-below_bits (negsuc n) h t = omega arith
-
-pub below_abs : (x : ℤ) → le_z (pos 0) x ≡ false → suc (mag x) ≡ nat_abs x
-below_abs (pos n) t = absurd (omega (arith, leb-false 0 n t))
-below_abs (negsuc n) t = refl
+use Rattle.arith.proofs.Tests.{by_leb}
 
 -- ---- an or is below a power of two exactly if both its parts are
 both : (o a b h : ℕ) → a ≤ o → b ≤ o → (a < h → b < h → o < h) → ltb o h ≡ ltb a h && ltb b h

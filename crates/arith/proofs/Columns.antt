@@ -4,7 +4,7 @@ use mathlib.Core.Path.{◌≡◌, sym, ◌∙◌}
 use mathlib.Core.List.{List, [], ◌∷◌, ◌++◌, map, append-nil}
 use native.Mathlib.Omega.{arith}
 use native.Mathlib.Numerals.{add-one}
-use lib.ListN.{length, get_or, set, take, drop, length-map, drop_of_length-le}
+use lib.ListN.{length, get_or, set, take, drop, length-map}
 use lib.Seq.{take_all, take-suc-set, drop-cons, append_snoc}
 use Rattle.arith.specs.Lists.{total, from}
 use Rattle.arith.proofs.Appends.{from_length}
@@ -14,16 +14,9 @@ module _ {A : Type 0} (l : List A) (i : ℕ) where
   pub map_next : {B : Type 0} (f : A → B) (z : A) → i < length l → map f (drop i l) ≡ f (get_or l i z) ∷ map f (drop (i + 1) l)
   map_next f z h = rw (add-one, drop-cons l i z h)
 
-  pub map_end : {B : Type 0} (f : A → B) → length l ≤ i → map f (drop i l) ≡ []
-  map_end f h = rw (drop_of_length-le l h)
-
   pub total_next : (f : A → ℕ) (z : A) → i < length l → total f (drop i l) ≡ f (get_or l i z) + total f (drop (i + 1) l)
   unfolding total
   total_next f z h = rw (add-one, drop-cons l i z h)
-
-  pub total_end : (f : A → ℕ) → length l ≤ i → total f (drop i l) ≡ 0
-  unfolding total
-  total_end f h = rw (drop_of_length-le l h)
 
 -- ---- numbers from i up to n
 module _ (n i : ℕ) where

@@ -21,4 +21,3 @@ pub mod Padded
 pub mod Widths
 pub mod Columns
 pub mod Totals
-pub mod Negatives

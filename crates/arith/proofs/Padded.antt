@@ -1,6 +1,6 @@
 -- Columns filled from the front. Assumes nothing.
 use Prim.Native.Nat.{ℕ, suc, ◌+◌, ◌-◌, ◌<◌}
-use mathlib.Core.List.{List, [], ◌∷◌, ◌++◌, map, append_assoc, map-map}
+use mathlib.Core.List.{List, [], ◌∷◌, ◌++◌, map, append_assoc}
 use mathlib.Core.Path.{◌≡◌, refl, sym, ap, ◌∙◌}
 use native.Mathlib.Nat.{zero-add}
 use native.Mathlib.Numerals.{add-one}
@@ -33,8 +33,3 @@ column_filled g n i {column} {x} h e c =
     let sized : length (map g (from 0 i)) ≡ i = length_run g i in
     let more : map g (from 0 (i + 1)) ≡ map g (from 0 i) ++ (x ∷ []) = rw (add-one, from_more, zero-add) (map_append g (from 0 i) (i ∷ []) ∙ rw (← e) refl) in
     rw (more, c) (ap (λ k. set (padded n (map g (from 0 i))) k x) (sym sized) ∙ padded_set n (map g (from 0 i)) x (rw sized h))
-
--- the same of a field of what is made
-pub column_next : {A : Type 0} (f : A → ℕ) (g : ℕ → A) (n i : ℕ) {column : List ℕ} {x : A} → i < n → x ≡ g i → column ≡ padded n (map f (map g (from 0 i)))
-    → set column i (f x) ≡ padded n (map f (map g (from 0 (i + 1))))
-column_next f g n i h e c = rw map-map (column_filled (λ j. f (g j)) n i h (ap f e) (c ∙ ap (padded n) (map-map f g (from 0 i))))

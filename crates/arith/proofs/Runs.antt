@@ -1,15 +1,13 @@
 -- What is made of numbers that follow each other, or tested of each. Assumes nothing.
-use Prim.Native.Nat.{ℕ, suc, ◌+◌, ◌-◌, ◌≤◌, ◌<◌}
-use mathlib.Core.Bool.{Bool, true, ◌&&◌, and_assoc}
+use Prim.Native.Nat.{ℕ, suc, ◌+◌, ◌-◌, ◌<◌}
+use mathlib.Core.Bool.{Bool, true, ◌&&◌}
 use mathlib.Core.List.{List, [], ◌∷◌, map}
-use mathlib.Core.Path.{◌≡◌, refl, sym, ap, ◌∙◌}
+use mathlib.Core.Path.{◌≡◌, refl, ap, ◌∙◌}
 use native.Mathlib.Nat.{add-zero, zero-add, sub-zero}
 use native.Mathlib.Omega.{arith}
 use lib.ListN.{length, get_or, length-map}
 use Rattle.arith.specs.Lists.{from, every}
-use Rattle.arith.proofs.Tests.{and_true}
 use Rattle.arith.proofs.Appends.{from_length}
-use Rattle.arith.proofs.Scans.{from_next, from_end}
 
 pub length_run : {A : Type 0} (f : ℕ → A) (n : ℕ) → length (map f (from 0 n)) ≡ n
 length_run f n = length-map (from 0 n) f ∙ from_length 0 n
@@ -29,11 +27,3 @@ run_of f l d e = run_from f l d 0 (λ i h. ap f (zero-add i) ∙ e i h)
 module _ {A : Type 0} (p : A → Bool) (f : ℕ → A) (n : ℕ) where
   pub run_start : true && every p (map f (from 0 (n - 0))) ≡ every p (map f (from 0 n))
   run_start = rw (sub-zero n) refl
-
-  pub run_passed : (i : ℕ) (ok : Bool) {all : Bool} → ok && every p (map f (from i (n - i))) ≡ all → i < n → (ok && p (f i)) && every p (map f (from (i + 1) (n - (i + 1)))) ≡ all
-  unfolding every
-  run_passed i ok known h = and_assoc ok (p (f i)) (every p (map f (from (i + 1) (n - (i + 1))))) ∙ rw (from_next i n h) at known
-
-  pub run_end : (i : ℕ) (ok : Bool) {all : Bool} → ok && every p (map f (from i (n - i))) ≡ all → n ≤ i → ok ≡ all
-  unfolding every
-  run_end i ok known h = sym (and_true ok) ∙ rw (from_end i n h) at known

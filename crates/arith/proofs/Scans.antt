@@ -93,9 +93,9 @@ module _ {A B : Type 0} where
   every_map p f [] = refl
   every_map p f (x ∷ l) = rw (every_map p f l)
 
-pub map-map : {A B D : Type 0} (g : B → D) (f : A → B) (l : List A) → map g (map f l) ≡ map (λ a. g (f a)) l
-map-map g f [] = refl
-map-map g f (x ∷ l) = rw (map-map g f l)
+pub map_map : {A B D : Type 0} (g : B → D) (f : A → B) (l : List A) → map g (map f l) ≡ map (λ a. g (f a)) l
+map_map g f [] = refl
+map_map g f (x ∷ l) = rw (map_map g f l)
 
 pub and_swap : (a b c d : Bool) → (a && b) && (c && d) ≡ (a && c) && (b && d)
 and_swap true b true d = refl

@@ -9,10 +9,10 @@ use Rattle.arith.specs.Ints.{when, sum}
 use Rattle.arith.proofs.Tests.{by_eqb}
 
 -- ---- `simp sorted` brings both sides of an equation of sums to one form
-pub +ℤ-left-comm : (a b c : ℤ) → a +ℤ (b +ℤ c) ≡ b +ℤ (a +ℤ c)
-+ℤ-left-comm a b c = sym (+ℤ_assoc a b c) ∙ ap (λ x. x +ℤ c) (+ℤ_comm a b) ∙ +ℤ_assoc b a c
+pub +ℤ_left_comm : (a b c : ℤ) → a +ℤ (b +ℤ c) ≡ b +ℤ (a +ℤ c)
++ℤ_left_comm a b c = sym (+ℤ_assoc a b c) ∙ ap (λ x. x +ℤ c) (+ℤ_comm a b) ∙ +ℤ_assoc b a c
 
-pub ruleset sorted = (+ℤ_assoc, +ℤ_comm, +ℤ-left-comm, +ℤ_idl, +ℤ_idr)
+pub ruleset sorted = (+ℤ_assoc, +ℤ_comm, +ℤ_left_comm, +ℤ_idl, +ℤ_idr)
 
 -- `simp group`: a term and its negation cancel, next to each other or with one or two terms between them
 pub cancel₁ : (a r : ℤ) → a +ℤ (neg_ℤ a +ℤ r) ≡ r
@@ -22,16 +22,16 @@ pub cancel₂ : (a r : ℤ) → neg_ℤ a +ℤ (a +ℤ r) ≡ r
 cancel₂ a r = sym (+ℤ_assoc (neg_ℤ a) a r) ∙ simp (+ℤ_invl, +ℤ_idl)
 
 pub far₁ : (a r s : ℤ) → a +ℤ (r +ℤ (neg_ℤ a +ℤ s)) ≡ r +ℤ s
-far₁ a r s = ap (λ x. a +ℤ x) (+ℤ-left-comm r (neg_ℤ a) s) ∙ cancel₁ a (r +ℤ s)
+far₁ a r s = ap (λ x. a +ℤ x) (+ℤ_left_comm r (neg_ℤ a) s) ∙ cancel₁ a (r +ℤ s)
 
 pub far₁' : (a r : ℤ) → a +ℤ (r +ℤ neg_ℤ a) ≡ r
 far₁' a r = ap (λ x. a +ℤ x) (+ℤ_comm r (neg_ℤ a)) ∙ cancel₁ a r
 
 pub far₂ : (a q r s : ℤ) → a +ℤ (q +ℤ (r +ℤ (neg_ℤ a +ℤ s))) ≡ q +ℤ (r +ℤ s)
-far₂ a q r s = +ℤ-left-comm a q (r +ℤ (neg_ℤ a +ℤ s)) ∙ ap (λ x. q +ℤ x) (far₁ a r s)
+far₂ a q r s = +ℤ_left_comm a q (r +ℤ (neg_ℤ a +ℤ s)) ∙ ap (λ x. q +ℤ x) (far₁ a r s)
 
 pub far₂' : (a q r : ℤ) → a +ℤ (q +ℤ (r +ℤ neg_ℤ a)) ≡ q +ℤ r
-far₂' a q r = +ℤ-left-comm a q (r +ℤ neg_ℤ a) ∙ ap (λ x. q +ℤ x) (far₁' a r)
+far₂' a q r = +ℤ_left_comm a q (r +ℤ neg_ℤ a) ∙ ap (λ x. q +ℤ x) (far₁' a r)
 
 pub ruleset group = (sorted, neg_ℤ-+ℤ, neg_ℤ-neg_ℤ, +ℤ_invr, +ℤ_invl, cancel₁, cancel₂, far₁, far₁', far₂, far₂')
 
@@ -39,11 +39,11 @@ pub ruleset group = (sorted, neg_ℤ-+ℤ, neg_ℤ-neg_ℤ, +ℤ_invr, +ℤ_invl
 minus_one : (c : ℤ) → negsuc zero *ℤ c ≡ neg_ℤ c
 minus_one c = pred_ℤ-*ℤ (pos zero) c ∙ simp (zero-*ℤ, +ℤ_idl)
 
-pub *ℤ-distrib : (a b c : ℤ) → (a +ℤ b) *ℤ c ≡ a *ℤ c +ℤ b *ℤ c
-*ℤ-distrib (pos zero) b c = simp (+ℤ_idl, zero-*ℤ)
-*ℤ-distrib (pos (suc n)) b c = ap (λ x. x *ℤ c) (suc_ℤ-+ℤ (pos n) b) ∙ suc_ℤ-*ℤ (pos n +ℤ b) c ∙ rw (*ℤ-distrib (pos n) b c) (simp sorted) ∙ ap (λ x. x +ℤ b *ℤ c) (sym (suc_ℤ-*ℤ (pos n) c))
-*ℤ-distrib (negsuc zero) b c = ap (λ x. x *ℤ c) (pred_ℤ-+ℤ (pos zero) b ∙ ap pred_ℤ (+ℤ_idl b)) ∙ pred_ℤ-*ℤ b c ∙ +ℤ_comm (b *ℤ c) (neg_ℤ c) ∙ ap (λ x. x +ℤ b *ℤ c) (sym (minus_one c))
-*ℤ-distrib (negsuc (suc n)) b c = ap (λ x. x *ℤ c) (pred_ℤ-+ℤ (negsuc n) b) ∙ pred_ℤ-*ℤ (negsuc n +ℤ b) c ∙ rw (*ℤ-distrib (negsuc n) b c) (simp sorted)
+pub *ℤ_distrib : (a b c : ℤ) → (a +ℤ b) *ℤ c ≡ a *ℤ c +ℤ b *ℤ c
+*ℤ_distrib (pos zero) b c = simp (+ℤ_idl, zero-*ℤ)
+*ℤ_distrib (pos (suc n)) b c = ap (λ x. x *ℤ c) (suc_ℤ-+ℤ (pos n) b) ∙ suc_ℤ-*ℤ (pos n +ℤ b) c ∙ rw (*ℤ_distrib (pos n) b c) (simp sorted) ∙ ap (λ x. x +ℤ b *ℤ c) (sym (suc_ℤ-*ℤ (pos n) c))
+*ℤ_distrib (negsuc zero) b c = ap (λ x. x *ℤ c) (pred_ℤ-+ℤ (pos zero) b ∙ ap pred_ℤ (+ℤ_idl b)) ∙ pred_ℤ-*ℤ b c ∙ +ℤ_comm (b *ℤ c) (neg_ℤ c) ∙ ap (λ x. x +ℤ b *ℤ c) (sym (minus_one c))
+*ℤ_distrib (negsuc (suc n)) b c = ap (λ x. x *ℤ c) (pred_ℤ-+ℤ (negsuc n) b) ∙ pred_ℤ-*ℤ (negsuc n +ℤ b) c ∙ rw (*ℤ_distrib (negsuc n) b c) (simp sorted)
     ∙ ap (λ x. x +ℤ b *ℤ c) (sym (pred_ℤ-*ℤ (negsuc n) c))
 
 -- ---- what counts only where a test passes

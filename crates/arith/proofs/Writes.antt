@@ -5,7 +5,7 @@ use Prim.Native.Nat.{ℕ, zero, suc, ◌+◌, ◌*◌, ◌-◌, ◌<◌, ◌≤�
 use native.Mathlib.Omega.{arith}
 use native.Mathlib.Nat.{zero-add, add_assoc, add_comm, zero-mul, suc-mul}
 use native.Mathlib.Numerals.{add-one}
-use lib.ListN.{length, take, drop, get_or, set, replicate, length-replicate, get_or-replicate, drop_of_length-le, length-append, length-take, length-drop, take-append-drop}
+use lib.ListN.{length, take, drop, get_or, set, replicate, length-replicate, drop_of_length-le, length-append, length-take, length-drop, take-append-drop}
 use lib.Seq.{length-take-le, take_all, sets, sets-eq, take-append_seam, drop-append-add, drop-append-le, drop-drop}
 use Rattle.arith.specs.Lists.{over, in_each_block}
 
@@ -60,15 +60,6 @@ module _ {A : Type 0} where
 
   pub front_end : (n : ℕ) (s d : List A) → length s ≤ n → length d ≤ n → take n s ++ drop n d ≡ s
   front_end n s d h g = rw (take_all n s h, drop_of_length-le d g) (append-nil s)
-
-  -- one value all along
-  pub fill_next : (n : ℕ) (d : List A) (v : A) → n < length d → set (take n (replicate (length d) v) ++ drop n d) n v ≡ take (n + 1) (replicate (length d) v) ++ drop (n + 1) d
-  fill_next n d v h =
-      ap (λ x. set (take n (replicate (length d) v) ++ drop n d) n x) (sym (get_or-replicate (length d) n v v h))
-      ∙ front_next n (replicate (length d) v) d v (rw (length-replicate (length d) v) h) h
-
-  pub fill_end : (n : ℕ) (d : List A) (v : A) → length d ≤ n → take n (replicate (length d) v) ++ drop n d ≡ replicate (length d) v
-  fill_end n d v h = front_end n (replicate (length d) v) d (rw (length-replicate (length d) v) h) h
 
 -- ---- f done in each block: what is done, and the rest as it was
 module _ {A : Type 0} (w : ℕ) (f : List A → List A) (keeps : (x : List A) → length x ≡ w → length (f x) ≡ w) where

@@ -11,7 +11,6 @@ use lib.Dec.{eqb, leb}
 use Rattle.std.specs.Prelude.{Some}
 use lib.ListN.{length, get_or, set, take, replicate, length-append, length-replicate}
 use lib.Seq.{set_at, take_all, take-append_seam, length-take-le}
-use Rattle.std.specs.List.{list_all}
 use Rattle.arith.specs.Lists.{from, every}
 use Rattle.arith.proofs.Appends.{from_more, map_append}
 use Rattle.arith.proofs.Runs.{length_run}
@@ -93,11 +92,6 @@ module _ (s : List ℕ) where
         rw (held_all, ← counted) (placed (legs_of s))
 
 -- ---- the ranges of what was read
-pub every_is_all : {A : Type 0} (p : A → Bool) (l : List A) → list_all p l ≡ every p l
-unfolding every
-every_is_all p [] = refl
-every_is_all p (x ∷ l) = rw (every_is_all p l) refl
-
 pub many_legs : (n k : ℕ) (a : List Leg) → most_legs < k → event_sound n (Proposal k) a ≡ false
 unfolding event_sound
 many_legs n k a h = rw (lt-leb k most_legs h, and_false (leb least_legs k)) refl

@@ -19,7 +19,7 @@ abbrev pub least_first_day : Calendar → ℕ → ℕ → ℕ → ℕ
 least_first_day k d n end = day_after_nth k (end + 1) (end - d) n d
 
 -- A contract that closes n business days before its first delivery day f, at most the day after the span, is still to close on
--- day d exactly if f is `least` or later. proofs/Least has the law `is_least`: leastFirstDay up to the day after the span is such a day.
+-- day d exactly if f is `least` or later. proofs/Least has the law `is_least`: least_first_day up to the day after the span is such a day.
 abbrev pub IsLeast : Calendar → ℕ → ℕ → ℕ → Type 0
 IsLeast k d n least = (f : ℕ) → f ≤ day_after_span k → not_before (business_day_before k n f) d ≡ leb least f
 

@@ -9,9 +9,9 @@ use Rattle.rules.specs.Refusals.{every_row, head_sound, prices_sound, rows_sound
 use Rattle.calendar.proofs.FirstYears.{year_unsound}
 
 -- ---- one test fails
-or-true : (a : Bool) → true ≡ a || true
-or-true true = refl
-or-true false = refl
+or_true : (a : Bool) → true ≡ a || true
+or_true true = refl
+or_true false = refl
 
 second_fails : (h r b : Bool) → not (all_of (h ∷ false ∷ r ∷ b ∷ [])) ≡ true
 unfolding all_of
@@ -30,7 +30,7 @@ module _ (t : Tables) where
 
   is_damaged : damaged t ≡ true → true ≡ ledger_unsound t
   unfolding ledger_unsound
-  is_damaged e = rw e (or-true (ledger_short t))
+  is_damaged e = rw e (or_true (ledger_short t))
 
   pub head_fails : head_sound t ≡ false → true ≡ ledger_unsound t
   unfolding damaged all_of
@@ -61,7 +61,7 @@ module _ (t : Tables) where
   -- ---- with the line table
   pub lines_short_lem : lines_short t ≡ true → true ≡ unsound t
   unfolding unsound
-  lines_short_lem e = rw e (or-true (ledger_unsound t))
+  lines_short_lem e = rw e (or_true (ledger_unsound t))
 
   pub ledger_decides : lines_short t ≡ false → ledger_unsound t ≡ unsound t
   unfolding unsound

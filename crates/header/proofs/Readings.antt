@@ -71,8 +71,8 @@ module _ (s : List ℕ) (r : ReadHeader) (e : Some r ≡ header_reading s) where
   limit_most = let m = few in rw as_read (rw (← limits_length s, column 32 (header_of s).limits, limits_length s) m.1)
 
   -- The header by its parts; each member has a limit.
-  pub as-listed :
+  pub as_listed :
       let h = r.header in
       let limits = take h.members h.limits in
       record { first_year = h.first_year; start_day = h.start_day.0; members = length limits; holidays = take h.holiday_count h.holidays; limits = limits } ≡ header_of s
-  as-listed = rw as_read (rw (column 120 (header_of s).holidays, ← limits_length s, column 32 (header_of s).limits))
+  as_listed = rw as_read (rw (column 120 (header_of s).holidays, ← limits_length s, column 32 (header_of s).limits))

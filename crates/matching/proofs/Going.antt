@@ -233,9 +233,6 @@ module _ (o : Order) (book : List ℕ) (n : ℕ) (first left ranks lows deals : 
       pub left_long : length left' ≡ n
       left_long = ap length d.left_after_holds ∙ length-set left i _ ∙ g.left_length
 
-      pub ranks_long : length ranks' ≡ most_orders
-      ranks_long = placed_made.long
-
       fits : k * deal_width + 3 ≤ length deals
       fits = omega (arith, g.room, g.few, g.some)
 

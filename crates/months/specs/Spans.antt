@@ -25,6 +25,6 @@ starts_of k = map (λ i. month_start (first_month k + i)) (from 0 (months_in_spa
 abbrev pub last_month : ℕ
 last_month = 960
 
--- The first day of that month; `last_month_lem` of rules/proofs/CalendarLaws says that monthStart gives it.
+-- The first day of that month; `last_month_lem` of rules/proofs/CalendarLaws says that month_start gives it.
 abbrev pub last_month_start : ℕ
 last_month_start = 29220

@@ -1,12 +1,12 @@
 -- The numbers of an event put in a row. Assumes nothing.
 use Prim.Native.Nat.{ℕ, ◌+◌, ◌*◌, ◌≤◌}
-use mathlib.Core.List.{List, [], ◌∷◌, ◌++◌, flat_map, append_assoc, append-nil}
+use mathlib.Core.List.{List, [], ◌∷◌, ◌++◌, flat_map, append-nil}
 use mathlib.Core.Path.{◌≡◌, refl, sym, ◌∙◌}
 use native.Mathlib.Nat.{add-zero}
 use native.Mathlib.Omega.{arith}
 use borrow.Author.Tests.{eq-eqb}
-use lib.ListN.{length, take, drop, length-append, take-append-drop}
-use lib.Seq.{paste, take-length, length-take-le}
+use lib.ListN.{length, take, length-append, take-append-drop}
+use lib.Seq.{length-take-le}
 use Rattle.std.specs.Prelude.{Ok}
 use Rattle.arith.specs.Lists.{over}
 use Rattle.arith.proofs.Appends.{flat_length}
@@ -62,8 +62,3 @@ pub put_rows : {k n : ℕ} (e : Event) (l : List Leg) (row put after : List ℕ)
     → record { answer = Ok (1 + n + 3 * k); after = after } ≡ with_numbers e (take (leg_count e) l) row
 put_rows e l row put after count fields h many p q =
     rw (count, fields) (put_joined e (take (leg_count e) l) (length-take-le (leg_count e) l many) row put after h p (rw count at q))
-
--- A list stored place by place.
-pub pasted : (row : List ℕ) (at : ℕ) (list : List ℕ) (i : ℕ) → i ≡ length list → paste row at list i ≡ over at list row
-unfolding over
-pasted row at list i e = rw (e, take-length list) (append_assoc (take at row) list (drop (at + length list) row))

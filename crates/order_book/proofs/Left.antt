@@ -14,7 +14,7 @@ use Rattle.arith.specs.Lists.{All, kept, from, over}
 use Rattle.arith.proofs.Overs.{over_outside}
 use Rattle.arith.proofs.Tests.{true_or}
 use Rattle.arith.proofs.Appends.{from_more, from_length, map_append, flat_append, flat_one, flat_length, map_at, from_at}
-use Rattle.arith.proofs.Writes.{stored, over_more, again_long, again_front, again_many}
+use Rattle.arith.proofs.Writes.{stored, over_more, again_front}
 use Rattle.rules.specs.Ledger.{order_width}
 use Rattle.rules.specs.Ledger.{book_length}
 use Rattle.rules.specs.declared.order.Order.{Order}
@@ -83,12 +83,6 @@ module _ (p : Order → Bool) (n : ℕ) (b : List ℕ) where
 module _ (p : Order → Bool) (n : ℕ) (ys l b : List ℕ) (fits : n ≤ length l) (e : ys ≡ staying p (orders_in (length (take n l)) b)) where
   as_lent : length ys ≡ length (take n l)
   as_lent = ap length e ∙ staying_length p (length (take n l)) b
-
-  pub column_long : n ≤ length (ys ++ drop n l)
-  column_long = again_long n ys l as_lent fits
-
-  pub column_many : n ≡ length (take n (ys ++ drop n l))
-  column_many = again_many n ys l as_lent fits
 
   pub column_kept : All (λ o. 1 ≤ o.lots.0) (orders_in n b) → left_over (take n (ys ++ drop n l)) (orders_in n b) ≡ kept (λ o. not (p o)) (orders_in n b)
   column_kept a = rw (again_front n ys l as_lent fits, e, length-take-le n l fits) (staying_kept p (orders_in n b) a)

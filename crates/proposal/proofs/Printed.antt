@@ -9,7 +9,7 @@ use lib.ListN.{length, get_or, length-map}
 use Rattle.arith.specs.Lists.{total, from}
 use Rattle.arith.proofs.Appends.{from_more, from_length, map_append}
 use Rattle.arith.proofs.Runs.{run_of}
-use Rattle.arith.proofs.Scans.{map-map}
+use Rattle.arith.proofs.Scans.{map_map}
 use Rattle.rules.specs.declared.event.Leg.{Leg}
 use Rattle.rules.specs.declared.order.Order.{Order}
 use Rattle.rules.specs.Ledger.{line_run, order_at}
@@ -37,4 +37,4 @@ module _ (book places : List ℕ) (legs : List Leg) where
       ∙ ap (total lots_of) (run_of (λ i. get_or legs i no_leg) legs no_leg (λ i _. refl))
 
   pub lines_of : (os : List Order) → named_legs os legs ≡ named_to book places legs → map leg_line (named_legs os legs) ≡ lines_to book places legs (length legs)
-  lines_of os e = ap (map leg_line) e ∙ map-map leg_line (named_at book places legs) (from 0 (length legs))
+  lines_of os e = ap (map leg_line) e ∙ map_map leg_line (named_at book places legs) (from 0 (length legs))

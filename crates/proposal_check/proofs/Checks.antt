@@ -8,6 +8,7 @@ use lib.Dec.{eqb, ltb}
 use lib.ListN.{length, get_or, length-map}
 use borrow.Author.Tests.{eq-eqb}
 use Rattle.arith.specs.Lists.{every, any, from, all_of}
+use Rattle.arith.proofs.Alls.{any_is_any}
 use Rattle.arith.proofs.Tests.{and_false, and_true}
 use Rattle.arith.proofs.Runs.{length_run, run_of}
 use Rattle.arith.proofs.Scans.{every_both, every_same}
@@ -26,7 +27,7 @@ use Rattle.rules.specs.Synthetic.{Named, named_legs, has_lots, price_allowed, tw
 use Rattle.tables.specs.Fit.{HeadFit, BookFit, order_count_in, orders_in}
 use Rattle.proposal_check.specs.Legs.{LegsFit, PlacesFit, ContractsFit, no_leg, number_of, lots_of, value_of, place_of, places_of}
 use Rattle.proposal_check.specs.Legs.{named_at, named_to, counts_at, in_month, balanced_months, is_before, is_ahead, is_full_leg}
-use Rattle.proposal_check.proofs.Lists.{map_places, any_is_any, any_map, total_map, every_same_from}
+use Rattle.proposal_check.proofs.Lists.{map_places, any_map, total_map, every_same_from}
 use Rattle.proposal_check.proofs.Named.{named_places, not_named, found_fit, places_wider, contracts_fit}
 use Rattle.proposal_check.proofs.Together.{two_first, hour_month, before, priority_orders}
 

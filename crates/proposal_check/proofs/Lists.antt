@@ -1,17 +1,16 @@
 -- Lists by their places. Assumes nothing.
 use mathlib.Core.Path.{◌≡◌, refl, sym, ap, ◌∙◌}
-use mathlib.Core.Bool.{Bool, ◌&&◌, ◌||◌, and_assoc, or_assoc}
+use mathlib.Core.Bool.{Bool, ◌&&◌, and_assoc}
 use mathlib.Core.List.{List, [], ◌∷◌, map}
 use Prim.Native.Nat.{ℕ, zero, suc, ◌+◌, ◌-◌, ◌<◌, ◌≤◌}
 use native.Mathlib.Omega.{arith}
-use native.Mathlib.Nat.{zero-add, sub-zero}
+use native.Mathlib.Nat.{zero-add}
 use native.Mathlib.Numerals.{add-one}
 use lib.ListN.{length, get_or, length-map}
 use lib.Seq.{ext_get_or}
-use Rattle.std.specs.List.{list_all, list_any}
 use Rattle.arith.specs.Lists.{every, any, total, from}
 use Rattle.arith.proofs.Ranges.{total_more}
-use Rattle.arith.proofs.Tests.{and_true, or_false}
+use Rattle.arith.proofs.Tests.{and_true}
 use Rattle.arith.proofs.Scans.{from_next, from_end}
 use Rattle.arith.proofs.Appends.{from_length, map_at, from_at}
 
@@ -40,20 +39,6 @@ unfolding any
 any_map p f [] = refl
 any_map p f (x ∷ l) = rw (any_map p f l)
 
--- ---- whether one of the numbers from i up to n passes
-module _ (p : ℕ → Bool) (n : ℕ) where
-  pub one_start : any p (from 0 (n - 0)) ≡ any p (from 0 n)
-  one_start = rw (sub-zero n)
-
-  module _ (i : ℕ) (found one : Bool) (known : found || any p (from i (n - i)) ≡ one) where
-    pub one_next : i < n → (found || p i) || any p (from (i + 1) (n - (i + 1))) ≡ one
-    unfolding any
-    one_next h = or_assoc found (p i) (any p (from (i + 1) (n - (i + 1)))) ∙ rw (from_next i n h) at known
-
-    pub one_end : n ≤ i → found ≡ one
-    unfolding any
-    one_end h = sym (or_false found) ∙ rw (from_end i n h) at known
-
 -- ---- what the numbers from i up to n are mapped to
 module _ {A : Type 0} (f : ℕ → A) (p : A → Bool) (n i : ℕ) (ok all : Bool) (known : ok && every p (map f (from i (n - i))) ≡ all) where
   pub all_next : i < n → (ok && p (f i)) && every p (map f (from (i + 1) (n - (i + 1)))) ≡ all
@@ -79,14 +64,3 @@ total_map f g (x ∷ l) = rw (total_map f g l)
 -- ---- a sum of what stands at the first i places
 pub sum_next : (f : ℕ → ℕ) (i sum : ℕ) → sum ≡ total f (from 0 i) → sum + f i ≡ total f (from 0 (i + 1))
 sum_next f i sum e = rw (add-one i, total_more f 0 i, zero-add i, e)
-
--- ---- std's words for tests of a list
-pub every_is_all : {A : Type 0} (p : A → Bool) (l : List A) → list_all p l ≡ every p l
-unfolding every
-every_is_all p [] = refl
-every_is_all p (x ∷ l) = rw (every_is_all p l) refl
-
-pub any_is_any : {A : Type 0} (p : A → Bool) (l : List A) → list_any p l ≡ any p l
-unfolding any
-any_is_any p [] = refl
-any_is_any p (x ∷ l) = rw (any_is_any p l) refl

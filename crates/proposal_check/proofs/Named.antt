@@ -16,7 +16,7 @@ use Rattle.arith.proofs.Tests.{by_bool, true_or, le_or_lt, and_left, and_right, 
 use Rattle.arith.proofs.Appends.{from_length, map_at, from_at}
 use Rattle.arith.proofs.Runs.{run_of}
 use Rattle.arith.proofs.Writes.{again_long, again_front, again_many}
-use Rattle.arith.proofs.Scans.{from_next, from_end, every_map, map-map}
+use Rattle.arith.proofs.Scans.{from_next, from_end, every_map, map_map}
 use Rattle.rules.specs.declared.event.Leg.{Leg}
 use Rattle.rules.specs.declared.order.Order.{Order}
 use Rattle.rules.specs.Ledger.{Tables, order_at}
@@ -134,7 +134,7 @@ module _ (count : ℕ) (book : List ℕ) (legs : List Leg) where
       let f : Leg → Named = λ g. record { leg = g; order = get_or os (place_of g.order os) (order_at book 0) } in
       named_all os (order_at book 0) legs (sym found_same ∙ e)
       ∙ sym (ap (map f) (run_of (λ i. get_or legs i no_leg) legs no_leg (λ i _. refl)))
-      ∙ map-map f (λ i. get_or legs i no_leg) (from 0 (length legs))
+      ∙ map_map f (λ i. get_or legs i no_leg) (from 0 (length legs))
       ∙ map_from _ _ 0 (length legs) (λ i l u. ap (λ o. record { leg = get_or legs i no_leg; order = o }) (order_at_lem i e (omega arith)))
 
   pub not_named : every (λ p. ltb p count) places_in ≡ false → eqb (length (named_legs os legs)) (length legs) ≡ false

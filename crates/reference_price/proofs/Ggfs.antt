@@ -15,8 +15,6 @@ use Rattle.arith.proofs.Alls.{all_map}
 use Rattle.arith.proofs.Tests.{true_or, same_or}
 use Rattle.rules.specs.Ledger.{price_width, prices_length}
 use Rattle.rules.specs.Ranges.{contract_count, most_lots_run, most_price}
-use Rattle.rules.specs.declared.contract.ContractKind.{ContractKind}
-use Rattle.rules.specs.declared.contract.ContractKind.TheVariants.{Year, Quarter, Month}
 use Rattle.rules.specs.declared.order.Order.{Order}
 use Rattle.rules.specs.declared.order.Side.{Side}
 use Rattle.rules.specs.declared.order.Side.TheVariants.{Buy, Sell}
@@ -113,11 +111,6 @@ open_next buys sells l all w zero c rest e = true_or (w c) (λ t. rw t e) (λ t.
 open_next buys sells l all w (suc more) c rest e =
     let less : suc more - 1 ≡ more = omega arith in
     true_or (w c) (λ t. rw (t, lt-ltb 0 (suc more) (omega arith), less) (rw t at e)) (λ t. rw t (rw t at e))
-
-pub least_threshold : (s : ContractKind) → 1 ≤ threshold_of s
-least_threshold Year = omega arith
-least_threshold Quarter = omega arith
-least_threshold Month = omega arith
 
 -- no product passes its place
 pub quoted_most : (m b s : ℕ) → m ≤ most_lots_run → b ≤ most_price → s ≤ most_price → m * (b + s) ≤ 10000000000000

@@ -12,7 +12,7 @@ use Rattle.rules.specs.Sides.{side_of}
 use Rattle.rules.specs.Ranges.{contract_count, most_holidays}
 use Rattle.rules.specs.Ledger.{Tables, head_length, first_year_place, members_place, holiday_count_place, day_place, time_place, accepted_submits_place, lots_run_place, order_count_place, holidays_from, limits_from, marks_from, submits_from}
 use Rattle.rules.specs.Ledger.{first_year, members, holiday_count, day, time, accepted_submits, lots_run, order_count, holidays, limit, mark, submits_this_second, calendar, defaulted, is_open, default_mark}
-use Rattle.rules.specs.Ledger.{price_width, ggf, low, high, day_lots, day_value, lots_at, order_width, order_at, side_at, orders}
+use Rattle.rules.specs.Ledger.{price_width, ggf, low, high, lots_at, order_width, order_at, side_at, orders}
 use Rattle.rules.specs.Accounts.{lots}
 use Rattle.replay.specs.Surplus.{of_ledger, of_holiday, of_limit, of_mark, of_submits, SameButSurplus}
 
@@ -77,12 +77,6 @@ module _ (t u : Tables) (s : SameButSurplus t u) where
 
     pub same_high : high t c ≡ high u c
     same_high = s.prices c 2 h (omega arith)
-
-    pub same_day_lots : day_lots t c ≡ day_lots u c
-    same_day_lots = s.prices c 3 h (omega arith)
-
-    pub same_day_value : day_value t c ≡ day_value u c
-    same_day_value = s.prices c 4 h (omega arith)
 
   -- the orders
   same_order : (i : ℕ) → i < order_count t → order_at t.book i ≡ order_at u.book i

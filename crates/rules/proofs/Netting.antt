@@ -1,7 +1,7 @@
 -- Sums over members, and lots given up, lowest member first. Assumes nothing.
 use Prim.Native.Nat.{ℕ, zero, suc, ◌+◌, ◌*◌, ◌-◌, ◌≤◌, ◌<◌, min}
 use mathlib.Core.Path.{◌≡◌, refl, ap}
-use mathlib.Core.List.{List, [], ◌∷◌, map}
+use mathlib.Core.List.{List, [], ◌∷◌}
 use native.Mathlib.Omega.{arith}
 use native.Mathlib.Nat.{suc-mul}
 use native.Mathlib.Numerals.{add-one}
@@ -23,11 +23,6 @@ pub sum_zeros : (n : ℕ) → sum_of (replicate n 0) ≡ 0
 unfolding sum_of total
 sum_zeros zero = refl
 sum_zeros (suc n) = rw (sum_cons 0 (replicate n 0), sum_zeros n)
-
-pub sum_map : (f : ℕ → ℕ) (l : List ℕ) → sum_of (map f l) ≡ total f l
-unfolding sum_of total
-sum_map f [] = refl
-sum_map f (x ∷ l) = rw (sum_cons (f x) (map f l), sum_map f l)
 
 -- one more at place i
 pub sum_set : (l : List ℕ) (i : ℕ) → i < length l → sum_of (set l i (get_or l i 0 + 1)) ≡ sum_of l + 1

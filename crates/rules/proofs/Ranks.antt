@@ -22,7 +22,7 @@ unfolding ranking distinct any
 ranked_once = refl
 
 -- Each answer has the rank of its number, whatever goes with it.
-pub answers-ranked :
+pub answers_ranked :
     map rank
     (Ok 200
     ∷ Err TableUnsound
@@ -46,4 +46,4 @@ pub answers-ranked :
     ∷ [])
     ≡ from 0 19
 unfolding ranking place_from rank_of from
-answers-ranked = refl
+answers_ranked = refl

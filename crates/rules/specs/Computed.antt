@@ -1,4 +1,4 @@
--- What applySpec answers and leaves, computed: a call, and a list of records.
+-- What apply_spec answers and leaves, computed: a call, and a list of records.
 use Rattle.std.specs.Prelude.{ℕ}
 use mathlib.Core.List.{List, [], ◌∷◌, flat_map, zip_with}
 use Rattle.arith.specs.Ints.{up, dn}

@@ -1,7 +1,8 @@
 use native.Mathlib.Omega.{arith}
 use mathlib.Core.Path.{sym, ◌∙◌}
 use Rattle.rules.specs.Records.{leg_sound}
-use Rattle.codec.proofs.PlacedLegs.{few_legs, many_legs, missing_legs, every_is_all, proposal_judged}
+use Rattle.arith.proofs.Alls.{every_is_all}
+use Rattle.codec.proofs.PlacedLegs.{few_legs, many_legs, missing_legs, proposal_judged}
 use Rattle.codec.proofs.sound.is_proposal_sound.Goals as goal
 
 pub returns-then-count-lt-LEAST_LEGS : goal.returns-then-count-lt-LEAST_LEGS

@@ -3,7 +3,7 @@ use mathlib.Core.List.{[]}
 use Rattle.rules.specs.Refusals.{make_spec}
 use Rattle.rules.specs.Ledger.{lent, with_book, with_lines, zero_tables}
 use Rattle.rules.proofs.SoundTables.{long_enough}
-use Rattle.header.proofs.Readings.{none_read, begins, few_holidays, few_members, holiday_most, limit_most, as-listed}
+use Rattle.header.proofs.Readings.{none_read, begins, few_holidays, few_members, holiday_most, limit_most, as_listed}
 use Rattle.engine.proofs.making.make.Goals as goal
 
 pub returns-then-is_ledger_short : goal.returns-then-is_ledger_short
@@ -35,4 +35,4 @@ returns c =
     let a = c.args in
     let s = a.bytes.now in
     let r = c.in-Some.ensures in
-    λ n. rw (sym (c.is_ledger_short.ensures (with_lines n zero_tables)) ∙ c.if-is_ledger_short.false, begins s _ r, c.write_fresh.ensures (with_book a.book.now (with_lines n zero_tables)), as-listed s _ r)
+    λ n. rw (sym (c.is_ledger_short.ensures (with_lines n zero_tables)) ∙ c.if-is_ledger_short.false, begins s _ r, c.write_fresh.ensures (with_book a.book.now (with_lines n zero_tables)), as_listed s _ r)

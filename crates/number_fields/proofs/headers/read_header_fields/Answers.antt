@@ -1,7 +1,7 @@
 use mathlib.Core.Path.{ap, ◌∙◌}
 use Rattle.header.specs.declared.reader.ReadHeader.{ReadHeader}
 use Rattle.std.specs.Prelude.{Ok}
-use Rattle.header.proofs.Readings.{none_read, begins, as_read, few_holidays, few_members, holiday_most, limit_most, as-listed}
+use Rattle.header.proofs.Readings.{none_read, begins, as_read, few_holidays, few_members, holiday_most, limit_most, as_listed}
 use Rattle.number_fields.specs.HeaderFields.{with_header}
 use Rattle.number_fields.proofs.HeaderOutcomes.{read_header_short, read_header_none, read_header_whole}
 use Rattle.number_fields.proofs.headers.read_header_fields.Goals as goal
@@ -31,4 +31,4 @@ returns c =
     let s = a.bytes.now in
     let r = c.in-Some.ensures in
     read_header_whole s a.row.now c.if-row-lt-HEADER_FIELDS.false (begins s _ r) _ _ (ap (λ (x : ReadHeader). Ok x.length) (as_read s _ r))
-    (c.put_header.ensures ∙ ap (λ h. with_header h a.row.now) (as-listed s _ r))
+    (c.put_header.ensures ∙ ap (λ h. with_header h a.row.now) (as_listed s _ r))

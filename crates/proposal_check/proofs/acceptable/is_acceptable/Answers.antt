@@ -11,7 +11,7 @@ use Rattle.tables.specs.Fit.{order_count_in, orders_in}
 use Rattle.rules.specs.Ledger.{order_count_place}
 use Rattle.rules.specs.Ledger.{with_head, with_prices, with_book, orders, calendar}
 use Rattle.proposal_check.proofs.Checks.{two_legs, balanced_legs, priority_legs, acceptable_not, acceptable_found, legs_found}
-use Rattle.proposal_check.proofs.Lists.{every_is_all}
+use Rattle.arith.proofs.Alls.{every_is_all}
 use Rattle.proposal_check.proofs.LastRanks.{orders_ranked}
 use Rattle.proposal_check.proofs.acceptable.is_acceptable.Goals as goal
 
