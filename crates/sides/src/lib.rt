@@ -25,7 +25,7 @@ pub fn side_number(side: Side) -> u64
 pub fn is_same_side(a: Side, b: Side) -> bool
     ensures { result ≡ same_side a b }
 {
-    matches!((a, b), (Side::Buy, Side::Buy) | (Side::Sell, Side::Sell))
+    a == b
 }
 
 pub fn other_side(side: Side) -> Side
