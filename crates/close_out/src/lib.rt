@@ -38,7 +38,8 @@ fn close_out_lots(
     requires head_fit { HeadFit tables.old.head.now × Bookable 0 tables.old.head.now tables.old.lots.now tables.old.value.now tables.old.lines.now }
     requires open_and_priced { (is_open (tables_of tables.old) e.contract ≡ true) × (ggf (tables_of tables.old) e.contract ≡ price.0) }
     requires contract_lt_contract_count { (e.contract < contract_count) × (e.ratio ≤ most_ratio) × (price.0 ≤ most_price) × (0 < price.0) }
-    requires longs_len { (length longs.old ≡ members_in tables.old.head.now) × (length shorts.old ≡ members_in tables.old.head.now) × (length weights.old ≡ members_in tables.old.head.now) }
+    requires longs_len { (length longs.old ≡ members_in tables.old.head.now) × (length shorts.old ≡ members_in tables.old.head.now)
+        × (length weights.old ≡ members_in tables.old.head.now) }
     ensures answer { record { answer = result; after = tables_of tables.new } ≡ close_out_spec (tables_of tables.old) e }
     ensures same { SameTables tables.old tables.new }
 {
@@ -67,7 +68,8 @@ fn close_out_lots(
 }
 
 pub fn apply(tables: &mut LentTables<'_>, e: CloseOutTerms) -> Result<u64, Refusal>
-    requires head_fit { HeadFit tables.old.head.now × Bookable 0 tables.old.head.now tables.old.lots.now tables.old.value.now tables.old.lines.now × PricesFit (lots_run_in tables.old.head.now) tables.old.prices.now }
+    requires head_fit { HeadFit tables.old.head.now × Bookable 0 tables.old.head.now tables.old.lots.now tables.old.value.now tables.old.lines.now
+        × PricesFit (lots_run_in tables.old.head.now) tables.old.prices.now }
     requires contract_lt_contract_count { (e.contract < contract_count) × (e.ratio ≤ most_ratio) }
     ensures answer { record { answer = result; after = tables_of tables.new } ≡ close_out_spec (tables_of tables.old) e }
     ensures same { SameTables tables.old tables.new }

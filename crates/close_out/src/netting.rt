@@ -34,7 +34,8 @@ fn net_columns(
     given_shorts: &mut [u64],
 ) -> usize
     requires bookable { Bookable (netted + netted) tables.old.head.now tables.old.lots.now tables.old.value.now tables.old.lines.now }
-    requires contract_lt_contract_count { (contract < contract_count) × (price.0 ≤ most_price) × (length longs.old ≡ members_in tables.old.head.now) × (length shorts.old ≡ members_in tables.old.head.now) }
+    requires contract_lt_contract_count { (contract < contract_count) × (price.0 ≤ most_price) × (length longs.old ≡ members_in tables.old.head.now)
+        × (length shorts.old ≡ members_in tables.old.head.now) }
     requires given_longs_len { (length given_longs.old ≡ members_in tables.old.head.now) × (length given_shorts.old ≡ members_in tables.old.head.now) }
     ensures value { result ≡ length (netting_lines contract price.0 netted longs.old shorts.old) }
     ensures longs_after { longs.new ≡ less longs.old (given_up netted longs.old) }
@@ -60,7 +61,8 @@ pub fn book_netting(
     shorts: &mut [u64],
 ) -> usize
     requires bookable { Bookable (netted + netted) tables.old.head.now tables.old.lots.now tables.old.value.now tables.old.lines.now }
-    requires contract_lt_contract_count { (contract < contract_count) × (price.0 ≤ most_price) × (length longs.old ≡ members_in tables.old.head.now) × (length shorts.old ≡ members_in tables.old.head.now) }
+    requires contract_lt_contract_count { (contract < contract_count) × (price.0 ≤ most_price) × (length longs.old ≡ members_in tables.old.head.now)
+        × (length shorts.old ≡ members_in tables.old.head.now) }
     ensures value { result ≡ length (netting_lines contract price.0 netted longs.old shorts.old) }
     ensures longs_after { longs.new ≡ less longs.old (given_up netted longs.old) }
     ensures shorts_after { shorts.new ≡ less shorts.old (given_up netted shorts.old) }

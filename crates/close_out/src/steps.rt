@@ -25,7 +25,8 @@ pub fn book_steps(
     shorts: &mut [u64],
     weights: &[u64],
 ) -> usize
-    requires bookable { Bookable ((netted + netted) + (remaining + remaining)) tables.old.head.now tables.old.lots.now tables.old.value.now tables.old.lines.now × (contract < contract_count) × (price.0 ≤ most_price) }
+    requires bookable { Bookable ((netted + netted) + (remaining + remaining)) tables.old.head.now tables.old.lots.now tables.old.value.now tables.old.lines.now
+        × (contract < contract_count) × (price.0 ≤ most_price) }
     requires dealable { Dealable netted remaining (members_in tables.old.head.now) longs.old shorts.old weights.now }
     ensures value { result ≡ length (step_lines contract price.0 netted remaining longs.old shorts.old weights.now) }
     ensures longs_after { longs.new ≡ less longs.old (given_up netted longs.old) }

@@ -25,8 +25,10 @@ fn deal_columns(
     taken: &mut [u64],
     nothing: &[u64],
 ) -> usize
-    requires bookable { Bookable remaining tables.old.head.now tables.old.lots.now tables.old.value.now tables.old.lines.now × MemberColumn most_weight weights.now × (0 < sum_of weights.now) }
-    requires contract_lt_contract_count { (contract < contract_count) × (price.0 ≤ most_price) × (i + length weights.now ≤ least_lines) × (length weights.now ≡ members_in tables.old.head.now) }
+    requires bookable { Bookable remaining tables.old.head.now tables.old.lots.now tables.old.value.now tables.old.lines.now
+        × MemberColumn most_weight weights.now × (0 < sum_of weights.now) }
+    requires contract_lt_contract_count { (contract < contract_count) × (price.0 ≤ most_price) × (i + length weights.now ≤ least_lines)
+        × (length weights.now ≡ members_in tables.old.head.now) }
     requires taken_len { (length taken.old ≡ members_in tables.old.head.now) × (nothing.now ≡ replicate (members_in tables.old.head.now) 0) }
     ensures value { result ≡ i + length (taker_lines contract price.0 long remaining weights.now) }
     ensures booked { tables_of tables.new ≡ with_each i (taker_lines contract price.0 long remaining weights.now) (tables_of tables.old) }
@@ -49,8 +51,10 @@ pub fn book_takers(
     remaining: u64,
     weights: &[u64],
 ) -> usize
-    requires bookable { Bookable remaining tables.old.head.now tables.old.lots.now tables.old.value.now tables.old.lines.now × MemberColumn most_weight weights.now × (0 < sum_of weights.now) }
-    requires contract_lt_contract_count { (contract < contract_count) × (price.0 ≤ most_price) × (i + length weights.now ≤ least_lines) × (length weights.now ≡ members_in tables.old.head.now) }
+    requires bookable { Bookable remaining tables.old.head.now tables.old.lots.now tables.old.value.now tables.old.lines.now
+        × MemberColumn most_weight weights.now × (0 < sum_of weights.now) }
+    requires contract_lt_contract_count { (contract < contract_count) × (price.0 ≤ most_price) × (i + length weights.now ≤ least_lines)
+        × (length weights.now ≡ members_in tables.old.head.now) }
     ensures value { result ≡ i + length (taker_lines contract price.0 long remaining weights.now) }
     ensures booked { tables_of tables.new ≡ with_each i (taker_lines contract price.0 long remaining weights.now) (tables_of tables.old) }
     ensures same { SameTables tables.old tables.new }

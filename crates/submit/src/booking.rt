@@ -45,8 +45,10 @@ pub fn book_submit(
     e: Submission,
     crossing: Lots,
 ) -> Result<u64, Refusal>
-    requires head_fit { HeadFit tables.old.head.now × PricesFit (lots_run_in tables.old.head.now) tables.old.prices.now × BookFit tables.old.head.now tables.old.book.now × SubmissionFit tables.old.head.now e × (lines_length ≤ length tables.old.lines.now) }
-    requires rows_fit { RowsFit (members_in tables.old.head.now) (lots_run_in tables.old.head.now) tables.old.lots.now × RowsFit (members_in tables.old.head.now) (most_price * lots_run_in tables.old.head.now) tables.old.value.now }
+    requires head_fit { HeadFit tables.old.head.now × PricesFit (lots_run_in tables.old.head.now) tables.old.prices.now
+        × BookFit tables.old.head.now tables.old.book.now × SubmissionFit tables.old.head.now e × (lines_length ≤ length tables.old.lines.now) }
+    requires rows_fit { RowsFit (members_in tables.old.head.now) (lots_run_in tables.old.head.now) tables.old.lots.now
+        × RowsFit (members_in tables.old.head.now) (most_price * lots_run_in tables.old.head.now) tables.old.value.now }
     requires acceptable { Acceptable (tables_of tables.old) e crossing.0 }
     ensures answer { record { answer = result; after = tables_of tables.new } ≡ submit_booked (tables_of tables.old) e }
     ensures same { SameTables tables.old tables.new }

@@ -55,8 +55,10 @@ fn book_deal(tables: &mut LentTables<'_>, k: usize, o: Order, d: Counterparty)
 
 // Both lines of every deal, in the order of the deals.
 pub fn book_deals(tables: &mut LentTables<'_>, o: Order, deals: &[u64], count: usize)
-    requires bookable { Bookable (2 * total lots_dealt (deals_in count deals.now)) tables.old.head.now tables.old.lots.now tables.old.value.now tables.old.lines.now × DealColumnFit count deals.now }
-    requires member_bound { (o.member < members_in tables.old.head.now) × (o.contract < contract_count) × ((j : ℕ) → j < count → (deal_at deals.now j).member < members_in tables.old.head.now) }
+    requires bookable { Bookable (2 * total lots_dealt (deals_in count deals.now)) tables.old.head.now tables.old.lots.now tables.old.value.now tables.old.lines.now
+        × DealColumnFit count deals.now }
+    requires member_bound { (o.member < members_in tables.old.head.now) × (o.contract < contract_count)
+        × ((j : ℕ) → j < count → (deal_at deals.now j).member < members_in tables.old.head.now) }
     ensures booked { tables_of tables.new ≡ (booked (flat_map (lines_with o) (deals_in count deals.now)) (tables_of tables.old)).after }
     ensures same { SameTables tables.old tables.new }
 {

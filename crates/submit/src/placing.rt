@@ -64,7 +64,8 @@ pub fn place_order(
     o: Order,
     crossing: Lots,
 ) -> Result<u64, Refusal>
-    requires { Placeable (tables_of tables.old) kind o × (crossing.0 ≡ crossing_in o (orders_in (order_count_in tables.old.head.now) tables.old.book.now)) }
+    requires { Placeable (tables_of tables.old) kind o
+        × (crossing.0 ≡ crossing_in o (orders_in (order_count_in tables.old.head.now) tables.old.book.now)) }
     ensures answer { record { answer = result; after = tables_of tables.new } ≡ order_booked kind o (tables_of tables.old) }
     ensures same { SameTables tables.old tables.new }
 {
