@@ -10,11 +10,7 @@ use rules::{Event, Refusal};
 use tables::LentTables;
 
 // Each kind is lent the tables that it touches, all of them long enough and not damaged.
-pub fn apply_event(
-    tables: &mut LentTables<'_>,
-    event: Event,
-    bytes: &[u8],
-) -> Result<u64, Refusal>
+pub fn apply_event(tables: &mut LentTables<'_>, event: Event, bytes: &[u8]) -> Result<u64, Refusal>
     requires { Fits (tables_of tables.old) × (read_of (members_in tables.old.head.now) bytes.now ≡ Some event) }
     ensures answer { record { answer = result; after = tables_of tables.new } ≡ event_spec (tables_of tables.old) event (legs_of bytes.now) }
     ensures same { SameTables tables.old tables.new }

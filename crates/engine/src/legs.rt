@@ -9,11 +9,7 @@ ghost use Rattle.tables.specs.Lent.{tables_of, SameTables};
 use rules::Refusal;
 use tables::LentTables;
 
-pub fn apply_legs(
-    tables: &mut LentTables<'_>,
-    count: u64,
-    bytes: &[u8],
-) -> Result<u64, Refusal>
+pub fn apply_legs(tables: &mut LentTables<'_>, count: u64, bytes: &[u8]) -> Result<u64, Refusal>
     requires { Fits (tables_of tables.old) × (read_of (members_in tables.old.head.now) bytes.now ≡ Some (Proposal count)) }
     ensures answer { record { answer = result; after = tables_of tables.new } ≡ proposal_spec (tables_of tables.old) (legs_of bytes.now) }
     ensures same { SameTables tables.old tables.new }

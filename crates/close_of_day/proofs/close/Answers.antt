@@ -65,9 +65,9 @@ begin_day-requires c =
     let same = ap members (c.remove_closing.ensures t) ∙ get_or-set_other t.head 7 1 _ 0 (λ e. omega arith) ∙ ap (λ h. get_or h 1 0) stays in
     (omega (arith, c.remove_closing.auto.head, ap length stays, pre.head_fit.0.long), omega (arith, same, pre.head_fit.0.most_members_holds))
 
-pub returns : goal.returns
+pub returns-clause-tables_after : goal.returns-clause-tables_after
 unfolding orders
-returns c =
+returns-clause-tables_after c =
     let a = c.args in
     let u = tables_of a.tables.now in
     let t = tables_of c.write_prices.new.tables in
@@ -76,13 +76,9 @@ returns c =
     let rows = with_rows lots value t in
     let n = members u in
     let column = c.write_phases.ensures ∙ ap (λ h. phases (calendar_in h) (get_or h day_place 0)) c.head.ensures in
-    let same = c.write_prices.ensures.same in
-    record {
-      tables_after = c.begin_day.ensures (with_book c.remove_closing.new.book rows)
-          ∙ ap (on_day a.next.0) (c.remove_closing.ensures rows
-          ∙ ap (λ k. with_orders (kept (λ o. not (closes k o.contract)) (orders_in (order_count t) t.book)) rows) column)
-          ∙ closed_is a.time u t c.write_prices.ensures.prices_after a.next.0 lots value
-          (c.cascade_all.ensures ∙ ap (λ k. all_cascaded n (closing k) t.lots) column)
-          (c.cascade_all-2.ensures ∙ ap (λ k. all_cascaded n (closing k) t.value) column);
-      same = record { head = same.head; prices = same.prices; lots = same.lots; value = same.value; book = same.book; lines = same.lines };
-    }
+    c.begin_day.ensures (with_book c.remove_closing.new.book rows)
+    ∙ ap (on_day a.next.0) (c.remove_closing.ensures rows
+    ∙ ap (λ k. with_orders (kept (λ o. not (closes k o.contract)) (orders_in (order_count t) t.book)) rows) column)
+    ∙ closed_is a.time u t c.write_prices.ensures.prices_after a.next.0 lots value
+    (c.cascade_all.ensures ∙ ap (λ k. all_cascaded n (closing k) t.lots) column)
+    (c.cascade_all-2.ensures ∙ ap (λ k. all_cascaded n (closing k) t.value) column)

@@ -42,9 +42,9 @@ write_ggfs-requires c =
       ap length pre.column_value ∙ phases_length _ _,
     )
 
-pub returns : goal.returns
+pub returns-clause-prices_after : goal.returns-clause-prices_after
 unfolding priced orders
-returns c =
+returns-clause-prices_after c =
     let pre = c.requires in
     let a = c.args in
     let buys = c.write_quotes.new.quotes in
@@ -52,11 +52,8 @@ returns c =
     let u = tables_of a.tables.now in
     let n = get_or u.head order_count_place 0 in
     let least = all_orders (λ o. 1 ≤ o.price.0) u.book n (λ i h. (pre.head_fit.2.order_fit i h).least_price) in
-    record {
-      prices_after = ap (λ p. with_prices p u)
-          (c.clear_deals.ensures ∙ ap without_deals (c.write_ggfs.ensures ∙ ap (λ k. ggfs_from buys sells (all_open_in k) u.prices) pre.column_value)
-          ∙ priced_is u a.time buys sells pre.head_fit.1.long least
-          (λ x h. c.write_quotes.ensures x h ∙ ap (λ b. best_price (day u) a.time Buy (orders_in n b) x) c.book-book.ensures)
-          (λ x h. c.write_quotes-2.ensures x h ∙ ap (λ b. best_price (day u) a.time Sell (orders_in n b) x) c.book-book.ensures));
-      same = record { head = refl; prices = refl; lots = refl; value = refl; book = refl; lines = refl };
-    }
+    ap (λ p. with_prices p u)
+    (c.clear_deals.ensures ∙ ap without_deals (c.write_ggfs.ensures ∙ ap (λ k. ggfs_from buys sells (all_open_in k) u.prices) pre.column_value)
+    ∙ priced_is u a.time buys sells pre.head_fit.1.long least
+    (λ x h. c.write_quotes.ensures x h ∙ ap (λ b. best_price (day u) a.time Buy (orders_in n b) x) c.book-book.ensures)
+    (λ x h. c.write_quotes-2.ensures x h ∙ ap (λ b. best_price (day u) a.time Sell (orders_in n b) x) c.book-book.ensures))

@@ -7,7 +7,6 @@ use Rattle.rules.specs.Synthetic.{proposal_lines, used_by_legs, proposal_booked}
 use Rattle.rules.specs.Refusals.{proposal_spec}
 use Rattle.tables.specs.Fit.{orders_in}
 use Rattle.tables.specs.Lent.{tables_of}
-use Rattle.tables.proofs.Same.{same_none}
 use Rattle.order_book.specs.Left.{left_over}
 use Rattle.order_book.proofs.Left.{all_orders}
 use Rattle.proposal_check.specs.Legs.{PlacesFit}
@@ -23,23 +22,23 @@ is_acceptable-requires c =
     rw (c.head.ensures, c.prices.ensures, c.book.ensures)
     record { head_fit = (h.0, h.2, h.1.long); legs_fit = fit }
 
-pub returns-then-not-is_acceptable : goal.returns-then-not-is_acceptable
+pub returns-then-not-is_acceptable-clause-answer : goal.returns-then-not-is_acceptable-clause-answer
 unfolding proposal_spec
-returns-then-not-is_acceptable c =
+returns-then-not-is_acceptable-clause-answer c =
     let a = c.args in
     let u = tables_of a.tables.now in
     let asked = c.is_acceptable.ensures u ∙ acceptable_of u a.legs.now c.head.ensures c.prices.ensures c.book.ensures in
-    record { answer = rw (sym asked ∙ c.if-not-is_acceptable.true); same = same_none }
+    rw (sym asked ∙ c.if-not-is_acceptable.true)
 
-pub returns-then-run-gt-MOST_LOTS_RUN : goal.returns-then-run-gt-MOST_LOTS_RUN
+pub returns-then-run-gt-MOST_LOTS_RUN-clause-answer : goal.returns-then-run-gt-MOST_LOTS_RUN-clause-answer
 unfolding proposal_spec
-returns-then-run-gt-MOST_LOTS_RUN c =
+returns-then-run-gt-MOST_LOTS_RUN-clause-answer c =
     let a = c.args in
     let u = tables_of a.tables.now in
     let asked = c.is_acceptable.ensures u ∙ acceptable_of u a.legs.now c.head.ensures c.prices.ensures c.book.ensures in
     let ok = sym asked ∙ c.if-not-is_acceptable.false in
     let n = named u a.places.now a.legs.now c.requires.legs_fit.1 ok in
-    record { answer = rw (ok, run_passes n c.total_lots.result.0 c.total_lots.ensures.0 c.if-run-gt-MOST_LOTS_RUN.true); same = same_none }
+    rw (ok, run_passes n c.total_lots.result.0 c.total_lots.ensures.0 c.if-run-gt-MOST_LOTS_RUN.true)
 
 pub book_legs-requires : goal.book_legs-requires
 book_legs-requires c =
@@ -83,9 +82,9 @@ use_orders-requires c =
       rw book (λ i b. (h.2.order_fit i (omega (arith, count))).most_side),
     )
 
-pub returns : goal.returns
+pub returns-clause-answer : goal.returns-clause-answer
 unfolding proposal_spec proposal_booked orders
-returns c =
+returns-clause-answer c =
     let a = c.args in
     let h = c.requires.head_fit in
     let legs = a.legs.now in
@@ -101,13 +100,9 @@ returns c =
     let used = n.used each h.2.numbers_distinct _ count in
     let l = tables_of c.book_legs.new.tables in
     let k = order_count l in
-    let same = c.book_legs.ensures.same in
-    record {
-      answer = rw (ok, run_fits n c.total_lots.result.0 c.total_lots.ensures.0 c.if-run-gt-MOST_LOTS_RUN.false)
-          (all_booked (proposal_lines u legs) (used_by_legs legs (orders u)) (length legs) u l _ (line_count n)
-          (after ∙ ap (λ ls. (booked ls u).after) (sym n.lines_are))
-          (c.use_orders.ensures l
-          ∙ ap (λ b. with_orders (left_over (left_after a.places.now legs (length a.places.now) (order_lots k b)) (orders_in k b)) l) book
-          ∙ ap (λ os. with_orders os l) used));
-      same = record { head = same.head; prices = same.prices; lots = same.lots; value = same.value; book = same.book; lines = same.lines };
-    }
+    rw (ok, run_fits n c.total_lots.result.0 c.total_lots.ensures.0 c.if-run-gt-MOST_LOTS_RUN.false)
+    (all_booked (proposal_lines u legs) (used_by_legs legs (orders u)) (length legs) u l _ (line_count n)
+    (after ∙ ap (λ ls. (booked ls u).after) (sym n.lines_are))
+    (c.use_orders.ensures l
+    ∙ ap (λ b. with_orders (left_over (left_after a.places.now legs (length a.places.now) (order_lots k b)) (orders_in k b)) l) book
+    ∙ ap (λ os. with_orders os l) used))

@@ -52,10 +52,10 @@ pub apply-requires-in-CloseOfDay : goal.apply-requires-in-CloseOfDay
 apply-requires-in-CloseOfDay c = let f = c.requires.0 in
     record { head_fit = (f.head_fit, f.prices_fit, f.book_fit); rows_fit = (f.lots_fit, f.value_fit) }
 
-pub returns-in-Submit : goal.returns-in-Submit
+pub returns-in-Submit-clause-answer : goal.returns-in-Submit-clause-answer
 unfolding event_spec submit_spec
-returns-in-Submit c =
-    record { answer = rw c.in-Submit.is c.apply.ensures.answer; same = c.apply.ensures.same }
+returns-in-Submit-clause-answer c =
+    rw c.in-Submit.is c.apply.ensures.answer
 
 pub returns-in-Cancel-clause-answer : goal.returns-in-Cancel-clause-answer
 unfolding event_spec cancel_spec
@@ -67,22 +67,22 @@ unfolding event_spec day_limits_spec
 returns-in-DayLimits-clause-answer c =
     rw c.in-DayLimits.is (c.apply-in-DayLimits.ensures (tables_of c.args.tables.now))
 
-pub returns-in-Proposal : goal.returns-in-Proposal
+pub returns-in-Proposal-clause-answer : goal.returns-in-Proposal-clause-answer
 unfolding event_spec proposal_spec
-returns-in-Proposal c =
-    record { answer = rw c.in-Proposal.is c.apply_legs.ensures.answer; same = c.apply_legs.ensures.same }
+returns-in-Proposal-clause-answer c =
+    rw c.in-Proposal.is c.apply_legs.ensures.answer
 
 pub returns-in-Default-clause-answer : goal.returns-in-Default-clause-answer
 unfolding event_spec default_spec
 returns-in-Default-clause-answer c =
     rw c.in-Default.is (c.apply-in-Default.ensures (tables_of c.args.tables.now))
 
-pub returns-in-CloseOut : goal.returns-in-CloseOut
+pub returns-in-CloseOut-clause-answer : goal.returns-in-CloseOut-clause-answer
 unfolding event_spec close_out_spec
-returns-in-CloseOut c =
-    record { answer = rw c.in-CloseOut.is c.apply-in-CloseOut.ensures.answer; same = c.apply-in-CloseOut.ensures.same }
+returns-in-CloseOut-clause-answer c =
+    rw c.in-CloseOut.is c.apply-in-CloseOut.ensures.answer
 
-pub returns-in-CloseOfDay : goal.returns-in-CloseOfDay
+pub returns-in-CloseOfDay-clause-answer : goal.returns-in-CloseOfDay-clause-answer
 unfolding event_spec close_spec
-returns-in-CloseOfDay c =
-    record { answer = rw c.in-CloseOfDay.is c.apply-in-CloseOfDay.ensures.answer; same = c.apply-in-CloseOfDay.ensures.same }
+returns-in-CloseOfDay-clause-answer c =
+    rw c.in-CloseOfDay.is c.apply-in-CloseOfDay.ensures.answer

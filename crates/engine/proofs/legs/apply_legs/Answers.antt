@@ -27,12 +27,9 @@ apply-requires c =
       legs_fit = legs_fit_lem (get_or a.tables.now.head.now members_place 0) a.count a.bytes.now c.read_legs.result c.read_legs.ensures c.requires.1;
     }
 
-pub returns : goal.returns
-returns c =
+pub returns-clause-answer : goal.returns-clause-answer
+returns-clause-answer c =
     let a = c.args in
     let t = tables_of a.tables.now in
-    record {
-      answer = c.apply.ensures.answer
-          ∙ ap (proposal_spec t) (legs_are (get_or t.head members_place 0) a.count a.bytes.now c.read_legs.result c.read_legs.ensures c.requires.1);
-      same = c.apply.ensures.same;
-    }
+    c.apply.ensures.answer
+    ∙ ap (proposal_spec t) (legs_are (get_or t.head members_place 0) a.count a.bytes.now c.read_legs.result c.read_legs.ensures c.requires.1)

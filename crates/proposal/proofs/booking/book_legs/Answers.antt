@@ -44,12 +44,9 @@ loop-i-preserved c =
       same_then c.loop-i.invariant.1 c.book_line.ensures.same,
     )
 
-pub returns : goal.returns
-returns c =
+pub returns-clause-legs_booked : goal.returns-clause-legs_booked
+returns-clause-legs_booked c =
     let a = c.args in
     let same : c.loop-i.i ≡ length a.legs.now = omega arith in
-    record {
-      legs_booked = c.loop-i.invariant.0.tables
-          ∙ ap (λ n. (booked (lines_to a.tables.now.book.now a.places.now a.legs.now n) (tables_of a.tables.now)).after) same;
-      same = c.loop-i.invariant.1;
-    }
+    c.loop-i.invariant.0.tables
+    ∙ ap (λ n. (booked (lines_to a.tables.now.book.now a.places.now a.legs.now n) (tables_of a.tables.now)).after) same
