@@ -51,12 +51,16 @@ stage_keeps ReadToEnd after x = same_lengths x.tables
 stage_keeps RecordUnsound after x = same_lengths x.tables
 stage_keeps HeaderUnsound after x = same_lengths x.tables
 
--- So of the tables after some records, and after a call.
+-- So of the tables after some records, and after a call more.
 pub ran_keeps : (n : ℕ) (t u : Tables) (bytes left : List ℕ)
     → record { tables = u; bytes = left } ≡ after_records n (record { tables = t; bytes = bytes }) → SameLengths t u
 ran_keeps n t u bytes left e = subst (λ (x : Rest). SameLengths t x.tables) (sym e) (records_keep n (record { tables = t; bytes = bytes }))
 
-pub advanced_keeps : {stage : Stage} {t after : Tables} {bytes entry exit : List ℕ} {last : Bool} {filled : ℕ} {r : Progress}
+advanced_keeps : {stage : Stage} {t after : Tables} {bytes entry exit : List ℕ} {last : Bool} {filled : ℕ} {r : Progress}
     → Advanced stage t bytes last filled entry exit after r → SameLengths t after
 advanced_keeps {stage} {t} {bytes = bytes} {r = r} a =
     subst (λ (x : Rest). SameLengths t x.tables) (sym (a.tables [] (λ e. refl))) (stage_keeps stage r.stage (record { tables = t; bytes = bytes ++ [] }))
+
+pub then_advanced : {stage : Stage} {t u after : Tables} {bytes entry exit : List ℕ} {last : Bool} {filled : ℕ} {r : Progress}
+    → SameLengths t u → Advanced stage u bytes last filled entry exit after r → SameLengths t after
+then_advanced kept a = lengths_then kept (advanced_keeps a)

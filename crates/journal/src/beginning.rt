@@ -48,12 +48,14 @@ pub fn begin(
             wants: Wants::Bytes,
         };
     }
+    // Beside a field that is written the check takes no field as `&[u64]`.
+    let book = &mut *tables.book;
     let answer = engine::make(
         tables.head,
         tables.prices,
         tables.lots,
         tables.value,
-        tables.book,
+        book,
         bytes,
     );
     let reply = reply_of(answer);

@@ -176,45 +176,9 @@ fn run_turns(
     Ending::ReadFailed
 }
 
+// Buffers and tables lie on the stack. They are not to lie on that of a caller, who looks first whether the stack is enough.
 // The compiler places arrays 8 bytes past a multiple of 16, where the test of all rows takes a tenth longer. The rows are
 // lent from the second place on.
-fn run_on_rows(
-    rt: &(impl Clock + Print + Eprint),
-    reader: &mut impl Read,
-    progress: Progress,
-    input: &mut [u8],
-    output: &mut [u8],
-    head: &mut [u64],
-    prices: &mut [u64],
-    lots: &mut [i64],
-    value: &mut [i64],
-    book: &mut [u64],
-    lines: &mut [i64],
-) -> Ending
-    requires input_len { (length input.old ≡ buffer_length) × (length output.old ≡ buffer_length) × (head_length ≤ length head.old) × (lines_length ≤ length lines.old) }
-    requires lots_len { (length lots.old ≡ rows_room) × (length value.old ≡ rows_room) }
-    ensures { JournalRan
-        (lent head.old prices.old (take rows_length (drop 1 lots.old)) (take rows_length (drop 1 value.old))
-        book.old lines.old) result }
-{
-    let first: usize = 1;
-    let end = first + ROWS_LENGTH;
-    run_turns(
-        rt,
-        reader,
-        progress,
-        input,
-        output,
-        head,
-        prices,
-        &mut lots[first..end],
-        &mut value[first..end],
-        book,
-        lines,
-    )
-}
-
-// Buffers and tables lie on the stack. They are not to lie on that of a caller, who looks first whether the stack is enough.
 #[inline(never)]
 fn run(rt: &(impl Clock + Print + Eprint), reader: &mut impl Read, progress: Progress) -> Ending
     ensures { JournalRan zero_tables result }
@@ -227,19 +191,15 @@ fn run(rt: &(impl Clock + Print + Eprint), reader: &mut impl Read, progress: Pro
     let mut value = [0i64; ROWS];
     let mut book = [0u64; BOOK_LENGTH];
     let mut lines = [0i64; LINES_LENGTH];
-    run_on_rows(
-        rt,
-        reader,
-        progress,
-        &mut input,
-        &mut output,
-        &mut head,
-        &mut prices,
-        &mut lots,
-        &mut value,
-        &mut book,
-        &mut lines,
-    )
+    let mut tables = LentTables {
+        head: &mut head,
+        prices: &mut prices,
+        lots: &mut lots[1..1 + ROWS_LENGTH],
+        value: &mut value[1..1 + ROWS_LENGTH],
+        book: &mut book,
+        lines: &mut lines,
+    };
+    run_turns(rt, reader, progress, &mut input, &mut output, &mut tables)
 }
 
 // The exit status: 0 if the journal was read to its end, 2 after a header and 3 after a record that is unsound, and, with a

@@ -10,6 +10,7 @@ use rules::layout::{BOOK_LENGTH, HEAD_LENGTH, LINES_LENGTH, PRICES_LENGTH, ROWS_
 use rules::{Event, Kurus, Leg, Lots, OrderKind, Refusal, Side, Submission};
 use std::io;
 use std::io::Print;
+use tables::LentTables;
 
 const MEMBERS: u64 = 2;
 
@@ -103,43 +104,32 @@ fn put_legs(out: &mut [u8], legs: [Leg; 12], count: u64)
     }
 }
 
-fn submit(
-    head: &mut [u64],
-    prices: &mut [u64],
-    lots: &mut [i64],
-    value: &mut [i64],
-    book: &mut [u64],
-    lines: &mut [i64],
-    order: Submission,
-) -> Result<u64, Refusal> {
+fn submit(tables: &mut LentTables<'_>, order: Submission) -> Result<u64, Refusal> {
     let mut out = [0u8; 15];
     codec::write_record(MEMBERS, Event::Submit(order), &[], &mut out)?;
-    engine::apply(head, prices, lots, value, book, lines, &out)
+    engine::apply(tables, &out)
 }
 
 // A ledger of first year 2021, start day 369, two members, no holidays and limits 1000, where the first orders rest.
 fn make_ledger(
-    head: &mut [u64],
-    prices: &mut [u64],
-    lots: &mut [i64],
-    value: &mut [i64],
-    book: &mut [u64],
-    lines: &mut [i64],
+    tables: &mut LentTables<'_>,
     orders: [Submission; 12],
     count: usize,
 ) -> Result<(), Refusal>
     requires { count ≤ 12 }
 {
+    // Beside a field that is written the check takes no field as `&[u64]`.
+    let book = &mut *tables.book;
     engine::make(
-        head,
-        prices,
-        lots,
-        value,
+        tables.head,
+        tables.prices,
+        tables.lots,
+        tables.value,
         book,
         b"VJR\x00\x01\x07\xe5\x01\x71\x02\x00\x00\x00\x03\xe8\x00\x00\x03\xe8",
     )?;
     for order in &orders[..count] {
-        submit(head, prices, lots, value, book, lines, *order)?;
+        submit(tables, *order)?;
     }
     Ok(())
 }
@@ -147,19 +137,27 @@ fn make_ledger(
 // The check asks for tables that are long enough and not damaged, so they are tested first.
 fn show_check(
     rt: &impl Print,
-    head: &[u64],
-    prices: &[u64],
-    lots: &[i64],
-    value: &[i64],
-    book: &[u64],
-    lines: &[i64],
+    tables: &LentTables<'_>,
     legs: [Leg; 12],
     count: usize,
 ) -> io::Result<()> {
-    if damage::is_unsound(head, prices, lots, value, book, lines) {
+    if damage::is_unsound(
+        tables.head(),
+        tables.prices(),
+        tables.lots(),
+        tables.value(),
+        tables.book(),
+        tables.lines(),
+    ) {
         return rt.print(": damaged");
     }
-    if proposal_legs::are_first_acceptable(legs, count, head, prices, book) {
+    if proposal_legs::are_first_acceptable(
+        legs,
+        count,
+        tables.head(),
+        tables.prices(),
+        tables.book(),
+    ) {
         rt.print(": acceptable; record")
     } else {
         rt.print(": not acceptable; record")
@@ -169,12 +167,7 @@ fn show_check(
 // The number of a proposal's record.
 fn show_record(
     rt: &impl Print,
-    head: &mut [u64],
-    prices: &mut [u64],
-    lots: &mut [i64],
-    value: &mut [i64],
-    book: &mut [u64],
-    lines: &mut [i64],
+    tables: &mut LentTables<'_>,
     legs: [Leg; 12],
     count: usize,
 ) -> io::Result<()>
@@ -183,10 +176,7 @@ fn show_record(
     let mut out = [0u8; 132];
     put_legs(&mut out, legs, count as u64);
     let end = 2 + 10 * count;
-    show_answer(
-        rt,
-        engine::apply(head, prices, lots, value, book, lines, &out[..end]),
-    )?;
+    show_answer(rt, engine::apply(tables, &out[..end]))?;
     rt.println("")
 }
 
@@ -206,33 +196,19 @@ fn case(
     let mut value = [0i64; ROWS_LENGTH];
     let mut book = [0u64; BOOK_LENGTH];
     let mut lines = [0i64; LINES_LENGTH];
-    let made = make_ledger(
-        &mut head,
-        &mut prices,
-        &mut lots,
-        &mut value,
-        &mut book,
-        &mut lines,
-        orders,
-        order_count,
-    );
-    if made.is_err() {
+    let mut tables = LentTables {
+        head: &mut head,
+        prices: &mut prices,
+        lots: &mut lots,
+        value: &mut value,
+        book: &mut book,
+        lines: &mut lines,
+    };
+    if make_ledger(&mut tables, orders, order_count).is_err() {
         return rt.println(": no ledger");
     }
-    show_check(
-        rt, &head, &prices, &lots, &value, &book, &lines, legs, count,
-    )?;
-    show_record(
-        rt,
-        &mut head,
-        &mut prices,
-        &mut lots,
-        &mut value,
-        &mut book,
-        &mut lines,
-        legs,
-        count,
-    )
+    show_check(rt, &tables, legs, count)?;
+    show_record(rt, &mut tables, legs, count)
 }
 
 // Document 01: accepted with every leg at 31000, refused with any leg at 30900.

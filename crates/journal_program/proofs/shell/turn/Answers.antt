@@ -14,7 +14,7 @@ advance-done-requires g c =
 pub follow-requires : goal.follow-requires
 follow-requires g c =
     let pre = c.requires in
-    let a = c.advance-done.ensures in
+    let a = c.advance-done.ensures.advanced in
     (turn_stands c.args.place c.args.input.now pre.0 pre.1 _ _ _ pre.3 a.inside a.within a.counts, pre.2, c.advance-done.auto.out ∙ pre.3, λ e. (wants_bytes a e).0)
 
 pub overflow_add-next : goal.overflow_add-next
@@ -22,4 +22,8 @@ overflow_add-next g c = omega (arith, c.requires.1)
 
 pub returns : goal.returns
 returns g c =
-    record { next_stands = c.follow.ensures.0; turned = record { done = c.advance-done.result; ran = c.advance-done.ensures; follows = c.follow.ensures.1 } }
+    record {
+      next_stands = c.follow.ensures.0;
+      turned = record { done = c.advance-done.result; ran = c.advance-done.ensures.advanced; follows = c.follow.ensures.1 };
+      same = c.advance-done.ensures.same;
+    }
