@@ -5,7 +5,7 @@ use mathlib.Core.Path.{◌≡◌, refl, sym, ap, ◌∙◌}
 use native.Mathlib.Nat.{zero-add}
 use native.Mathlib.Numerals.{add-one}
 use native.Mathlib.Omega.{arith}
-use lib.ListN.{length, get_or, set, replicate, length-append, length-map, get_or-append, get_or-map}
+use lib.ListN.{length, get_or, set, replicate, length-append, get_or-append}
 use lib.Seq.{set_at}
 use Rattle.arith.specs.Columns.{padded}
 use Rattle.arith.specs.Lists.{from}
@@ -15,11 +15,6 @@ use Rattle.arith.proofs.Runs.{length_run}
 pub padded_at : (n : ℕ) (l : List ℕ) (i : ℕ) → i < length l → get_or (padded n l) i 0 ≡ get_or l i 0
 unfolding padded
 padded_at n l i h = get_or-append l (replicate (n - length l) 0) 0 i h
-
--- the same of a field of each thing, which is 0 of no thing
-pub column_at : {A : Type 0} (f : A → ℕ) (n : ℕ) (l : List A) (i : ℕ) (none : A) → f none ≡ 0 → i < length l → get_or (padded n (map f l)) i 0 ≡ f (get_or l i none)
-column_at f n l i none z h =
-    padded_at n (map f l) i (rw (length-map l f) h) ∙ (ap (λ d. get_or (map f l) i d) (sym z) ∙ get_or-map f l i none)
 
 pub padded_set : (n : ℕ) (l : List ℕ) (v : ℕ) → length l < n → set (padded n l) (length l) v ≡ padded n (l ++ (v ∷ []))
 unfolding padded

@@ -1,12 +1,11 @@
--- What is made of numbers that follow each other, or tested of each. Assumes nothing.
+-- What is made of numbers that follow each other. Assumes nothing.
 use Prim.Native.Nat.{ℕ, suc, ◌+◌, ◌-◌, ◌<◌}
-use mathlib.Core.Bool.{Bool, true, ◌&&◌}
 use mathlib.Core.List.{List, [], ◌∷◌, map}
 use mathlib.Core.Path.{◌≡◌, refl, ap, ◌∙◌}
-use native.Mathlib.Nat.{add-zero, zero-add, sub-zero}
+use native.Mathlib.Nat.{add-zero, zero-add}
 use native.Mathlib.Omega.{arith}
 use lib.ListN.{length, get_or, length-map}
-use Rattle.arith.specs.Lists.{from, every}
+use Rattle.arith.specs.Lists.{from}
 use Rattle.arith.proofs.Appends.{from_length}
 
 pub length_run : {A : Type 0} (f : ℕ → A) (n : ℕ) → length (map f (from 0 n)) ≡ n
@@ -22,8 +21,3 @@ run_from f (x ∷ l) d a e =
 -- A list is the run of what stands at its places.
 pub run_of : {A : Type 0} (f : ℕ → A) (l : List A) (d : A) → ((i : ℕ) → i < length l → f i ≡ get_or l i d) → map f (from 0 (length l)) ≡ l
 run_of f l d e = run_from f l d 0 (λ i h. ap f (zero-add i) ∙ e i h)
-
--- ok says whether f of those before i all passed
-module _ {A : Type 0} (p : A → Bool) (f : ℕ → A) (n : ℕ) where
-  pub run_start : true && every p (map f (from 0 (n - 0))) ≡ every p (map f (from 0 n))
-  run_start = rw (sub-zero n) refl

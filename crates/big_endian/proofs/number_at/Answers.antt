@@ -1,10 +1,6 @@
-use native.Mathlib.Omega.{arith}
 use Rattle.rules.specs.Fields.{number_at}
 use Rattle.big_endian.proofs.Widths.{is_four}
 use Rattle.big_endian.proofs.number_at.Goals as goal
-
-pub u32_at-requires : goal.u32_at-requires
-u32_at-requires c = let w = is_four c.requires.0 c.in_default.in_default-own.rest.0.1 c.in_default.in_default-own.rest.1 in omega arith
 
 pub returns-in-1 : goal.returns-in-1
 unfolding number_at

@@ -1,13 +1,6 @@
-use native.Mathlib.Omega.{arith}
 use Rattle.rules.specs.Fields.{number_bytes}
 use Rattle.big_endian.proofs.Widths.{is_four}
 use Rattle.big_endian.proofs.put_number.Goals as goal
-
-pub put_u8-requires : goal.put_u8-requires
-put_u8-requires c = (omega arith, rw c.in-1.is at c.requires.2)
-
-pub put_u32-requires : goal.put_u32-requires
-put_u32-requires c = let w = is_four c.requires.0 c.in_default.in_default-own.rest.0.1 c.in_default.in_default-own.rest.1 in omega arith
 
 pub returns-in-1 : goal.returns-in-1
 unfolding number_bytes

@@ -1,14 +1,9 @@
 use Prim.Native.Nat.{◌+◌}
-use mathlib.Core.Path.{refl}
 use native.Mathlib.Omega.{arith}
-use native.Mathlib.Nat.{sub-zero}
 use lib.ListN.{length, length-set}
 use Rattle.arith.proofs.Columns.{mapped_next, mapped_end, written_next, written_end}
 use Rattle.rules.specs.Days.{month_start}
 use Rattle.months.proofs.months.read_months.Goals as goal
-
-pub loop-i-init : goal.loop-i-init
-loop-i-init c = (refl, rw (sub-zero (length c.args.out.now)))
 
 pub loop-i-preserved : goal.loop-i-preserved
 loop-i-preserved c =

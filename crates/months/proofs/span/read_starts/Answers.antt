@@ -1,14 +1,10 @@
 use mathlib.Core.List.{[]}
 use native.Mathlib.Omega.{arith}
-use Rattle.arith.proofs.Columns.{mapped_length}
 use Rattle.months.proofs.Starts.{starts_made}
 use Rattle.months.proofs.span.read_starts.Goals as goal
 
 pub read_months-requires : goal.read_months-requires
 read_months-requires c = rw (c.first_month.ensures []) (omega arith)
-
-pub shape_of-starts : goal.shape_of-starts
-shape_of-starts c = rw c.read_months.ensures (mapped_length _ 0 _)
 
 pub returns : goal.returns
 returns c =
