@@ -33,8 +33,8 @@ fn add_rows(child: &mut [i64], parent: [i64; ROW_WIDTH])
     requires by_index { (m : ℕ) → m < length child.old → nat_abs (get_or child.old m (pos 0)) + nat_abs (get_or parent m (pos 0)) < 2 ^ 63 }
     ensures { child.new ≡ zip_with ◌+ℤ◌ child.old parent }
 {
-    for i in 0..child.len() {
-        child[i] += parent[i];
+    for (i, lots) in child.iter_mut().enumerate() {
+        *lots += parent[i];
     }
 }
 

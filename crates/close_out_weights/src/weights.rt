@@ -83,7 +83,7 @@ pub fn weigh_by_days(head: &[u64], lots: &[i64], weights: &mut [u64])
         head[FIRST_YEAR],
         &head[HOLIDAYS..end],
         DayNo(head[DAY]),
-        &mut days[..],
+        &mut days,
     );
-    weigh(head, lots, &days[..], &mut sums[..members], weights);
+    weigh(head, lots, &days, &mut sums[..members], weights);
 }

@@ -65,9 +65,5 @@ pub fn read_record(members: u64, bytes: &[u8]) -> Option<Event>
         return None;
     }
     let event = fields_of(bytes)?;
-    if is_sound_as_read(members, event, bytes) {
-        Some(event)
-    } else {
-        None
-    }
+    is_sound_as_read(members, event, bytes).then_some(event)
 }

@@ -71,10 +71,7 @@ fn are_legs_sound(legs: &[Leg]) -> bool
 pub fn is_proposal_sound(count: u64, legs: &[Leg]) -> bool
     ensures { (n : ℕ) → result ≡ event_sound n (Proposal count) (take count legs.now) }
 {
-    if count < LEAST_LEGS {
-        return false;
-    }
-    if MOST_LEGS < count {
+    if (count < LEAST_LEGS) | (MOST_LEGS < count) {
         return false;
     }
     let n = count as usize;

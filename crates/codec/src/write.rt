@@ -50,8 +50,8 @@ fn put_legs(out: &mut [u8], legs: &[Leg])
     requires { (leg_place (length legs.now) ≤ length out.old) × (length legs.now ≤ most_legs) }
     ensures { out.new ≡ over first_leg_byte (flat_map leg_bytes legs.now) out.old }
 {
-    for i in 0..legs.len() {
-        put_leg(out, leg_place(i), legs[i]);
+    for (i, leg) in legs.iter().enumerate() {
+        put_leg(out, leg_place(i), *leg);
     }
 }
 

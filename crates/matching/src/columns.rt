@@ -82,10 +82,7 @@ pub fn best_place(lows: &[u64]) -> Option<usize>
     ensures { MatchOption result (NoneRanked lows.now) (BestPlace lows.now) }
 {
     let low = lowest_of_block(lows, 0);
-    if low < NO_RANK {
-        return Some((low % MOST_ORDERS) as usize);
-    }
-    None
+    (low < NO_RANK).then_some((low % MOST_ORDERS) as usize)
 }
 
 // Uses lots of order i; an order used up has no rank.

@@ -27,8 +27,8 @@ pub fn write_places(book: &[u64], count: usize, legs: &[Leg], places: &mut [usiz
     requires { (count ≤ most_orders) × (book_length ≤ length book.now) × (length places.old ≡ length legs.now) }
     ensures { places.new ≡ places_of count book.now legs.now }
 {
-    for i in 0..legs.len() {
-        places[i] = place_of(book, count, legs[i].order);
+    for (i, leg) in legs.iter().enumerate() {
+        places[i] = place_of(book, count, leg.order);
     }
 }
 

@@ -84,10 +84,7 @@ fn write_if_open(
         ≡ cond (is_waiting phase && ltb 0 more)
         (set prices.old (ggf_place contract) (ggf_from buys.now sells.now prices.old contract)) prices.old }
 {
-    if phase == Phase::Closed {
-        return more;
-    }
-    if more == 0 {
+    if (phase == Phase::Closed) | (more == 0) {
         return more;
     }
     write_ggf(prices, buys, sells, contract);
