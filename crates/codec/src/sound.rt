@@ -71,7 +71,10 @@ fn are_legs_sound(legs: &[Leg]) -> bool
 pub fn is_proposal_sound(count: u64, legs: &[Leg]) -> bool
     ensures { (n : ℕ) → result ≡ event_sound n (Proposal count) (take count legs.now) }
 {
-    if (count < LEAST_LEGS) | (MOST_LEGS < count) {
+    if count < LEAST_LEGS {
+        return false;
+    }
+    if MOST_LEGS < count {
         return false;
     }
     let n = count as usize;
@@ -100,6 +103,7 @@ pub fn is_legless_sound(members: u64, event: Event) -> bool
 pub fn is_event_sound(members: u64, event: Event, legs: &[Leg]) -> bool
     ensures { result ≡ event_sound members event (take (leg_count event) legs.now) }
 {
+    // By the number of the kind, as the reader asks.
     if kind_number(event) == PROPOSAL {
         return is_proposal_sound(leg_count(event), legs);
     }

@@ -60,6 +60,7 @@ fn put_fields(out: &mut [u8], event: Event, legs: &[Leg])
     ensures { out.new ≡ over first_field_byte (field_bytes event (take (leg_count event) legs.now)) out.old }
 {
     put_kind_fields(out, event);
+    // By the number of the kind, as [Records]: `field_bytes` says which records have legs.
     if kind_number(event) == PROPOSAL {
         put_legs(out, &legs[..leg_count(event) as usize]);
     }

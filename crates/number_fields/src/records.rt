@@ -17,8 +17,10 @@ pub fn read_record_fields(members: u64, bytes: &[u8], row: &mut [u64]) -> Result
     if row.len() < RECORD_FIELDS {
         return Err(Refusal::TableUnsound);
     }
-    let event = read_record(members, bytes).ok_or(Refusal::RecordUnsound)?;
-    Ok(put_event(row, event, &read_legs(bytes)))
+    match read_record(members, bytes) {
+        Some(event) => Ok(put_event(row, event, &read_legs(bytes))),
+        None => Err(Refusal::RecordUnsound),
+    }
 }
 
 // Writes the record of a row: TableUnsound for a short row, RecordUnsound, then TableUnsound for a short output, and
@@ -29,7 +31,11 @@ pub fn write_record_fields(members: u64, row: &[u64], out: &mut [u8]) -> Result<
     if row.len() < RECORD_FIELDS {
         return Err(Refusal::TableUnsound);
     }
-    let event = event_in(row).ok_or(Refusal::RecordUnsound)?;
-    let legs = legs_in(row, leg_count(event) as usize);
-    write_record(members, event, &legs, out)
+    match event_in(row) {
+        Some(event) => {
+            let legs = legs_in(row, leg_count(event) as usize);
+            write_record(members, event, &legs, out)
+        }
+        None => Err(Refusal::RecordUnsound),
+    }
 }

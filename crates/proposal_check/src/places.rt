@@ -14,6 +14,7 @@ fn place_of(book: &[u64], count: usize, number: u64) -> usize
     requires { (count ≤ most_orders) × (book_length ≤ length book.now) }
     ensures { result ≡ place_of number (orders_in count book.now) }
 {
+    // By index: a host lends the book as numbers, a block for each order.
     for i in 0..count {
         if book[i * ORDER_WIDTH + ORDER_NUMBER] == number {
             return i;

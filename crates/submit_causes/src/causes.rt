@@ -57,6 +57,7 @@ pub fn first_cause(head: &[u64], prices: &[u64], e: Submission) -> Result<(), Re
     if e.time < head[TIME] {
         return Err(Refusal::TimeBelowLedger);
     }
+    // A mark is a number of the head that a host lends.
     if head[MARKS + e.member as usize] == DEFAULT_MARK {
         return Err(Refusal::MemberDefaulted(e.member));
     }
