@@ -16,8 +16,7 @@ pub fn apply(head: &mut [u64], book: &mut [u64], e: Cancellation) -> Result<u64,
     ensures { (t : Tables) → record { answer = result; after = with_head head.new (with_book book.new t) }
         ≡ cancel_spec (with_head head.old (with_book book.old t)) e }
 {
-    let time = e.time;
-    if time < head[TIME] {
+    if e.time < head[TIME] {
         return Err(Refusal::TimeBelowLedger);
     }
     let count = head[ORDER_COUNT] as usize;
@@ -28,7 +27,7 @@ pub fn apply(head: &mut [u64], book: &mut [u64], e: Cancellation) -> Result<u64,
     if !order_book::would_any_leave(book, count, leaving) {
         return Err(Refusal::NoSuchOrder);
     }
-    tables::set_time(head, time);
+    tables::set_time(head, e.time);
     order_book::remove_orders(head, book, leaving);
     Ok(0)
 }

@@ -33,6 +33,7 @@ fn add_rows(child: &mut [i64], parent: [i64; ROW_WIDTH])
     requires by_index { (m : ℕ) → m < length child.old → nat_abs (get_or child.old m (pos 0)) + nat_abs (get_or parent m (pos 0)) < 2 ^ 63 }
     ensures { child.new ≡ zip_with ◌+ℤ◌ child.old parent }
 {
+    // By index: child and parent have the same places, and the line says no more than that.
     for i in 0..child.len() {
         child[i] += parent[i];
     }
@@ -49,7 +50,7 @@ fn add_to_child(rows: &mut [i64], members: usize, child: usize, parent: [i64; RO
     add_rows(&mut rows[at..end], parent);
 }
 
-// The children follow each other, after their parent.
+// The children follow each other, after their parent; each is a block of the numbers that a host lends.
 fn add_to_children(rows: &mut [i64], members: usize, contract: usize, first: usize, end: usize)
     requires rows_fit { RowsFit members (2 ^ 61) rows.old × (members ≤ most_members) }
     requires contract_lt_first { (contract < first) × (first ≤ end) × (end ≤ contract_count) }
@@ -106,6 +107,7 @@ fn cascade_kind(rows: &mut [i64], column: &[Phase], members: usize, kind: Contra
     requires kind_bound { (contracts_in kind ≤ quarters_in_span) × (length column.now ≡ term_count) }
     ensures { rows.new ≡ all_cascaded members (kept (closes column.now) (contracts_of kind)) rows.old }
 {
+    // By index: the contracts of a kind are no slice, contract_of gives the number of each.
     for i in 0..contracts_in(kind) {
         let contract = contract_of(kind, i) as usize;
         cascade_closing(rows, members, contract, column[contract]);

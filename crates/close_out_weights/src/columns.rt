@@ -44,6 +44,7 @@ pub fn read_column(part: Part, head: &[u64], lots: &[i64], contract: u64, column
 {
     let row = contract as usize * ROW_WIDTH;
     for (i, place) in column.iter_mut().enumerate() {
+        // A mark is a number of the head that a host lends.
         let marked = head[MARKS + i] == DEFAULT_MARK;
         *place = lots_in(part, marked, lots[row + i]);
     }

@@ -53,6 +53,7 @@ fn write_weights(head: &[u64], sums: &[u64], weights: &mut [u64])
     ensures { weights.new ≡ map (λ m. cond (eqb (get_or head.now (marks_from + m) 0) 1) 0 (get_or sums.now m 0)) (from 0 (members_in head.now)) }
 {
     for (i, weight) in weights.iter_mut().enumerate() {
+        // A mark is a number of the head that a host lends.
         *weight = if head[MARKS + i] == DEFAULT_MARK {
             0
         } else {
@@ -83,7 +84,7 @@ pub fn weigh_by_days(head: &[u64], lots: &[i64], weights: &mut [u64])
         head[FIRST_YEAR],
         &head[HOLIDAYS..end],
         DayNo(head[DAY]),
-        &mut days[..],
+        &mut days,
     );
-    weigh(head, lots, &days[..], &mut sums[..members], weights);
+    weigh(head, lots, &days, &mut sums[..members], weights);
 }

@@ -55,6 +55,7 @@ pub fn read_legs(bytes: &[u8]) -> [Leg; LEG_PLACES]
     ensures { result ≡ in_places (held_legs bytes.now) }
 {
     let mut legs = [NO_LEG; LEG_PLACES];
+    // By index: a leg is read at the place of its number, and the bytes are no list of legs.
     for i in 0..legs_held(bytes) {
         legs[i] = leg_at(bytes, leg_place(i));
     }

@@ -51,6 +51,7 @@ fn is_sound_as_read(members: u64, event: Event, bytes: &[u8]) -> bool
     requires { fields_of bytes.now ≡ Some event }
     ensures { result ≡ event_sound members event (legs_of bytes.now) }
 {
+    // By the number of the kind, as [Records]: `legs_of` says which records have legs.
     if kind_number(event) == PROPOSAL {
         return is_proposal_sound(leg_count(event), &read_legs(bytes));
     }
@@ -65,9 +66,5 @@ pub fn read_record(members: u64, bytes: &[u8]) -> Option<Event>
         return None;
     }
     let event = fields_of(bytes)?;
-    if is_sound_as_read(members, event, bytes) {
-        Some(event)
-    } else {
-        None
-    }
+    is_sound_as_read(members, event, bytes).then_some(event)
 }

@@ -103,6 +103,7 @@ pub fn is_legless_sound(members: u64, event: Event) -> bool
 pub fn is_event_sound(members: u64, event: Event, legs: &[Leg]) -> bool
     ensures { result ≡ event_sound members event (take (leg_count event) legs.now) }
 {
+    // By the number of the kind, as the reader asks.
     if kind_number(event) == PROPOSAL {
         return is_proposal_sound(leg_count(event), legs);
     }

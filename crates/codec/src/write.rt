@@ -50,8 +50,8 @@ fn put_legs(out: &mut [u8], legs: &[Leg])
     requires { (leg_place (length legs.now) ≤ length out.old) × (length legs.now ≤ most_legs) }
     ensures { out.new ≡ over first_leg_byte (flat_map leg_bytes legs.now) out.old }
 {
-    for i in 0..legs.len() {
-        put_leg(out, leg_place(i), legs[i]);
+    for (i, leg) in legs.iter().enumerate() {
+        put_leg(out, leg_place(i), *leg);
     }
 }
 
@@ -60,6 +60,7 @@ fn put_fields(out: &mut [u8], event: Event, legs: &[Leg])
     ensures { out.new ≡ over first_field_byte (field_bytes event (take (leg_count event) legs.now)) out.old }
 {
     put_kind_fields(out, event);
+    // By the number of the kind, as [Records]: `field_bytes` says which records have legs.
     if kind_number(event) == PROPOSAL {
         put_legs(out, &legs[..leg_count(event) as usize]);
     }

@@ -39,7 +39,8 @@ fn are_fields_in_range(book: &[u64], i: usize, members: u64, span: Span) -> bool
     book[at + layout::ORDER_TIME] <= ranges::LAST_SECOND
 }
 
-// Whether a later order has the number of order i.
+// Whether a later order has the number of order i. A host lends the book as numbers, a block for each order, so the
+// loops of this file go by index.
 fn is_repeated(book: &[u64], i: usize, count: usize) -> bool
     requires { (i < count) × (count ≤ most_orders) × (book_length ≤ length book.now) }
     ensures { result ≡ any (nat_eq (number_at book.now i)) (map (number_at book.now) (from (suc i) (count - suc i))) }

@@ -11,7 +11,8 @@ use calendar::{is_calendar_sound, is_day_sound};
 use months::Span;
 use rules::{DayNo, layout, ranges};
 
-// Whether each member's limit, mark and count in the present second are in range.
+// Whether each member's limit, mark and count in the present second are in range: by index, since a host lends the head
+// as one row of numbers, in which a member has a place in each of three lists.
 fn are_members_sound(head: &[u64], members: u64) -> bool
     requires { (head_length ≤ length head.now) × (members ≤ most_members) }
     ensures { (t : Tables) → result ≡ every (member_sound (with_head head.now t)) (from 0 members) }

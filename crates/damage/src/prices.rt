@@ -38,6 +38,7 @@ pub fn are_prices_sound(prices: &[u64], run: u64) -> bool
     requires { (prices_length ≤ length prices.now) × (run ≤ most_lots_run) }
     ensures { result ≡ every_block price_width (contract_prices_sound run) contract_count prices.now }
 {
+    // By index: a host lends the prices as one row of numbers, a block for each contract.
     for contract in 0..layout::CONTRACTS {
         let at = contract * layout::PRICE_WIDTH;
         if !is_contract_sound(&prices[at..at + layout::PRICE_WIDTH], run) {

@@ -1,4 +1,5 @@
-// The rows: net lots and value by contract and member.
+// The rows: net lots and value by contract and member. A host lends them as one row of numbers, a block for each
+// contract, so the loops over contracts go by index.
 ghost use Rattle.std.specs.Prelude.{◌≡◌, ℕ, ◌+◌, ◌*◌, ◌/◌, ◌%◌, ◌^◌, ◌<◌, ◌≤◌, ◌&&◌, leb, length, nat_le, nat_lt, unsigned_abs};
 ghost use Rattle.arith.specs.Bits.{bits_of, in_window};
 ghost use Rattle.arith.specs.Lists.{every};

@@ -16,11 +16,10 @@ pub fn apply(head: &[u64], prices: &mut [u64], e: NewDayLimits) -> Result<u64, R
     ensures { (t : Tables) → record { answer = result; after = with_head head.now (with_prices prices.new t) }
         ≡ day_limits_spec (with_head head.now (with_prices prices.old t)) e }
 {
-    let contract = e.contract;
-    if !tables::is_contract_open(head, contract) {
-        return Err(Refusal::ContractNotOpen(contract));
+    if !tables::is_contract_open(head, e.contract) {
+        return Err(Refusal::ContractNotOpen(e.contract));
     }
-    let at = contract as usize * PRICE_WIDTH;
+    let at = e.contract as usize * PRICE_WIDTH;
     prices[at + LOW] = e.low.0;
     prices[at + HIGH] = e.high.0;
     Ok(0)

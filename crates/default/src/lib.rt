@@ -17,6 +17,7 @@ pub fn apply(head: &mut [u64], book: &mut [u64], member: u64) -> Result<u64, Ref
         ≡ default_spec (with_head head.old (with_book book.old t)) member }
 {
     let at = MARKS + member as usize;
+    // A mark is a number of the head that a host lends.
     if head[at] == DEFAULT_MARK {
         return Err(Refusal::MemberDefaulted(member));
     }

@@ -16,7 +16,8 @@ use rules::layout::{
 use rules::ranges::MOST_PRICE;
 use tables::{clear_at, clear_rows};
 
-// Zero rows for each member of each contract.
+// Zero rows for each member of each contract. A host lends a table as one row of numbers, so here and below the block
+// of a contract is found by its index.
 fn write_rows(rows: &mut [i64], members: usize)
     requires { (rows_length ≤ length rows.old) × (members ≤ most_members) }
     ensures { rows.new ≡ fresh_rows members rows.old }

@@ -39,6 +39,7 @@ pub fn write_columns(book: &[u64], o: Order, left: &mut [u64], ranks: &mut [u64]
     ensures left_after_holds { left.new ≡ map lots_of (orders_in (length left.old) book.now) }
     ensures placed { Placed (first_rank o (orders_in (length left.old) book.now)) ranks.new }
 {
+    // By index: a host lends the book as numbers, and the columns beside it have the same places.
     for i in 0..left.len() {
         let r = order_at(book, i);
         ranks[i] = rank_at(o, r, i);
@@ -82,6 +83,7 @@ pub fn best_place(lows: &[u64]) -> Option<usize>
     ensures { MatchOption result (NoneRanked lows.now) (BestPlace lows.now) }
 {
     let low = lowest_of_block(lows, 0);
+    // Two ways out, as the promise says of each what holds there.
     if low < NO_RANK {
         return Some((low % MOST_ORDERS) as usize);
     }

@@ -60,6 +60,7 @@ pub fn measure(book: &[u64], count: usize, o: Order) -> Crossing
 {
     let mut own: u64 = 0;
     let mut lots: u64 = 0;
+    // By index: a host lends the book as numbers, and order_at reads an order out of them.
     for i in 0..count {
         let found = found_in(o, order_at(book, i));
         own += found.own.0;

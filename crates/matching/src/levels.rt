@@ -65,7 +65,7 @@ fn match_levels(
     requires left_value { (left.old ≡ map lots_of (orders_in (length left.old) book.now)) × Placed (first_rank o (orders_in (length left.old) book.now)) ranks.old × BlockLows ranks.old lows.old }
     ensures { MatchMade o book.now (length left.old) deals.old result left.new deals.new }
 {
-    let mut wanted = o.lots.0;
+    let mut wanted = o.lots;
     let mut k: usize = 0;
     let mut best = best_place(lows);
     'levels: while let Some(first) = best {
@@ -76,9 +76,9 @@ fn match_levels(
         let level = resting.price.0;
         let mut place = first;
         'orders: loop {
-            wanted = deal(book, left, ranks, lows, deals, k, place, Lots(wanted)).0;
+            wanted = deal(book, left, ranks, lows, deals, k, place, wanted);
             k += 1;
-            if wanted == 0 {
+            if wanted.0 == 0 {
                 break 'levels;
             }
             best = best_place(lows);
@@ -93,7 +93,7 @@ fn match_levels(
     }
     Matched {
         deals: k,
-        left: Lots(wanted),
+        left: wanted,
     }
 }
 

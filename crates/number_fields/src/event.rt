@@ -45,6 +45,7 @@ pub fn legs_in(row: &[u64], count: usize) -> [Leg; LEG_PLACES]
     ensures { result ≡ in_places (first_legs row.now count) }
 {
     let mut legs = [NO_LEG; LEG_PLACES];
+    // By index: a host lends the legs as numbers of one row, three for each.
     for i in 0..count {
         legs[i] = leg_in(row, FIRST_LEG_FIELD + LEG_FIELDS * i);
     }

@@ -25,8 +25,8 @@ fn put_legs(row: &mut [u64], legs: &[Leg])
     requires { (record_fields ≤ length row.old) × (length legs.now ≤ most_legs) }
     ensures { row.new ≡ over first_leg_field (flat_map leg_numbers legs.now) row.old }
 {
-    for i in 0..legs.len() {
-        put_leg(row, FIRST_LEG_FIELD + LEG_FIELDS * i, legs[i]);
+    for (i, leg) in legs.iter().enumerate() {
+        put_leg(row, FIRST_LEG_FIELD + LEG_FIELDS * i, *leg);
     }
 }
 

@@ -35,6 +35,7 @@ pub fn would_any_leave(book: &[u64], count: usize, w: Leaving) -> bool
     requires { (count ≤ most_orders) × (book_length ≤ length book.now) }
     ensures { result ≡ any (leaves w) (orders_in count book.now) }
 {
+    // By index, here and below: a host lends the book as numbers, and order_at reads an order out of them.
     for i in 0..count {
         if does_leave(w, order_at(book, i)) {
             return true;

@@ -32,9 +32,9 @@ fn write_sums(book: &[u64], places: &[usize], legs: &[Leg], sums: &mut [u64])
     requires { PlacesFit most_orders places.now × ContractsFit book.now places.now × LegsFit legs.now × (length places.now ≡ length legs.now) × (sums.old ≡ replicate side_places 0) }
     ensures { SumsTo book.now places.now legs.now (length legs.now) sums.new }
 {
-    for i in 0..legs.len() {
+    for (i, leg) in legs.iter().enumerate() {
         let at = side_place(order_at(book, places[i]));
-        sums[at] += leg_amount(legs[i]);
+        sums[at] += leg_amount(*leg);
     }
 }
 

@@ -60,10 +60,9 @@ pub fn are_within(prices: &[u64], book: &[u64], places: &[usize], legs: &[Leg]) 
         (named_to book.now places.now legs.now) }
 {
     let mut ok = true;
-    for i in 0..legs.len() {
-        let leg = legs[i];
+    for (i, leg) in legs.iter().enumerate() {
         let order = order_at(book, places[i]);
-        ok &= (leg.lots.0 <= order.lots.0) & is_price_allowed(prices, leg, order);
+        ok &= (leg.lots.0 <= order.lots.0) & is_price_allowed(prices, *leg, order);
     }
     ok
 }

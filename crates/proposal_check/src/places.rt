@@ -14,6 +14,7 @@ fn place_of(book: &[u64], count: usize, number: u64) -> usize
     requires { (count ≤ most_orders) × (book_length ≤ length book.now) }
     ensures { result ≡ place_of number (orders_in count book.now) }
 {
+    // By index: a host lends the book as numbers, a block for each order.
     for i in 0..count {
         if book[i * ORDER_WIDTH + ORDER_NUMBER] == number {
             return i;
@@ -27,8 +28,8 @@ pub fn write_places(book: &[u64], count: usize, legs: &[Leg], places: &mut [usiz
     requires { (count ≤ most_orders) × (book_length ≤ length book.now) × (length places.old ≡ length legs.now) }
     ensures { places.new ≡ places_of count book.now legs.now }
 {
-    for i in 0..legs.len() {
-        places[i] = place_of(book, count, legs[i].order);
+    for (i, leg) in legs.iter().enumerate() {
+        places[i] = place_of(book, count, leg.order);
     }
 }
 

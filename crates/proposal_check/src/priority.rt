@@ -51,6 +51,7 @@ fn are_kept(book: &[u64], count: usize, lasts: &[u64], legs: &[Leg]) -> bool
     ensures { result ≡ every (kept_by lasts.now legs.now) (orders_in count book.now) }
 {
     let mut ok = true;
+    // By index: a host lends the book as numbers, and order_at reads an order out of them.
     for i in 0..count {
         ok &= is_kept(lasts, legs, order_at(book, i));
     }

@@ -17,6 +17,5 @@ pub fn side_place(o: Order) -> usize
     requires { o.contract < contract_count }
     ensures { (result ≡ side_place_of o) × (result < side_places) }
 {
-    let side = o.side;
-    (o.contract * SIDES + side_number(side)) as usize
+    (o.contract * SIDES + side_number(o.side)) as usize
 }

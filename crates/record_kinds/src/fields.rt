@@ -41,29 +41,13 @@ pub fn width_of(field: Field) -> usize
     ensures { (result ≡ width_of field) × (result ≤ 4) }
 {
     match field {
-        Field::LetterV => 1,
-        Field::LetterJ => 1,
-        Field::LetterR => 1,
-        Field::Version => 2,
-        Field::FirstYear => 2,
-        Field::StartDay => 2,
-        Field::Members => 1,
-        Field::HolidayCount => 1,
-        Field::Holiday => 2,
-        Field::Limit => 4,
-        Field::Kind => 1,
-        Field::Time => 4,
-        Field::Member => 1,
-        Field::Contract => 1,
-        Field::Side => 1,
-        Field::OrderKind => 1,
-        Field::Price => 4,
-        Field::Lots => 2,
-        Field::Order => 4,
-        Field::Low => 4,
-        Field::High => 4,
+        Field::LetterV | Field::LetterJ | Field::LetterR => 1,
+        Field::Members | Field::HolidayCount => 1,
+        Field::Kind | Field::Member | Field::Contract | Field::Side | Field::OrderKind => 1,
         Field::Legs => 1,
-        Field::Ratio => 2,
+        Field::Version | Field::FirstYear | Field::StartDay | Field::Holiday => 2,
+        Field::Lots | Field::Ratio => 2,
+        Field::Limit | Field::Time | Field::Price | Field::Order | Field::Low | Field::High => 4,
     }
 }
 

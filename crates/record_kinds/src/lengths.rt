@@ -37,6 +37,7 @@ pub fn record_length(kind: u64, legs: u64) -> u64
         return 0;
     }
     let length = (FIRST_FIELD_BYTE + fields_length(kind)) as u64;
+    // A kind is a number here: it is a byte of a record, and may be that of no kind.
     if kind == PROPOSAL {
         return length + LEG_LENGTH as u64 * legs;
     }

@@ -38,13 +38,13 @@ pub fn leg_count(event: Event) -> u64
     ensures { result ≡ leg_count event }
 {
     match event {
-        Event::Submit(_) => 0,
-        Event::Cancel(_) => 0,
-        Event::DayLimits(_) => 0,
         Event::Proposal(count) => count,
-        Event::Default(_) => 0,
-        Event::CloseOut(_) => 0,
-        Event::CloseOfDay(_) => 0,
+        Event::Submit(_)
+        | Event::Cancel(_)
+        | Event::DayLimits(_)
+        | Event::Default(_)
+        | Event::CloseOut(_)
+        | Event::CloseOfDay(_) => 0,
     }
 }
 
@@ -55,10 +55,7 @@ fn submit_of(numbers: &[u64]) -> Option<Event>
 {
     let side = numbers[SUBMIT_SIDE];
     let kind = numbers[SUBMIT_ORDER_KIND];
-    if LAST_SIDE < side {
-        return None;
-    }
-    if LAST_ORDER_KIND < kind {
+    if !((side <= LAST_SIDE) & (kind <= LAST_ORDER_KIND)) {
         return None;
     }
     Some(Event::Submit(Submission {

@@ -84,10 +84,7 @@ fn write_if_open(
         ≡ cond (is_waiting phase && ltb 0 more)
         (set prices.old (ggf_place contract) (ggf_from buys.now sells.now prices.old contract)) prices.old }
 {
-    if phase == Phase::Closed {
-        return more;
-    }
-    if more == 0 {
+    if (phase == Phase::Closed) | (more == 0) {
         return more;
     }
     write_ggf(prices, buys, sells, contract);
@@ -105,6 +102,7 @@ fn write_kind_ggfs(
     ensures { prices.new ≡ ggfs_from buys.now sells.now (open_in column.now kind) prices.old }
 {
     let mut more = kind.open_count();
+    // By index: the contracts of a kind are no slice, contract_of gives the number of each.
     for i in 0..contracts_in(kind) {
         let contract = contract_of(kind, i) as usize;
         more = write_if_open(prices, buys, sells, contract, column[contract], more);
@@ -120,7 +118,7 @@ pub fn write_ggfs(prices: &mut [u64], column: &[Phase], buys: &[u64], sells: &[u
     write_kind_ggfs(prices, column, buys, sells, ContractKind::Month);
 }
 
-// M and V of every contract become 0.
+// M and V of every contract become 0. A host lends the prices as one row of numbers, a block for each contract.
 pub fn clear_deals(prices: &mut [u64])
     requires { prices_length ≤ length prices.old }
     ensures { prices.new ≡ without_deals prices.old }

@@ -53,6 +53,7 @@ pub fn write_quotes(
     requires { BookReads count book.now × (quotes.old ≡ replicate contract_count 0) }
     ensures { (c : ℕ) → c < contract_count → get_or quotes.new c 0 ≡ best_price day.0 time side (orders_in count book.now) c }
 {
+    // By index: a host lends the book as numbers, and order_at reads an order out of them.
     for i in (0..count).rev() {
         let o = order_book::order_at(book, i);
         note_quote(quotes, o, side, day, time);

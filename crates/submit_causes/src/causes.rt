@@ -20,13 +20,13 @@ use rules::{Kurus, Lots, OrderKind, Refusal, Submission};
 fn is_teye(kind: OrderKind) -> bool
     ensures { result ≡ is_teye kind }
 {
-    matches!(kind, OrderKind::Teye)
+    kind == OrderKind::Teye
 }
 
 pub fn is_resting(kind: OrderKind) -> bool
     ensures { result ≡ is_resting kind }
 {
-    matches!(kind, OrderKind::Resting)
+    kind == OrderKind::Resting
 }
 
 fn is_price_outside(prices: &[u64], contract: u64, price: Kurus) -> bool
@@ -54,22 +54,20 @@ pub fn first_cause(head: &[u64], prices: &[u64], e: Submission) -> Result<(), Re
     ensures { (t : Tables) (b : Outcome Tables) → outcome result (with_head head.now (with_prices prices.now t)) b
         ≡ decide (first_causes (with_head head.now (with_prices prices.now t)) e) (with_head head.now (with_prices prices.now t)) b }
 {
-    let time = e.time;
-    let member = e.member;
-    let contract = e.contract;
-    if time < head[TIME] {
+    if e.time < head[TIME] {
         return Err(Refusal::TimeBelowLedger);
     }
-    if head[MARKS + member as usize] == DEFAULT_MARK {
-        return Err(Refusal::MemberDefaulted(member));
+    // A mark is a number of the head that a host lends.
+    if head[MARKS + e.member as usize] == DEFAULT_MARK {
+        return Err(Refusal::MemberDefaulted(e.member));
     }
-    if !tables::is_contract_open(head, contract) {
-        return Err(Refusal::ContractNotOpen(contract));
+    if !tables::is_contract_open(head, e.contract) {
+        return Err(Refusal::ContractNotOpen(e.contract));
     }
-    if is_price_outside(prices, contract, e.price) {
+    if is_price_outside(prices, e.contract, e.price) {
         return Err(Refusal::PriceOutsideLimits);
     }
-    if MOST_SUBMITS_IN_SECOND <= submits_at(head, time, member) {
+    if MOST_SUBMITS_IN_SECOND <= submits_at(head, e.time, e.member) {
         return Err(Refusal::SixthSubmit);
     }
     Ok(())

@@ -10,9 +10,9 @@ use Rattle.rules.proofs.LinesRun.{booked_none}
 use Rattle.tables.proofs.Heads.{orders_fit, timed_place}
 use Rattle.cancel.proofs.apply.Goals as goal
 
-pub returns-then-time-head : goal.returns-then-time-head
+pub returns-then-e-head : goal.returns-then-e-head
 unfolding cancel_spec
-returns-then-time-head c = λ t. rw (lt-ltb c.args.e.time (get_or c.args.head.now time_place 0) c.if-time-head.true)
+returns-then-e-head c = λ t. rw (lt-ltb c.args.e.time (get_or c.args.head.now time_place 0) c.if-e-head.true)
 
 pub would_any_leave-requires : goal.would_any_leave-requires
 would_any_leave-requires c = (c.requires.0.most_orders_holds, c.requires.1.long)
@@ -21,7 +21,7 @@ pub returns-then-not-would_any_leave : goal.returns-then-not-would_any_leave
 unfolding cancel_spec orders
 returns-then-not-would_any_leave c =
     let args = c.args in
-    λ t. rw (le-ltb args.e.time (get_or args.head.now time_place 0) c.if-time-head.false, sym c.would_any_leave.ensures ∙ c.if-not-would_any_leave.true)
+    λ t. rw (le-ltb args.e.time (get_or args.head.now time_place 0) c.if-e-head.false, sym c.would_any_leave.ensures ∙ c.if-not-would_any_leave.true)
 
 pub set_time-requires : goal.set_time-requires
 set_time-requires c =
@@ -45,7 +45,7 @@ returns c =
     let u = with_head a.head.now (with_book a.book.now t) in
     let count = ap (λ t. get_or t.head order_count_place 0) (c.set_time.ensures u) ∙ timed_place a.e.time u pre.0.long pre.0.most_members_holds 7 (omega arith) (λ e. omega arith) in
     rw (
-      le-ltb a.e.time (get_or a.head.now time_place 0) c.if-time-head.false,
+      le-ltb a.e.time (get_or a.head.now time_place 0) c.if-e-head.false,
       sym c.would_any_leave.ensures ∙ c.if-not-would_any_leave.false,
       ← c.set_time.ensures (with_book a.book.now t),
       booked_none _,
