@@ -1,24 +1,21 @@
 // The arguments, as bytes, and what is said of one that does not fit.
-use crate::statuses::WRONG_CALL;
 use std::env::{Env, FillError};
 use std::io::Print;
+
+// The exit status of a wrong call, or of too little stack. Those of a run are its endings'.
+pub const WRONG_CALL: u8 = 1;
 
 // As long as a path may be.
 pub const LONGEST: usize = 4096;
 
 // What stands at a place of the call.
-pub enum Argument<'a> {
-    Text(&'a [u8]),
-    Missing,
-    TooLong,
-}
-
-pub fn read_argument<'a>(rt: &impl Env, place: usize, buffer: &'a mut [u8]) -> Argument<'a> {
-    match rt.arg(place, buffer) {
-        Ok(length) => Argument::Text(&buffer[..length]),
-        Err(FillError::NotPresent) => Argument::Missing,
-        Err(FillError::TooLong) => Argument::TooLong,
-    }
+pub fn read_argument<'a>(
+    rt: &impl Env,
+    place: usize,
+    buffer: &'a mut [u8],
+) -> Result<&'a [u8], FillError> {
+    let length = rt.arg(place, buffer)?;
+    Ok(&buffer[..length])
 }
 
 // An option begins with a minus, and has more behind it.

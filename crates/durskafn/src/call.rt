@@ -1,8 +1,9 @@
 // A call of the command: a word and its arguments, or an option.
-use crate::argument::{Argument, LONGEST, is_option, read_argument, too_long, wrong};
+use crate::argument::{LONGEST, is_option, read_argument, too_long, wrong};
 use crate::help::{print_help, print_version, print_word};
 use crate::input::{Source, run_on};
 use crate::word::Word;
+use std::env::FillError;
 use std::io;
 use std::io::IsTerminal;
 use streams::{Ending, fail, status};
@@ -19,9 +20,9 @@ struct Call {
 pub fn run(rt: &HostRuntime) -> u8 {
     let mut buffer = [0u8; LONGEST];
     match read_argument(rt, 1, &mut buffer) {
-        Argument::Text(text) => run_first(rt, text),
-        Argument::Missing => wrong(rt, "a word is missing", b""),
-        Argument::TooLong => too_long(rt),
+        Ok(text) => run_first(rt, text),
+        Err(FillError::NotPresent) => wrong(rt, "a word is missing", b""),
+        Err(FillError::TooLong) => too_long(rt),
     }
 }
 
@@ -43,15 +44,15 @@ fn run_option(rt: &HostRuntime, text: &[u8]) -> u8 {
     }
     let mut buffer = [0u8; LONGEST];
     match read_argument(rt, 2, &mut buffer) {
-        Argument::Text(surplus) => wrong(rt, "surplus argument ", surplus),
-        Argument::Missing => {
+        Ok(surplus) => wrong(rt, "surplus argument ", surplus),
+        Err(FillError::NotPresent) => {
             if wants_version {
                 status_of_printing(rt, print_version(rt))
             } else {
                 status_of_printing(rt, print_help(rt))
             }
         }
-        Argument::TooLong => too_long(rt),
+        Err(FillError::TooLong) => too_long(rt),
     }
 }
 
@@ -72,13 +73,13 @@ fn run_word(rt: &HostRuntime, word: Word) -> u8 {
     let mut buffer = [0u8; LONGEST];
     for place in 2..usize::MAX {
         match read_argument(rt, place, &mut buffer) {
-            Argument::Text(text) => match take(call, place, text) {
+            Ok(text) => match take(call, place, text) {
                 Ok(more) => call = more,
                 Err(what) => return wrong(rt, what, text),
             },
-            Argument::Missing => break,
+            Err(FillError::NotPresent) => break,
             // No option is as long.
-            Argument::TooLong => match take_source(call, Source::File(place)) {
+            Err(FillError::TooLong) => match take_source(call, Source::File(place)) {
                 Ok(more) => call = more,
                 Err(what) => return wrong(rt, what, b""),
             },

@@ -3,12 +3,12 @@ ghost use Rattle.std.specs.Prelude.{◌≡◌};
 ghost use Rattle.streams.specs.declared.ending.Ending.{Ending};
 ghost use Rattle.streams.specs.Windows.{status_of};
 
-use crate::argument::{Argument, LONGEST, read_argument, tell, wrong};
-use crate::statuses::WRONG_CALL;
+use crate::argument::{LONGEST, WRONG_CALL, read_argument, tell, wrong};
 use crate::system::{STACK_KIB, has_stack, input_size};
 use crate::word::Word;
 use journal_program::journal_run;
 use listing_program::listing_run;
+use std::env::FillError;
 use std::fs::File;
 use std::io::{Eprint, Read};
 use std::{fs, io};
@@ -42,9 +42,9 @@ pub fn run_on(rt: &HostRuntime, word: Word, source: Source, is_said: bool) -> u8
         Source::File(place) => {
             let mut buffer = [0u8; LONGEST];
             match read_argument(rt, place, &mut buffer) {
-                Argument::Text(name) => run_on_file(rt, word, name, is_said),
-                Argument::Missing => wrong(rt, "the file's name is gone", b""),
-                Argument::TooLong => {
+                Ok(name) => run_on_file(rt, word, name, is_said),
+                Err(FillError::NotPresent) => wrong(rt, "the file's name is gone", b""),
+                Err(FillError::TooLong) => {
                     let error = io::Error::from_raw_os_error(NAME_IS_TOO_LONG);
                     status(fail(rt, "an argument", error, Ending::ReadFailed))
                 }

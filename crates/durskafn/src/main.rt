@@ -6,7 +6,6 @@ mod argument;
 mod call;
 mod help;
 mod input;
-mod statuses;
 mod system;
 mod word;
 

@@ -6,7 +6,7 @@ use std::rt::Files;
 // Buffers and tables of the programs lie on the stack.
 pub const STACK_KIB: u64 = 512;
 
-const BYTES_OF_KIB: u64 = 1024;
+const STACK: u64 = STACK_KIB * 1024;
 
 // The number behind a name.
 fn number_behind(text: &str, name: &str) -> Option<u64> {
@@ -24,8 +24,7 @@ fn number_in(rt: &impl Files, path: &str, name: &str) -> Option<u64> {
 
 // Whether the stack may become as large. Where no number stands, no limit is known.
 pub fn has_stack(rt: &impl Files) -> bool {
-    number_in(rt, "/proc/self/limits", "Max stack size").is_none_or(|bytes| bytes
-        >= STACK_KIB * BYTES_OF_KIB)
+    number_in(rt, "/proc/self/limits", "Max stack size").is_none_or(|bytes| STACK <= bytes)
 }
 
 // How many bytes standard input still has, where that is known. A file that is read to its end may still grow.

@@ -35,16 +35,11 @@ impl Display for Reason {
     }
 }
 
-// The line `durskafn: what: reason`. Where it cannot be written either, nothing is left to say it on.
-pub fn say_why(rt: &impl Eprint, what: &str, error: io::Error) {
-    let reason = Reason(error);
-    let _ = eprintln!(rt; "durskafn: {what}: {reason}");
-}
-
-// The same, and the program ends so.
+// The line `durskafn: what: reason`, and the program ends so. Where it cannot be written either, nothing is left to say it on.
 pub fn fail(rt: &impl Eprint, what: &str, error: io::Error, ending: Ending) -> Ending
     ensures { result ≡ ending }
 {
-    say_why(rt, what, error);
+    let reason = Reason(error);
+    let _ = eprintln!(rt; "durskafn: {what}: {reason}");
     ending
 }

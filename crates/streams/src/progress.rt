@@ -24,7 +24,7 @@ pub struct Progress {
     pub due: u64,
 }
 
-// Seconds since 1970, or 0 where the clock cannot be read.
+// Seconds since 1970, or 0 where the clock cannot be read: no line is due then, and an Option would only be asked for the same.
 fn seconds(rt: &impl Clock) -> u64 {
     rt.since_1970().map_or(0, |time| time.as_secs())
 }

@@ -44,12 +44,10 @@ fn flush(rt: &(impl Print + Eprint), output: &[u8], filled: usize) -> Result<(),
     requires { filled ≤ length output.now }
     ensures { flushed result }
 {
-    rt.write_all(&output[..filled]).map_err(|error| fail(
-        rt,
-        "standard output",
-        error,
-        Ending::WriteFailed,
-    ))
+    match rt.write_all(&output[..filled]) {
+        Ok(()) => Ok(()),
+        Err(error) => Err(fail(rt, "standard output", error, Ending::WriteFailed)),
+    }
 }
 
 // Before the first read.
