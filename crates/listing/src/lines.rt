@@ -23,7 +23,8 @@ use record_kinds::width_of;
 use rules::Field;
 use text::{put_byte, put_bytes, put_decimal, put_field};
 
-// A field's name and its number.
+// A field's name and its number. This and the next two stay apart: one for all would take the number's writer as a
+// closure, and the bytes that it needs as a parameter, to save one line in each.
 fn put_named(out: &mut [u8], place: usize, field: Field, number: u64) -> usize
     requires { place + 45 ≤ length out.old }
     ensures { Short 45 place (name_of field ++ (space ∷ decimal number)) out.old out.new result }
@@ -175,6 +176,7 @@ fn put_fault(
     put_fault_text(out, place, byte, field, range, size, number, verdict)
 }
 
+// No Result: a line with a fault is written too, and ends as any other.
 #[derive(Clone, Copy)]
 pub struct Listed {
     // The place after what was written.

@@ -5,6 +5,7 @@ ghost use Rattle.listing.specs.Pieces.{piece_of, piece_fits};
 use codec::front_record;
 use rules::Front;
 
+// No Option: that more may come and that none does are two cases, and the program does not go on alike in them.
 #[derive(Clone, Copy)]
 pub enum Piece {
     // So many bytes are to be listed as one record.

@@ -1,4 +1,4 @@
-// What a field's number stands for.
+// What a field's number stands for: each is shown in its own way, so none is an Option's None.
 #[derive(Clone, Copy)]
 pub enum Quantity {
     Letter,
@@ -13,7 +13,7 @@ pub enum Quantity {
     Kurus,
 }
 
-// Which fields the bytes have, one after the other.
+// Which fields the bytes have, one after the other: of a header or of a record, which differ in what they count.
 #[derive(Clone, Copy)]
 pub enum Shape {
     Header { holidays: u64, members: u64 },
@@ -27,7 +27,7 @@ pub struct Range {
     pub most: u64,
 }
 
-// What is found of one field.
+// What is found of one field. No Result: its error would be an enum of the other four, one level down in every match.
 #[derive(Clone, Copy)]
 pub enum Verdict {
     Passes,

@@ -90,6 +90,7 @@ pub fn put_deals(out: &mut [u8], place: usize, lines: &[i64], count: usize) -> u
     ensures { Wrote place (flat_map deal_text (first_lines count lines.now)) out.old out.new result × (result ≤ place + line_room * count) }
 {
     let mut end = place;
+    // By number, as first_lines reads them: a chunk of the table would be read by the same four names.
     for i in 0..count {
         let line = i * LINE_WIDTH;
         end = put_deal(
