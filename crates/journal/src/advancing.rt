@@ -49,10 +49,24 @@ pub fn advance(
             run_records(counted, accepted, bytes, is_last, out, filled, tables)
         }
         Stage::Read { counted, accepted } => {
-            end_at(Stage::ReadToEnd, out, filled, counted, accepted, tables.head())
+            end_at(
+                Stage::ReadToEnd,
+                out,
+                filled,
+                counted,
+                accepted,
+                tables.head(),
+            )
         }
         Stage::Stopped { counted, accepted } => {
-            end_at(Stage::RecordUnsound, out, filled, counted, accepted, tables.head())
+            end_at(
+                Stage::RecordUnsound,
+                out,
+                filled,
+                counted,
+                accepted,
+                tables.head(),
+            )
         }
         Stage::ReadToEnd | Stage::RecordUnsound | Stage::HeaderUnsound => {
             standing(filled, stage, Wants::Nothing)

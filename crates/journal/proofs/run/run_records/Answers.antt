@@ -29,9 +29,9 @@ loop-n-smaller c = omega (arith, found_fits c.loop-n.invariant.0 c.ready_length.
 
 pub loop-n-preserved : goal.loop-n-preserved
 loop-n-preserved c = (
-      found_ran c.loop-n.invariant.0 c.ready_length.ensures c.in-Some.is c.run_record-done.ensures.ran c.run_record-done.auto.out c.from-accepted.ensures,
-      same_then c.loop-n.invariant.1 c.run_record-done.ensures.same,
-    )
+  found_ran c.loop-n.invariant.0 c.ready_length.ensures c.in-Some.is c.run_record-done.ensures.ran c.run_record-done.auto.out c.from-accepted.ensures,
+  same_then c.loop-n.invariant.1 c.run_record-done.ensures.same,
+)
 
 pub returns : goal.returns
 returns c =

@@ -12,8 +12,7 @@ use Rattle.journal_program.proofs.shell.run_turns.Goals as goal
 pub loop-init : goal.loop-init
 loop-init g c =
     let first = c.first_place-place.ensures in
-    let w = first.from_value in
-    (
+    let w = first.from_value in (
       first.stands.0,
       omega (arith, first.stands.1),
       reached_first c.args.input.now c.first_place-place.result first.stands.2 w.0 w.1 w.2 w.3,
