@@ -8,4 +8,4 @@ mod sound;
 pub use days::{
     DAYS_IN_WEEK, SATURDAY, SUNDAY, business_day_before, is_business_day, next_business_day,
 };
-pub use sound::{is_calendar_sound, is_day_sound, is_first_year_sound};
+pub use sound::{are_rising, is_calendar_sound, is_day_sound, is_first_year_sound};

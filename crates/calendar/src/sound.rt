@@ -18,7 +18,7 @@ pub fn is_first_year_sound(first_year: u64) -> bool
 }
 
 // Whether the numbers rise strictly.
-fn are_rising(numbers: &[u64]) -> bool
+pub fn are_rising(numbers: &[u64]) -> bool
     ensures { result ≡ rising numbers.now }
 {
     numbers.is_sorted_by(|x, y| x < y)

@@ -5,7 +5,6 @@ ghost use Rattle.rules.specs.Ranges.{contract_count, most_members, most_price, m
 ghost use Rattle.rules.specs.Ledger.{Tables, with_head, with_rows, with_lines, lines_length, line_width, line_places, line_lots, line_value, posted};
 ghost use Rattle.rules.specs.Sides.{signed};
 ghost use Rattle.tables.specs.Fit.{RowsFit};
-ghost use Rattle.tables.specs.Lent.{tables_of, SameTables};
 ghost use Rattle.deal_lines.specs.Lines.{LineFit, line_of, with_line};
 ghost use Rattle.deal_lines.specs.Room.{Bookable};
 
@@ -13,7 +12,6 @@ use rules::layout::{
     LINE_CONTRACT, LINE_LOTS, LINE_MEMBER, LINE_PRICE, LINE_WIDTH, LOTS_RUN, MEMBERS, ROW_WIDTH,
 };
 use rules::{Kurus, Lots, Side, SignedLots, Value};
-use tables::LentTables;
 
 // The side says whether the member buys or sells.
 #[derive(Clone, Copy)]
@@ -72,15 +70,21 @@ fn print_line(lines: &mut [i64], i: usize, line: DealLine)
 }
 
 // One more line of a record, the one after i others.
-pub fn book_line(t: &mut LentTables<'_>, i: usize, line: DealLine)
-    requires bookable { Bookable line.lots.0 t.old.head.now t.old.lots.now t.old.value.now t.old.lines.now }
-    requires line_fit { LineFit t.old.head.now (line_of line) × (i < least_lines) }
-    ensures booked { tables_of t.new ≡ with_line i (line_of line) (tables_of t.old) }
-    ensures same { SameTables t.old t.new }
+pub fn book_line(
+    head: &mut [u64],
+    lots: &mut [i64],
+    value: &mut [i64],
+    lines: &mut [i64],
+    i: usize,
+    line: DealLine,
+)
+    requires bookable { Bookable line.lots.0 head.old lots.old value.old lines.old }
+    requires line_fit { LineFit head.old (line_of line) × (i < least_lines) }
+    ensures { (t : Tables) → with_head head.new (with_rows lots.new value.new (with_lines lines.new t))
+        ≡ with_line i (line_of line) (with_head head.old (with_rows lots.old value.old (with_lines lines.old t))) }
 {
-    let members = t.head[MEMBERS];
-    let run = t.head[LOTS_RUN];
-    post_line(t.lots, t.value, members, run, line);
-    print_line(t.lines, i, line);
-    t.head[LOTS_RUN] = run + line.lots.0;
+    let run = head[LOTS_RUN];
+    post_line(lots, value, head[MEMBERS], run, line);
+    print_line(lines, i, line);
+    head[LOTS_RUN] = run + line.lots.0;
 }
