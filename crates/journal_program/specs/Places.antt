@@ -1,7 +1,6 @@
 -- Where the program stands.
 use Rattle.std.specs.Prelude.{ℕ, ◌+◌, ◌*◌, ◌≤◌, ◌≡◌, Result, Ok, Err}
 use Rattle.journal.specs.Stages.{Counts}
-use Rattle.rules.specs.Ledger.{rows_length}
 use Rattle.streams.specs.declared.ending.Ending.{Ending}
 use Rattle.streams.specs.Windows.{Within}
 use Rattle.journal_program.specs.declared.shell.Place.{Place}
@@ -9,10 +8,6 @@ use Rattle.journal_program.specs.declared.shell.Place.{Place}
 -- How long the buffers for input and output are.
 abbrev pub buffer_length : ℕ
 buffer_length = 65536
-
--- The rows, and a place before and after them.
-abbrev pub rows_room : ℕ
-rows_room = rows_length + 2
 
 -- Turns are counted up to here.
 abbrev pub most_turns : ℕ

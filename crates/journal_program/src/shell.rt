@@ -9,7 +9,7 @@ ghost use Rattle.journal.specs.declared.stage.Wants.TheVariants.{Nothing, Bytes,
 ghost use Rattle.journal.specs.Stages.{counted_at};
 ghost use Rattle.streams.specs.declared.ending.Ending.{Ending};
 ghost use Rattle.streams.specs.Windows.{status_of};
-ghost use Rattle.journal_program.specs.Places.{buffer_length, rows_room, most_turns, Stands, next_stands};
+ghost use Rattle.journal_program.specs.Places.{buffer_length, most_turns, Stands, next_stands};
 ghost use Rattle.journal_program.specs.Runs.{Follows, Turned, RanTurns, JournalRan};
 
 use journal::{Stage, Wants, advance};
