@@ -6,13 +6,17 @@ use native.Mathlib.Omega.{arith}
 use lib.IntN.{ℤ, pos, nat_abs, ◌-ℤ◌}
 use lib.ListN.{length, get_or, drop, length-append}
 use Rattle.rules.specs.Default.{sum_of, change_lines}
-use Rattle.rules.specs.Ledger.{Tables, Line}
+use Rattle.rules.specs.Ledger.{Tables, Line, with_head, with_rows, with_lines}
 use Rattle.rules.specs.Ranges.{contract_count, most_price, least_lines}
 use Rattle.tables.specs.Fit.{members_in}
 use Rattle.close_out.specs.Booking.{with_each, changes}
 use Rattle.close_out.proofs.Changes.{minus_size, change_most, each_append, lines_next, sum_next}
 use Rattle.deal_lines.proofs.Takes.{Takes, less_room}
 use Rattle.close_out.proofs.Takes.{takes_change, each_members}
+
+-- The lent tables put into others.
+abbrev pub put : List ℕ → List ℤ → List ℤ → List ℤ → Tables → Tables
+put head lots value lines t = with_head head (with_rows lots value (with_lines lines t))
 
 pub blank : Tables
 blank = record { head = []; prices = []; lots = []; value = []; book = []; lines = [] }

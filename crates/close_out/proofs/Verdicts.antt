@@ -89,16 +89,6 @@ module _ (head : List ℕ) (lots : List ℤ) (c : ℕ) (longs shorts : List ℕ)
   pub defaulted_found : Defaulted head lots c q ((long - q) + (short - q)) longs shorts
   defaulted_found = record { longs_are = longs_of; shorts_are = shorts_of; netted = netted_of; remaining = remaining_of }
 
--- What was found with the head and the lots of tables, as they were read.
-module _ (t : Tables) (head : List ℕ) (lots : List ℤ) (p : head ≡ t.head) (r : lots ≡ t.lots) where
-  pub found_at : {c q l : ℕ} {longs shorts : List ℕ} → Defaulted head lots c q l longs shorts → Defaulted t.head t.lots c q l longs shorts
-  found_at d = rw (p, r) at d
-
-  pub weighed_at : (e : CloseOutTerms) (l : ℕ) (ws : List ℕ)
-      → ((s : Tables) (v : List ℤ) → lots_remaining (with_head head (with_rows lots v s)) e.contract ≡ l → ws ≡ weights (with_head head (with_rows lots v s)) e)
-      → lots_remaining t e.contract ≡ l → ws ≡ weights t e
-  weighed_at e l ws k = rw (p, r) at (k t t.value)
-
 -- ---- longs and shorts apart
 up_or_dn : (z : ℤ) → min (dn z) (up z) ≡ 0
 unfolding up dn

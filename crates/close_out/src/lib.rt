@@ -11,10 +11,9 @@ mod weights;
 
 ghost use Rattle.std.specs.Prelude.{◌≡◌, true, ◌*◌, ◌≤◌, ◌<◌, length};
 ghost use Rattle.rules.specs.Ranges.{contract_count, most_price, most_ratio};
-ghost use Rattle.rules.specs.Ledger.{is_open, ggf};
+ghost use Rattle.rules.specs.Ledger.{Tables, with_head, with_prices, with_rows, with_lines, is_open, ggf};
 ghost use Rattle.rules.specs.Refusals.{close_out_spec};
 ghost use Rattle.tables.specs.Fit.{HeadFit, PricesFit, members_in, lots_run_in};
-ghost use Rattle.tables.specs.Lent.{tables_of, SameTables};
 ghost use Rattle.deal_lines.specs.Room.{Bookable};
 
 use dealing::sum_of;
@@ -23,71 +22,80 @@ use rules::layout::{GGF, LOTS_RUN, MEMBERS, PRICE_WIDTH, ROW_WIDTH};
 use rules::ranges::MOST_LOTS_RUN;
 use rules::{CloseOutTerms, Kurus, Refusal};
 use steps::book_steps;
-use tables::LentTables;
 use weights::find_weights;
 
 // The causes that need the lots, then the lines. Netted lots and lots remaining each run twice, given up and taken.
 fn close_out_lots(
-    tables: &mut LentTables<'_>,
+    head: &mut [u64],
+    lots: &mut [i64],
+    value: &mut [i64],
+    lines: &mut [i64],
     e: CloseOutTerms,
     price: Kurus,
     longs: &mut [u64],
     shorts: &mut [u64],
     weights: &mut [u64],
 ) -> Result<u64, Refusal>
-    requires head_fit { HeadFit tables.old.head.now × Bookable 0 tables.old.head.now tables.old.lots.now tables.old.value.now tables.old.lines.now }
-    requires open_and_priced { (is_open (tables_of tables.old) e.contract ≡ true) × (ggf (tables_of tables.old) e.contract ≡ price.0) }
+    requires head_fit { HeadFit head.old × Bookable 0 head.old lots.old value.old lines.old }
     requires contract_lt_contract_count { (e.contract < contract_count) × (e.ratio ≤ most_ratio) × (price.0 ≤ most_price) × (0 < price.0) }
-    requires longs_len { (length longs.old ≡ members_in tables.old.head.now) × (length shorts.old ≡ members_in tables.old.head.now)
-        × (length weights.old ≡ members_in tables.old.head.now) }
-    ensures answer { record { answer = result; after = tables_of tables.new } ≡ close_out_spec (tables_of tables.old) e }
-    ensures same { SameTables tables.old tables.new }
+    requires longs_len { (length longs.old ≡ members_in head.old) × (length shorts.old ≡ members_in head.old) × (length weights.old ≡ members_in head.old) }
+    ensures { (t : Tables) → is_open (with_head head.old (with_rows lots.old value.old (with_lines lines.old t))) e.contract ≡ true
+        → ggf t e.contract ≡ price.0
+        → record { answer = result; after = with_head head.new (with_rows lots.new value.new (with_lines lines.new t)) }
+        ≡ close_out_spec (with_head head.old (with_rows lots.old value.old (with_lines lines.old t))) e }
 {
     let contract = e.contract;
-    let Netting { netted, remaining } = find_defaulted(
-        tables.head(),
-        tables.lots(),
-        contract,
-        longs,
-        shorts,
-    );
+    let Netting { netted, remaining } = find_defaulted(head, lots, contract, longs, shorts);
     if netted + remaining == 0 {
         return Err(Refusal::NoDefaultedLots);
     }
-    find_weights(tables.head(), tables.lots(), e, remaining, weights);
+    find_weights(head, lots, e, remaining, weights);
     if (0 < remaining) & (sum_of(weights) == 0) {
         return Err(Refusal::NoTaker);
     }
-    if MOST_LOTS_RUN < tables.head[LOTS_RUN] + ((netted + netted) + (remaining + remaining)) {
+    if MOST_LOTS_RUN < head[LOTS_RUN] + ((netted + netted) + (remaining + remaining)) {
         return Err(Refusal::TotalPassed);
     }
     let count = book_steps(
-        tables, contract, price, netted, remaining, longs, shorts, weights,
+        head, lots, value, lines, contract, price, netted, remaining, longs, shorts, weights,
     );
     Ok(count as u64)
 }
 
-pub fn apply(tables: &mut LentTables<'_>, e: CloseOutTerms) -> Result<u64, Refusal>
-    requires head_fit { HeadFit tables.old.head.now × Bookable 0 tables.old.head.now tables.old.lots.now tables.old.value.now tables.old.lines.now
-        × PricesFit (lots_run_in tables.old.head.now) tables.old.prices.now }
+pub fn apply(
+    head: &mut [u64],
+    prices: &[u64],
+    lots: &mut [i64],
+    value: &mut [i64],
+    lines: &mut [i64],
+    e: CloseOutTerms,
+) -> Result<u64, Refusal>
+    requires head_fit { HeadFit head.old × Bookable 0 head.old lots.old value.old lines.old × PricesFit (lots_run_in head.old) prices.now }
     requires contract_lt_contract_count { (e.contract < contract_count) × (e.ratio ≤ most_ratio) }
-    ensures answer { record { answer = result; after = tables_of tables.new } ≡ close_out_spec (tables_of tables.old) e }
-    ensures same { SameTables tables.old tables.new }
+    ensures { (t : Tables) → record {
+      answer = result;
+      after = with_prices prices.now
+          (with_head head.new (with_rows lots.new value.new (with_lines lines.new t)));
+    }
+        ≡ close_out_spec (with_prices prices.now (with_head head.old (with_rows lots.old value.old (with_lines lines.old t)))) e }
 {
     let contract = e.contract;
-    if !tables::is_contract_open(tables.head(), contract) {
+    if !tables::is_contract_open(head, contract) {
         return Err(Refusal::ContractNotOpen(contract));
     }
-    let price = tables.prices[contract as usize * PRICE_WIDTH + GGF];
+    let price = prices[contract as usize * PRICE_WIDTH + GGF];
     if price == 0 {
         return Err(Refusal::NoReferencePrice);
     }
-    let members = tables.head[MEMBERS] as usize;
+    let members = head[MEMBERS] as usize;
     let mut longs = [0u64; ROW_WIDTH];
     let mut shorts = [0u64; ROW_WIDTH];
     let mut weights = [0u64; ROW_WIDTH];
     close_out_lots(
-        tables,
+        head,
+        lots,
+        value,
+        lines,
         e,
         Kurus(price),
         &mut longs[..members],

@@ -1,9 +1,9 @@
 // Step 1: defaulted longs against defaulted shorts, lowest member first on each side.
 ghost use Rattle.std.specs.Prelude.{◌≡◌, ℕ, ◌+◌, ◌≤◌, ◌<◌, length, get_or};
 ghost use Rattle.rules.specs.Default.{given_up, less};
+ghost use Rattle.rules.specs.Ledger.{Tables, with_head, with_rows, with_lines};
 ghost use Rattle.rules.specs.Ranges.{contract_count, most_price};
 ghost use Rattle.tables.specs.Fit.{members_in};
-ghost use Rattle.tables.specs.Lent.{tables_of, SameTables};
 ghost use Rattle.deal_lines.specs.Room.{Bookable};
 ghost use Rattle.close_out.specs.Booking.{with_each, netting_lines};
 
@@ -11,7 +11,6 @@ use crate::booking::book_changes;
 use dealing::give_up;
 use rules::Kurus;
 use rules::layout::ROW_WIDTH;
-use tables::LentTables;
 
 // What each has remaining after what it gave up.
 fn subtract(held: &mut [u64], given: &[u64])
@@ -24,7 +23,10 @@ fn subtract(held: &mut [u64], given: &[u64])
 }
 
 fn net_columns(
-    tables: &mut LentTables<'_>,
+    head: &mut [u64],
+    lots: &mut [i64],
+    value: &mut [i64],
+    lines: &mut [i64],
     contract: u64,
     price: Kurus,
     netted: u64,
@@ -33,19 +35,29 @@ fn net_columns(
     given_longs: &mut [u64],
     given_shorts: &mut [u64],
 ) -> usize
-    requires bookable { Bookable (netted + netted) tables.old.head.now tables.old.lots.now tables.old.value.now tables.old.lines.now }
-    requires contract_lt_contract_count { (contract < contract_count) × (price.0 ≤ most_price) × (length longs.old ≡ members_in tables.old.head.now)
-        × (length shorts.old ≡ members_in tables.old.head.now) }
-    requires given_longs_len { (length given_longs.old ≡ members_in tables.old.head.now) × (length given_shorts.old ≡ members_in tables.old.head.now) }
+    requires bookable { Bookable (netted + netted) head.old lots.old value.old lines.old }
+    requires contract_lt_contract_count { (contract < contract_count) × (price.0 ≤ most_price) × (length longs.old ≡ members_in head.old) × (length shorts.old ≡ members_in head.old) }
+    requires given_longs_len { (length given_longs.old ≡ members_in head.old) × (length given_shorts.old ≡ members_in head.old) }
     ensures value { result ≡ length (netting_lines contract price.0 netted longs.old shorts.old) }
     ensures longs_after { longs.new ≡ less longs.old (given_up netted longs.old) }
     ensures shorts_after { shorts.new ≡ less shorts.old (given_up netted shorts.old) }
-    ensures booked { tables_of tables.new ≡ with_each 0 (netting_lines contract price.0 netted longs.old shorts.old) (tables_of tables.old) }
-    ensures same { SameTables tables.old tables.new }
+    ensures booked { (t : Tables) → with_head head.new (with_rows lots.new value.new (with_lines lines.new t))
+        ≡ with_each 0 (netting_lines contract price.0 netted longs.old shorts.old)
+        (with_head head.old (with_rows lots.old value.old (with_lines lines.old t))) }
 {
     give_up(netted, longs, given_longs);
     give_up(netted, shorts, given_shorts);
-    let count = book_changes(tables, 0, contract, price, given_shorts, given_longs);
+    let count = book_changes(
+        head,
+        lots,
+        value,
+        lines,
+        0,
+        contract,
+        price,
+        given_shorts,
+        given_longs,
+    );
     subtract(longs, given_longs);
     subtract(shorts, given_shorts);
     count
@@ -53,27 +65,33 @@ fn net_columns(
 
 // Books the lines of step 1, and leaves of longs and shorts what was not netted.
 pub fn book_netting(
-    tables: &mut LentTables<'_>,
+    head: &mut [u64],
+    lots: &mut [i64],
+    value: &mut [i64],
+    lines: &mut [i64],
     contract: u64,
     price: Kurus,
     netted: u64,
     longs: &mut [u64],
     shorts: &mut [u64],
 ) -> usize
-    requires bookable { Bookable (netted + netted) tables.old.head.now tables.old.lots.now tables.old.value.now tables.old.lines.now }
-    requires contract_lt_contract_count { (contract < contract_count) × (price.0 ≤ most_price) × (length longs.old ≡ members_in tables.old.head.now)
-        × (length shorts.old ≡ members_in tables.old.head.now) }
+    requires bookable { Bookable (netted + netted) head.old lots.old value.old lines.old }
+    requires contract_lt_contract_count { (contract < contract_count) × (price.0 ≤ most_price) × (length longs.old ≡ members_in head.old) × (length shorts.old ≡ members_in head.old) }
     ensures value { result ≡ length (netting_lines contract price.0 netted longs.old shorts.old) }
     ensures longs_after { longs.new ≡ less longs.old (given_up netted longs.old) }
     ensures shorts_after { shorts.new ≡ less shorts.old (given_up netted shorts.old) }
-    ensures booked { tables_of tables.new ≡ with_each 0 (netting_lines contract price.0 netted longs.old shorts.old) (tables_of tables.old) }
-    ensures same { SameTables tables.old tables.new }
+    ensures booked { (t : Tables) → with_head head.new (with_rows lots.new value.new (with_lines lines.new t))
+        ≡ with_each 0 (netting_lines contract price.0 netted longs.old shorts.old)
+        (with_head head.old (with_rows lots.old value.old (with_lines lines.old t))) }
 {
     let members = longs.len();
     let mut given_longs = [0u64; ROW_WIDTH];
     let mut given_shorts = [0u64; ROW_WIDTH];
     net_columns(
-        tables,
+        head,
+        lots,
+        value,
+        lines,
         contract,
         price,
         netted,

@@ -1,9 +1,9 @@
 // The lines of a close-out, step after step.
 ghost use Rattle.std.specs.Prelude.{◌≡◌, ◌+◌, ◌≤◌, ◌<◌, length};
 ghost use Rattle.rules.specs.Default.{given_up, less};
+ghost use Rattle.rules.specs.Ledger.{Tables, with_head, with_rows, with_lines};
 ghost use Rattle.rules.specs.Ranges.{contract_count, most_price};
 ghost use Rattle.tables.specs.Fit.{members_in};
-ghost use Rattle.tables.specs.Lent.{tables_of, SameTables};
 ghost use Rattle.deal_lines.specs.Room.{Bookable};
 ghost use Rattle.close_out.specs.Booking.{with_each, step_lines, Dealable};
 
@@ -12,11 +12,13 @@ use crate::netting::book_netting;
 use crate::takers::book_takers;
 use dealing::sum_of;
 use rules::Kurus;
-use tables::LentTables;
 
 // Books step 1, then of step 2 what the defaulted have remaining, then the takers. The answer is the number of lines.
 pub fn book_steps(
-    tables: &mut LentTables<'_>,
+    head: &mut [u64],
+    lots: &mut [i64],
+    value: &mut [i64],
+    lines: &mut [i64],
     contract: u64,
     price: Kurus,
     netted: u64,
@@ -25,20 +27,26 @@ pub fn book_steps(
     shorts: &mut [u64],
     weights: &[u64],
 ) -> usize
-    requires bookable { Bookable ((netted + netted) + (remaining + remaining)) tables.old.head.now tables.old.lots.now tables.old.value.now tables.old.lines.now
-        × (contract < contract_count) × (price.0 ≤ most_price) }
-    requires dealable { Dealable netted remaining (members_in tables.old.head.now) longs.old shorts.old weights.now }
+    requires bookable { Bookable ((netted + netted) + (remaining + remaining)) head.old lots.old value.old lines.old × (contract < contract_count) × (price.0 ≤ most_price) }
+    requires dealable { Dealable netted remaining (members_in head.old) longs.old shorts.old weights.now }
     ensures value { result ≡ length (step_lines contract price.0 netted remaining longs.old shorts.old weights.now) }
     ensures longs_after { longs.new ≡ less longs.old (given_up netted longs.old) }
     ensures shorts_after { shorts.new ≡ less shorts.old (given_up netted shorts.old) }
-    ensures booked { tables_of tables.new ≡ with_each 0 (step_lines contract price.0 netted remaining longs.old shorts.old weights.now) (tables_of tables.old) }
-    ensures same { SameTables tables.old tables.new }
+    ensures booked { (t : Tables) → with_head head.new (with_rows lots.new value.new (with_lines lines.new t))
+        ≡ with_each 0 (step_lines contract price.0 netted remaining longs.old shorts.old weights.now)
+        (with_head head.old (with_rows lots.old value.old (with_lines lines.old t))) }
 {
-    let first = book_netting(tables, contract, price, netted, longs, shorts);
-    let second = book_changes(tables, first, contract, price, shorts, longs);
+    let first = book_netting(
+        head, lots, value, lines, contract, price, netted, longs, shorts,
+    );
+    let second = book_changes(
+        head, lots, value, lines, first, contract, price, shorts, longs,
+    );
     if remaining == 0 {
         return second;
     }
     let long = sum_of(longs);
-    book_takers(tables, second, contract, price, long, remaining, weights)
+    book_takers(
+        head, lots, value, lines, second, contract, price, long, remaining, weights,
+    )
 }

@@ -49,8 +49,22 @@ fn book_deal(tables: &mut LentTables<'_>, k: usize, o: Order, d: Counterparty)
         side: other_side(o.side),
         ..incoming
     };
-    book_line(tables, k * 2, incoming);
-    book_line(tables, k * 2 + 1, resting);
+    book_line(
+        tables.head,
+        tables.lots,
+        tables.value,
+        tables.lines,
+        k * 2,
+        incoming,
+    );
+    book_line(
+        tables.head,
+        tables.lots,
+        tables.value,
+        tables.lines,
+        k * 2 + 1,
+        resting,
+    );
 }
 
 // Both lines of every deal, in the order of the deals.

@@ -20,4 +20,4 @@ returns-clause-value c =
 
 pub returns-clause-booked : goal.returns-clause-booked
 returns-clause-booked c =
-    netting_tables c.args.contract c.args.price.0 _ _ _ _ _ c.give_up.ensures c.give_up-2.ensures _ _ c.book_changes-count.ensures.booked
+    λ t. netting_tables c.args.contract c.args.price.0 _ _ _ _ _ c.give_up.ensures c.give_up-2.ensures _ _ (c.book_changes-count.ensures.booked t)

@@ -1,5 +1,6 @@
 use native.Mathlib.Omega.{arith}
-use Rattle.tables.proofs.Same.{same_then}
+use Rattle.rules.specs.Ledger.{Tables}
+use Rattle.close_out.proofs.Running.{put, blank}
 use Rattle.close_out.proofs.StepBooking.{remaining_column, second_requires, takers_requires, finish, done}
 use Rattle.close_out.proofs.steps.book_steps.Goals as goal
 
@@ -8,9 +9,10 @@ book_changes-second-requires c =
     let pre = c.requires in
     let a = c.args in
     let n = c.book_netting-first.ensures in
+    let u = put a.head.now a.lots.now a.value.now a.lines.now blank in
     let all =
-    second_requires a.contract a.price.0 a.netted a.remaining a.longs.now a.shorts.now a.weights.now pre.bookable.1 pre.bookable.2 _ pre.bookable.0 pre.dealable
-    _ _ _ _ n.value n.longs_after n.shorts_after n.booked in
+    second_requires a.contract a.price.0 a.netted a.remaining a.longs.now a.shorts.now a.weights.now pre.bookable.1 pre.bookable.2 u pre.bookable.0 pre.dealable
+    _ _ _ _ n.value n.longs_after n.shorts_after (n.booked blank) in
     record { bookable = all.0; gains_bound = all.1.0; gains_len = all.1.1 }
 
 pub returns-then-remaining-eq0 : goal.returns-then-remaining-eq0
@@ -19,10 +21,11 @@ returns-then-remaining-eq0 c =
     let a = c.args in
     let n = c.book_netting-first.ensures in
     let b = c.book_changes-second.ensures in
-    let all =
-    done a.contract a.price.0 a.netted a.remaining a.longs.now a.shorts.now a.weights.now pre.bookable.1 pre.bookable.2 _ pre.bookable.0 pre.dealable
-    _ _ _ _ n.value n.longs_after n.shorts_after n.booked _ _ b.value b.booked c.if-remaining-eq0.true in
-    record { value = all.0; longs_after = n.longs_after; shorts_after = n.shorts_after; booked = all.1; same = same_then n.same b.same }
+    let u : Tables → Tables = put a.head.now a.lots.now a.value.now a.lines.now in
+    let all = λ (t : Tables).
+    done a.contract a.price.0 a.netted a.remaining a.longs.now a.shorts.now a.weights.now pre.bookable.1 pre.bookable.2 (u t) pre.bookable.0 pre.dealable
+    _ _ _ _ n.value n.longs_after n.shorts_after (n.booked t) _ _ b.value (b.booked t) c.if-remaining-eq0.true in
+    record { value = (all blank).0; longs_after = n.longs_after; shorts_after = n.shorts_after; booked = λ t. (all t).1 }
 
 pub sum_of-long-requires : goal.sum_of-long-requires
 sum_of-long-requires c =
@@ -35,9 +38,10 @@ book_takers-requires c =
     let a = c.args in
     let n = c.book_netting-first.ensures in
     let b = c.book_changes-second.ensures in
+    let u = put a.head.now a.lots.now a.value.now a.lines.now blank in
     let all =
-    takers_requires a.contract a.price.0 a.netted a.remaining a.longs.now a.shorts.now a.weights.now pre.bookable.1 pre.bookable.2 _ pre.bookable.0 pre.dealable
-    _ _ _ _ n.value n.longs_after n.shorts_after n.booked _ _ b.value b.booked (omega (arith, c.if-remaining-eq0.false)) in
+    takers_requires a.contract a.price.0 a.netted a.remaining a.longs.now a.shorts.now a.weights.now pre.bookable.1 pre.bookable.2 u pre.bookable.0 pre.dealable
+    _ _ _ _ n.value n.longs_after n.shorts_after (n.booked blank) _ _ b.value (b.booked blank) (omega (arith, c.if-remaining-eq0.false)) in
     record { bookable = all.0; contract_lt_contract_count = all.1 }
 
 pub returns : goal.returns
@@ -47,7 +51,8 @@ returns c =
     let n = c.book_netting-first.ensures in
     let b = c.book_changes-second.ensures in
     let k = c.book_takers.ensures in
-    let all =
-    finish a.contract a.price.0 a.netted a.remaining a.longs.now a.shorts.now a.weights.now pre.bookable.1 pre.bookable.2 _ pre.bookable.0 pre.dealable
-    _ _ _ _ n.value n.longs_after n.shorts_after n.booked _ _ b.value b.booked _ c.sum_of-long.ensures _ _ k.value k.booked in
-    record { value = all.0; longs_after = n.longs_after; shorts_after = n.shorts_after; booked = all.1; same = same_then (same_then n.same b.same) k.same }
+    let u : Tables → Tables = put a.head.now a.lots.now a.value.now a.lines.now in
+    let all = λ (t : Tables).
+    finish a.contract a.price.0 a.netted a.remaining a.longs.now a.shorts.now a.weights.now pre.bookable.1 pre.bookable.2 (u t) pre.bookable.0 pre.dealable
+    _ _ _ _ n.value n.longs_after n.shorts_after (n.booked t) _ _ b.value (b.booked t) _ c.sum_of-long.ensures _ _ k.value (k.booked t) in
+    record { value = (all blank).0; longs_after = n.longs_after; shorts_after = n.shorts_after; booked = λ t. (all t).1 }

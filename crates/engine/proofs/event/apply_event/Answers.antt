@@ -80,7 +80,7 @@ returns-in-Default-clause-answer c =
 pub returns-in-CloseOut-clause-answer : goal.returns-in-CloseOut-clause-answer
 unfolding event_spec close_out_spec
 returns-in-CloseOut-clause-answer c =
-    rw c.in-CloseOut.is c.apply-in-CloseOut.ensures.answer
+    rw c.in-CloseOut.is (c.apply-in-CloseOut.ensures (tables_of c.args.tables.now))
 
 pub returns-in-CloseOfDay-clause-answer : goal.returns-in-CloseOfDay-clause-answer
 unfolding event_spec close_spec
