@@ -36,6 +36,13 @@ pub fn apply_event(tables: &mut LentTables<'_>, event: Event, bytes: &[u8]) -> R
                 e,
             )
         }
-        Event::CloseOfDay(time) => close_of_day::apply(tables, time),
+        Event::CloseOfDay(time) => close_of_day::apply(
+            tables.head,
+            tables.prices,
+            tables.lots,
+            tables.value,
+            tables.book,
+            time,
+        ),
     }
 }
