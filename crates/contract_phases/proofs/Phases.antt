@@ -116,6 +116,10 @@ module _ (k : Calendar) (d : ℕ) where
   unfolding all_open_in open_contracts
   open_is = rw (open_of_kind_lem Year, open_of_kind_lem Quarter, open_of_kind_lem Month)
 
+-- ---- a column of phases, or of what stands for them
+pub place_read : {A : Type 0} (f : A → Phase) (column : List A) (c : ℕ) (x : A) → c < length column → x ≡ get_or column c x → f x ≡ get_or (map f column) c Closed
+place_read f column c x h e = ap f e ∙ sym (map_at f column c x Closed h)
+
 -- ---- a column of numbers: 1 closes, and all but 0 wait
 pub closing_number : (n : ℕ) → is_closing (phase_numbered n) ≡ eqb n 1
 closing_number n = same_or n 0 (λ e. rw e) (λ e. rw (ne_eqb n 0 e) (same_or n 1 (λ f. rw f) (λ f. rw (ne_eqb n 1 f))))

@@ -1,10 +1,11 @@
 use Rattle.cascade.proofs.Cascades.{kind_start, kind_end}
-use mathlib.Core.Path.{refl}
+use mathlib.Core.Path.{refl, ◌∙◌}
+use mathlib.Core.List.{map}
 use Prim.Native.Nat.{◌*◌, ◌<◌}
 use native.Mathlib.Omega.{arith}
 use lib.ListN.{length}
 use Rattle.rules.specs.OtherForms.{contracts_in}
-use Rattle.contract_phases.proofs.Phases.{number_below}
+use Rattle.contract_phases.proofs.Phases.{number_below, place_read}
 use Rattle.cascade.specs.Rows.{most_row}
 use Rattle.cascade.proofs.Cascades.{kind_next, number_parent}
 use Rattle.cascade.proofs.rows.cascade_kind.Goals as goal
@@ -32,7 +33,10 @@ cascade_closing-requires g c =
 pub loop-i-preserved : goal.loop-i-preserved
 loop-i-preserved g c =
     let a = c.args in
-    rw (c.cascade_closing.ensures, c.contract_of-contract.ensures)
+    let b = number_below a.kind c.loop-i.i (omega (arith, c.contracts_in-i-end.ensures)) in
+    let below : c.contract_of-contract.result < length a.column.now = omega (arith, c.contract_of-contract.ensures, b, c.requires.kind_bound.1) in
+    let phase = c.to_phase.ensures ∙ place_read g.P.PhasePlace.read a.column.now c.contract_of-contract.result c.index-column-contract.result below c.index-column-contract.is in
+    rw (c.cascade_closing.ensures, phase, c.contract_of-contract.ensures)
     (kind_next a.members (length a.rows.now) (7 * most_row) a.kind (map g.P.PhasePlace.read a.column.now) _ (omega arith) (omega arith) c.loop-i.i c.loop-i.rows (omega (arith, c.contracts_in-i-end.ensures))
     c.loop-i.invariant)
 
