@@ -19,7 +19,7 @@ use Rattle.rules.specs.declared.refusal.Refusal.TheVariants.{NoLaterDay}
 use Rattle.rules.specs.declared.units.DayNo.{DayNo}
 use Rattle.rules.specs.Days.{next_business_day}
 use Rattle.rules.specs.ContractTerms.{open_count, contracts_of}
-use Rattle.rules.specs.Ledger.{Tables, with_rows, members, day, time, calendar, order_count, orders, with_orders, order_at}
+use Rattle.rules.specs.Ledger.{Tables, with_prices, with_rows, members, day, time, calendar, order_count, orders, with_orders, order_at}
 use Rattle.rules.specs.CloseOfDay.{priced, without_deals, closing_contracts, all_cascaded, is_of_any, with_closed, on_day, has_next_day, next_day, close_booked}
 use Rattle.rules.specs.Refusals.{close_spec}
 use Rattle.tables.specs.Fit.{HeadFit, PricesFit, BookFit, order_count_in, lots_run_in, orders_in}
@@ -89,30 +89,12 @@ orders_closed column book n e =
     (all_orders (λ o. not (is_of_any (closing column) o) ≡ not (closes column o.contract)) book n (λ i h. ap not (closing_order column e (order_at book i).contract)))
 
 -- ---- the parts put together
--- Reference prices change the price table alone.
-module _ (s : ℕ) (u : Tables) (t : Tables) (e : t ≡ priced s u) where
-  pub head_stays : t.head ≡ u.head
-  unfolding priced
-  head_stays = ap (λ x. x.head) e
-
-  pub lots_stay : t.lots ≡ u.lots
-  unfolding priced
-  lots_stay = ap (λ x. x.lots) e
-
-  pub value_stays : t.value ≡ u.value
-  unfolding priced
-  value_stays = ap (λ x. x.value) e
-
-  pub book_stays : t.book ≡ u.book
-  unfolding priced
-  book_stays = ap (λ x. x.book) e
-
-  pub closed_is : (d : ℕ) (lots value : List ℤ)
-      → lots ≡ all_cascaded (members u) (closing (phases (calendar u) (day u))) t.lots → value ≡ all_cascaded (members u) (closing (phases (calendar u) (day u))) t.value
-      → on_day d (with_orders (kept (λ o. not (closes (phases (calendar u) (day u)) o.contract)) (orders_in (order_count t) t.book)) (with_rows lots value t)) ≡ closed s d u
-  unfolding closed with_closed priced closing_contracts orders with_orders
-  closed_is d lots value el ev =
-      rw (el, ev, e, ← orders_closed (phases (calendar u) (day u)) u.book (order_count u) (phases_length (calendar u) (day u)), closing_is (calendar u) (day u))
+pub closed_is : (u : Tables) (s d : ℕ) (prices : List ℕ) (lots value : List ℤ) → prices ≡ (priced s u).prices
+    → lots ≡ all_cascaded (members u) (closing (phases (calendar u) (day u))) u.lots → value ≡ all_cascaded (members u) (closing (phases (calendar u) (day u))) u.value
+    → on_day d (with_orders (kept (λ o. not (closes (phases (calendar u) (day u)) o.contract)) (orders u)) (with_prices prices (with_rows lots value u))) ≡ closed s d u
+unfolding closed with_closed priced closing_contracts orders with_orders
+closed_is u s d prices lots value ep el ev =
+    rw (ep, el, ev, ← orders_closed (phases (calendar u) (day u)) u.book (order_count u) (phases_length (calendar u) (day u)), closing_is (calendar u) (day u))
 
 -- ---- the causes
 module _ (t : Tables) where

@@ -26,6 +26,13 @@ pub fn apply_event(tables: &mut LentTables<'_>, event: Event, bytes: &[u8]) -> R
         Event::Proposal(count) => apply_legs(tables, count, bytes),
         Event::Default(member) => default::apply(tables.head, tables.book, member),
         Event::CloseOut(e) => close_out::apply(tables, e),
-        Event::CloseOfDay(time) => close_of_day::apply(tables, time),
+        Event::CloseOfDay(time) => close_of_day::apply(
+            tables.head,
+            tables.prices,
+            tables.lots,
+            tables.value,
+            tables.book,
+            time,
+        ),
     }
 }

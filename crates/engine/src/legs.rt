@@ -15,5 +15,15 @@ pub fn apply_legs(tables: &mut LentTables<'_>, count: u64, bytes: &[u8]) -> Resu
     ensures same { SameTables tables.old tables.new }
 {
     let legs = &codec::read_legs(bytes)[..count as usize];
-    proposal::apply(tables, legs)
+    // Beside a field that is written the check takes no field as `&[u64]`.
+    let prices = &mut *tables.prices;
+    proposal::apply(
+        tables.head,
+        prices,
+        tables.lots,
+        tables.value,
+        tables.book,
+        tables.lines,
+        legs,
+    )
 }

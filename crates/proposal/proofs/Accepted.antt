@@ -5,7 +5,7 @@ use mathlib.Core.Bool.{true, false}
 use Prim.Native.Nat.{ℕ, ◌+◌, ◌<◌, ◌≤◌}
 use native.Mathlib.Omega.{arith}
 use lib.Dec.{ltb}
-use lib.ListN.{length, length-set}
+use lib.ListN.{length}
 use lib.Seq.{get_or-set_other, set_comm}
 use borrow.Author.Tests.{lt-ltb, le-ltb}
 use Rattle.std.specs.Prelude.{Ok}
@@ -14,7 +14,7 @@ use Rattle.arith.proofs.Tests.{never, true_or}
 use Rattle.rules.specs.declared.event.Leg.{Leg}
 use Rattle.rules.specs.declared.order.Order.{Order}
 use Rattle.rules.specs.Ranges.{most_lots_run}
-use Rattle.rules.specs.Ledger.{Tables, Line, with_head, with_prices, with_book, lots_run_place, order_count_place, lots_run, order_count, orders, with_orders, line_run, booked}
+use Rattle.rules.specs.Ledger.{Tables, Line, lots_run_place, order_count_place, lots_run, order_count, orders, with_orders, line_run, booked}
 use Rattle.rules.specs.Refusals.{distinct, run_would_pass}
 use Rattle.rules.specs.Synthetic.{named_legs, leg_line, acceptable, proposal_lines, used_by_legs}
 use Rattle.tables.specs.Fit.{orders_in}
@@ -35,15 +35,6 @@ orders_after_lines ls os t =
 pub count_after_lines : (ls : List Line) (t : Tables) → order_count (booked ls t).after ≡ order_count t
 unfolding booked
 count_after_lines ls t = get_or-set_other t.head lots_run_place order_count_place (lots_run t + line_run ls) 0 (λ e. omega arith)
-
-pub head_after_lines : (ls : List Line) (t : Tables) → length (booked ls t).after.head ≡ length t.head
-unfolding booked
-head_after_lines ls t = length-set t.head lots_run_place (lots_run t + line_run ls)
-
--- The tables as they were read for the check.
-pub acceptable_of : (t : Tables) (legs : List Leg) {head prices book : List ℕ} → head ≡ t.head → prices ≡ t.prices → book ≡ t.book
-    → acceptable (with_head head (with_prices prices (with_book book t))) legs ≡ acceptable t legs
-acceptable_of t legs e f g = rw (e, f, g) refl
 
 pub all_booked : (ls : List Line) (os : List Order) (n : ℕ) (t u v : Tables) → n ≡ length ls → u ≡ (booked ls t).after → v ≡ with_orders os u
     → record { answer = Ok n; after = v } ≡ booked ls (with_orders os t)

@@ -4,20 +4,21 @@ use mathlib.Core.List.{List}
 use Prim.Native.Nat.{ℕ, ◌+◌, ◌<◌}
 use native.Mathlib.Omega.{arith}
 use native.Mathlib.Numerals.{add-one}
-use lib.IntN.{nat_abs}
+use lib.IntN.{ℤ, nat_abs}
 use lib.ListN.{length, get_or, drop}
 use lib.Seq.{drop-cons}
 use Rattle.arith.specs.Lists.{total, from}
 use Rattle.rules.specs.declared.event.Leg.{Leg}
 use Rattle.rules.specs.declared.order.Order.{Order}
-use Rattle.rules.specs.Ledger.{Tables, Line, lots_run_place, members, order_count, order_at, booked}
+use Rattle.rules.specs.Ledger.{Tables, with_head, with_rows, with_lines, zero_tables, lots_run_place, order_at, booked}
 use Rattle.rules.specs.Ranges.{least_lines}
 use Rattle.deal_lines.specs.declared.lines.DealLine.{DealLine}
-use Rattle.tables.specs.Fit.{BookFit, OrderFit, members_in}
+use Rattle.tables.specs.Fit.{BookFit, OrderFit, members_in, order_count_in}
 use Rattle.deal_lines.specs.Lines.{LineFit, line_of, with_line}
 use Rattle.rules.proofs.LinesRun.{booked_none}
 use Rattle.deal_lines.proofs.Booked.{booked_more}
 use Rattle.proposal_check.specs.Legs.{LegsFit, PlacesFit, no_leg, lots_of}
+use Rattle.deal_lines.specs.Room.{Bookable}
 use Rattle.proposal.specs.Booking.{leg_line_at, lines_to}
 use Rattle.deal_lines.proofs.Takes.{Takes, takes_line, less_room, line_members}
 use Rattle.proposal.proofs.Printed.{lines_length_lem, lines_more}
@@ -35,51 +36,54 @@ pub lots_first : (legs : List Leg) (i : ℕ) → i < length legs → lots_from l
 unfolding total
 lots_first legs i h = rw (add-one, drop-cons legs i no_leg h) refl
 
--- Tables in which the first i legs are booked, beside those that were lent.
-pub record LegsBooked (places : List ℕ) (legs : List Leg) (before : Tables) (i : ℕ) (t : Tables) : Type 0 where
-  pub able : Takes (lots_from legs i) t
-  pub same_members : members t ≡ members before
-  pub tables : t ≡ (booked (lines_to before.book places legs i) before).after
+module _ (book places : List ℕ) (legs : List Leg) (head₀ : List ℕ) (rows₀ value₀ lines₀ : List ℤ) where
+  -- Tables in which the first i legs are booked.
+  pub record LegsBooked (i : ℕ) (head : List ℕ) (rows value lines : List ℤ) : Type 0 where
+    pub able : Bookable (lots_from legs i) head rows value lines
+    pub same_members : members_in head ≡ members_in head₀
+    pub tables : (t : Tables) → with_head head (with_rows rows value (with_lines lines t))
+        ≡ (booked (lines_to book places legs i) (with_head head₀ (with_rows rows₀ value₀ (with_lines lines₀ t)))).after
 
--- Lines leave the book as it is.
-pub book_stays : (ls : List Line) (t : Tables) → (booked ls t).after.book ≡ t.book
-unfolding booked
-book_stays ls t = refl
-
-module _ (places : List ℕ) (legs : List Leg) (before : Tables) where
-  pub legs_start : Takes (total lots_of legs) before → LegsBooked places legs before 0 before
+  pub legs_start : Bookable (total lots_of legs) head₀ rows₀ value₀ lines₀ → LegsBooked 0 head₀ rows₀ value₀ lines₀
   unfolding from
-  legs_start able = record { able = able; same_members = refl; tables = sym (ap (λ x. x.after) (booked_none before)) }
+  legs_start able =
+      record {
+        able = able;
+        same_members = refl;
+        tables = λ t. sym (ap (λ x. x.after) (booked_none (with_head head₀ (with_rows rows₀ value₀ (with_lines lines₀ t)))));
+      }
 
-  pub same_book : {i : ℕ} {t : Tables} → LegsBooked places legs before i t → t.book ≡ before.book
-  same_book {i} done = ap (λ x. x.book) done.tables ∙ book_stays (lines_to before.book places legs i) before
-
-  module _ (fit : LegsFit legs) (many : length places ≡ length legs) (b : BookFit before.head before.book) (there : PlacesFit (order_count before) places)
-      (long : lots_run_place < length before.head) (i : ℕ) (below : i < length legs) (t : Tables) (done : LegsBooked places legs before i t)
-      (o : Order) (at : o ≡ order_at before.book (get_or places i 0)) where
-    abbrev order_fit : OrderFit before.head before.book (get_or places i 0)
+  module _ (fit : LegsFit legs) (many : length places ≡ length legs) (b : BookFit head₀ book) (there : PlacesFit (order_count_in head₀) places)
+      (long : lots_run_place < length head₀) (i : ℕ) (below : i < length legs) (head : List ℕ) (rows value lines : List ℤ) (done : LegsBooked i head rows value lines)
+      (o : Order) (at : o ≡ order_at book (get_or places i 0)) where
+    abbrev order_fit : OrderFit head₀ book (get_or places i 0)
     order_fit = b.order_fit (get_or places i 0) (there.below i (omega arith))
 
-    same_line : line_of (deal_line o (get_or legs i no_leg)) ≡ leg_line_at before.book places legs i
+    same_line : line_of (deal_line o (get_or legs i no_leg)) ≡ leg_line_at book places legs i
     same_line = ap (λ x. line_of (deal_line x (get_or legs i no_leg))) at
 
-    sound : LineFit t.head (leg_line_at before.book places legs i)
+    sound : LineFit head (leg_line_at book places legs i)
     sound = record { contract_below = order_fit.contract_below; member_below = rw done.same_members order_fit.member_below; most_price_holds = fit.most_price_holds i below }
 
-    pub leg_takes : Takes (get_or legs i no_leg).lots.0 t × (LineFit t.head (line_of (deal_line o (get_or legs i no_leg))) × (i < least_lines))
+    pub leg_takes : Bookable (get_or legs i no_leg).lots.0 head rows value lines × (LineFit head (line_of (deal_line o (get_or legs i no_leg))) × (i < least_lines))
     leg_takes = (less_room _ _ (omega (arith, lots_first legs i below)) done.able, (rw same_line sound, omega (arith, fit.most_legs_holds)))
 
-    pub legs_next : (u : Tables) → u ≡ with_line i (line_of (deal_line o (get_or legs i no_leg))) t → LegsBooked places legs before (i + 1) u
-    legs_next u says =
-        let l = leg_line_at before.book places legs i in
-        let says-line : u ≡ with_line i l t = says ∙ ap (λ x. with_line i x t) same_line in
+    pub legs_next : (head' : List ℕ) (rows' value' lines' : List ℤ)
+        → ((t : Tables) → with_head head' (with_rows rows' value' (with_lines lines' t)) ≡ with_line i (line_of (deal_line o (get_or legs i no_leg)))
+        (with_head head (with_rows rows value (with_lines lines t))))
+        → LegsBooked (i + 1) head' rows' value' lines'
+    legs_next head' rows' value' lines' says =
+        let l = leg_line_at book places legs i in
+        let u = with_head head (with_rows rows value (with_lines lines zero_tables)) in
+        let says-line : (t : Tables) → with_head head' (with_rows rows' value' (with_lines lines' t)) ≡ with_line i l (with_head head (with_rows rows value (with_lines lines t)))
+        = λ t. says t ∙ ap (λ x. with_line i x (with_head head (with_rows rows value (with_lines lines t)))) same_line in
         record {
-          able = subst (Takes (lots_from legs (i + 1))) (sym says-line) (takes_line (lots_from legs (i + 1)) i l t (omega (arith, fit.most_legs_holds)) sound room);
-          same_members = ap (λ x. members_in x.head) says-line ∙ line_members i l t ∙ done.same_members;
-          tables = says-line ∙ ap (with_line i l) done.tables
-              ∙ booked_more (lines_to before.book places legs i) l i before (sym (lines_length_lem before.book places legs i)) long
-              ∙ ap (λ ls. (booked ls before).after) (lines_more before.book places legs i);
+          able = subst (Takes (lots_from legs (i + 1))) (sym (says-line zero_tables)) (takes_line (lots_from legs (i + 1)) i l u (omega (arith, fit.most_legs_holds)) sound room);
+          same_members = ap (λ x. members_in x.head) (says-line zero_tables) ∙ line_members i l u ∙ done.same_members;
+          tables = λ t. says-line t ∙ ap (with_line i l) (done.tables t)
+              ∙ booked_more (lines_to book places legs i) l i (with_head head₀ (with_rows rows₀ value₀ (with_lines lines₀ t))) (sym (lines_length_lem book places legs i)) long
+              ∙ ap (λ ls. (booked ls (with_head head₀ (with_rows rows₀ value₀ (with_lines lines₀ t)))).after) (lines_more book places legs i);
         }
       where
-        room : Takes (nat_abs (leg_line_at before.book places legs i).lots + lots_from legs (i + 1)) t
-        room = rw (abs_signed (order_at before.book (get_or places i 0)).side (get_or legs i no_leg).lots.0, ← lots_first legs i below) done.able
+        room : Bookable (nat_abs (leg_line_at book places legs i).lots + lots_from legs (i + 1)) head rows value lines
+        room = rw (abs_signed (order_at book (get_or places i 0)).side (get_or legs i no_leg).lots.0, ← lots_first legs i below) done.able

@@ -2,9 +2,8 @@
 ghost use Rattle.std.specs.Prelude.{◌≡◌, ℕ, ◌*◌, ◌-◌, ◌≤◌, ◌<◌, length};
 ghost use Rattle.arith.specs.Lists.{total};
 ghost use Rattle.rules.specs.Ranges.{most_legs, most_lots, most_orders};
-ghost use Rattle.rules.specs.Ledger.{Tables, with_head, with_book, with_orders, head_length, book_length, side_at, booked};
+ghost use Rattle.rules.specs.Ledger.{Tables, with_head, with_rows, with_book, with_lines, with_orders, head_length, book_length, side_at, booked};
 ghost use Rattle.tables.specs.Fit.{BookFit, orders_in, order_count_in};
-ghost use Rattle.tables.specs.Lent.{tables_of, SameTables};
 ghost use Rattle.order_book.specs.Left.{left_over};
 ghost use Rattle.proposal_check.specs.Legs.{LegsFit, PlacesFit, lots_of};
 ghost use Rattle.deal_lines.specs.Room.{Bookable};
@@ -14,7 +13,6 @@ use deal_lines::{DealLine, book_line};
 use order_book::{keep_orders, order_at};
 use rules::layout::{ORDER_COUNT, ORDERS};
 use rules::{Leg, Lots};
-use tables::LentTables;
 
 // The lots of all legs together.
 pub fn total_lots(legs: &[Leg]) -> Lots
@@ -29,15 +27,23 @@ pub fn total_lots(legs: &[Leg]) -> Lots
 }
 
 // One line for each leg, in order, at the leg's price.
-pub fn book_legs(tables: &mut LentTables<'_>, places: &[usize], legs: &[Leg])
-    requires book_fit { BookFit tables.old.head.now tables.old.book.now × PlacesFit (order_count_in tables.old.head.now) places.now × LegsFit legs.now × (length places.now ≡ length legs.now) }
-    requires bookable { Bookable (total lots_of legs.now) tables.old.head.now tables.old.lots.now tables.old.value.now tables.old.lines.now
-        × (order_count_in tables.old.head.now ≤ most_orders) }
-    ensures legs_booked { tables_of tables.new ≡ (booked (lines_to tables.old.book.now places.now legs.now (length legs.now)) (tables_of tables.old)).after }
-    ensures same { SameTables tables.old tables.new }
+pub fn book_legs(
+    head: &mut [u64],
+    lots: &mut [i64],
+    value: &mut [i64],
+    lines: &mut [i64],
+    book: &[u64],
+    places: &[usize],
+    legs: &[Leg],
+)
+    requires book_fit { BookFit head.old book.now × PlacesFit (order_count_in head.old) places.now × LegsFit legs.now × (length places.now ≡ length legs.now) }
+    requires bookable { Bookable (total lots_of legs.now) head.old lots.old value.old lines.old × (order_count_in head.old ≤ most_orders) }
+    ensures { (t : Tables) → with_head head.new (with_rows lots.new value.new (with_lines lines.new t))
+        ≡ (booked (lines_to book.now places.now legs.now (length legs.now))
+        (with_head head.old (with_rows lots.old value.old (with_lines lines.old t)))).after }
 {
     for i in 0..legs.len() {
-        let order = order_at(tables.book(), places[i]);
+        let order = order_at(book, places[i]);
         let line = DealLine {
             member: order.member,
             contract: order.contract,
@@ -45,7 +51,7 @@ pub fn book_legs(tables: &mut LentTables<'_>, places: &[usize], legs: &[Leg])
             lots: legs[i].lots,
             price: legs[i].price,
         };
-        book_line(tables, i, line);
+        book_line(head, lots, value, lines, i, line);
     }
 }
 

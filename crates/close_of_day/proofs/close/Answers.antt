@@ -1,33 +1,24 @@
 use mathlib.Core.Bool.{not}
-use mathlib.Core.Path.{refl, ap, ◌∙◌}
+use mathlib.Core.Path.{ap, ◌∙◌}
 use native.Mathlib.Omega.{arith}
 use lib.ListN.{get_or, length}
 use lib.Seq.{get_or-set_other}
 use Rattle.arith.specs.Lists.{kept}
-use Rattle.rules.specs.Ledger.{day_place, members, order_count, with_rows, with_book, with_orders, orders}
+use Rattle.rules.specs.Ledger.{members_place, order_count_place}
+use Rattle.rules.specs.Ledger.{zero_tables, with_head, with_prices, with_rows, with_book, with_orders, orders}
 use Rattle.rules.specs.CloseOfDay.{all_cascaded, on_day}
-use Rattle.tables.specs.Fit.{calendar_in, orders_in}
-use Rattle.tables.specs.Lent.{tables_of}
-use Rattle.contract_phases.specs.Phases.{phases, closes, closing}
+use Rattle.tables.specs.Fit.{orders_in}
+use Rattle.contract_phases.specs.Phases.{closes, closing}
 use Rattle.contract_phases.proofs.Phases.{phases_length}
-use Rattle.close_of_day.proofs.Closes.{book_reads, head_stays, lots_stay, value_stays, book_stays, closed_is}
+use Rattle.close_of_day.proofs.Closes.{book_reads, closed_is}
 use Rattle.close_of_day.proofs.close.Goals as goal
-
-pub write_phases-requires : goal.write_phases-requires
-write_phases-requires c = (rw c.head.ensures c.requires.head_fit.0, refl)
-
-pub write_prices-requires : goal.write_prices-requires
-write_prices-requires c =
-    record { head_fit = c.requires.head_fit; column_value = c.write_phases.ensures ∙ ap (λ h. phases (calendar_in h) (get_or h day_place 0)) c.head.ensures }
 
 pub cascade_all-requires : goal.cascade_all-requires
 cascade_all-requires c =
     let pre = c.requires in
-    let a = c.args in
     let fit = pre.rows_fit.0 in
-    let head_fit = pre.head_fit.0 in
-    let stay = lots_stay a.time (tables_of a.tables.now) (tables_of c.write_prices.new.tables) c.write_prices.ensures.prices_after in (
-      rw stay record { long = fit.long; within = λ x m u k. omega (arith, fit.within x m u k, head_fit.most_run) },
+    let head_fit = pre.head_fit.0 in (
+      record { long = fit.long; within = λ x m u k. omega (arith, fit.within x m u k, head_fit.most_run) },
       head_fit.most_members_holds,
       ap length c.write_phases.ensures
           ∙ phases_length _ _,
@@ -36,11 +27,9 @@ cascade_all-requires c =
 pub cascade_all-requires-2 : goal.cascade_all-requires-2
 cascade_all-requires-2 c =
     let pre = c.requires in
-    let a = c.args in
     let fit = pre.rows_fit.1 in
-    let head_fit = pre.head_fit.0 in
-    let stays = value_stays a.time (tables_of a.tables.now) (tables_of c.write_prices.new.tables) c.write_prices.ensures.prices_after in (
-      rw stays record { long = fit.long; within = λ x m u k. omega (arith, fit.within x m u k, head_fit.most_run) },
+    let head_fit = pre.head_fit.0 in (
+      record { long = fit.long; within = λ x m u k. omega (arith, fit.within x m u k, head_fit.most_run) },
       head_fit.most_members_holds,
       ap length c.write_phases.ensures
           ∙ phases_length _ _,
@@ -50,35 +39,34 @@ pub remove_closing-requires : goal.remove_closing-requires
 remove_closing-requires c =
     let pre = c.requires in
     let a = c.args in
-    let u = tables_of a.tables.now in
-    let t = tables_of c.write_prices.new.tables in
-    let after = c.write_prices.ensures.prices_after in
-    rw (head_stays a.time u t after, book_stays a.time u t after) (pre.head_fit.0.long, book_reads u.head u.book pre.head_fit.0 pre.head_fit.2)
+    (pre.head_fit.0.long, book_reads a.head.now a.book.now pre.head_fit.0 pre.head_fit.2)
 
 pub begin_day-requires : goal.begin_day-requires
 unfolding with_orders
 begin_day-requires c =
     let pre = c.requires in
     let a = c.args in
-    let t = tables_of c.write_prices.new.tables in
-    let stays = head_stays a.time (tables_of a.tables.now) t c.write_prices.ensures.prices_after in
-    let same = ap members (c.remove_closing.ensures t) ∙ get_or-set_other t.head 7 1 _ 0 (λ e. omega arith) ∙ ap (λ h. get_or h 1 0) stays in
-    (omega (arith, c.remove_closing.auto.head, ap length stays, pre.head_fit.0.long), omega (arith, same, pre.head_fit.0.most_members_holds))
+    let u = with_head a.head.now (with_book a.book.now zero_tables) in
+    let same = ap (λ t. get_or t.head members_place 0) (c.remove_closing.ensures u) ∙ get_or-set_other a.head.now 7 1 _ 0 (λ e. omega arith) in
+    (omega (arith, c.remove_closing.auto.head, pre.head_fit.0.long), omega (arith, same, pre.head_fit.0.most_members_holds))
 
-pub returns-clause-tables_after : goal.returns-clause-tables_after
+pub returns : goal.returns
 unfolding orders
-returns-clause-tables_after c =
+returns c =
+    let pre = c.requires in
     let a = c.args in
-    let u = tables_of a.tables.now in
-    let t = tables_of c.write_prices.new.tables in
+    let prices = c.write_prices.new.prices in
     let lots = c.cascade_all.new.rows in
     let value = c.cascade_all-2.new.rows in
-    let rows = with_rows lots value t in
-    let n = members u in
-    let column = c.write_phases.ensures ∙ ap (λ h. phases (calendar_in h) (get_or h day_place 0)) c.head.ensures in
-    c.begin_day.ensures (with_book c.remove_closing.new.book rows)
-    ∙ ap (on_day a.next.0) (c.remove_closing.ensures rows
-    ∙ ap (λ k. with_orders (kept (λ o. not (closes k o.contract)) (orders_in (order_count t) t.book)) rows) column)
-    ∙ closed_is a.time u t c.write_prices.ensures.prices_after a.next.0 lots value
-    (c.cascade_all.ensures ∙ ap (λ k. all_cascaded n (closing k) t.lots) column)
-    (c.cascade_all-2.ensures ∙ ap (λ k. all_cascaded n (closing k) t.value) column)
+    let book = c.remove_closing.new.book in
+    let n = get_or a.head.now members_place 0 in
+    λ t.
+    let u = with_head a.head.now (with_prices a.prices.now (with_rows a.lots.now a.value.now (with_book a.book.now t))) in
+    let column = c.write_phases.ensures in
+    c.begin_day.ensures (with_prices prices (with_rows lots value (with_book book t)))
+    ∙ ap (on_day a.next.0) (c.remove_closing.ensures (with_prices prices (with_rows lots value t))
+    ∙ ap (λ k. with_orders (kept (λ o. not (closes k o.contract)) (orders_in (get_or a.head.now order_count_place 0) a.book.now)) (with_prices prices (with_rows lots value u))) column)
+    ∙ closed_is u a.time a.next.0 prices lots value
+    (ap (λ x. x.prices) (c.write_prices.ensures (with_rows a.lots.now a.value.now t)))
+    (c.cascade_all.ensures ∙ ap (λ k. all_cascaded n (closing k) a.lots.now) column)
+    (c.cascade_all-2.ensures ∙ ap (λ k. all_cascaded n (closing k) a.value.now) column)

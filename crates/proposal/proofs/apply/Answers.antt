@@ -1,9 +1,8 @@
 use native.Mathlib.Omega.{arith}
-use mathlib.Core.Path.{sym, ap, ◌∙◌}
+use mathlib.Core.Path.{sym}
 use lib.ListN.{get_or, replicate}
 use lib.Seq.{length-take-le}
 use Rattle.rules.specs.Ledger.{order_count_place}
-use Rattle.proposal_check.specs.Legs.{places_of}
 use Rattle.proposal_check.proofs.Named.{places_long, places_as_many, places_front}
 use Rattle.proposal.proofs.apply.Goals as goal
 
@@ -15,15 +14,15 @@ slice_bounds-write_places-end c = sym (length-take-le _ _ c.requires.legs_fit.mo
 
 pub write_places-requires : goal.write_places-requires
 write_places-requires c =
-    (c.requires.head_fit.0.most_orders_holds, rw c.book.ensures c.requires.head_fit.2.long, length-take-le _ _ c.requires.legs_fit.most_legs_holds)
+    (c.requires.head_fit.0.most_orders_holds, c.requires.head_fit.2.long, length-take-le _ _ c.requires.legs_fit.most_legs_holds)
 
 pub slice_bounds-places-end-2 : goal.slice_bounds-places-end-2
 slice_bounds-places-end-2 c =
-    let a = c.args in places_long (get_or a.tables.now.head.now order_count_place 0) c.book.result.now a.legs.now _ (replicate 12 0) c.write_places.ensures c.requires.legs_fit.most_legs_holds
+    let a = c.args in places_long (get_or a.head.now order_count_place 0) a.book.now a.legs.now _ (replicate 12 0) c.write_places.ensures c.requires.legs_fit.most_legs_holds
 
 pub slice_bounds-apply_at-end : goal.slice_bounds-apply_at-end
 slice_bounds-apply_at-end c =
-    let a = c.args in places_as_many (get_or a.tables.now.head.now order_count_place 0) c.book.result.now a.legs.now _ (replicate 12 0) c.write_places.ensures
+    let a = c.args in places_as_many (get_or a.head.now order_count_place 0) a.book.now a.legs.now _ (replicate 12 0) c.write_places.ensures
     c.requires.legs_fit.most_legs_holds
 
 pub apply_at-requires : goal.apply_at-requires
@@ -33,8 +32,7 @@ apply_at-requires c =
       rows_fit = c.requires.rows_fit;
       legs_fit = (
         c.requires.legs_fit,
-        places_front (get_or a.tables.now.head.now order_count_place 0) c.book.result.now a.legs.now _ (replicate 12 0) c.write_places.ensures
-            c.requires.legs_fit.most_legs_holds
-            ∙ ap (λ b. places_of (get_or a.tables.now.head.now order_count_place 0) b a.legs.now) c.book.ensures,
+        places_front (get_or a.head.now order_count_place 0) a.book.now a.legs.now _ (replicate 12 0) c.write_places.ensures
+            c.requires.legs_fit.most_legs_holds,
       );
     }

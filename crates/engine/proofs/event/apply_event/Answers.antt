@@ -85,4 +85,4 @@ returns-in-CloseOut-clause-answer c =
 pub returns-in-CloseOfDay-clause-answer : goal.returns-in-CloseOfDay-clause-answer
 unfolding event_spec close_spec
 returns-in-CloseOfDay-clause-answer c =
-    rw c.in-CloseOfDay.is c.apply-in-CloseOfDay.ensures.answer
+    rw c.in-CloseOfDay.is (c.apply-in-CloseOfDay.ensures (tables_of c.args.tables.now))

@@ -31,5 +31,5 @@ pub returns-clause-answer : goal.returns-clause-answer
 returns-clause-answer c =
     let a = c.args in
     let t = tables_of a.tables.now in
-    c.apply.ensures.answer
+    c.apply.ensures t
     ∙ ap (proposal_spec t) (legs_are (get_or t.head members_place 0) a.count a.bytes.now c.read_legs.result c.read_legs.ensures c.requires.1)
