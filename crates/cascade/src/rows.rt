@@ -1,5 +1,5 @@
 // The cascade: a closing year's rows are added to its quarters, a closing quarter's to its months, and set to zero.
-ghost use Rattle.std.specs.Prelude.{◌≡◌, cond, ℕ, ◌+◌, ◌*◌, ◌-◌, ◌%◌, ◌^◌, ◌≤◌, ◌<◌, length, get_or, take, drop, pos, nat_abs, ◌+ℤ◌};
+ghost use Rattle.std.specs.Prelude.{◌≡◌, cond, ℕ, ◌+◌, ◌*◌, ◌-◌, ◌%◌, ◌^◌, ◌≤◌, ◌<◌, length, get_or, take, drop, map, pos, nat_abs, ◌+ℤ◌};
 ghost use mathlib.Core.List.{zip_with};
 ghost use Rattle.arith.specs.Lists.{from, over, kept};
 ghost use Rattle.rules.specs.Ranges.{contract_count, term_count, contracts_in_year, quarters_in_span, last_quarter, most_members};
@@ -11,7 +11,7 @@ ghost use Rattle.tables.specs.Fit.{RowsFit};
 ghost use Rattle.contract_phases.specs.Phases.{is_closing, closes, closing};
 ghost use Rattle.cascade.specs.Rows.{most_row};
 
-use contract_phases::Phase;
+use contract_phases::{Phase, PhasePlace};
 use contracts::{contract_of, contracts_in};
 use rules::ContractKind;
 use rules::layout::{
@@ -102,22 +102,22 @@ fn cascade_closing(rows: &mut [i64], members: usize, contract: usize, phase: Pha
 }
 
 // The closing contracts of a kind that has children. A row grows by one parent's at a time, so none passes 64 bits.
-fn cascade_kind(rows: &mut [i64], column: &[Phase], members: usize, kind: ContractKind)
+fn cascade_kind<P: PhasePlace>(rows: &mut [i64], column: &[P], members: usize, kind: ContractKind)
     requires rows_fit { RowsFit members (7 * most_row) rows.old × (members ≤ most_members) }
     requires kind_bound { (contracts_in kind ≤ quarters_in_span) × (length column.now ≡ term_count) }
-    ensures { rows.new ≡ all_cascaded members (kept (closes column.now) (contracts_of kind)) rows.old }
+    ensures { rows.new ≡ all_cascaded members (kept (closes (map P.read column.now)) (contracts_of kind)) rows.old }
 {
     // By index: the contracts of a kind are no slice, contract_of gives the number of each.
     for i in 0..contracts_in(kind) {
         let contract = contract_of(kind, i) as usize;
-        cascade_closing(rows, members, contract, column[contract]);
+        cascade_closing(rows, members, contract, column[contract].to_phase());
     }
 }
 
 // The closing years, then the closing quarters; a month's rows stay.
-pub fn cascade_all(rows: &mut [i64], column: &[Phase], members: usize)
+pub fn cascade_all<P: PhasePlace>(rows: &mut [i64], column: &[P], members: usize)
     requires { RowsFit members most_row rows.old × (members ≤ most_members) × (length column.now ≡ term_count) }
-    ensures { rows.new ≡ all_cascaded members (closing column.now) rows.old }
+    ensures { rows.new ≡ all_cascaded members (closing (map P.read column.now)) rows.old }
 {
     cascade_kind(rows, column, members, ContractKind::Year);
     cascade_kind(rows, column, members, ContractKind::Quarter);

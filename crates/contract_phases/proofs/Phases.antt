@@ -1,12 +1,12 @@
 -- What a column of phases says: which contracts close on the day and which are open. Assumes nothing.
 use mathlib.Core.Path.{◌≡◌, refl, sym, ap, ◌∙◌}
 use mathlib.Core.Bool.{Bool, true, cond, ◌&&◌, ◌||◌}
-use mathlib.Core.List.{List, [], ◌∷◌, ◌++◌}
+use mathlib.Core.List.{List, [], ◌∷◌, ◌++◌, map}
 use Prim.Native.Nat.{ℕ, zero, suc, ◌+◌, ◌*◌, ◌≤◌, ◌<◌}
 use native.Mathlib.Omega.{arith}
 use native.Mathlib.Nat.{zero-add}
-use lib.Dec.{eqb}
-use lib.ListN.{length, get_or, length-map, get_or-eq_default}
+use lib.Dec.{eqb, ltb}
+use lib.ListN.{length, get_or, take, length-map, get_or-eq_default}
 use borrow.Author.Tests.{lt-ltb, le-ltb, le-leb, lt-leb, eq-eqb, ne_eqb}
 use Rattle.std.specs.Prelude.{Option, Some, None}
 use Rattle.arith.specs.Lists.{All, any, from, kept}
@@ -19,7 +19,7 @@ use Rattle.rules.specs.declared.contract.ContractKind.TheVariants.{Year, Quarter
 use Rattle.rules.specs.declared.contract.Term.{Term}
 use Rattle.rules.specs.Ranges.{term_count}
 use Rattle.rules.specs.Days.{Calendar, business_day_before}
-use Rattle.rules.specs.ContractTerms.{has_term, kind_of, term_of, same_kind, contracts_of, months_in, closing_distance, term_first_day, term_closing_day}
+use Rattle.rules.specs.ContractTerms.{has_term, kind_of, term_of, same_kind, open_count, contracts_of, months_in, closing_distance, term_first_day, term_closing_day}
 use Rattle.rules.specs.ContractTerms.{closing_day, closes_on, is_on, not_before, still_to_close, open_of_kind, open_contracts}
 use Rattle.rules.specs.OtherForms.{contract_of, contracts_in}
 use Rattle.months.specs.Spans.{starts_of}
@@ -29,7 +29,7 @@ use Rattle.contract_phases.proofs.Least.{first_read, in_span_lem}
 use Rattle.rules.specs.declared.units.DayNo.{DayNo}
 use Rattle.contract_phases.specs.declared.by_contract.Phase.{Phase}
 use Rattle.contract_phases.specs.declared.by_contract.Phase.TheVariants.{Closed, Closing, Later}
-use Rattle.contract_phases.specs.Phases.{is_closing, is_waiting, phase_of, phase_from, term_phase, phases, closes, waits, open_in, all_open_in, closing}
+use Rattle.contract_phases.specs.Phases.{is_closing, is_waiting, phase_numbered, number_of, phase_of, phase_from, term_phase, phases, closes, waits, open_in, all_open_in, closing}
 
 -- ---- one contract
 -- A contract's phase by its first delivery day, beside the least ones still to close on the day and on the day after.
@@ -115,6 +115,51 @@ module _ (k : Calendar) (d : ℕ) where
   pub open_is : all_open_in (phases k d) ≡ open_contracts k d
   unfolding all_open_in open_contracts
   open_is = rw (open_of_kind_lem Year, open_of_kind_lem Quarter, open_of_kind_lem Month)
+
+-- ---- a column of phases, or of what stands for them
+pub place_read : {A : Type 0} (f : A → Phase) (column : List A) (c : ℕ) (x : A) → c < length column → x ≡ get_or column c x → f x ≡ get_or (map f column) c Closed
+place_read f column c x h e = ap f e ∙ sym (map_at f column c x Closed h)
+
+-- ---- a column of numbers: 1 closes, and all but 0 wait
+pub closing_number : (n : ℕ) → is_closing (phase_numbered n) ≡ eqb n 1
+closing_number n = same_or n 0 (λ e. rw e) (λ e. rw (ne_eqb n 0 e) (same_or n 1 (λ f. rw f) (λ f. rw (ne_eqb n 1 f))))
+
+pub waiting_number : (n : ℕ) → is_waiting (phase_numbered n) ≡ ltb 0 n
+waiting_number n = same_or n 0 (λ e. rw e) (λ e. rw (ne_eqb n 0 e, lt-ltb 0 n (omega arith)) (true_or (eqb n 1) (λ t. rw t) (λ t. rw t)))
+
+pub number_back : (x : Phase) → phase_numbered (number_of x) ≡ x
+number_back Closed = refl
+number_back Closing = refl
+number_back Later = refl
+
+number_at : (column : List ℕ) (c : ℕ) → get_or (map phase_numbered column) c Closed ≡ phase_numbered (get_or column c 0)
+number_at [] c = refl
+number_at (n ∷ column) zero = refl
+number_at (n ∷ column) (suc c) = number_at column c
+
+kept_alike : (p q : ℕ → Bool) (l : List ℕ) → ((c : ℕ) → p c ≡ q c) → kept p l ≡ kept q l
+unfolding kept
+kept_alike p q [] e = refl
+kept_alike p q (c ∷ l) e = rw (e c, kept_alike p q l e)
+
+module _ (column : List ℕ) where
+  pub number_closes : (c : ℕ) → closes (map phase_numbered column) c ≡ eqb (get_or column c 0) 1
+  number_closes c = ap is_closing (number_at column c) ∙ closing_number (get_or column c 0)
+
+  pub number_waits : (c : ℕ) → waits (map phase_numbered column) c ≡ ltb 0 (get_or column c 0)
+  number_waits c = ap is_waiting (number_at column c) ∙ waiting_number (get_or column c 0)
+
+  pub numbers_closing : closing (map phase_numbered column) ≡ kept (λ c. eqb (get_or column c 0) 1) (contracts_of Year ++ (contracts_of Quarter ++ contracts_of Month))
+  unfolding closing
+  numbers_closing = kept_alike (closes (map phase_numbered column)) (λ c. eqb (get_or column c 0) 1) _ number_closes
+
+  pub numbers_open : (s : ContractKind) → open_in (map phase_numbered column) s ≡ take (open_count s) (kept (λ c. ltb 0 (get_or column c 0)) (contracts_of s))
+  unfolding open_in
+  numbers_open s = ap (take (open_count s)) (kept_alike (waits (map phase_numbered column)) (λ c. ltb 0 (get_or column c 0)) _ number_waits)
+
+pub number_on : (x : DayNo) (d : ℕ) → number_of (phase_of (Some x) d) ≡ cond (ltb x.0 d) 0 (cond (eqb x.0 d) 1 2)
+number_on x d =
+    le_or_lt d x.0 (λ l. rw (le-ltb x.0 d l) (same_or x.0 d (λ e. rw (eq-eqb x.0 d e)) (λ e. rw (ne_eqb x.0 d e)))) (λ l. rw (lt-ltb x.0 d l))
 
 -- ---- orders of closing contracts
 any_kept : (p : ℕ → Bool) (x : ℕ) (l : List ℕ) → any (λ c. eqb c x) (kept p l) ≡ p x && any (λ c. eqb c x) l

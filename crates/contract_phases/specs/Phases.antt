@@ -22,6 +22,15 @@ is_waiting Closed = false
 is_waiting Closing = true
 is_waiting Later = true
 
+-- The phase that a number stands for in a column of numbers, and the number of a phase.
+abbrev pub phase_numbered : ℕ → Phase
+phase_numbered n = cond (eqb n 0) Closed (cond (eqb n 1) Closing Later)
+
+abbrev pub number_of : Phase → ℕ
+number_of Closed = 0
+number_of Closing = 1
+number_of Later = 2
+
 -- A contract closed before the day, closes on it, or closes later.
 abbrev pub phase_of : Option DayNo → ℕ → Phase
 phase_of (Some x) d = cond (ltb x.0 d) Closed (cond (eqb x.0 d) Closing Later)

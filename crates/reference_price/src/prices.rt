@@ -1,12 +1,12 @@
 // The GGF, the reference price, of every open contract.
-ghost use Rattle.std.specs.Prelude.{◌≡◌, cond, ◌&&◌, ◌-◌, ◌*◌, ◌≤◌, ◌<◌, ltb, length, set};
+ghost use Rattle.std.specs.Prelude.{◌≡◌, cond, ◌&&◌, ◌-◌, ◌*◌, ◌≤◌, ◌<◌, ltb, length, map, set};
 ghost use Rattle.rules.specs.Ranges.{contract_count, term_count, most_price, most_lots_run};
 ghost use Rattle.rules.specs.Ledger.{prices_length, ggf_place};
 ghost use Rattle.rules.specs.CloseOfDay.{rounded_half_up, without_deals};
 ghost use Rattle.contract_phases.specs.Phases.{is_waiting, open_in, all_open_in};
 ghost use Rattle.reference_price.specs.Columns.{DealsFit, ColumnFit, quoted_from, price_from, ggf_from, ggfs_from};
 
-use contract_phases::Phase;
+use contract_phases::{Phase, PhasePlace};
 use contracts::{contract_of, contracts_in};
 use rules::layout::{CONTRACTS, DAY_LOTS, DAY_VALUE, GGF, PRICE_WIDTH};
 use rules::{ContractKind, Kurus, Lots, Worth};
@@ -91,27 +91,28 @@ fn write_if_open(
     more - 1
 }
 
-fn write_kind_ggfs(
+fn write_kind_ggfs<P: PhasePlace>(
     prices: &mut [u64],
-    column: &[Phase],
+    column: &[P],
     buys: &[u64],
     sells: &[u64],
     kind: ContractKind,
 )
     requires { DealsFit prices.old × ColumnFit buys.now × ColumnFit sells.now × (length column.now ≡ term_count) }
-    ensures { prices.new ≡ ggfs_from buys.now sells.now (open_in column.now kind) prices.old }
+    ensures { prices.new ≡ ggfs_from buys.now sells.now (open_in (map P.read column.now) kind) prices.old }
 {
     let mut more = kind.open_count();
     // By index: the contracts of a kind are no slice, contract_of gives the number of each.
     for i in 0..contracts_in(kind) {
         let contract = contract_of(kind, i) as usize;
-        more = write_if_open(prices, buys, sells, contract, column[contract], more);
+        let phase = column[contract].to_phase();
+        more = write_if_open(prices, buys, sells, contract, phase, more);
     }
 }
 
-pub fn write_ggfs(prices: &mut [u64], column: &[Phase], buys: &[u64], sells: &[u64])
+pub fn write_ggfs<P: PhasePlace>(prices: &mut [u64], column: &[P], buys: &[u64], sells: &[u64])
     requires { DealsFit prices.old × ColumnFit buys.now × ColumnFit sells.now × (length column.now ≡ term_count) }
-    ensures { prices.new ≡ ggfs_from buys.now sells.now (all_open_in column.now) prices.old }
+    ensures { prices.new ≡ ggfs_from buys.now sells.now (all_open_in (map P.read column.now)) prices.old }
 {
     write_kind_ggfs(prices, column, buys, sells, ContractKind::Year);
     write_kind_ggfs(prices, column, buys, sells, ContractKind::Quarter);

@@ -3,6 +3,7 @@ use mathlib.Core.Path.{ap, ◌∙◌}
 use native.Mathlib.Omega.{arith}
 use lib.ListN.{get_or, length}
 use lib.Seq.{get_or-set_other}
+use Rattle.std.proofs.lemmas.List.{map-id}
 use Rattle.arith.specs.Lists.{kept}
 use Rattle.rules.specs.Ledger.{members_place, order_count_place}
 use Rattle.rules.specs.Ledger.{zero_tables, with_head, with_prices, with_rows, with_book, with_orders, orders}
@@ -63,10 +64,11 @@ returns c =
     λ t.
     let u = with_head a.head.now (with_prices a.prices.now (with_rows a.lots.now a.value.now (with_book a.book.now t))) in
     let column = c.write_phases.ensures in
+    let read = map-id c.write_phases.new.column ∙ column in
     c.begin_day.ensures (with_prices prices (with_rows lots value (with_book book t)))
     ∙ ap (on_day a.next.0) (c.remove_closing.ensures (with_prices prices (with_rows lots value t))
     ∙ ap (λ k. with_orders (kept (λ o. not (closes k o.contract)) (orders_in (get_or a.head.now order_count_place 0) a.book.now)) (with_prices prices (with_rows lots value u))) column)
     ∙ closed_is u a.time a.next.0 prices lots value
     (ap (λ x. x.prices) (c.write_prices.ensures (with_rows a.lots.now a.value.now t)))
-    (c.cascade_all.ensures ∙ ap (λ k. all_cascaded n (closing k) a.lots.now) column)
-    (c.cascade_all-2.ensures ∙ ap (λ k. all_cascaded n (closing k) a.value.now) column)
+    (c.cascade_all.ensures ∙ ap (λ k. all_cascaded n (closing k) a.lots.now) read)
+    (c.cascade_all-2.ensures ∙ ap (λ k. all_cascaded n (closing k) a.value.now) read)

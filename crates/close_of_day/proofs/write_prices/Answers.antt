@@ -1,6 +1,7 @@
 use mathlib.Core.Path.{refl, ap, ◌∙◌}
 use Prim.Native.Nat.{◌≤◌}
 use lib.ListN.{get_or, length}
+use Rattle.std.proofs.lemmas.List.{map-id}
 use Rattle.rules.specs.Ranges.{most_price}
 use Rattle.rules.specs.Ledger.{order_count_place}
 use Rattle.rules.specs.Ledger.{with_head, with_prices, with_book, orders}
@@ -49,5 +50,5 @@ returns c =
     let u = with_head a.head.now (with_prices a.prices.now (with_book a.book.now t)) in
     let least = all_orders (λ o. 1 ≤ o.price.0) a.book.now (get_or a.head.now order_count_place 0) (λ i h. (pre.head_fit.2.order_fit i h).least_price) in
     ap (λ p. with_prices p u)
-    (c.clear_deals.ensures ∙ ap without_deals (c.write_ggfs.ensures ∙ ap (λ k. ggfs_from buys sells (all_open_in k) a.prices.now) pre.column_value)
+    (c.clear_deals.ensures ∙ ap without_deals (c.write_ggfs.ensures ∙ ap (λ k. ggfs_from buys sells (all_open_in k) a.prices.now) (map-id a.column.now ∙ pre.column_value))
     ∙ priced_is u a.time buys sells pre.head_fit.1.long least c.write_quotes.ensures c.write_quotes-2.ensures)

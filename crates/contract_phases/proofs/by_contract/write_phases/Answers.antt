@@ -9,17 +9,17 @@ use Rattle.contract_phases.proofs.Least.{is_least, distance_positive}
 use Rattle.contract_phases.proofs.by_contract.write_phases.Goals as goal
 
 pub find_least-least-requires : goal.find_least-least-requires
-find_least-least-requires c =
+find_least-least-requires g c =
     let k : Calendar = record { first_year = c.args.first_year; holidays = c.args.holidays.now } in
     rw (c.read_starts.ensures c.args.holidays.now, span_end k) (span_most k c.requires.0.1)
 
 pub find_least-later-requires : goal.find_least-later-requires
-find_least-later-requires c =
+find_least-later-requires g c =
     let k : Calendar = record { first_year = c.args.first_year; holidays = c.args.holidays.now } in
     rw (c.read_starts.ensures c.args.holidays.now, span_end k) (span_most k c.requires.0.1)
 
 pub returns : goal.returns
-returns c =
+returns g c =
     let k : Calendar = record { first_year = c.args.first_year; holidays = c.args.holidays.now } in
     let d = c.args.day.0 in
     let made = c.read_starts.ensures k.holidays in

@@ -9,5 +9,7 @@ use Rattle.reference_price.specs.Columns.{DealsFit, ggfs_from}
 use Rattle.reference_price.proofs.prices.write_kind_ggfs.Given as goal
 
 abbrev pub invariant-loop-i : goal.invariant-loop-i
-invariant-loop-i l = DealsFit l.prices × (length l.prices ≡ length l.initial.prices)
-    × (ggfs_from l.buys l.sells (take l.more (kept (waits l.column) (map (contract_of l.kind) (from l.i (contracts_in l.kind - l.i))))) l.prices ≡ ggfs_from l.buys l.sells (open_in l.column l.kind) l.initial.prices)
+invariant-loop-i g l =
+    let column = map g.P.PhasePlace.read l.column in
+    DealsFit l.prices × (length l.prices ≡ length l.initial.prices)
+    × (ggfs_from l.buys l.sells (take l.more (kept (waits column) (map (contract_of l.kind) (from l.i (contracts_in l.kind - l.i))))) l.prices ≡ ggfs_from l.buys l.sells (open_in column l.kind) l.initial.prices)
