@@ -44,7 +44,7 @@ fn book_change(
     requires bookable { Bookable (gain + loss) head.old lots.old value.old lines.old }
     requires i_lt_least_lines { (i < least_lines) × (contract < contract_count) × (price.0 ≤ most_price) × (member < members_in head.old) }
     ensures value { result ≡ i + length (change_lines contract price.0 member ((pos gain -ℤ pos loss) ∷ [])) }
-    ensures booked { (t : Tables) → with_head head.new (with_rows lots.new value.new (with_lines lines.new t))
+    ensures t_after { (t : Tables) → with_head head.new (with_rows lots.new value.new (with_lines lines.new t))
         ≡ with_each i (change_lines contract price.0 member ((pos gain -ℤ pos loss) ∷ []))
         (with_head head.old (with_rows lots.old value.old (with_lines lines.old t))) }
 {
@@ -72,7 +72,7 @@ pub fn book_changes(
     requires gains_bound { (i + length gains.now ≤ least_lines) × (contract < contract_count) × (price.0 ≤ most_price) }
     requires gains_len { (length gains.now ≡ members_in head.old) × (length losses.now ≡ length gains.now) }
     ensures value { result ≡ i + length (change_lines contract price.0 0 (changes gains.now losses.now)) }
-    ensures booked { (t : Tables) → with_head head.new (with_rows lots.new value.new (with_lines lines.new t))
+    ensures t_after { (t : Tables) → with_head head.new (with_rows lots.new value.new (with_lines lines.new t))
         ≡ with_each i (change_lines contract price.0 0 (changes gains.now losses.now))
         (with_head head.old (with_rows lots.old value.old (with_lines lines.old t))) }
 {

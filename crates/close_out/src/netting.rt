@@ -41,7 +41,7 @@ fn net_columns(
     ensures value { result ≡ length (netting_lines contract price.0 netted longs.old shorts.old) }
     ensures longs_after { longs.new ≡ less longs.old (given_up netted longs.old) }
     ensures shorts_after { shorts.new ≡ less shorts.old (given_up netted shorts.old) }
-    ensures booked { (t : Tables) → with_head head.new (with_rows lots.new value.new (with_lines lines.new t))
+    ensures t_after { (t : Tables) → with_head head.new (with_rows lots.new value.new (with_lines lines.new t))
         ≡ with_each 0 (netting_lines contract price.0 netted longs.old shorts.old)
         (with_head head.old (with_rows lots.old value.old (with_lines lines.old t))) }
 {
@@ -80,7 +80,7 @@ pub fn book_netting(
     ensures value { result ≡ length (netting_lines contract price.0 netted longs.old shorts.old) }
     ensures longs_after { longs.new ≡ less longs.old (given_up netted longs.old) }
     ensures shorts_after { shorts.new ≡ less shorts.old (given_up netted shorts.old) }
-    ensures booked { (t : Tables) → with_head head.new (with_rows lots.new value.new (with_lines lines.new t))
+    ensures t_after { (t : Tables) → with_head head.new (with_rows lots.new value.new (with_lines lines.new t))
         ≡ with_each 0 (netting_lines contract price.0 netted longs.old shorts.old)
         (with_head head.old (with_rows lots.old value.old (with_lines lines.old t))) }
 {

@@ -32,7 +32,7 @@ pub fn book_steps(
     ensures value { result ≡ length (step_lines contract price.0 netted remaining longs.old shorts.old weights.now) }
     ensures longs_after { longs.new ≡ less longs.old (given_up netted longs.old) }
     ensures shorts_after { shorts.new ≡ less shorts.old (given_up netted shorts.old) }
-    ensures booked { (t : Tables) → with_head head.new (with_rows lots.new value.new (with_lines lines.new t))
+    ensures t_after { (t : Tables) → with_head head.new (with_rows lots.new value.new (with_lines lines.new t))
         ≡ with_each 0 (step_lines contract price.0 netted remaining longs.old shorts.old weights.now)
         (with_head head.old (with_rows lots.old value.old (with_lines lines.old t))) }
 {

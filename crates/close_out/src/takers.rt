@@ -31,7 +31,7 @@ fn deal_columns(
     requires contract_lt_contract_count { (contract < contract_count) × (price.0 ≤ most_price) × (i + length weights.now ≤ least_lines) × (length weights.now ≡ members_in head.old) }
     requires taken_len { (length taken.old ≡ members_in head.old) × (nothing.now ≡ replicate (members_in head.old) 0) }
     ensures value { result ≡ i + length (taker_lines contract price.0 long remaining weights.now) }
-    ensures booked { (t : Tables) → with_head head.new (with_rows lots.new value.new (with_lines lines.new t))
+    ensures t_after { (t : Tables) → with_head head.new (with_rows lots.new value.new (with_lines lines.new t))
         ≡ with_each i (taker_lines contract price.0 long remaining weights.now)
         (with_head head.old (with_rows lots.old value.old (with_lines lines.old t))) }
 {
@@ -58,7 +58,7 @@ pub fn book_takers(
     requires bookable { Bookable remaining head.old lots.old value.old lines.old × MemberColumn most_weight weights.now × (0 < sum_of weights.now) }
     requires contract_lt_contract_count { (contract < contract_count) × (price.0 ≤ most_price) × (i + length weights.now ≤ least_lines) × (length weights.now ≡ members_in head.old) }
     ensures value { result ≡ i + length (taker_lines contract price.0 long remaining weights.now) }
-    ensures booked { (t : Tables) → with_head head.new (with_rows lots.new value.new (with_lines lines.new t))
+    ensures t_after { (t : Tables) → with_head head.new (with_rows lots.new value.new (with_lines lines.new t))
         ≡ with_each i (taker_lines contract price.0 long remaining weights.now)
         (with_head head.old (with_rows lots.old value.old (with_lines lines.old t))) }
 {

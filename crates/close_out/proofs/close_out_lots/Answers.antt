@@ -45,4 +45,4 @@ returns c =
     let p = c.requires.contract_lt_contract_count in
     let k = c.book_steps-count.ensures in
     λ t o g. booked_so (u t) f a.e p.0 _ _ _ _ c.find_defaulted-netted.ensures.found a.price.0 p.3 o g c.if-netted-remaining-eq0.false _ _ c.sum_of.ensures
-    (c.find_weights.ensures.column_after (with_lines a.lines.now t) a.value.now) c.if-remaining-sum_of.false c.if-head-netted-gt-MOST_LOTS_RUN.false _ _ k.value (k.booked t)
+    (c.find_weights.ensures.column_after (with_lines a.lines.now t) a.value.now) c.if-remaining-sum_of.false c.if-head-netted-gt-MOST_LOTS_RUN.false _ _ k.value (k.t_after t)

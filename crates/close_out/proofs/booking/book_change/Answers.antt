@@ -7,8 +7,8 @@ pub returns-then-gain-loss : goal.returns-then-gain-loss
 returns-then-gain-loss c =
     let a = c.args in
     let none = no_change a.contract a.price.0 a.member a.gain a.loss c.if-gain-loss.true in
-    record { value = rw none (omega arith); booked = λ t. rw none (sym (each_none a.i _)) }
+    record { value = rw none (omega arith); t_after = λ t. rw none (sym (each_none a.i _)) }
 
-pub returns-clause-booked : goal.returns-clause-booked
-returns-clause-booked c =
+pub returns-clause-t_after : goal.returns-clause-t_after
+returns-clause-t_after c =
     λ t. rw c.change_line-line.ensures.line (c.book_line.ensures t ∙ sym (each_one c.args.i _ _))

@@ -1,15 +1,10 @@
-use mathlib.Core.Path.{refl, sym, ap, ◌∙◌}
+use mathlib.Core.Path.{sym, ap, ◌∙◌}
 use native.Mathlib.Omega.{arith}
 use lib.ListN.{length}
 use Rattle.close_out.proofs.Changes.{lines_end, sum_next, each_none}
 use Rattle.deal_lines.proofs.Takes.{less_room}
 use Rattle.close_out.proofs.Running.{put, blank, running_next}
 use Rattle.close_out.proofs.booking.book_changes.Goals as goal
-
-pub loop-member-init : goal.loop-member-init
-loop-member-init c =
-    let pre = c.requires in
-    λ t. record { within = omega arith; few = omega arith; members = pre.gains_len.0; takes = pre.bookable; count = refl; same = refl }
 
 pub book_change-at-requires : goal.book_change-at-requires
 book_change-at-requires c =
@@ -31,11 +26,11 @@ loop-member-preserved c =
     let n = c.book_change-at.new in
     let k = c.book_change-at.ensures in
     λ t. running_next a.contract a.price.0 a.i a.gains.now a.losses.now _ pre.gains_len.1 pre.gains_bound.1 pre.gains_bound.2 pre.gains_bound.0
-    (put l.head l.lots l.value l.lines t) l.at l.member (l.invariant t) (omega arith) (put n.head n.lots n.value n.lines t) _ (k.booked t) k.value
+    (put l.head l.lots l.value l.lines t) l.at l.member (l.invariant t) (omega arith) (put n.head n.lots n.value n.lines t) _ (k.t_after t) k.value
 
 pub returns : goal.returns
 returns c =
     let a = c.args in
     let none = lines_end a.contract a.price.0 c.loop-member.member a.gains.now a.losses.now (omega arith) in
     let l = c.loop-member.invariant in
-    record { value = omega (arith, (l blank).count, ap length none); booked = λ t. sym (each_none c.loop-member.at _) ∙ rw none at (l t).same }
+    record { value = omega (arith, (l blank).count, ap length none); t_after = λ t. sym (each_none c.loop-member.at _) ∙ rw none at (l t).same }

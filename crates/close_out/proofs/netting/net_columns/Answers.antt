@@ -18,6 +18,6 @@ pub returns-clause-value : goal.returns-clause-value
 returns-clause-value c =
     netting_count c.args.contract c.args.price.0 _ _ _ _ _ c.give_up.ensures c.give_up-2.ensures _ c.book_changes-count.ensures.value
 
-pub returns-clause-booked : goal.returns-clause-booked
-returns-clause-booked c =
-    λ t. netting_tables c.args.contract c.args.price.0 _ _ _ _ _ c.give_up.ensures c.give_up-2.ensures _ _ (c.book_changes-count.ensures.booked t)
+pub returns-clause-t_after : goal.returns-clause-t_after
+returns-clause-t_after c =
+    λ t. netting_tables c.args.contract c.args.price.0 _ _ _ _ _ c.give_up.ensures c.give_up-2.ensures _ _ (c.book_changes-count.ensures.t_after t)

@@ -22,7 +22,7 @@ returns-then-long-gt0 c =
     let a = c.args in
     let wide = c.deal_out.auto.received ∙ pre.taken_len.0 in
     let e = takers_buy a.contract a.price.0 a.long a.remaining a.weights.now _ _ _ c.deal_out.ensures pre.taken_len.1 wide c.if-long-gt0.true in
-    record { value = rw (← e) c.book_changes.ensures.value; booked = λ t. rw (← e) (c.book_changes.ensures.booked t) }
+    record { value = rw (← e) c.book_changes.ensures.value; t_after = λ t. rw (← e) (c.book_changes.ensures.t_after t) }
 
 pub book_changes-requires-2-clause-bookable : goal.book_changes-requires-2-clause-bookable
 book_changes-requires-2-clause-bookable c =
@@ -38,4 +38,4 @@ returns c =
     let a = c.args in
     let wide = c.deal_out.auto.received ∙ pre.taken_len.0 in
     let e = takers_sell a.contract a.price.0 a.long a.remaining a.weights.now _ _ _ c.deal_out.ensures pre.taken_len.1 wide c.if-long-gt0.false in
-    record { value = rw (← e) c.book_changes-2.ensures.value; booked = λ t. rw (← e) (c.book_changes-2.ensures.booked t) }
+    record { value = rw (← e) c.book_changes-2.ensures.value; t_after = λ t. rw (← e) (c.book_changes-2.ensures.t_after t) }
