@@ -52,7 +52,13 @@ impl PhasePlace for Phase {
     }
 }
 
-// 0 is closed, 1 closing, and every other number later; later is written as 2.
+// The numbers of the phases in a column of numbers. A number that is none of them says later, as LATER does.
+pub const CLOSED: u64 = 0;
+
+pub const CLOSING: u64 = 1;
+
+const LATER: u64 = 2;
+
 impl PhasePlace for u64 {
     ghost read = { phase_numbered };
 
@@ -60,17 +66,17 @@ impl PhasePlace for u64 {
 
     fn to_phase(self) -> Phase {
         match self {
-            0 => Phase::Closed,
-            1 => Phase::Closing,
+            CLOSED => Phase::Closed,
+            CLOSING => Phase::Closing,
             _ => Phase::Later,
         }
     }
 
     fn from_phase(phase: Phase) -> u64 {
         match phase {
-            Phase::Closed => 0,
-            Phase::Closing => 1,
-            Phase::Later => 2,
+            Phase::Closed => CLOSED,
+            Phase::Closing => CLOSING,
+            Phase::Later => LATER,
         }
     }
 }

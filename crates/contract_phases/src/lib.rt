@@ -4,5 +4,5 @@
 mod by_contract;
 mod least_days;
 
-pub use by_contract::{Phase, PhasePlace, write_phases};
+pub use by_contract::{CLOSED, CLOSING, Phase, PhasePlace, write_phases};
 pub use least_days::{LeastDays, find_least, least_of};
