@@ -1,12 +1,14 @@
 // How many bytes a record takes, and where the legs of a proposal begin.
-ghost use Rattle.std.specs.Prelude.{◌≡◌, ◌<◌, ◌≤◌};
+ghost use Rattle.std.specs.Prelude.{◌≡◌, ◌<◌, ◌≤◌, length};
 ghost use Rattle.rules.specs.Fields.{widths, kind_fields};
 ghost use Rattle.rules.specs.Ranges.{most_legs};
 ghost use Rattle.rules.specs.Records.{leg_place, record_length};
+ghost use Rattle.record_kinds.specs.Numbers.{most_fields};
 
 use crate::fields::{kind_fields, width_of};
 use crate::places::{FIRST_FIELD_BYTE, FIRST_LEG_BYTE, LEG_LENGTH};
-use rules::kinds::PROPOSAL;
+use rules::Field;
+use rules::kinds::{CANCEL, CLOSE_OF_DAY, CLOSE_OUT, DAY_LIMITS, DEFAULT, PROPOSAL, SUBMIT};
 
 // Where a leg of a proposal begins.
 pub fn leg_place(leg: usize) -> usize
@@ -16,15 +18,32 @@ pub fn leg_place(leg: usize) -> usize
     FIRST_LEG_BYTE + LEG_LENGTH * leg
 }
 
-// The bytes of a kind's fields, legs aside.
+// The bytes of fields one after the other.
+fn length_of(fields: &[Field]) -> usize
+    requires { length fields.now ≤ most_fields }
+    ensures { (result ≡ widths fields.now) × (result ≤ 28) }
+{
+    let mut bytes = 0;
+    for field in fields {
+        bytes += width_of(*field);
+    }
+    bytes
+}
+
+// The bytes of a kind's fields, legs aside. Each kind by itself: of a constant list the compiler has the sum already.
 fn fields_length(kind: u64) -> usize
     ensures { (result ≡ widths (kind_fields kind)) × (result ≤ 28) }
 {
-    let mut length = 0;
-    for field in kind_fields(kind) {
-        length += width_of(*field);
+    match kind {
+        SUBMIT => length_of(kind_fields(SUBMIT)),
+        CANCEL => length_of(kind_fields(CANCEL)),
+        DAY_LIMITS => length_of(kind_fields(DAY_LIMITS)),
+        PROPOSAL => length_of(kind_fields(PROPOSAL)),
+        DEFAULT => length_of(kind_fields(DEFAULT)),
+        CLOSE_OUT => length_of(kind_fields(CLOSE_OUT)),
+        CLOSE_OF_DAY => length_of(kind_fields(CLOSE_OF_DAY)),
+        _ => 0,
     }
-    length
 }
 
 // By its kind and, of a proposal, its number of legs; 0 where no kind has that number, since the definition `record_length`
