@@ -26,6 +26,7 @@ pub fn apply_event(tables: &mut LentTables<'_>, event: Event, bytes: &[u8]) -> R
         Event::Proposal(count) => apply_legs(tables, count, bytes),
         Event::Default(member) => default::apply(tables.head, tables.book, member),
         Event::CloseOut(e) => {
+            // Beside a field that is written the check takes no field as `&[u64]`.
             let prices = &mut *tables.prices;
             close_out::apply(
                 tables.head,

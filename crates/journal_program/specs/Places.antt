@@ -1,5 +1,5 @@
 -- Where the program stands.
-use Rattle.std.specs.Prelude.{ℕ, ◌+◌, ◌*◌, ◌≤◌, ◌≡◌, Result, Ok, Err}
+use Rattle.std.specs.Prelude.{ℕ, ◌*◌, ◌≤◌, ◌≡◌, Result, Ok, Err}
 use Rattle.journal.specs.Stages.{Counts}
 use Rattle.streams.specs.declared.ending.Ending.{Ending}
 use Rattle.streams.specs.Windows.{Within}

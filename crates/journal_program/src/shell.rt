@@ -1,8 +1,8 @@
 // The program's turns: what the input holds is run, then bytes are read or what was printed is written. No contract can say
 // what a read brought or a write took. The promises say what is handed over to be written for the bytes that came, whichever
 // these are, and how the run ends.
-ghost use Rattle.std.specs.Prelude.{◌≡◌, List, ℕ, ◌+◌, ◌≤◌, ◌<◌, length, take, drop, false};
-ghost use Rattle.rules.specs.Ledger.{lent, head_length, lines_length, rows_length, zero_tables};
+ghost use Rattle.std.specs.Prelude.{◌≡◌, List, ℕ, ◌+◌, ◌≤◌, ◌<◌, length, false};
+ghost use Rattle.rules.specs.Ledger.{head_length, lines_length, zero_tables};
 ghost use Rattle.tables.specs.Lent.{tables_of, SameTables};
 ghost use Rattle.journal.specs.declared.stage.Stage.TheVariants.{Header};
 ghost use Rattle.journal.specs.declared.stage.Wants.TheVariants.{Nothing, Bytes, Room};

@@ -30,7 +30,8 @@ fn length_of(fields: &[Field]) -> usize
     bytes
 }
 
-// The bytes of a kind's fields, legs aside. Each kind by itself: of a constant list the compiler has the sum already.
+// The bytes of a kind's fields, legs aside. An arm for each kind, so that the compiler sums its constant list: a loop over
+// kind_fields(kind) took twice the time.
 fn fields_length(kind: u64) -> usize
     ensures { (result ≡ widths (kind_fields kind)) × (result ≤ 28) }
 {
