@@ -56,7 +56,7 @@ TOLD_NUMBER = re.compile(r"\bnumber = (\d+)")
 # How a name is defined: a signature, field or case of a specification; an item, field or variant of a program.
 # A signature has its type behind a colon; what a keyword names needs none.
 SIGNATURE = re.compile(r"^\s*(?:(?:pub|abbrev|unfoldable)\s+)*(?:(?:data|record|mod|ruleset)\s+([^\s:(){}=,]+)|([^\s:(){}=,]+) :)", re.M)
-ITEM = re.compile(r"\b(?:fn|struct|enum|const|mod|type)\s+(\w+)")
+ITEM = re.compile(r"\b(?:fn|struct|enum|trait|const|mod|type)\s+(\w+)")
 # A variant has a capital letter; a field has its type behind it. A call is neither.
 FIELD = re.compile(r"^\s*(?:pub\s+)?([A-Z]\w*(?=\s*[,({=])|[a-z]\w*(?=:\s))", re.M)
 # A function of C begins its line with its type; of Python, with def.
